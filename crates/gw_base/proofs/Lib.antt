@@ -1,0 +1,4 @@
+pub mod AmountLemmas
+pub mod BcdLemmas
+pub mod KeyLemmas
+pub mod MomentLemmas

@@ -1,0 +1,12 @@
+pub mod Amount
+pub mod Bcd
+pub mod Condition
+pub mod Currency
+pub mod Digits
+pub mod Ident
+pub mod Key
+pub mod Limits
+pub mod Moment
+pub mod Setup
+pub mod Shown
+pub mod Text437

@@ -1,0 +1,14 @@
+-- The limits of this profile on numbers that travel on both wires.
+use Rattle.std.specs.Prelude.{ℕ, ◌≤◌}
+
+-- an amount in minor units: twelve digits, and not zero
+abbrev pub IsAmount : ℕ → Type 0
+IsAmount minor = (1 ≤ minor) × (minor ≤ 999999999999)
+
+-- a trace number of a terminal: six digits; 0 is no number of an entry
+abbrev pub IsNumber : ℕ → Type 0
+IsNumber number = number ≤ 999999
+
+-- a receipt number of a terminal: four digits
+abbrev pub IsReceipt : ℕ → Type 0
+IsReceipt receipt = receipt ≤ 9999

@@ -1,0 +1,96 @@
+//! The currencies of this profile.
+ghost use Rattle.std.specs.Prelude.{◌≡◌, ◌≢◌, MatchOption};
+ghost use Rattle.gw_base.specs.declared.currency.Currency.{Currency};
+ghost use Rattle.gw_base.specs.Currency.{code_of, number_of};
+
+/// A currency with two decimals, by its letters in ISO 4217.
+#[derive(Clone, Copy, PartialEq, Eq, PartialOrd, Ord, Debug)]
+pub enum Currency {
+    Eur,
+    Chf,
+    Gbp,
+    Usd,
+    Dkk,
+    Sek,
+    Nok,
+    Pln,
+    Czk,
+}
+
+impl Currency {
+    /// The currency with these three letters; `None` where this profile has none.
+    pub fn from_code(code: &[u8; 3]) -> Option<Currency>
+        ensures { MatchOption result ((c : Currency) → code_of c ≢ code.now) (λ c. code_of c ≡ code.now) }
+    {
+        match code {
+            b"EUR" => Some(Currency::Eur),
+            b"CHF" => Some(Currency::Chf),
+            b"GBP" => Some(Currency::Gbp),
+            b"USD" => Some(Currency::Usd),
+            b"DKK" => Some(Currency::Dkk),
+            b"SEK" => Some(Currency::Sek),
+            b"NOK" => Some(Currency::Nok),
+            b"PLN" => Some(Currency::Pln),
+            b"CZK" => Some(Currency::Czk),
+            _ => None,
+        }
+    }
+
+    /// The currency with this number of three digits; `None` where this profile has none.
+    pub fn from_number(number: u16) -> Option<Currency>
+        ensures { MatchOption result ((c : Currency) → number_of c ≢ number) (λ c. number_of c ≡ number) }
+    {
+        match number {
+            978 => Some(Currency::Eur),
+            756 => Some(Currency::Chf),
+            826 => Some(Currency::Gbp),
+            840 => Some(Currency::Usd),
+            208 => Some(Currency::Dkk),
+            752 => Some(Currency::Sek),
+            578 => Some(Currency::Nok),
+            985 => Some(Currency::Pln),
+            203 => Some(Currency::Czk),
+            _ => None,
+        }
+    }
+
+    /// The three letters.
+    pub fn code(self) -> [u8; 3]
+        ensures { result ≡ code_of self }
+    {
+        match self {
+            Currency::Eur => *b"EUR",
+            Currency::Chf => *b"CHF",
+            Currency::Gbp => *b"GBP",
+            Currency::Usd => *b"USD",
+            Currency::Dkk => *b"DKK",
+            Currency::Sek => *b"SEK",
+            Currency::Nok => *b"NOK",
+            Currency::Pln => *b"PLN",
+            Currency::Czk => *b"CZK",
+        }
+    }
+
+    /// The number of three digits.
+    pub fn number(self) -> u16
+        ensures { result ≡ number_of self }
+    {
+        match self {
+            Currency::Eur => 978,
+            Currency::Chf => 756,
+            Currency::Gbp => 826,
+            Currency::Usd => 840,
+            Currency::Dkk => 208,
+            Currency::Sek => 752,
+            Currency::Nok => 578,
+            Currency::Pln => 985,
+            Currency::Czk => 203,
+        }
+    }
+}
+
+/// No two currencies have the same letters, or the same number.
+pub fn law_currencies()
+    ensures codes { (a b : Currency) → code_of a ≡ code_of b → a ≡ b }
+    ensures numbers { (a b : Currency) → number_of a ≡ number_of b → a ≡ b }
+{}

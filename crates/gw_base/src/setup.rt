@@ -1,0 +1,145 @@
+//! What the gateway is set up with.
+ghost use Rattle.std.specs.Prelude.{◌≢◌, ◌↔◌, IsTrue, All};
+ghost use Rattle.gw_base.specs.Setup.{IsPt, HaveDistinctPois};
+
+use crate::{Currency, Ident, Text};
+use std::marker::Model;
+
+/// One terminal, which a POIID names.
+#[derive(Clone, Debug, Drop)]
+pub struct Pt {
+    pub poi: Ident<40>,
+    /// Where it listens, as `host:port`.
+    pub address: Text,
+    /// The password of a registration, six BCD digits.
+    pub password: [u8; 3],
+    pub currency: Currency,
+    /// The configuration byte of a registration.
+    pub config: u8,
+    /// The code with which the terminal says that it has no last transaction.
+    pub none: u8,
+    /// How long an answer may take, 1 to 60 seconds.
+    pub answer: u32,
+    /// How long a command may take, 1 to 3,600 seconds.
+    pub command: u32,
+}
+
+impl Pt {
+    ghost use Rattle.std.specs.Prelude.{◌↔◌, IsTrue};
+    ghost use Rattle.gw_base.specs.Setup.{IsPt};
+
+    /// Whether the numbers and the password lie within this profile's limits.
+    pub fn is_within_limits(&self) -> bool
+        ensures { IsTrue result ↔ IsPt self.now }
+    {
+        let _poi = self.poi.as_bytes();
+        self.password
+            .iter()
+            .all(|byte| byte / 16 <= 9 && byte % 16 <= 9)
+            && (1..=60).contains(&self.answer)
+            && (1..=3600).contains(&self.command)
+    }
+}
+
+/// The terminals, in the order of their numbers. A contract sees a list.
+#[derive(Clone, Debug, Drop)]
+pub struct Pts {
+    inner: Vec<Pt>,
+}
+
+impl Model for Pts {
+    ghost use Rattle.std.specs.Prelude.{List};
+    ghost use Rattle.gw_base.specs.declared.setup.Pt.{Pt};
+
+    ghost Value = { List Pt };
+
+    ghost view = { λ pts. pts.inner.items };
+}
+
+impl Pts {
+    ghost use Rattle.std.specs.Prelude.{◌≡◌};
+
+    /// The terminals of this vector.
+    pub fn new(inner: Vec<Pt>) -> Pts
+        ensures { result ≡ inner.items }
+    {
+        Pts { inner }
+    }
+
+    /// The vector.
+    pub fn inner(&self) -> &Vec<Pt>
+        ensures { result.now.items ≡ self.now }
+    {
+        &self.inner
+    }
+
+    /// The terminals as a slice.
+    pub fn as_slice(&self) -> &[Pt]
+        ensures { result.now ≡ self.now }
+    {
+        &self.inner
+    }
+}
+
+/// A gateway's setup.
+#[derive(Clone, Debug, Drop)]
+pub struct Setup {
+    /// The gateway's name, which stands as POIID where a message's own was not read.
+    pub name: Ident<40>,
+    /// Where tills connect, as `host:port`.
+    pub listen: Text,
+    /// The path of the journal.
+    pub journal: Text,
+    /// How many requests may wait for one terminal, 0 to 8.
+    pub line: u8,
+    /// How long a request may wait, 1 to 3,600 seconds.
+    pub wait: u32,
+    /// How many records the journal holds, 2 to 1,000,000.
+    pub slots: u32,
+    pub terminals: Pts,
+}
+
+impl Setup {
+    ghost use Rattle.std.specs.Prelude.{◌↔◌, IsTrue};
+    ghost use Rattle.gw_base.specs.Setup.{IsSetup};
+
+    /// Whether the numbers lie within this profile's limits, and at most 32 terminals do, whose POIIDs
+    /// differ.
+    pub fn is_within_limits(&self) -> bool
+        ensures { IsTrue result ↔ IsSetup self.now }
+    {
+        let _name = self.name.as_bytes();
+        let terminals = self.terminals.as_slice();
+        if self.line > 8 || terminals.len() > 32 {
+            return false;
+        }
+        if self.wait < 1 || self.wait > 3600 || self.slots < 2 || self.slots > 1_000_000 {
+            return false;
+        }
+        are_within_limits(terminals) && have_distinct_pois(terminals)
+    }
+}
+
+/// Whether no two of these terminals have the same POIID.
+fn have_distinct_pois(terminals: &[Pt]) -> bool
+    ensures { IsTrue result ↔ HaveDistinctPois terminals.now }
+{
+    let Some((first, rest)) = terminals.split_first() else {
+        return true;
+    };
+    lack_poi(rest, &first.poi) && have_distinct_pois(rest)
+}
+
+/// Whether none of these terminals has this POIID.
+fn lack_poi(terminals: &[Pt], poi: &Ident<40>) -> bool
+    ensures { IsTrue result ↔ All (λ pt. poi.now ≢ pt.poi) terminals.now }
+{
+    terminals.iter().all(|pt| *poi != pt.poi)
+}
+
+/// Whether each of these terminals lies within this profile's limits.
+fn are_within_limits(terminals: &[Pt]) -> bool
+    ensures { IsTrue result ↔ All IsPt terminals.now }
+{
+    terminals.iter().all(|pt| pt.is_within_limits())
+}

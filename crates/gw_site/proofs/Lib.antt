@@ -1,0 +1,5 @@
+pub mod OverwriteLemmas
+pub mod ImageLemmas
+pub mod OutsideLemmas
+pub mod GrowsLemmas
+pub mod StreamLemmas

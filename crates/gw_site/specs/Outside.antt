@@ -1,0 +1,95 @@
+-- What a log tells of the outside: the moment, the lines and what was heard on them, and the file on the disk.
+use Rattle.std.specs.Prelude.{ℕ, ℤ, pos, negsuc, ◌+◌, ◌-◌, min, Bool, not, ◌==◌, if◌then◌else◌, List, [], ◌∷◌, ◌++◌, length, take, drop, replicate, map, filter}
+use Rattle.std.specs.List.{list_any}
+use Rattle.gw_base.specs.Moment.{moment_of}
+use Rattle.gw_site.specs.declared.turn.Turn.{Turn}
+use Rattle.gw_site.specs.declared.turn.Turn.TheVariants.{Start, OpenFailed, Polled, Opened, HeardTill, Closed, HeardPt, Lost, Stopped, Linked, LinkFailed, SentTill, SentPt, CutTill, CutPt, Wrote, Synced, DiskFailed, Crash}
+
+-- a line that is open, by its number, and all that was heard on it since it opened
+pub record Line : Type 0 where
+  pub number : ℕ
+  pub heard : List ℕ
+
+-- a range of bytes of the file
+pub record Range : Type 0 where
+  pub from : ℕ
+  pub size : ℕ
+
+-- the outside after a log: the moment of the run's last poll; the tills that are there and the terminals that are linked; the least number with which a till may open; the file as a read gives it; the file of the last sync or power failure; the ranges written since then
+pub record Outside : Type 0 where
+  pub moment : ℕ
+  pub tills : List Line
+  pub links : List Line
+  pub next_till : ℕ
+  pub file : List ℕ
+  pub stable : List ℕ
+  pub written : List Range
+
+-- the line of this number is open
+abbrev pub is_open : List Line → ℕ → Bool
+is_open lines number = list_any (λ (line : Line). line.number == number) lines
+
+-- the lines without that of this number
+abbrev pub without : List Line → ℕ → List Line
+without lines number = filter (λ (line : Line). not (line.number == number)) lines
+
+-- a line on which nothing was heard yet
+abbrev pub new_line : ℕ → Line
+new_line number = record { number = number; heard = [] }
+
+-- these bytes were heard on the line of this number
+abbrev pub hears : List Line → ℕ → List ℕ → List Line
+hears [] number bytes = []
+hears (line ∷ lines) number bytes = if line.number == number then record line { heard = line.heard ++ bytes } ∷ lines else line ∷ hears lines number bytes
+
+-- what was heard on the line of this number since it opened; nothing where it isn't open
+abbrev pub heard_on : List Line → ℕ → List ℕ
+heard_on [] number = []
+heard_on (line ∷ lines) number = if line.number == number then line.heard else heard_on lines number
+
+-- the file with bytes written at a place, over what is there and past its end; a gap is filled with zeros
+abbrev pub overwrite : List ℕ → ℕ → List ℕ → List ℕ
+overwrite file at bytes = take at file ++ replicate (at - length file) 0 ++ bytes ++ drop (at + length bytes) file
+
+-- so many bytes of the file from a place on, with zeros past its end
+abbrev pub file_part : List ℕ → ℕ → ℕ → List ℕ
+file_part file at count = take count (drop at file) ++ replicate (count - length (drop at file)) 0
+
+-- no run: no line is open, and no moment was polled
+abbrev pub no_run : Outside → Outside
+no_run o = record o { moment = 0; tills = []; links = []; next_till = 0 }
+
+-- the outside after one more turn
+abbrev pub outside_after : Outside → Turn → Outside
+outside_after o (Start setup) = no_run o
+outside_after o OpenFailed = no_run o
+outside_after o (Polled now) = record o { moment = moment_of now }
+outside_after o (Opened till) = record o { tills = o.tills ++ new_line till ∷ []; next_till = till + 1 }
+outside_after o (HeardTill till bytes) = record o { tills = hears o.tills till bytes }
+outside_after o (Closed till) = record o { tills = without o.tills till }
+outside_after o (HeardPt pt bytes) = record o { links = hears o.links pt bytes }
+outside_after o (Lost pt) = record o { links = without o.links pt }
+outside_after o Stopped = o
+outside_after o (Linked pt) = record o { links = without o.links pt ++ new_line pt ∷ [] }
+outside_after o (LinkFailed pt) = o
+outside_after o (SentTill till bytes ok) = o
+outside_after o (SentPt pt bytes ok) = o
+outside_after o (CutTill till) = record o { tills = without o.tills till }
+outside_after o (CutPt pt) = record o { links = without o.links pt }
+outside_after o (Wrote at bytes) = record o { file = overwrite o.file at bytes; written = record { from = at; size = length bytes } ∷ o.written }
+outside_after o Synced = record o { stable = o.file; written = [] }
+outside_after o DiskFailed = o
+outside_after o (Crash file) = record (no_run o) { file = file; stable = file; written = [] }
+
+-- the outside after more turns
+abbrev pub outside_from : Outside → List Turn → Outside
+outside_from o [] = o
+outside_from o (turn ∷ turns) = outside_from (outside_after o turn) turns
+
+-- before the first turn: an empty file, and nobody there
+abbrev pub nothing_yet : Outside
+nothing_yet = record { moment = 0; tills = []; links = []; next_till = 0; file = []; stable = []; written = [] }
+
+-- the outside after a log
+abbrev pub outside_of : List Turn → Outside
+outside_of log = outside_from nothing_yet log

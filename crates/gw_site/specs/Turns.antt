@@ -1,0 +1,88 @@
+-- The turns of each call of a site, and what an event promises.
+use Rattle.std.specs.Prelude.{◌≡◌, ◌⊎◌, ℕ, ◌<◌, ◌≤◌, List, [], ◌∷◌, take, true, false, Result, Ok, Err}
+use Rattle.gw_site.specs.Outside.{Outside, is_open, outside_of}
+use Rattle.gw_site.specs.Image.{Image}
+use Rattle.gw_site.specs.Seen.{IsFront}
+use Rattle.gw_base.specs.declared.setup.Setup.{Setup}
+use Rattle.gw_site.specs.declared.turn.Turn.{Turn}
+use Rattle.gw_site.specs.declared.turn.Turn.TheVariants.{Start, OpenFailed, Polled, Opened, HeardTill, Closed, HeardPt, Lost, Stopped, Linked, LinkFailed, SentTill, SentPt, Wrote, Synced, DiskFailed, Crash}
+use Rattle.gw_site.specs.declared.site.Polled.{Polled as Answer}
+use Rattle.gw_site.specs.declared.site.What.{What}
+use Rattle.gw_site.specs.declared.site.What.TheVariants.{TillOpened, TillBytes, TillClosed, PtBytes, PtClosed, Nothing, Stopped as Stop}
+
+-- opening: a start, or the power failure that stands before it and leaves one of the files of the log before; or a failure
+abbrev pub OpenTurns : {E : Type 0} → Setup → Result (Unit {0}) E → List Turn → List Turn → Type 0
+OpenTurns setup (Ok done) before turns = (turns ≡ Start setup ∷ []) ⊎ ((file : List ℕ) × Image (outside_of before) file × (turns ≡ Crash file ∷ Start setup ∷ []))
+OpenTurns setup (Err failed) before turns = turns ≡ OpenFailed ∷ []
+
+-- the turn of an event, where it has one
+abbrev pub event_turns : What → List ℕ → List Turn
+event_turns (TillOpened till) buf = Opened till ∷ []
+event_turns (TillBytes till count) buf = HeardTill till (take count buf) ∷ []
+event_turns (TillClosed till) buf = Closed till ∷ []
+event_turns (PtBytes pt count) buf = HeardPt pt (take count buf) ∷ []
+event_turns (PtClosed pt) buf = Lost pt ∷ []
+event_turns Nothing buf = []
+event_turns Stop buf = Stopped ∷ []
+
+-- a poll, and then its event
+abbrev pub PolledTurns : Answer → List ℕ → List Turn → Type 0
+PolledTurns answer buf turns = turns ≡ Polled answer.now ∷ event_turns answer.what buf
+
+-- a count of bytes is 1 to 4,096
+abbrev pub IsCount : ℕ → Type 0
+IsCount count = (0 < count) × (count ≤ 4096)
+
+-- the bytes that an event counts lie in the buffer
+abbrev pub IsWithinBuf : What → Type 0
+IsWithinBuf (TillOpened till) = Unit {0}
+IsWithinBuf (TillBytes till count) = IsCount count
+IsWithinBuf (TillClosed till) = Unit {0}
+IsWithinBuf (PtBytes pt count) = IsCount count
+IsWithinBuf (PtClosed pt) = Unit {0}
+IsWithinBuf Nothing = Unit {0}
+IsWithinBuf Stop = Unit {0}
+
+-- what an event promises: a till opens with a number above all of this run, and everything else comes of a line that is open
+abbrev pub IsPromised : Outside → What → Type 0
+IsPromised o (TillOpened till) = o.next_till ≤ till
+IsPromised o (TillBytes till count) = is_open o.tills till ≡ true
+IsPromised o (TillClosed till) = is_open o.tills till ≡ true
+IsPromised o (PtBytes pt count) = is_open o.links pt ≡ true
+IsPromised o (PtClosed pt) = is_open o.links pt ≡ true
+IsPromised o Nothing = Unit {0}
+IsPromised o Stop = Unit {0}
+
+-- a send to a till: all bytes, or where it failed a front of them
+abbrev pub SentTillTurns : {E : Type 0} → ℕ → List ℕ → Result (Unit {0}) E → List Turn → Type 0
+SentTillTurns till bytes (Ok done) turns = turns ≡ SentTill till bytes true ∷ []
+SentTillTurns till bytes (Err failed) turns = (sent : List ℕ) × IsFront sent bytes × (turns ≡ SentTill till sent false ∷ [])
+
+-- a send to a terminal: all bytes, or where it failed a front of them
+abbrev pub SentPtTurns : {E : Type 0} → ℕ → List ℕ → Result (Unit {0}) E → List Turn → Type 0
+SentPtTurns pt bytes (Ok done) turns = turns ≡ SentPt pt bytes true ∷ []
+SentPtTurns pt bytes (Err failed) turns = (sent : List ℕ) × IsFront sent bytes × (turns ≡ SentPt pt sent false ∷ [])
+
+-- the making of a link
+abbrev pub LinkTurns : {E : Type 0} → ℕ → Result (Unit {0}) E → List Turn → Type 0
+LinkTurns pt (Ok done) turns = turns ≡ Linked pt ∷ []
+LinkTurns pt (Err failed) turns = turns ≡ LinkFailed pt ∷ []
+
+-- a look at the disk leaves a turn only where it failed
+abbrev pub DiskTurns : {T E : Type 0} → Result T E → List Turn → Type 0
+DiskTurns (Ok told) turns = turns ≡ []
+DiskTurns (Err failed) turns = turns ≡ DiskFailed ∷ []
+
+-- a write, which stands in the log also where it failed
+abbrev pub WroteTurns : {E : Type 0} → ℕ → List ℕ → Result (Unit {0}) E → List Turn → Type 0
+WroteTurns at bytes (Ok done) turns = turns ≡ Wrote at bytes ∷ []
+WroteTurns at bytes (Err failed) turns = turns ≡ Wrote at bytes ∷ DiskFailed ∷ []
+
+-- a sync
+abbrev pub SyncedTurns : {E : Type 0} → Result (Unit {0}) E → List Turn → Type 0
+SyncedTurns (Ok done) turns = turns ≡ Synced ∷ []
+SyncedTurns (Err failed) turns = turns ≡ DiskFailed ∷ []
+
+-- a call that cannot fail has just this turn
+abbrev pub IsTurn : Turn → List Turn → Type 0
+IsTurn turn turns = turns ≡ turn ∷ []

@@ -1,0 +1,208 @@
+//! Streams in memory, which tell their bytes and fail where they are told to.
+ghost use Rattle.std.specs.Prelude.{◌≡◌, ◌≤◌, ◌+◌, ◌++◌, List, ℕ, [], length, take, drop, Some};
+ghost use Rattle.gw_site.specs.Causes.{Rose};
+ghost use Rattle.gw_site.specs.Seen.{IsFront};
+
+use crate::{Failed, Sink, Source};
+use gw_base::Bytes;
+use std::alloc::Global;
+use std::marker::Model;
+
+/// One more fault; the count stays at its last value.
+fn risen(faults: u64) -> u64
+    ensures rose { Rose faults result }
+    ensures later { faults ≤ result }
+{
+    faults.saturating_add(1)
+}
+
+/// Puts the bytes at the front of the buffer.
+fn fill(buf: &mut [u8; 4096], bytes: &[u8])
+    requires { length bytes.now ≤ 4096 }
+    ensures bytes { take (length bytes.now) buf.new ≡ bytes.now }
+    ensures buf { length buf.new ≡ 4096 }
+{
+    buf[..bytes.len()].copy_from_slice(bytes);
+}
+
+/// Puts as many bytes from a place on as the buffer holds at its front, and answers how many.
+fn give(buf: &mut [u8; 4096], bytes: &[u8], at: usize) -> usize
+    requires { at ≤ length bytes.now }
+    ensures front { drop at bytes.now ≡ take result buf.new ++ drop (at + result) bytes.now }
+    ensures end { result ≡ 0 → drop at bytes.now ≡ [] }
+    ensures within { at + result ≤ length bytes.now }
+    ensures bound { result ≤ 4096 }
+    ensures buf { length buf.new ≡ 4096 }
+{
+    let count = (bytes.len() - at).min(4096);
+    fill(buf, &bytes[at..at + count]);
+    count
+}
+
+/// A source of bytes that are there already.
+#[derive(Debug, Drop)]
+pub struct MemSource {
+    bytes: Bytes,
+    at: usize,
+    calls: u64,
+    fails: Option<u64>,
+    faults: u64,
+}
+
+impl Model for MemSource {
+    ghost use Rattle.std.specs.Prelude.{◌≤◌, drop, length};
+    ghost use Rattle.gw_site.specs.Memory.{Giving};
+
+    ghost Value = { Giving };
+
+    ghost view = { λ source. record {
+      left = drop source.at source.bytes;
+      calls = source.calls;
+      fails = source.fails;
+      faults = source.faults;
+    } };
+
+    ghost invariant = { λ source. source.at ≤ length source.bytes };
+}
+
+impl MemSource {
+    /// A source of these bytes, whose read number `fails`, counted from 0, fails.
+    pub fn new(bytes: Bytes, fails: Option<u64>) -> MemSource
+        ensures { result ≡ record { left = bytes; calls = 0; fails = fails; faults = 0 } }
+    {
+        MemSource {
+            bytes,
+            at: 0,
+            calls: 0,
+            fails,
+            faults: 0,
+        }
+    }
+}
+
+impl Source for MemSource {
+    ghost left = { λ source. Some source.left };
+
+    ghost faults = { λ source. source.faults };
+
+    fn read(&mut self, buf: &mut [u8; 4096]) -> Result<usize, Failed> {
+        let call = self.calls;
+        self.calls = self.calls.saturating_add(1);
+        if self.fails == Some(call) {
+            self.faults = risen(self.faults);
+            return Err(Failed);
+        }
+        let count = give(buf, self.bytes.as_slice(), self.at);
+        self.at += count;
+        Ok(count)
+    }
+}
+
+/// Takes at most so many of the bytes; without memory none.
+fn take_part(held: &mut Bytes, bytes: &[u8], most: usize)
+    ensures { (part : List ℕ) × IsFront part bytes.now × (held.new ≡ held.old ++ part) }
+{
+    let count = most.min(bytes.len());
+    match held.extend(&bytes[..count]) {
+        Ok(()) => {}
+        Err(_) => {}
+    }
+}
+
+/// A sink that keeps what is written.
+#[derive(Debug, Drop)]
+pub struct MemSink {
+    bytes: Bytes,
+    calls: u64,
+    fails: Option<u64>,
+    taken: usize,
+    faults: u64,
+}
+
+impl Model for MemSink {
+    ghost use Rattle.gw_site.specs.Memory.{Taking};
+
+    ghost Value = { Taking };
+
+    ghost view = { λ sink. record {
+      written = sink.bytes;
+      calls = sink.calls;
+      fails = sink.fails;
+      taken = sink.taken;
+      faults = sink.faults;
+    } };
+}
+
+impl MemSink {
+    /// An empty sink, whose write number `fails`, counted from 0, takes at most `taken` bytes and fails.
+    pub fn new(alloc: Global, fails: Option<u64>, taken: usize) -> MemSink
+        ensures { result ≡ record { written = []; calls = 0; fails = fails; taken = taken; faults = 0 } }
+    {
+        MemSink {
+            bytes: Bytes::new(Vec::new(alloc)),
+            calls: 0,
+            fails,
+            taken,
+            faults: 0,
+        }
+    }
+
+    /// What was written.
+    pub fn bytes(&self) -> &Bytes
+        ensures { result.now ≡ self.now.written }
+    {
+        &self.bytes
+    }
+}
+
+impl Sink for MemSink {
+    ghost written = { λ sink. Some sink.written };
+
+    ghost faults = { λ sink. sink.faults };
+
+    /// A write that finds no memory fails, and takes nothing.
+    fn write(&mut self, bytes: &[u8]) -> Result<(), Failed> {
+        let call = self.calls;
+        self.calls = self.calls.saturating_add(1);
+        if self.fails == Some(call) {
+            take_part(&mut self.bytes, bytes, self.taken);
+            self.faults = risen(self.faults);
+            return Err(Failed);
+        }
+        match self.bytes.extend(bytes) {
+            Ok(()) => Ok(()),
+            Err(_) => {
+                self.faults = risen(self.faults);
+                Err(Failed)
+            }
+        }
+    }
+}
+
+#[cfg(test)]
+mod tests {
+    use super::*;
+    use std::test::Fail;
+
+    #[test]
+    fn a_source_gives_its_bytes_and_then_the_end(rt: HostRuntime) -> Result<(), Fail> {
+        let bytes = Bytes::copied(rt.alloc(), b"ab")?;
+        let mut source = MemSource::new(bytes, Some(1));
+        let mut buf = [0; 4096];
+        assert_eq!(rt; source.read(&mut buf), Ok(2));
+        assert_eq!(rt; &buf[..2], b"ab".as_slice());
+        assert_eq!(rt; source.read(&mut buf), Err(Failed));
+        assert_eq!(rt; source.read(&mut buf), Ok(0));
+        Ok(())
+    }
+
+    #[test]
+    fn a_sink_keeps_a_front_of_a_failed_write(rt: HostRuntime) -> Result<(), Fail> {
+        let mut sink = MemSink::new(rt.alloc(), Some(1), 2);
+        assert_eq!(rt; sink.write(b"one"), Ok(()));
+        assert_eq!(rt; sink.write(b"two"), Err(Failed));
+        assert_eq!(rt; sink.write(b"three"), Ok(()));
+        assert_eq!(rt; sink.bytes().as_slice(), b"onetwthree".as_slice());
+        Ok(())
+    }
+}

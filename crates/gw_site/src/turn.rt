@@ -1,0 +1,75 @@
+//! What stands in a site's log.
+ghost use Rattle.std.specs.Prelude.{◌≡◌};
+
+use gw_base::{Bytes, Setup};
+use std::marker::Model;
+
+/// One thing that went in or out.
+#[derive(Debug, Drop)]
+pub enum Turn {
+    /// A run begins with this setup.
+    Start(Setup),
+    OpenFailed,
+    /// The site was polled; the turn of what it brought, if it brought anything, stands behind.
+    Polled { now: i64 },
+    Opened { till: u64 },
+    HeardTill { till: u64, bytes: Bytes },
+    /// The till closed its line.
+    Closed { till: u64 },
+    HeardPt { pt: u16, bytes: Bytes },
+    /// The terminal's line is lost.
+    Lost { pt: u16 },
+    /// The run is to end.
+    Stopped,
+    Linked { pt: u16 },
+    LinkFailed { pt: u16 },
+    /// Where `ok` is false, only these bytes were taken of those that were to be sent.
+    SentTill { till: u64, bytes: Bytes, ok: bool },
+    /// Where `ok` is false, only these bytes were taken of those that were to be sent.
+    SentPt { pt: u16, bytes: Bytes, ok: bool },
+    CutTill { till: u64 },
+    CutPt { pt: u16 },
+    Wrote { pos: u64, bytes: Bytes },
+    Synced,
+    DiskFailed,
+    /// The power failed and left this file.
+    Crash { file: Bytes },
+}
+
+/// The turns of a log, oldest first. A contract sees a list.
+#[derive(Debug, Drop)]
+pub struct Turns {
+    inner: Vec<Turn>,
+}
+
+impl Model for Turns {
+    ghost use Rattle.std.specs.Prelude.{List};
+    ghost use Rattle.gw_site.specs.declared.turn.Turn.{Turn};
+
+    ghost Value = { List Turn };
+
+    ghost view = { λ turns. turns.inner.items };
+}
+
+impl Turns {
+    /// The turns of this vector.
+    pub fn new(inner: Vec<Turn>) -> Turns
+        ensures { result ≡ inner.items }
+    {
+        Turns { inner }
+    }
+
+    /// The vector.
+    pub fn inner(&self) -> &Vec<Turn>
+        ensures { result.now.items ≡ self.now }
+    {
+        &self.inner
+    }
+
+    /// The turns as a slice.
+    pub fn as_slice(&self) -> &[Turn]
+        ensures { result.now ≡ self.now }
+    {
+        &self.inner
+    }
+}

@@ -1,0 +1,352 @@
+-- Each field of a record stands at its place, and a body is that of one record.
+use Rattle.std.proofs.Common.{◌≡◌, ℕ, suc, zero, ◌+◌, ◌-◌, ◌<◌, ◌≤◌, ◌^◌, ◌==◌, Bool, true, false, if◌then◌else◌, List, [], ◌∷◌, ◌++◌, length, take, drop, replicate, get_or, arith, sym, ◌∙◌, ap, subst, refl, length-append, append_assoc, Option, Some, None, ℤ, pos, negsuc, w32, w64}
+use Rattle.std.proofs.Math.Seq.{drop-append_seam, take-append_seam}
+use Rattle.std.proofs.lemmas.List.{length-replicate}
+use Rattle.std.proofs.lemmas.Int.{ints}
+use Rattle.std.proofs.lemmas.Nat.{from_be_bytes-to_be_bytes_4, from_be_bytes-to_be_bytes_8}
+use Rattle.std.specs.Int.{from_be_bytes, to_be_bytes}
+use Rattle.gw_base.specs.Bcd.{bcd_of, bcd_value}
+use Rattle.gw_base.specs.Currency.{number_of}
+use Rattle.gw_base.specs.Moment.{IsMoment}
+use Rattle.gw_base.specs.declared.condition.Condition.{Condition}
+use Rattle.gw_base.specs.declared.condition.Condition.TheVariants.{Aborted, Busy, Cancel, InProgress, InsertedCard, InvalidCard, LoggedOut, MessageFormat, NotAllowed, NotFound, Refusal, UnavailableDevice, UnavailableService}
+use Rattle.gw_base.specs.declared.currency.Currency.{Currency}
+use Rattle.gw_base.specs.declared.currency.Currency.TheVariants.{Eur, Chf, Gbp, Usd, Dkk, Sek, Nok, Pln, Czk}
+use Rattle.gw_base.proofs.BcdLemmas.{bcd_value-of, length-bcd_of}
+use Rattle.jrn_record.specs.Limits.{HasOriginal, HasReason, HasText, IsIntent, IsOutcome, IsRecord, IsSettled, reason_code}
+use Rattle.jrn_record.specs.Spelling.{body_of, condition_code, fields_of, how_code, intent_fields, joined, moment_field, option_field, original_code, outcome_fields, settled_fields, text_field}
+use Rattle.jrn_record.specs.Table.{Agree, IsFirstFault, Place, field, intent_table, outcome_table, settled_table, table_at, table_of}
+use Rattle.jrn_record.specs.declared.values.Deal.{Deal}
+use Rattle.jrn_record.specs.declared.values.Deal.TheVariants.{Payment, Reversal}
+use Rattle.jrn_record.specs.declared.values.How.{How}
+use Rattle.jrn_record.specs.declared.values.How.TheVariants.{Sale, Acquirer}
+use Rattle.jrn_record.specs.declared.values.Intent.{Intent as TheIntent}
+use Rattle.jrn_record.specs.declared.values.Outcome.{Outcome as TheOutcome}
+use Rattle.jrn_record.specs.declared.values.Settled.{Settled as TheSettled}
+use Rattle.jrn_record.specs.declared.values.Record.{Record}
+use Rattle.jrn_record.specs.declared.values.Record.TheVariants.{Intent, Outcome, Settled}
+use Rattle.jrn_record.proofs.FieldLemmas.{text_field-injective, told_below}
+use Rattle.jrn_record.proofs.ReadLemmas.{same_approval, same_deal}
+use Rattle.jrn_record.proofs.RunLemmas.{IsRun}
+
+-- ---- the fields stand at their places
+
+-- each field has the size of its table
+abbrev HasSizes : List (List ℕ) → List Place → Type 0
+HasSizes [] [] = Unit {0}
+HasSizes [] (there ∷ table) = ⊥
+HasSizes (field ∷ fields) [] = ⊥
+HasSizes (field ∷ fields) (there ∷ table) = (length field ≡ there.size) × HasSizes fields table
+
+-- fields of the right sizes, one behind the other, stand at their places
+laid : (fields : List (List ℕ)) (table : List Place) (at end : ℕ) (front : List ℕ) → HasSizes fields table → IsRun at table end
+    → length front ≡ at → Agree (length table) fields table (front ++ joined fields) × (at + length (joined fields) ≡ end)
+laid [] [] at end front sizes run len = (tt, omega (arith, run))
+laid [] (there ∷ table) at end front sizes run len = absurd sizes
+laid (field ∷ fields) [] at end front sizes run len = absurd sizes
+laid (field ∷ fields) (there ∷ table) at end front sizes run len =
+    let next = laid fields table (at + there.size) end (front ++ field) sizes.1 run.1
+    (omega (arith, length-append front field, len, sizes.0)) in
+    let body : (front ++ field) ++ joined fields ≡ front ++ (field ++ joined fields) = append_assoc front field (joined fields) in
+    let rest : drop there.place (front ++ (field ++ joined fields)) ≡ field ++ joined fields =
+    ap (λ place. drop place (front ++ (field ++ joined fields))) (run.0 ∙ sym len) ∙ drop-append_seam front (field ++ joined fields) in
+    let here : field ≡ take there.size (drop there.place (front ++ (field ++ joined fields))) =
+    sym (ap (take there.size) rest ∙ ap (λ n. take n (field ++ joined fields)) (sym sizes.0) ∙ take-append_seam field (joined fields)) in (
+      (here, subst (λ b. Agree (length table) fields table b) body next.0),
+      omega (arith, next.1, length-append field (joined fields), sizes.0),
+    )
+
+length-text_field : (size : ℕ) (text : List ℕ) → length text < size → length (text_field size text) ≡ size
+length-text_field size text fits =
+    omega (arith, length-append text (replicate (size - 1 - length text) 0), length-replicate {A = ℕ} (size - 1 - length text) 0)
+
+length-option_field : (what : Deal) (most : ℕ) (text : Option (List ℕ)) → HasText what most text → length (option_field (most + 1) text) ≡ most + 1
+length-option_field Payment most None has = absurd has
+length-option_field Payment most (Some text) has = length-text_field (most + 1) text (omega (arith, has.1))
+length-option_field Reversal most None has = length-replicate (most + 1) 0
+length-option_field Reversal most (Some text) has = absurd has
+
+sizes_of : (item : Record) → IsRecord item → HasSizes (fields_of item) (table_of item)
+sizes_of (Intent i) is = (
+  refl,
+  (
+    refl,
+    (
+      length-text_field 41 i.sale (omega (arith, is.sale.1)),
+      (
+        length-text_field 41 i.poi (omega (arith, is.poi.1)),
+        (
+          length-text_field 11 i.service (omega (arith, is.service.1)),
+          (
+            length-option_field i.what 80 i.transaction is.transaction,
+            (
+              length-option_field i.what 35 i.stamp is.stamp,
+              (
+                length-bcd_of 6 i.amount,
+                (
+                  length-bcd_of 2 (number_of i.currency),
+                  (
+                    length-bcd_of 3 i.before,
+                    (refl, (refl, (length-replicate {A = ℕ} 20 0, tt))),
+                  ),
+                ),
+              ),
+            ),
+          ),
+        ),
+      ),
+    ),
+  ),
+)
+sizes_of (Outcome o) is =
+    (refl, (refl, (refl, (length-bcd_of 3 o.number, (length-bcd_of 2 o.receipt, (length-bcd_of 6 o.amount, (refl, (refl, (length-replicate {A = ℕ} 229 0, tt)))))))))
+sizes_of (Settled s) is = (
+  refl,
+  (
+    refl,
+    (
+      length-text_field 41 s.sale (omega (arith, is.sale.1)),
+      (
+        length-text_field 41 s.poi (omega (arith, is.poi.1)),
+        (length-text_field 11 s.service (omega (arith, is.service.1)), (length-bcd_of 2 (number_of s.currency), (refl, (length-replicate {A = ℕ} 150 0, tt)))),
+      ),
+    ),
+  ),
+)
+
+run_of : (item : Record) → IsRun 0 (table_of item) 255
+run_of (Intent i) = (refl, (refl, (refl, (refl, (refl, (refl, (refl, (refl, (refl, (refl, (refl, (refl, (refl, refl)))))))))))))
+run_of (Outcome o) = (refl, (refl, (refl, (refl, (refl, (refl, (refl, (refl, (refl, refl)))))))))
+run_of (Settled s) = (refl, (refl, (refl, (refl, (refl, (refl, (refl, (refl, refl))))))))
+
+pub body_of-places : (item : Record) → IsRecord item
+    → (length (body_of item) ≡ 255) × Agree (length (table_of item)) (fields_of item) (table_of item) (body_of item)
+body_of-places item is =
+    let h = laid (fields_of item) (table_of item) 0 255 [] (sizes_of item is) (run_of item) refl in
+    (omega (arith, h.1), h.0)
+
+-- ---- one spelling, one value
+
+option_same : (what : Deal) (most size : ℕ) (a b : Option (List ℕ)) → HasText what most a → HasText what most b
+    → option_field size a ≡ option_field size b → a ≡ b
+option_same Payment most size None b has too e = absurd has
+option_same Payment most size (Some text) None has too e = absurd too
+option_same Payment most size (Some text) (Some other) has too e = ap Some (text_field-injective size text other e)
+option_same Reversal most size None None has too e = refl
+option_same Reversal most size None (Some other) has too e = absurd too
+option_same Reversal most size (Some text) b has too e = absurd has
+
+original_same : (what : Deal) (a b : Option ℕ) → HasOriginal what a → HasOriginal what b
+    → to_be_bytes w32 (original_code a) ≡ to_be_bytes w32 (original_code b) → a ≡ b
+original_same Payment None None has too e = refl
+original_same Payment None (Some other) has too e = absurd too
+original_same Payment (Some slot) b has too e = absurd has
+original_same Reversal None b has too e = absurd has
+original_same Reversal (Some slot) None has too e = absurd too
+original_same Reversal (Some slot) (Some other) has too e =
+    ap Some (sym (from_be_bytes-to_be_bytes_4 slot has) ∙ ap (from_be_bytes w32) e ∙ from_be_bytes-to_be_bytes_4 other too)
+
+bcd_same : (count a b : ℕ) → a < 100 ^ count → b < 100 ^ count → bcd_of count a ≡ bcd_of count b → a ≡ b
+bcd_same count a b fits too e = sym (bcd_value-of count a fits).1 ∙ ap bcd_value e ∙ (bcd_value-of count b too).1
+
+-- the currency of a number
+currency_at : ℕ → Currency
+currency_at number =
+    if number == 978 then Eur else (if number == 756 then Chf else (if number == 826 then Gbp else (if number == 840 then Usd
+    else (if number == 208 then Dkk else (if number == 752 then Sek else (if number == 578 then Nok else (if number == 985 then Pln else Czk)))))))
+
+currency_at-number : (currency : Currency) → currency_at (number_of currency) ≡ currency
+unfolding currency_at
+currency_at-number Eur = refl
+currency_at-number Chf = refl
+currency_at-number Gbp = refl
+currency_at-number Usd = refl
+currency_at-number Dkk = refl
+currency_at-number Sek = refl
+currency_at-number Nok = refl
+currency_at-number Pln = refl
+currency_at-number Czk = refl
+
+number_fits : (currency : Currency) → number_of currency < 100 ^ 2
+number_fits Eur = omega arith
+number_fits Chf = omega arith
+number_fits Gbp = omega arith
+number_fits Usd = omega arith
+number_fits Dkk = omega arith
+number_fits Sek = omega arith
+number_fits Nok = omega arith
+number_fits Pln = omega arith
+number_fits Czk = omega arith
+
+currency_same : (a b : Currency) → bcd_of 2 (number_of a) ≡ bcd_of 2 (number_of b) → a ≡ b
+currency_same a b e =
+    sym (currency_at-number a) ∙ ap currency_at (bcd_same 2 (number_of a) (number_of b) (number_fits a) (number_fits b) e) ∙ currency_at-number b
+
+-- the reason of a code
+reason_at : ℕ → Condition
+reason_at code =
+    if code == 1 then Aborted else (if code == 2 then Cancel else (if code == 3 then Refusal else (if code == 4 then InvalidCard
+    else (if code == 5 then InsertedCard else (if code == 6 then UnavailableService else NotAllowed)))))
+
+reason_at-code : (condition : Condition) → 1 ≤ reason_code condition → reason_at (reason_code condition) ≡ condition
+unfolding reason_at
+reason_at-code Aborted h = refl
+reason_at-code Cancel h = refl
+reason_at-code Refusal h = refl
+reason_at-code InvalidCard h = refl
+reason_at-code InsertedCard h = refl
+reason_at-code UnavailableService h = refl
+reason_at-code NotAllowed h = refl
+reason_at-code Busy h = absurd (omega arith)
+reason_at-code InProgress h = absurd (omega arith)
+reason_at-code LoggedOut h = absurd (omega arith)
+reason_at-code MessageFormat h = absurd (omega arith)
+reason_at-code NotFound h = absurd (omega arith)
+reason_at-code UnavailableDevice h = absurd (omega arith)
+
+condition_same : (approved : Bool) (a b : Option Condition) → HasReason approved a → HasReason approved b
+    → condition_code a ∷ [] ≡ condition_code b ∷ [] → a ≡ b
+condition_same true None None has too e = refl
+condition_same true None (Some other) has too e = absurd too
+condition_same true (Some condition) b has too e = absurd has
+condition_same false None b has too e = absurd has
+condition_same false (Some condition) None has too e = absurd too
+condition_same false (Some condition) (Some other) has too e =
+    ap Some (sym (reason_at-code condition has) ∙ ap reason_at (ap (λ code. get_or code 0 0) e) ∙ reason_at-code other too)
+
+moment_same : (a b : ℤ) → IsMoment a → IsMoment b → moment_field a ≡ moment_field b → a ≡ b
+moment_same (pos a) (pos b) is too e =
+    ap pos (sym (from_be_bytes-to_be_bytes_8 a (omega (arith, ints))) ∙ ap (from_be_bytes w64) e ∙ from_be_bytes-to_be_bytes_8 b (omega (arith, ints)))
+moment_same (pos a) (negsuc b) is too e = absurd (omega (arith, ints))
+moment_same (negsuc a) b is too e = absurd (omega (arith, ints))
+
+how_same : (a b : How) → how_code a ∷ [] ≡ how_code b ∷ [] → a ≡ b
+how_same a b e = at a b (ap (λ code. get_or code 0 0) e)
+  where
+    at : (a b : How) → how_code a ≡ how_code b → a ≡ b
+    at Sale Sale e = refl
+    at Sale Acquirer e = absurd (omega arith)
+    at Acquirer Sale e = absurd (omega arith)
+    at Acquirer Acquirer e = refl
+
+-- ---- one body, one record
+
+-- two lists of fields that agree with one body are the same, field by field
+abbrev Same : List (List ℕ) → List (List ℕ) → Type 0
+Same [] [] = Unit {0}
+Same [] (g ∷ gs) = ⊥
+Same (f ∷ fs) [] = ⊥
+Same (f ∷ fs) (g ∷ gs) = (f ≡ g) × Same fs gs
+
+agree_same : (fields others : List (List ℕ)) (table : List Place) (body : List ℕ) → length fields ≡ length table → length others ≡ length table
+    → Agree (length table) fields table body → Agree (length table) others table body → Same fields others
+agree_same [] [] table body len too a b = tt
+agree_same [] (g ∷ gs) table body len too a b = absurd (omega (arith, len, too))
+agree_same (f ∷ fs) [] table body len too a b = absurd (omega (arith, len, too))
+agree_same (f ∷ fs) (g ∷ gs) [] body len too a b = absurd (omega arith)
+agree_same (f ∷ fs) (g ∷ gs) (there ∷ table) body len too a b =
+    (a.0 ∙ sym b.0, agree_same fs gs table body (omega (arith, len)) (omega (arith, too)) a.1 b.1)
+
+intent_same : (i j : TheIntent) → IsIntent i → IsIntent j → Same (intent_fields i) (intent_fields j) → i ≡ j
+intent_same i j is too s =
+    let what : i.what ≡ j.what = same_deal i.what j.what _ s.1.0 refl in
+    let has : HasText i.what 80 j.transaction = subst (λ w. HasText w 80 j.transaction) (sym what) too.transaction in
+    let stamped : HasText i.what 35 j.stamp = subst (λ w. HasText w 35 j.stamp) (sym what) too.stamp in
+    let originals : HasOriginal i.what j.original = subst (λ w. HasOriginal w j.original) (sym what) too.original in
+    let sale = text_field-injective 41 i.sale j.sale s.1.1.0 in
+    let poi = text_field-injective 41 i.poi j.poi s.1.1.1.0 in
+    let service = text_field-injective 11 i.service j.service s.1.1.1.1.0 in
+    let transaction = option_same i.what 80 81 i.transaction j.transaction is.transaction has s.1.1.1.1.1.0 in
+    let stamp = option_same i.what 35 36 i.stamp j.stamp is.stamp stamped s.1.1.1.1.1.1.0 in
+    let amount = bcd_same 6 i.amount j.amount (omega (arith, is.amount)) (omega (arith, too.amount)) s.1.1.1.1.1.1.1.0 in
+    let currency = currency_same i.currency j.currency s.1.1.1.1.1.1.1.1.0 in
+    let before = bcd_same 3 i.before j.before (omega (arith, is.before)) (omega (arith, too.before)) s.1.1.1.1.1.1.1.1.1.0 in
+    let original = original_same i.what i.original j.original is.original originals s.1.1.1.1.1.1.1.1.1.1.0 in
+    let moment = moment_same i.moment j.moment is.moment too.moment s.1.1.1.1.1.1.1.1.1.1.1.0 in
+    λ k. record {
+      what = what k;
+      sale = sale k;
+      poi = poi k;
+      service = service k;
+      transaction = transaction k;
+      stamp = stamp k;
+      amount = amount k;
+      currency = currency k;
+      before = before k;
+      original = original k;
+      moment = moment k;
+    }
+
+outcome_same : (o p : TheOutcome) → IsOutcome o → IsOutcome p → Same (outcome_fields o) (outcome_fields p) → o ≡ p
+outcome_same o p is too s =
+    let approved : o.approved ≡ p.approved = same_approval o.approved p.approved _ s.1.0 refl in
+    let slot = sym (from_be_bytes-to_be_bytes_4 o.slot is.slot) ∙ ap (from_be_bytes w32) s.1.1.0 ∙ from_be_bytes-to_be_bytes_4 p.slot too.slot in
+    let number = bcd_same 3 o.number p.number (told_below o.approved 1 999999 3 o.number (omega arith) is.number)
+    (told_below p.approved 1 999999 3 p.number (omega arith) too.number) s.1.1.1.0 in
+    let receipt = bcd_same 2 o.receipt p.receipt (told_below o.approved 0 9999 2 o.receipt (omega arith) is.receipt)
+    (told_below p.approved 0 9999 2 p.receipt (omega arith) too.receipt) s.1.1.1.1.0 in
+    let amount = bcd_same 6 o.amount p.amount (told_below o.approved 1 999999999999 6 o.amount (omega arith) is.amount)
+    (told_below p.approved 1 999999999999 6 p.amount (omega arith) too.amount) s.1.1.1.1.1.0 in
+    let has : HasReason o.approved p.condition = subst (λ a. HasReason a p.condition) (sym approved) too.condition in
+    let condition = condition_same o.approved o.condition p.condition is.condition has s.1.1.1.1.1.1.0 in
+    let moment = moment_same o.moment p.moment is.moment too.moment s.1.1.1.1.1.1.1.0 in
+    λ k. record {
+      approved = approved k;
+      slot = slot k;
+      number = number k;
+      receipt = receipt k;
+      amount = amount k;
+      condition = condition k;
+      moment = moment k;
+    }
+
+settled_same : (s t : TheSettled) → IsSettled s → IsSettled t → Same (settled_fields s) (settled_fields t) → s ≡ t
+settled_same s t is too a =
+    let how = how_same s.how t.how a.1.0 in
+    let sale = text_field-injective 41 s.sale t.sale a.1.1.0 in
+    let poi = text_field-injective 41 s.poi t.poi a.1.1.1.0 in
+    let service = text_field-injective 11 s.service t.service a.1.1.1.1.0 in
+    let currency = currency_same s.currency t.currency a.1.1.1.1.1.0 in
+    let moment = moment_same s.moment t.moment is.moment too.moment a.1.1.1.1.1.1.0 in
+    λ k. record { how = how k; sale = sale k; poi = poi k; service = service k; currency = currency k; moment = moment k }
+
+pub body_of-injective : (a b : Record) → IsRecord a → IsRecord b → body_of a ≡ body_of b → a ≡ b
+body_of-injective (Intent i) (Intent j) is too e =
+    ap Intent (intent_same i j is too (agree_same (intent_fields i) (intent_fields j) intent_table (body_of (Intent i)) refl refl
+    (body_of-places (Intent i) is).1 (subst (λ body. Agree 13 (intent_fields j) intent_table body) (sym e) (body_of-places (Intent j) too).1)))
+body_of-injective (Outcome o) (Outcome p) is too e =
+    ap Outcome (outcome_same o p is too (agree_same (outcome_fields o) (outcome_fields p) outcome_table (body_of (Outcome o)) refl refl
+    (body_of-places (Outcome o) is).1 (subst (λ body. Agree 9 (outcome_fields p) outcome_table body) (sym e) (body_of-places (Outcome p) too).1)))
+body_of-injective (Settled s) (Settled t) is too e =
+    ap Settled (settled_same s t is too (agree_same (settled_fields s) (settled_fields t) settled_table (body_of (Settled s)) refl refl
+    (body_of-places (Settled s) is).1 (subst (λ body. Agree 8 (settled_fields t) settled_table body) (sym e) (body_of-places (Settled t) too).1)))
+body_of-injective (Intent i) (Outcome p) is too e = let f : 1 ≡ 2 = ap (λ body. get_or body 0 0) e in absurd (omega (arith, f))
+body_of-injective (Intent i) (Settled t) is too e = let f : 1 ≡ 3 = ap (λ body. get_or body 0 0) e in absurd (omega (arith, f))
+body_of-injective (Outcome o) (Intent j) is too e = let f : 2 ≡ 1 = ap (λ body. get_or body 0 0) e in absurd (omega (arith, f))
+body_of-injective (Outcome o) (Settled t) is too e = let f : 2 ≡ 3 = ap (λ body. get_or body 0 0) e in absurd (omega (arith, f))
+body_of-injective (Settled s) (Intent j) is too e = let f : 3 ≡ 1 = ap (λ body. get_or body 0 0) e in absurd (omega (arith, f))
+body_of-injective (Settled s) (Outcome p) is too e = let f : 3 ≡ 2 = ap (λ body. get_or body 0 0) e in absurd (omega (arith, f))
+
+-- ---- a body with a fault is that of no record
+
+agree_front : (count more : ℕ) (fields : List (List ℕ)) (table : List Place) (body : List ℕ) → count ≤ more
+    → Agree more fields table body → Agree count fields table body
+agree_front zero more fields table body few a = tt
+agree_front (suc count) zero fields table body few a = absurd (omega arith)
+agree_front (suc count) (suc more) [] table body few a = absurd a
+agree_front (suc count) (suc more) (f ∷ fs) [] body few a = absurd a
+agree_front (suc count) (suc more) (f ∷ fs) (there ∷ table) body few a = (a.0, agree_front count more fs table body (omega arith) a.1)
+
+table_at-body : (item : Record) → table_at (body_of item) ≡ table_of item
+table_at-body (Intent i) = refl
+table_at-body (Outcome o) = refl
+table_at-body (Settled s) = refl
+
+pub fault-no_record : (body : List ℕ) (at : ℕ) → IsFirstFault (table_at body) body at → (item : Record) → IsRecord item → body ≡ body_of item → ⊥
+fault-no_record body at fault item is e =
+    let table : table_at body ≡ table_of item = ap table_at e ∙ table_at-body item in
+    let whole : Agree (length (table_of item)) (fields_of item) (table_of item) body =
+    subst (λ b. Agree (length (table_of item)) (fields_of item) (table_of item) b) (sym e) (body_of-places item is).1 in
+    let same : Agree (length (table_at body)) (fields_of item) (table_at body) body =
+    subst (λ t. Agree (length t) (fields_of item) t body) (sym table) whole in
+    fault.not_spelled item is (agree_front (suc fault.count) (length (table_at body)) (fields_of item) (table_at body) body fault.inside same)

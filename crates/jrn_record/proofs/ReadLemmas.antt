@@ -1,0 +1,212 @@
+-- The first field that no record spells.
+use Rattle.std.proofs.Common.{◌≡◌, ℕ, suc, ◌<◌, ◌≤◌, Bool, true, false, List, [], ◌∷◌, ◌==◌, drop, get_or, map, length, arith, sym, ◌∙◌, ap, subst, refl, Option, Some, None, Result, Err, MatchResult, pos}
+use Rattle.std.proofs.lemmas.Bool.Decides.{nat_tests}
+use Rattle.std.proofs.lemmas.Int.{ints}
+use Rattle.std.proofs.lemmas.List.{get_or-drop, get_or-take}
+use Rattle.std.proofs.lemmas.List.Elements.{All-cons, All-nil}
+use Rattle.gw_base.specs.Ident.{IsIdent, IsPrintable}
+use Rattle.gw_base.specs.Moment.{IsMoment}
+use Rattle.gw_base.specs.declared.condition.Condition.{Condition}
+use Rattle.gw_base.specs.declared.condition.Condition.TheVariants.{Refusal}
+use Rattle.gw_base.specs.declared.currency.Currency.TheVariants.{Eur}
+use Rattle.jrn_record.specs.Limits.{HasOriginal, HasReason, HasText, IsIntent, IsOutcome, IsRecord, IsSettled, IsTold}
+use Rattle.jrn_record.specs.Spelling.{approval_code, deal_code, fields_of, intent_fields, outcome_fields, settled_fields}
+use Rattle.jrn_record.specs.Table.{Agree, IsFirstFault, Place, field, field_at, intent_table, outcome_table, settled_table, table_at}
+use Rattle.jrn_record.specs.declared.fields.RecordFault.{RecordFault}
+use Rattle.jrn_record.specs.declared.values.Deal.{Deal}
+use Rattle.jrn_record.specs.declared.values.Deal.TheVariants.{Payment, Reversal}
+use Rattle.jrn_record.specs.declared.values.Intent.{Intent as TheIntent}
+use Rattle.jrn_record.specs.declared.values.Outcome.{Outcome as TheOutcome}
+use Rattle.jrn_record.specs.declared.values.Settled.{Settled as TheSettled}
+use Rattle.jrn_record.specs.declared.values.Record.{Record}
+use Rattle.jrn_record.specs.declared.values.Record.TheVariants.{Intent, Outcome, Settled}
+
+-- ---- blank values, which fill the fields that were not read
+
+abbrev pub blank : List ℕ
+blank = 0x30 ∷ []
+
+pub blank_is : (most : ℕ) → 1 ≤ most → IsIdent most blank
+blank_is most room =
+    (omega arith, omega arith, All-cons IsPrintable 0x30 [] (omega arith, omega arith) (All-nil IsPrintable))
+
+abbrev pub blank_option : Deal → Option (List ℕ)
+blank_option Payment = Some blank
+blank_option Reversal = None
+
+pub blank_option_is : (what : Deal) (most : ℕ) → 1 ≤ most → HasText what most (blank_option what)
+blank_option_is Payment most room = blank_is most room
+blank_option_is Reversal most room = tt
+
+abbrev pub blank_original : Deal → Option ℕ
+blank_original Payment = None
+blank_original Reversal = Some 0
+
+pub blank_original_is : (what : Deal) → HasOriginal what (blank_original what)
+blank_original_is Payment = tt
+blank_original_is Reversal = omega arith
+
+abbrev pub blank_told : Bool → ℕ
+blank_told true = 1
+blank_told false = 0
+
+pub blank_told_is : (told : Bool) (most : ℕ) → 1 ≤ most → IsTold told 1 most (blank_told told)
+blank_told_is true most room = (omega arith, room)
+blank_told_is false most room = refl
+
+pub zero_told_is : (told : Bool) (most : ℕ) → IsTold told 0 most 0
+zero_told_is true most = (omega arith, omega arith)
+zero_told_is false most = refl
+
+abbrev pub blank_reason : Bool → Option Condition
+blank_reason true = None
+blank_reason false = Some Refusal
+
+pub blank_reason_is : (approved : Bool) → HasReason approved (blank_reason approved)
+blank_reason_is true = tt
+blank_reason_is false = omega arith
+
+pub zero_moment : IsMoment (pos 0)
+zero_moment = (omega (arith, ints), omega (arith, ints))
+
+-- ---- one code, one kind
+
+pub same_deal : (a b : Deal) (bytes : List ℕ) → deal_code a ∷ [] ≡ bytes → deal_code b ∷ [] ≡ bytes → a ≡ b
+same_deal a b bytes e f = at a b (ap (λ code. get_or code 0 0) (e ∙ sym f))
+  where
+    at : (a b : Deal) → deal_code a ≡ deal_code b → a ≡ b
+    at Payment Payment e = refl
+    at Payment Reversal e = absurd (omega arith)
+    at Reversal Payment e = absurd (omega arith)
+    at Reversal Reversal e = refl
+
+pub same_approval : (a b : Bool) (bytes : List ℕ) → approval_code a ∷ [] ≡ bytes → approval_code b ∷ [] ≡ bytes → a ≡ b
+same_approval a b bytes e f = at a b (ap (λ code. get_or code 0 0) (e ∙ sym f))
+  where
+    at : (a b : Bool) → approval_code a ≡ approval_code b → a ≡ b
+    at true true e = refl
+    at true false e = absurd (omega arith)
+    at false true e = absurd (omega arith)
+    at false false e = refl
+
+-- two first bytes that differ
+pub first_differs : (a b : ℕ) (bytes : List ℕ) → (a ≡ b → ⊥) → a ∷ [] ≡ bytes → b ∷ [] ≡ bytes → ⊥
+first_differs a b bytes other e f = other (ap (λ code. get_or code 0 0) (e ∙ sym f))
+
+-- ---- what isn't spelled by an Intent is spelled by no record, and so on
+
+pub intent_fault : (body : List ℕ) (count at : ℕ) (draft : TheIntent) → count < 13
+    → at ≡ get_or (map (λ there. there.place) intent_table) count 0
+    → IsIntent draft → Agree count (intent_fields draft) intent_table body → 1 ∷ [] ≡ field_at body (field 0 1)
+    → ((i : TheIntent) → IsIntent i → Agree (suc count) (intent_fields i) intent_table body → ⊥)
+    → IsFirstFault intent_table body at
+intent_fault body count at draft inside place is agrees kind none = record {
+  count = count;
+  inside = inside;
+  place = place;
+  spelled_before = (Intent draft, is, agrees);
+  not_spelled = other;
+}
+  where
+    other : (item : Record) → IsRecord item → Agree (suc count) (fields_of item) intent_table body → ⊥
+    other (Intent i) is a = none i is a
+    other (Outcome o) is a = first_differs 2 1 (field_at body (field 0 1)) (λ e. omega arith) a.0 kind
+    other (Settled s) is a = first_differs 3 1 (field_at body (field 0 1)) (λ e. omega arith) a.0 kind
+
+pub outcome_fault : (body : List ℕ) (count at : ℕ) (draft : TheOutcome) → count < 9
+    → at ≡ get_or (map (λ there. there.place) outcome_table) count 0
+    → IsOutcome draft → Agree count (outcome_fields draft) outcome_table body → 2 ∷ [] ≡ field_at body (field 0 1)
+    → ((o : TheOutcome) → IsOutcome o → Agree (suc count) (outcome_fields o) outcome_table body → ⊥)
+    → IsFirstFault outcome_table body at
+outcome_fault body count at draft inside place is agrees kind none = record {
+  count = count;
+  inside = inside;
+  place = place;
+  spelled_before = (Outcome draft, is, agrees);
+  not_spelled = other;
+}
+  where
+    other : (item : Record) → IsRecord item → Agree (suc count) (fields_of item) outcome_table body → ⊥
+    other (Intent i) is a = first_differs 1 2 (field_at body (field 0 1)) (λ e. omega arith) a.0 kind
+    other (Outcome o) is a = none o is a
+    other (Settled s) is a = first_differs 3 2 (field_at body (field 0 1)) (λ e. omega arith) a.0 kind
+
+pub settled_fault : (body : List ℕ) (count at : ℕ) (draft : TheSettled) → count < 8
+    → at ≡ get_or (map (λ there. there.place) settled_table) count 0
+    → IsSettled draft → Agree count (settled_fields draft) settled_table body → 3 ∷ [] ≡ field_at body (field 0 1)
+    → ((s : TheSettled) → IsSettled s → Agree (suc count) (settled_fields s) settled_table body → ⊥)
+    → IsFirstFault settled_table body at
+settled_fault body count at draft inside place is agrees kind none = record {
+  count = count;
+  inside = inside;
+  place = place;
+  spelled_before = (Settled draft, is, agrees);
+  not_spelled = other;
+}
+  where
+    other : (item : Record) → IsRecord item → Agree (suc count) (fields_of item) settled_table body → ⊥
+    other (Intent i) is a = first_differs 1 3 (field_at body (field 0 1)) (λ e. omega arith) a.0 kind
+    other (Outcome o) is a = first_differs 2 3 (field_at body (field 0 1)) (λ e. omega arith) a.0 kind
+    other (Settled s) is a = none s is a
+
+-- what the exit of a `?` hands on
+pub exit : {V : Type 0} (result : Result V RecordFault) (e : RecordFault) (P : V → Type 0) (Q : RecordFault → Type 0)
+    → (x : RecordFault) × (result ≡ Err x) × (x ≡ e) → Q e → MatchResult result P Q
+exit {V} result e P Q (x, was, same) q =
+    let R : Result V RecordFault → Type 0 = λ r. MatchResult r P Q in
+    subst R (sym was) (subst Q (sym same) q)
+
+abbrev blank_intent : TheIntent
+blank_intent = record {
+  what = Payment;
+  sale = blank;
+  poi = blank;
+  service = blank;
+  transaction = Some blank;
+  stamp = Some blank;
+  amount = 1;
+  currency = Eur;
+  before = 0;
+  original = None;
+  moment = pos 0;
+}
+
+blank_intent_is : IsIntent blank_intent
+blank_intent_is = record {
+  sale = blank_is 40 (omega arith);
+  poi = blank_is 40 (omega arith);
+  service = blank_is 10 (omega arith);
+  transaction = blank_is 80 (omega arith);
+  stamp = blank_is 35 (omega arith);
+  amount = (omega arith, omega arith);
+  before = omega arith;
+  original = tt;
+  moment = zero_moment;
+}
+
+-- a body whose first byte tells no kind
+pub no_kind : (body : List ℕ) → length body ≡ 255 → (get_or body 0 0 ≡ 1 → ⊥) → (get_or body 0 0 ≡ 2 → ⊥) → (get_or body 0 0 ≡ 3 → ⊥)
+    → IsFirstFault (table_at body) body 0
+no_kind body len one two three =
+    let outcome : (get_or body 0 0 == 2) ≡ false = not_equal (get_or body 0 0) 2 two in
+    let settled : (get_or body 0 0 == 3) ≡ false = not_equal (get_or body 0 0) 3 three in
+    let table : table_at body ≡ intent_table = rw (outcome, settled) refl in
+    let P : List Place → Type 0 = λ t. IsFirstFault t body 0 in
+    subst P (sym table) (record {
+      count = 0;
+      inside = omega arith;
+      place = refl;
+      spelled_before = (Intent blank_intent, blank_intent_is, tt);
+      not_spelled = none;
+    })
+  where
+    not_equal : (a b : ℕ) → (a ≡ b → ⊥) → (a == b) ≡ false
+    not_equal a b other = grind (arith, nat_tests)
+
+    first : (kind : ℕ) → kind ∷ [] ≡ field_at body (field 0 1) → get_or body 0 0 ≡ kind
+    first kind e = sym (ap (λ bytes. get_or bytes 0 0) e ∙ get_or-take 1 (drop 0 body) 0 0 (omega arith) ∙ get_or-drop 0 body 0 0)
+
+    none : (item : Record) → IsRecord item → Agree 1 (fields_of item) intent_table body → ⊥
+    none (Intent i) is a = one (first 1 a.0)
+    none (Outcome o) is a = two (first 2 a.0)
+    none (Settled s) is a = three (first 3 a.0)

@@ -1,0 +1,14 @@
+use Rattle.jrn_record.proofs.LawLemmas.{body_of-injective, body_of-places, fault-no_record}
+use Rattle.jrn_record.proofs.laws.law_bodies.Goals as goal
+
+pub returns-clause-size : goal.returns-clause-size
+returns-clause-size c = λ item is. (body_of-places item is).0
+
+pub returns-clause-places : goal.returns-clause-places
+returns-clause-places c = λ item is. (body_of-places item is).1
+
+pub returns-clause-one_record : goal.returns-clause-one_record
+returns-clause-one_record c = body_of-injective
+
+pub returns-clause-faulty : goal.returns-clause-faulty
+returns-clause-faulty c = fault-no_record

@@ -1,0 +1,4 @@
+pub mod Limits
+pub mod Reads
+pub mod Spelling
+pub mod Table

@@ -1,0 +1,204 @@
+//! The body of a record.
+ghost use Rattle.std.specs.Prelude.{◌≡◌, ◌+◌, ◌^◌, ◌<◌, ◌≤◌, ◌++◌, [], length, replicate};
+ghost use Rattle.std.specs.Int.{to_be_bytes, w32};
+ghost use Rattle.arrayvec.specs.ArrayVec.{array_vec_len};
+ghost use Rattle.gw_base.specs.Bcd.{bcd_of};
+ghost use Rattle.gw_base.specs.Currency.{number_of};
+ghost use Rattle.gw_base.specs.Moment.{IsMoment};
+ghost use Rattle.jrn_record.specs.Limits.{IsIntent, IsOutcome, IsRecord, IsSettled};
+ghost use Rattle.jrn_record.specs.Spelling.{body_of, condition_code, deal_code, how_code, intent_fields, joined, moment_field, option_field, original_code, outcome_fields, settled_fields, text_field};
+
+use crate::{Deal, How, Intent, Outcome, Record, Settled};
+use arrayvec::ArrayVec;
+use gw_base::{Condition, Currency, Ident, bcd_write};
+
+/// A body as far as it is written.
+type Draft = ArrayVec<u8, 255>;
+
+/// Appends bytes to a draft.
+fn put(draft: &mut Draft, bytes: &[u8])
+    requires { array_vec_len draft.old + length bytes.now ≤ 255 }
+    ensures { draft.new.items ≡ draft.old.items ++ bytes.now }
+{
+    match draft.try_extend_from_slice(bytes) {
+        Ok(()) => {}
+        Err(_) => unreachable!(),
+    }
+}
+
+/// Appends so many zeros to a draft.
+fn put_zeros(draft: &mut Draft, count: usize)
+    requires { array_vec_len draft.old + count ≤ 255 }
+    ensures { draft.new.items ≡ draft.old.items ++ replicate count 0 }
+{
+    put(draft, &[0; 255][..count]);
+}
+
+/// Appends a text behind its length, filled with zeros to the size.
+fn put_text(draft: &mut Draft, text: &[u8], size: usize)
+    requires fits { length text.now < size }
+    requires room { array_vec_len draft.old + size ≤ 255 }
+    ensures { draft.new.items ≡ draft.old.items ++ text_field size text.now }
+{
+    draft.push(text.len() as u8);
+    put(draft, text);
+    put_zeros(draft, size - 1 - text.len());
+}
+
+/// Appends a text that may be absent, which is as an empty one.
+fn put_option<const N: usize>(draft: &mut Draft, text: &Option<Ident<N>>, size: usize)
+    requires fits { N < size }
+    requires room { array_vec_len draft.old + size ≤ 255 }
+    ensures { draft.new.items ≡ draft.old.items ++ option_field size text.now }
+{
+    match text {
+        Some(text) => put_text(draft, text.as_bytes(), size),
+        None => put_zeros(draft, size),
+    }
+}
+
+/// Appends a number in so many bytes of two digits.
+fn put_bcd(draft: &mut Draft, value: u64, count: usize)
+    requires few { count ≤ 6 }
+    requires fits { value < 100 ^ count }
+    requires room { array_vec_len draft.old + count ≤ 255 }
+    ensures { draft.new.items ≡ draft.old.items ++ bcd_of count value }
+{
+    let mut bytes = [0; 6];
+    let digits = &mut bytes[..count];
+    bcd_write(value, digits);
+    put(draft, digits);
+}
+
+/// Appends the number of a currency.
+fn put_currency(draft: &mut Draft, currency: Currency)
+    requires { array_vec_len draft.old + 2 ≤ 255 }
+    ensures { draft.new.items ≡ draft.old.items ++ bcd_of 2 (number_of currency) }
+{
+    put_bcd(draft, u64::from(currency.number()), 2);
+}
+
+/// Appends the slot of an original, or the greatest number where there is none.
+fn put_original(draft: &mut Draft, original: Option<u32>)
+    requires { array_vec_len draft.old + 4 ≤ 255 }
+    ensures { draft.new.items ≡ draft.old.items ++ to_be_bytes w32 (original_code original) }
+{
+    put(draft, &original.unwrap_or(u32::MAX).to_be_bytes());
+}
+
+/// Appends a moment.
+fn put_moment(draft: &mut Draft, moment: i64)
+    requires within { IsMoment moment }
+    requires room { array_vec_len draft.old + 8 ≤ 255 }
+    ensures { draft.new.items ≡ draft.old.items ++ moment_field moment }
+{
+    put(draft, &(moment as u64).to_be_bytes());
+}
+
+/// Appends the fields from `sale` to `service`.
+fn put_key(draft: &mut Draft, sale: &Ident<40>, poi: &Ident<40>, service: &Ident<10>)
+    requires { array_vec_len draft.old + 93 ≤ 255 }
+    ensures { draft.new.items ≡ draft.old.items
+        ++ (text_field 41 sale.now ++ (text_field 41 poi.now ++ text_field 11 service.now)) }
+{
+    put_text(draft, sale.as_bytes(), 41);
+    put_text(draft, poi.as_bytes(), 41);
+    put_text(draft, service.as_bytes(), 11);
+}
+
+/// Writes an Intent.
+fn put_intent(draft: &mut Draft, intent: &Intent)
+    requires empty { draft.old.items ≡ [] }
+    requires within { IsIntent intent.now }
+    ensures { draft.new.items ≡ joined (intent_fields intent.now) }
+{
+    put(draft, &[1, deal_byte(intent.what)]);
+    put_key(draft, &intent.sale, &intent.poi, &intent.service);
+    put_option(draft, &intent.transaction, 81);
+    put_option(draft, &intent.stamp, 36);
+    put_bcd(draft, intent.amount, 6);
+    put_currency(draft, intent.currency);
+    put_bcd(draft, u64::from(intent.before), 3);
+    put_original(draft, intent.original);
+    put_moment(draft, intent.moment);
+    put_zeros(draft, 20);
+}
+
+/// Writes an Outcome.
+fn put_outcome(draft: &mut Draft, outcome: &Outcome)
+    requires empty { draft.old.items ≡ [] }
+    requires within { IsOutcome outcome.now }
+    ensures { draft.new.items ≡ joined (outcome_fields outcome.now) }
+{
+    put(draft, &[2, if outcome.approved { 1 } else { 2 }]);
+    put(draft, &outcome.slot.to_be_bytes());
+    put_bcd(draft, u64::from(outcome.number), 3);
+    put_bcd(draft, u64::from(outcome.receipt), 2);
+    put_bcd(draft, outcome.amount, 6);
+    put(draft, &[condition_byte(outcome.condition)]);
+    put_moment(draft, outcome.moment);
+    put_zeros(draft, 229);
+}
+
+/// Writes a Settled.
+fn put_settled(draft: &mut Draft, settled: &Settled)
+    requires empty { draft.old.items ≡ [] }
+    requires within { IsSettled settled.now }
+    ensures { draft.new.items ≡ joined (settled_fields settled.now) }
+{
+    put(draft, &[3, how_byte(settled.how)]);
+    put_key(draft, &settled.sale, &settled.poi, &settled.service);
+    put_currency(draft, settled.currency);
+    put_moment(draft, settled.moment);
+    put_zeros(draft, 150);
+}
+
+fn deal_byte(what: Deal) -> u8
+    ensures { result ≡ deal_code what }
+{
+    match what {
+        Deal::Payment => 1,
+        Deal::Reversal => 2,
+    }
+}
+
+fn how_byte(how: How) -> u8
+    ensures { result ≡ how_code how }
+{
+    match how {
+        How::Sale => 1,
+        How::Acquirer => 2,
+    }
+}
+
+fn condition_byte(condition: Option<Condition>) -> u8
+    ensures { result ≡ condition_code condition }
+{
+    match condition {
+        Some(Condition::Aborted) => 1,
+        Some(Condition::Cancel) => 2,
+        Some(Condition::Refusal) => 3,
+        Some(Condition::InvalidCard) => 4,
+        Some(Condition::InsertedCard) => 5,
+        Some(Condition::UnavailableService) => 6,
+        Some(Condition::NotAllowed) => 7,
+        _ => 0,
+    }
+}
+
+/// The body of a record, whose fields lie within their limits.
+pub fn to_body(item: &Record) -> [u8; 255]
+    requires { IsRecord item.now }
+    ensures { result ≡ body_of item.now }
+{
+    let mut draft = Draft::new();
+    match item {
+        Record::Intent(intent) => put_intent(&mut draft, intent),
+        Record::Outcome(outcome) => put_outcome(&mut draft, outcome),
+        Record::Settled(settled) => put_settled(&mut draft, settled),
+    }
+    match draft.into_inner() {
+        Ok(body) => body,
+        Err(_) => unreachable!(),
+    }
+}

@@ -1,0 +1,4 @@
+pub mod FrameLemmas
+pub mod CallLemmas
+pub mod StreamLemmas
+pub mod ReadingLemmas

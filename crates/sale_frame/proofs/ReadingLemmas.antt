@@ -1,0 +1,176 @@
+-- The reading byte by byte is a reading by Frames.
+use Rattle.std.proofs.Common.{◌≡◌, ℕ, zero, suc, lit<, ◌+◌, ◌<◌, ◌≤◌, inl, inr, Bool, true, false, cond, List, [], ◌∷◌, ◌++◌, length, get_or, drop, refl, ap, sym, ◌∙◌, subst, arith, append_assoc, length-drop}
+use Rattle.std.proofs.lemmas.Bool.{cases_lt}
+use Rattle.std.proofs.lemmas.Bool.Decides.{nat_tests}
+use Rattle.std.proofs.lemmas.Nat.{be_bytes_4}
+use Rattle.std.proofs.lemmas.Grind.{flat_map-append}
+use Rattle.std.proofs.lemmas.List.{append-nil, take-append-drop, take-append-le, length_push}
+use Rattle.std.proofs.lemmas.List.Sums.{fold-append}
+use Rattle.std.specs.List.{AllByRecursion, fold}
+use Rattle.std.specs.Int.{w32, to_be_bytes, from_be_bytes}
+use Rattle.sale_frame.specs.Frame.{IsMessageLength, IsMessage, frame, frames, BeginsWithLength, IsUnfinished, IsRest, Frames}
+use Rattle.sale_frame.specs.Reading.{Reading, spelled_length, is_frame, with_byte, completed, reading_of, with_messages}
+use Rattle.sale_frame.proofs.StreamLemmas.{one_reading}
+use Rattle.sale_frame.proofs.FrameLemmas.{front_is_shorter, shorter_is_front, lengthened}
+
+-- numbers that fit a byte
+abbrev pub AreBytes : List ℕ → Type 0
+AreBytes bytes = AllByRecursion (λ byte. byte < 256) bytes
+
+bytes_more : (bytes : List ℕ) (byte : ℕ) → AreBytes bytes → byte < 256 → AreBytes (bytes ++ byte ∷ [])
+bytes_more [] byte small one = (one, tt)
+bytes_more (first ∷ bytes) byte small one = (small.0, bytes_more bytes byte small.1 one)
+
+each_more : (messages : List (List ℕ)) (message : List ℕ) → AllByRecursion IsMessage messages → IsMessage message → AllByRecursion IsMessage (messages ++ message ∷ [])
+each_more [] message each one = (one, tt)
+each_more (first ∷ messages) message each one = (each.0, each_more messages message each.1 one)
+
+each_small : (bytes : List ℕ) → AreBytes bytes → (i : ℕ) → get_or bytes i 0 < 256
+each_small [] small i = lit< tt
+each_small (byte ∷ bytes) small zero = small.0
+each_small (byte ∷ bytes) small (suc i) = each_small bytes small.1 i
+
+-- four bytes spell some length
+spells : (bytes : List ℕ) → AreBytes bytes → 4 ≤ length bytes → BeginsWithLength bytes (spelled_length bytes)
+spells [] small fits = absurd (omega arith)
+spells (a ∷ []) small fits = absurd (omega arith)
+spells (a ∷ b ∷ []) small fits = absurd (omega arith)
+spells (a ∷ b ∷ c ∷ []) small fits = absurd (omega arith)
+spells (a ∷ b ∷ c ∷ d ∷ bytes) (p, (q, (r, (s, _)))) fits =
+    let four : List ℕ = a ∷ b ∷ c ∷ d ∷ [] in
+    let small : AreBytes four = (p, (q, (r, (s, tt)))) in
+    (omega arith, sym (be_bytes_4 four (from_be_bytes w32 four) refl (each_small four small) refl))
+
+frame_tested : (bytes : List ℕ) → is_frame bytes ≡ true → IsMessageLength (spelled_length bytes) × (length bytes ≡ 4 + spelled_length bytes)
+frame_tested bytes h = grind (arith, nat_tests)
+
+no_frame_tested : (bytes : List ℕ) → is_frame bytes ≡ false → IsMessageLength (spelled_length bytes) → length bytes ≡ 4 + spelled_length bytes → ⊥
+no_frame_tested bytes h lawful size = grind (arith, nat_tests)
+
+still_front : (rest : List ℕ) (byte n : ℕ) → BeginsWithLength (rest ++ byte ∷ []) n → IsUnfinished rest → IsMessageLength n → (length (rest ++ byte ∷ []) ≡ 4 + n → ⊥) → IsUnfinished (rest ++ byte ∷ [])
+still_front rest byte n begins unfinished lawful other =
+    let size : length (rest ++ byte ∷ []) ≡ length rest + 1 = length_push rest byte in
+    elim (cases_lt (length rest) 4) [
+      | inl short ↦ shorter_is_front (rest ++ byte ∷ []) n lawful begins (omega arith)
+      | inr fits ↦
+          let shorter : IsMessageLength n × (length rest < 4 + n) =
+          front_is_shorter rest n unfinished (begins.0, sym (take-append-le 4 rest (byte ∷ []) fits) ∙ begins.1) in
+          shorter_is_front (rest ++ byte ∷ []) n lawful begins (omega arith)
+    ]
+
+-- a front of a frame stays one, or is bad, with a byte that doesn't complete a frame
+longer_front : (rest : List ℕ) (byte : ℕ) → AreBytes rest → byte < 256 → IsUnfinished rest → is_frame (rest ++ byte ∷ []) ≡ false → IsRest (rest ++ byte ∷ [])
+longer_front rest byte small one unfinished test =
+    let bytes : List ℕ = rest ++ byte ∷ [] in
+    let n : ℕ = spelled_length bytes in
+    let size : length bytes ≡ length rest + 1 = length_push rest byte in
+    elim (cases_lt (length bytes) 4) [
+      | inl short ↦ inl (inl short)
+      | inr fits ↦ with_length rest byte n (spells bytes (bytes_more rest byte small one) fits) unfinished (no_frame_tested bytes test)
+    ]
+  where
+    with_length : (rest : List ℕ) (byte n : ℕ) → BeginsWithLength (rest ++ byte ∷ []) n → IsUnfinished rest → (IsMessageLength n → length (rest ++ byte ∷ []) ≡ 4 + n → ⊥) → IsRest (rest ++ byte ∷ [])
+    with_length rest byte n begins unfinished other = elim (cases_lt 0 n) [
+      | inr none ↦ inr (n, begins, λ lawful. omega arith)
+      | inl some ↦ elim (cases_lt 65536 n) [
+        | inl long ↦ inr (n, begins, λ lawful. omega arith)
+        | inr fits ↦ inl (still_front rest byte n begins unfinished (some, fits) (other (some, fits)))
+      ]
+    ]
+
+longer_rest : (rest : List ℕ) (byte : ℕ) → AreBytes rest → byte < 256 → IsRest rest → is_frame (rest ++ byte ∷ []) ≡ false → IsRest (rest ++ byte ∷ [])
+longer_rest rest byte small one (inl unfinished) test = longer_front rest byte small one unfinished test
+longer_rest rest byte small one (inr (n, begins, unlawful)) test = inr (n, lengthened rest (byte ∷ []) n begins, unlawful)
+
+-- a frame is that of the bytes behind its length
+is_framed : (bytes : List ℕ) → AreBytes bytes → is_frame bytes ≡ true → IsMessage (drop 4 bytes) × (bytes ≡ frame (drop 4 bytes))
+is_framed bytes small test =
+    let tested : IsMessageLength (spelled_length bytes) × (length bytes ≡ 4 + spelled_length bytes) = frame_tested bytes test in
+    let size : length (drop 4 bytes) ≡ spelled_length bytes = omega (arith, length-drop 4 bytes, tested.1) in
+    let begins : BeginsWithLength bytes (spelled_length bytes) = spells bytes small (omega (arith, tested.1)) in (
+      subst IsMessageLength (sym size) tested.0,
+      sym (take-append-drop 4 bytes) ∙ ap (λ head. head ++ drop 4 bytes) begins.1 ∙ ap (λ k. to_be_bytes w32 k ++ drop 4 bytes) (sym size),
+    )
+
+frames-append : (messages : List (List ℕ)) (message : List ℕ) → frames (messages ++ message ∷ []) ≡ frames messages ++ frame message
+frames-append messages message = flat_map-append frame messages (message ∷ []) ∙ ap (λ s. frames messages ++ s) (append-nil (frame message))
+
+-- one byte more, by whether it ends a frame
+abbrev after_test : Reading → List ℕ → Bool → Reading
+after_test read bytes test = cond test (record { messages = read.messages ++ drop 4 bytes ∷ []; rest = [] }) (record { messages = read.messages; rest = bytes })
+
+pub record IsRead (seen : List ℕ) (read : Reading) : Type 0 where
+  pub frames : Frames seen read.messages read.rest
+  pub bytes : AreBytes read.rest
+
+by_test : (seen : List ℕ) (read : Reading) (byte : ℕ) → IsRead seen read → byte < 256 → (test : Bool) → is_frame (read.rest ++ byte ∷ []) ≡ test
+    → IsRead (seen ++ byte ∷ []) (after_test read (read.rest ++ byte ∷ []) test)
+by_test seen read byte so_far one true h =
+    let bytes : List ℕ = read.rest ++ byte ∷ [] in
+    let framed : IsMessage (drop 4 bytes) × (bytes ≡ frame (drop 4 bytes)) = is_framed bytes (bytes_more read.rest byte so_far.bytes one) h in
+    record {
+      frames = record {
+        whole = ap (λ s. s ++ byte ∷ []) so_far.frames.whole ∙ append_assoc (frames read.messages) read.rest (byte ∷ [])
+            ∙ ap (λ s. frames read.messages ++ s) framed.1 ∙ sym (frames-append read.messages (drop 4 bytes)) ∙ sym (append-nil (frames (read.messages ++ drop 4 bytes ∷ [])));
+        each = each_more read.messages (drop 4 bytes) so_far.frames.each framed.0;
+        ended = inl (inl (lit< tt));
+      };
+      bytes = tt;
+    }
+by_test seen read byte so_far one false h = record {
+  frames = record {
+    whole = ap (λ s. s ++ byte ∷ []) so_far.frames.whole ∙ append_assoc (frames read.messages) read.rest (byte ∷ []);
+    each = so_far.frames.each;
+    ended = longer_rest read.rest byte so_far.bytes one so_far.frames.ended h;
+  };
+  bytes = bytes_more read.rest byte so_far.bytes one;
+}
+
+reads_on : (seen bytes : List ℕ) (read : Reading) → IsRead seen read → AreBytes bytes → IsRead (seen ++ bytes) (fold with_byte read bytes)
+reads_on seen [] read so_far small = subst (λ s. IsRead s read) (sym (append-nil seen)) so_far
+reads_on seen (byte ∷ bytes) read so_far small =
+    subst (λ s. IsRead s (fold with_byte (with_byte read byte) bytes)) (append_assoc seen (byte ∷ []) bytes)
+    (reads_on (seen ++ byte ∷ []) bytes (with_byte read byte) (by_test seen read byte so_far small.0 (is_frame (read.rest ++ byte ∷ [])) refl) small.1)
+
+pub reads_all : (bytes : List ℕ) → AreBytes bytes → Frames bytes (reading_of bytes).messages (reading_of bytes).rest
+reads_all bytes small = (reads_on [] bytes (record { messages = []; rest = [] }) (record { frames = record { whole = refl; each = tt; ended = inl (inl (lit< tt)) }; bytes = tt }) small).frames
+
+-- messages before change nothing of what a piece completes
+before_test : (before : List (List ℕ)) (piece : List ℕ)
+    → ((messages : List (List ℕ)) (rest : List ℕ) → fold with_byte (record { messages = before ++ messages; rest = rest }) piece ≡ with_messages before (fold with_byte (record { messages = messages; rest = rest }) piece))
+    → (messages : List (List ℕ)) (rest bytes : List ℕ) (test : Bool)
+    → fold with_byte (after_test (record { messages = before ++ messages; rest = rest }) bytes test) piece ≡ with_messages before (fold with_byte (after_test (record { messages = messages; rest = rest }) bytes test) piece)
+before_test before piece others messages rest bytes true =
+    ap (λ m. fold with_byte (record { messages = m; rest = [] }) piece) (append_assoc before messages (drop 4 bytes ∷ [])) ∙ others (messages ++ drop 4 bytes ∷ []) []
+before_test before piece others messages rest bytes false = others messages bytes
+
+before_others : (before : List (List ℕ)) (piece : List ℕ) (messages : List (List ℕ)) (rest : List ℕ)
+    → fold with_byte (record { messages = before ++ messages; rest = rest }) piece ≡ with_messages before (fold with_byte (record { messages = messages; rest = rest }) piece)
+before_others before [] messages rest = refl
+before_others before (byte ∷ piece) messages rest =
+    before_test before piece (before_others before piece) messages rest (rest ++ byte ∷ []) (is_frame (rest ++ byte ∷ []))
+
+pub pieces_add : (bytes piece : List ℕ) → reading_of (bytes ++ piece) ≡ with_messages (reading_of bytes).messages (completed (reading_of bytes).rest piece)
+pieces_add bytes piece =
+    fold-append with_byte (record { messages = []; rest = [] }) bytes piece
+    ∙ ap (λ m. fold with_byte (record { messages = m; rest = (reading_of bytes).rest }) piece) (sym (append-nil (reading_of bytes).messages))
+    ∙ before_others (reading_of bytes).messages piece [] (reading_of bytes).rest
+
+bytes_front : (rest piece : List ℕ) → AreBytes (rest ++ piece) → AreBytes rest
+bytes_front [] piece small = tt
+bytes_front (byte ∷ rest) piece small = (small.0, bytes_front rest piece small.1)
+
+-- a rest is read as no message and itself
+rest_alone : (rest : List ℕ) → IsRest rest → AreBytes rest → reading_of rest ≡ record { messages = []; rest = rest }
+rest_alone rest is_rest small =
+    let same : ([] ≡ (reading_of rest).messages) × (rest ≡ (reading_of rest).rest) =
+    one_reading rest [] (reading_of rest).messages rest (reading_of rest).rest (record { whole = refl; each = tt; ended = is_rest }) (reads_all rest small) in
+    ap (λ m. record { messages = m; rest = (reading_of rest).rest }) (sym same.0) ∙ ap (λ r. record { messages = []; rest = r }) (sym same.1)
+
+pub completes : (rest piece left : List ℕ) (messages : List (List ℕ)) → IsRest rest → AreBytes (rest ++ piece) → Frames (rest ++ piece) messages left
+    → ((completed rest piece).messages ≡ messages) × ((completed rest piece).rest ≡ left)
+completes rest piece left messages is_rest small frames =
+    let alone : reading_of rest ≡ record { messages = []; rest = rest } = rest_alone rest is_rest (bytes_front rest piece small) in
+    let both : reading_of (rest ++ piece) ≡ completed rest piece = pieces_add rest piece ∙ ap (λ r. with_messages r.messages (completed r.rest piece)) alone in
+    subst (λ r. (r.messages ≡ messages) × (r.rest ≡ left)) both
+    (one_reading (rest ++ piece) (reading_of (rest ++ piece)).messages messages (reading_of (rest ++ piece)).rest left (reads_all (rest ++ piece) small) frames)

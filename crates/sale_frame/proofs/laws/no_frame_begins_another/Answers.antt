@@ -1,0 +1,5 @@
+use Rattle.sale_frame.proofs.FrameLemmas.{one_message}
+use Rattle.sale_frame.proofs.laws.no_frame_begins_another.Goals as goal
+
+pub returns : goal.returns
+returns c = one_message

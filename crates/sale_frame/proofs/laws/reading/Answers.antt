@@ -1,0 +1,5 @@
+use Rattle.sale_frame.proofs.ReadingLemmas.{reads_all}
+use Rattle.sale_frame.proofs.laws.reading.Goals as goal
+
+pub returns : goal.returns
+returns c = reads_all

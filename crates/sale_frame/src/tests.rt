@@ -1,0 +1,88 @@
+use super::*;
+use std::alloc::{AllocError, Global};
+use std::test::Fail;
+
+/// The messages of a stream that comes byte by byte, each with a bar behind it, and the last answer.
+fn by_byte(alloc: Global, stream: &[u8]) -> Result<(Vec<u8>, Option<FrameFault>), AllocError> {
+    let mut reader = FrameReader::new(alloc)?;
+    let mut seen = Vec::new(alloc);
+    let mut fault = None;
+    for byte in stream {
+        reader.feed(alloc, &[*byte])?;
+        match reader.next() {
+            Ok(Some(message)) => {
+                seen.extend_from_slice(message)?;
+                seen.push(b'|')?;
+            }
+            Ok(None) => (),
+            Err(told) => fault = Some(told),
+        }
+    }
+    Ok((seen, fault))
+}
+
+#[test]
+fn rows(rt: HostRuntime) -> Result<(), Fail> {
+    let too_long = Some(FrameFault::TooLong { length: 65_537 });
+    let rows = [
+        (
+            b"\0\0\0\x02{}\0\0\0\x03abc\0\0".as_slice(),
+            b"{}|abc|".as_slice(),
+            None,
+        ),
+        (
+            b"\0\0\0\x01x\0\0\0\0\0\0\0\x01y".as_slice(),
+            b"x|".as_slice(),
+            Some(FrameFault::Zero),
+        ),
+        (
+            b"\0\x01\0\x01\0\0\0\x01y".as_slice(),
+            b"".as_slice(),
+            too_long,
+        ),
+        (b"\xff\xff\xff".as_slice(), b"".as_slice(), None),
+    ];
+    for (stream, messages, fault) in rows {
+        let (seen, told) = by_byte(rt.alloc(), stream)?;
+        assert_eq!(rt; seen.as_slice(), messages, "in {stream:?}");
+        assert_eq!(rt; told, fault, "in {stream:?}");
+    }
+    Ok(())
+}
+
+#[test]
+fn one_piece(rt: HostRuntime) -> Result<(), Fail> {
+    let mut reader = FrameReader::new(rt.alloc())?;
+    reader.feed(rt.alloc(), b"\0\0\0\x02{}\0\0\0\x03abc\0\0")?;
+    assert_eq!(rt; reader.next()?.ok_or("none")?, b"{}".as_slice());
+    assert_eq!(rt; reader.next()?.ok_or("none")?, b"abc".as_slice());
+    assert!(rt; reader.next()?.is_none());
+    Ok(())
+}
+
+#[test]
+fn greatest_message(rt: HostRuntime) -> Result<(), Fail> {
+    let mut reader = FrameReader::new(rt.alloc())?;
+    reader.feed(rt.alloc(), &frame_length(65_536))?;
+    for _ in 0..16 {
+        assert!(rt; reader.next()?.is_none());
+        reader.feed(rt.alloc(), &[b'a'; 4096])?;
+    }
+    assert_eq!(rt; reader.next()?.ok_or("none")?.len(), 65_536);
+    assert!(rt; reader.next()?.is_none());
+    Ok(())
+}
+
+#[test]
+fn faults_are_told(rt: HostRuntime) -> Result<(), Fail> {
+    let too_long = FrameFault::TooLong { length: 65_537 };
+    assert_eq!(rt;
+        FrameFault::Zero.to_string(rt.alloc())?.as_str(),
+        "a message of 0 bytes"
+    );
+    assert_eq!(rt;
+        too_long.to_string(rt.alloc())?.as_str(),
+        "a message of 65537 bytes"
+    );
+    Ok(())
+}

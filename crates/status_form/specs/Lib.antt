@@ -1,0 +1,4 @@
+pub mod Json
+pub mod StatusRequest
+pub mod Answer
+pub mod Reading

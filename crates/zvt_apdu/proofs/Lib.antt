@@ -1,0 +1,4 @@
+pub mod AnswerLemmas
+pub mod Fronts
+pub mod Splits
+pub mod Streams

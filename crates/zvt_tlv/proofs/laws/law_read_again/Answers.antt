@@ -1,0 +1,5 @@
+use Rattle.zvt_tlv.proofs.Readings.{written_spells, written_again}
+use Rattle.zvt_tlv.proofs.laws.law_read_again.Goals as goal
+
+pub returns : goal.returns
+returns c = record { spelled = written_spells; read = written_again }

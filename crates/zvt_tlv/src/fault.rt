@@ -1,0 +1,17 @@
+use std::error::Error;
+use std::fmt;
+
+/// The place, in bytes, of the first object that is not lawful: one that is cut, has a tag of more than three bytes, or
+/// has a length that begins with `80` or with a byte above `82`.
+#[derive(Clone, Copy, Debug, PartialEq, Eq, Hash)]
+pub struct TlvFault {
+    pub at: usize,
+}
+
+impl fmt::Display for TlvFault {
+    fn fmt<W: fmt::Write>(&self, f: &mut fmt::Formatter<W>) -> fmt::Result {
+        write!(f, "no TLV object at {}", self.at)
+    }
+}
+
+impl Error for TlvFault {}

@@ -1,0 +1,66 @@
+ghost use Rattle.std.specs.Prelude.{◌≡◌, ◌↔◌, ℕ, List, [], IsNone, IsOkAnd, IsErrOf};
+ghost use Rattle.zvt_tlv.specs.Object.{ObjectValue, BeginsWith};
+ghost use Rattle.zvt_tlv.specs.Objects.{IsUnlawful};
+ghost use Rattle.zvt_tlv.specs.Tlv.{Answers, IsObject, Leaves, Place};
+
+use crate::fault::TlvFault;
+use crate::object::{Object, first_object};
+use std::marker::Model;
+
+/// Reads the objects of bytes one after another.
+///
+/// Contracts see a reader as the bytes that it has not read yet, and their place in the whole.
+#[derive(Clone, Debug, Drop)]
+pub struct Tlv<'a> {
+    at: usize,
+    rest: &'a [u8],
+}
+
+impl<'a> Model for Tlv<'a> {
+    ghost use Rattle.std.specs.Prelude.{◌+◌, ◌^◌, ◌<◌, length};
+    ghost use Rattle.zvt_tlv.specs.Tlv.{Place};
+
+    ghost Value = { Place };
+
+    ghost view = { λ r. record { at = r.at; rest = r.rest.now } };
+
+    ghost invariant = { λ r. r.at + length r.rest.now < 2 ^ 64 };
+}
+
+impl<'a> Tlv<'a> {
+    /// A reader of these bytes.
+    pub fn over(bytes: &'a [u8]) -> Tlv<'a>
+        ensures { result ≡ record { at = 0; rest = bytes.now } }
+    {
+        Tlv { at: 0, rest: bytes }
+    }
+
+    /// The place, in the whole bytes, of those that are not read yet.
+    pub fn at(&self) -> usize
+        ensures { result ≡ self.now.at }
+    {
+        self.at
+    }
+
+    /// The next object, or `None` at the end. At an object that is not lawful the reader stays.
+    pub fn next(&mut self) -> Result<Option<Object<'a>>, TlvFault>
+        ensures whole { (object : ObjectValue)
+            → IsObject result object ↔ ((rest : List ℕ) × BeginsWith self.old.rest object rest) }
+        ensures none { IsOkAnd result IsNone ↔ (self.old.rest ≡ []) }
+        ensures fault { (at : ℕ) → (result ≡ Err (record { at = at })) ↔ ((at ≡ self.old.at) × IsUnlawful self.old.rest) }
+
+        // The same by the function that computes it.
+        ensures front { Answers result self.old }
+        ensures moves { Leaves self.old result self.new }
+    {
+        if self.rest.is_empty() {
+            return Ok(None);
+        }
+        let Some((object, rest)) = first_object(self.rest) else {
+            return Err(TlvFault { at: self.at });
+        };
+        self.at += self.rest.len() - rest.len();
+        self.rest = rest;
+        Ok(Some(object))
+    }
+}
