@@ -1,10 +1,10 @@
 -- The clauses of the public calls, from what the functions on bytes give.
-use Rattle.std.proofs.Common.{◌≡◌, ◌≢◌, ℕ, ◌+◌, ◌-◌, ◌≤◌, List, [], ◌∷◌, ◌++◌, length, drop, Option, Some, None, Result, Ok, Err, refl, sym, ap, subst, ◌∙◌, arith}
+use Rattle.std.proofs.Common.{◌≡◌, ℕ, ◌+◌, ◌-◌, ◌≤◌, List, [], length, drop, Option, Some, None, Result, Ok, Err, refl, sym, ap, subst, ◌∙◌, arith}
 use Rattle.std.specs.Prelude.{◌↔◌, IsNone, IfSome}
-use Rattle.std.proofs.lemmas.List.{length-append, length-drop, drop_at}
+use Rattle.std.proofs.lemmas.List.{length-append, length-drop}
 use Rattle.zvt_tlv.specs.declared.object.Object.{Object}
 use Rattle.zvt_tlv.specs.declared.fault.TlvFault.{TlvFault}
-use Rattle.zvt_tlv.specs.Object.{ObjectValue, value_of, SpellsLength, HasLength, BeginsWith}
+use Rattle.zvt_tlv.specs.Object.{ObjectValue, value_of, HasLength, BeginsWith}
 use Rattle.zvt_tlv.specs.Objects.{IsUnlawful}
 use Rattle.zvt_tlv.specs.Reading.{length_of, object_of}
 use Rattle.zvt_tlv.specs.Found.{FindsLength}

@@ -1,10 +1,10 @@
 -- What stands at the front of bytes, by the grammar and by the functions that compute it.
-use Rattle.std.proofs.Common.{◌≡◌, ◌≢◌, ℕ, zero, suc, ◌+◌, ◌-◌, ◌*◌, ◌/◌, ◌%◌, ◌<◌, ◌≤◌, Bool, true, false, cond, eqb, ltb, List, [], ◌∷◌, ◌++◌, length, take, drop, Option, Some, None, refl, sym, ap, subst, ◌∙◌, append_assoc, arith, inl, inr}
+use Rattle.std.proofs.Common.{◌≡◌, ◌≢◌, ℕ, ◌+◌, ◌-◌, ◌*◌, ◌%◌, ◌<◌, ◌≤◌, true, false, eqb, ltb, List, [], ◌∷◌, ◌++◌, length, take, drop, Option, Some, None, refl, sym, ap, subst, ◌∙◌, append_assoc, arith, inl, inr}
 use Rattle.std.specs.Prelude.{◌⊎◌, replicate}
-use Rattle.std.proofs.lemmas.Bool.{cases_lt, cases_eq, ltb-false, ltb-true, le-ltb, lt-ltb, ne_eqb}
-use Rattle.std.proofs.lemmas.List.{take_at, drop_at, take-append-drop, length-append, length-take, length-replicate, append-nil, append_cancel_right}
-use Rattle.zvt_tlv.specs.Object.{ObjectValue, SpellsTag, SpellsLength, Spells, HasLength, BeginsWith, tag_bytes, written_length, written, IsTag}
-use Rattle.zvt_tlv.specs.Objects.{IsCut, HasLongTag, HasBadLength, IsUnlawful}
+use Rattle.std.proofs.lemmas.Bool.{cases_lt, cases_eq, le-ltb, lt-ltb, ne_eqb}
+use Rattle.std.proofs.lemmas.List.{take_at, drop_at, take-append-drop, length-append, length-take, length-replicate, append-nil}
+use Rattle.zvt_tlv.specs.Object.{ObjectValue, SpellsTag, SpellsLength, Spells, BeginsWith, tag_bytes, written_length, written, IsTag}
+use Rattle.zvt_tlv.specs.Objects.{IsUnlawful}
 use Rattle.zvt_tlv.specs.Reading.{third_of_tag, second_of_tag, tag_of, length_in_one, length_in_two, length_of, value_at, behind_length, behind_tag, object_of}
 
 -- ---- from the grammar to the functions

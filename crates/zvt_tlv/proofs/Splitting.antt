@@ -1,12 +1,12 @@
 -- The objects of bytes: read in one way, by the grammar, by the function that computes them, and by calls of `next`.
-use Rattle.std.proofs.Common.{◌≡◌, ℕ, zero, suc, ◌+◌, ◌-◌, ◌<◌, ◌≤◌, List, [], ◌∷◌, ◌++◌, length, Option, Some, None, refl, sym, ap, subst, ◌∙◌, arith, inl, inr}
-use Rattle.std.specs.Prelude.{◌⊎◌, ◌↔◌}
+use Rattle.std.proofs.Common.{◌≡◌, ℕ, zero, suc, ◌+◌, ◌<◌, ◌≤◌, List, [], ◌∷◌, ◌++◌, length, Option, Some, None, refl, sym, ap, subst, ◌∙◌, arith, inl, inr}
+use Rattle.std.specs.Prelude.{◌↔◌}
 use Rattle.std.proofs.lemmas.List.{append_cancel_right, length-append}
 use Rattle.zvt_tlv.specs.Object.{ObjectValue, SpellsTag, Spells, BeginsWith}
 use Rattle.zvt_tlv.specs.Objects.{Splits, Fills, IsUnlawful, IsEnd, IsFaultAt}
 use Rattle.zvt_tlv.specs.Reading.{object_of}
 use Rattle.zvt_tlv.specs.Split.{Split, with_first, split_from, split_within, split_of}
-use Rattle.zvt_tlv.specs.Tlv.{Place, Moves, start_of, Walk}
+use Rattle.zvt_tlv.specs.Tlv.{Place, Walk}
 use Rattle.zvt_tlv.proofs.Readings.{found_object, begins_found, found_begins, none_unlawful, unlawful_begins}
 
 -- ---- one reading

@@ -1,0 +1,50 @@
+-- What each call of a site keeps.
+use Rattle.std.proofs.Common.{◌≡◌, ℕ, List, [], ◌∷◌, length, take, refl, sym, ◌∙◌, ap, subst, arith}
+use Rattle.std.proofs.lemmas.List.{length-take}
+use Rattle.std.specs.Prelude.{false, Result, Ok, Err}
+use Rattle.gw_site.specs.declared.turn.Turn.{Turn}
+use Rattle.gw_site.specs.declared.turn.Turn.TheVariants.{Polled, CutTill}
+use Rattle.gw_site.specs.declared.site.Polled.{Polled as Answer}
+use Rattle.gw_site.specs.declared.site.What.{What}
+use Rattle.gw_site.specs.declared.site.What.TheVariants.{TillOpened, TillBytes, TillClosed, PtBytes, PtClosed, Nothing, Stopped as Stop}
+use Rattle.gw_site.specs.Outside.{outside_of}
+use Rattle.gw_site.specs.Seen.{Seen, Grows, Tells}
+use Rattle.gw_site.specs.Turns.{SentTillTurns, IsTurn, PolledTurns, event_turns, IsPromised, IsWithinBuf, IsCount}
+use Rattle.gw_rules.specs.Scene.{Till, Call, Send, Cut, Item, Scene, View, IsRunning}
+use Rattle.gw_rules.specs.View.{view_from, called}
+use Rattle.gw_rules.specs.Lawful.{IsCourse, IsQuiet}
+use Rattle.gw_rules.specs.Keeps.{Keeps, Owing, Sent, AtEvent}
+use Rattle.gw_rules.proofs.CourseLemmas.{takes, stands-outside}
+use Rattle.gw_rules.proofs.KeepsLemmas.{call-keeps}
+
+module _ (scene : Scene) (calls : List Call) (items : List Item) (old new : Seen) where
+  pub cut-till-keeps : (till : ℕ) → Grows old new (IsTurn (CutTill till)) →
+      Keeps old new (Owing scene (Cut (Till till) ∷ calls) items) (Owing (called scene (CutTill till) false) calls items)
+  cut-till-keeps till grows = call-keeps old new _ _ _ grows (λ before v e stands p. record { each = λ turns t. rw (p, t) (((calls, refl), tt), (refl, tt), refl) })
+
+  pub send-till-keeps : {E : Type 0} (till : ℕ) (bytes : List ℕ) (r : Result (Unit {0}) E) → Grows old new (SentTillTurns till bytes r) →
+      Keeps old new (Owing scene (Send (Till till) bytes ∷ calls) items) (Sent r scene till bytes calls items)
+  send-till-keeps till bytes (Ok u) grows = call-keeps old new _ _ _ grows (λ before v e stands p. record { each = λ turns t. rw (p, t) (((calls, refl), tt), (refl, tt), refl) })
+  send-till-keeps till bytes (Err f) grows = call-keeps old new _ _ _ grows (λ before v e stands p. record { each = λ turns t. rw (p, t.2) (((bytes, (calls, refl), t.1), tt), (refl, tt), (t.0, refl)) })
+
+taken_count : (count : ℕ) (buf : List ℕ) → length buf ≡ 4096 → IsCount count → IsCount (length (take count buf))
+taken_count count buf l c = rw length-take (omega arith, omega arith)
+
+-- a poll, and the event that it brings
+pub poll-keeps : (scene : Scene) (answer : Answer) (buf : List ℕ) (old new : Seen) → Grows old new (PolledTurns answer buf) →
+    Tells old (λ log. IsPromised (outside_of log) answer.what) → IsWithinBuf answer.what → length buf ≡ 4096 →
+    Keeps old new (λ v. Owing scene [] [] v × IsRunning scene.standing) (AtEvent scene answer.now answer.what buf)
+poll-keeps scene answer buf old new grows promise within long = call-keeps old new _ _ _ grows (λ before v e stands p. record {
+  each = λ turns t.
+      polled_leads answer.what (subst (λ o. IsPromised o answer.what) (sym (stands-outside before v stands) ∙ ap (λ (w : View). w.scene.outside) p.0) (promise before e)) within v turns p t;
+})
+  where
+    polled_leads : (what : What) → IsPromised scene.outside what → IsWithinBuf what → (v : View) (turns : List Turn) → (Owing scene [] [] v × IsRunning scene.standing) → turns ≡ Polled answer.now ∷ event_turns what buf →
+        IsCourse v (takes turns) × IsQuiet turns × AtEvent scene answer.now what buf (view_from v (takes turns))
+    polled_leads (TillOpened till) event within v turns p t = rw (p.0, t) ((record { running = p.1; calls = refl; items = refl }, ((refl, event), tt)), (refl, (refl, tt)), (refl, event))
+    polled_leads (TillBytes till count) event within v turns p t = rw (p.0, t) ((record { running = p.1; calls = refl; items = refl }, ((record { polled = refl; open_is = event }, taken_count count buf long within), tt)), (refl, (refl, tt)), (refl, event))
+    polled_leads (TillClosed till) event within v turns p t = rw (p.0, t) ((record { running = p.1; calls = refl; items = refl }, (record { polled = refl; open_is = event }, tt)), (refl, (refl, tt)), (refl, event))
+    polled_leads (PtBytes pt count) event within v turns p t = rw (p.0, t) ((record { running = p.1; calls = refl; items = refl }, ((record { polled = refl; open_is = event }, taken_count count buf long within), tt)), (refl, (refl, tt)), (refl, event))
+    polled_leads (PtClosed pt) event within v turns p t = rw (p.0, t) ((record { running = p.1; calls = refl; items = refl }, (record { polled = refl; open_is = event }, tt)), (refl, (refl, tt)), (refl, event))
+    polled_leads Nothing event within v turns p t = rw (p.0, t) ((record { running = p.1; calls = refl; items = refl }, tt), (refl, tt), (refl, event))
+    polled_leads Stop event within v turns p t = rw (p.0, t) ((record { running = p.1; calls = refl; items = refl }, (refl, tt)), (refl, (refl, tt)), (refl, event))

@@ -1,0 +1,88 @@
+-- Courses one behind the other, and the outside along a course.
+use Rattle.std.proofs.Common.{◌≡◌, List, [], ◌∷◌, ◌++◌, refl, sym, ◌∙◌, ap}
+use Rattle.std.specs.Prelude.{true, false, map}
+use Rattle.gw_site.specs.Outside.{outside_after, outside_from, outside_of}
+use Rattle.gw_site.specs.declared.turn.Turn.{Turn}
+use Rattle.gw_site.specs.declared.turn.Turn.TheVariants.{Start, OpenFailed, Polled, Opened, HeardTill, Closed, HeardPt, Lost, Stopped, Linked, LinkFailed, SentTill, SentPt, CutTill, CutPt, Wrote, Synced, DiskFailed, Crash}
+use Rattle.gw_rules.specs.Scene.{View}
+use Rattle.gw_rules.specs.View.{Move, Begin, Take, after, after_turn, view_from, at_first}
+use Rattle.gw_rules.specs.Lawful.{IsCourse, turns_of, Stands, IsQuiet}
+
+pub view_from-append : (v : View) (xs ys : List Move) → view_from v (xs ++ ys) ≡ view_from (view_from v xs) ys
+view_from-append v [] ys = refl
+view_from-append v (x ∷ xs) ys = view_from-append (after v x) xs ys
+
+pub course-append : (v : View) (xs ys : List Move) → IsCourse v xs → IsCourse (view_from v xs) ys → IsCourse v (xs ++ ys)
+course-append v [] ys h k = k
+course-append v (x ∷ xs) ys h k = (h.0, course-append (after v x) xs ys h.1 k)
+
+pub course-front : (v : View) (xs ys : List Move) → IsCourse v (xs ++ ys) → IsCourse v xs
+course-front v [] ys h = tt
+course-front v (x ∷ xs) ys h = (h.0, course-front (after v x) xs ys h.1)
+
+pub turns_of-append : (xs ys : List Move) → turns_of (xs ++ ys) ≡ turns_of xs ++ turns_of ys
+turns_of-append [] ys = refl
+turns_of-append (Begin calls ∷ xs) ys = turns_of-append xs ys
+turns_of-append (Take turn ∷ xs) ys = ap (λ l. turn ∷ l) (turns_of-append xs ys)
+
+-- the course of these turns alone
+abbrev pub takes : List Turn → List Move
+takes turns = map Take turns
+
+pub turns_of-takes : (turns : List Turn) → turns_of (takes turns) ≡ turns
+turns_of-takes [] = refl
+turns_of-takes (turn ∷ turns) = ap (λ l. turn ∷ l) (turns_of-takes turns)
+
+pub takes-append : (xs ys : List Turn) → takes (xs ++ ys) ≡ takes xs ++ takes ys
+takes-append [] ys = refl
+takes-append (x ∷ xs) ys = ap (λ l. Take x ∷ l) (takes-append xs ys)
+
+pub quiet-append : (xs ys : List Turn) → IsQuiet xs → IsQuiet ys → IsQuiet (xs ++ ys)
+quiet-append [] ys h k = k
+quiet-append (x ∷ xs) ys h k = (h.0, quiet-append xs ys h.1 k)
+
+pub quiet-front : (xs ys : List Turn) → IsQuiet (xs ++ ys) → IsQuiet xs
+quiet-front [] ys h = tt
+quiet-front (x ∷ xs) ys h = (h.0, quiet-front xs ys h.1)
+
+-- a lawful log goes on by more allowed moves
+pub stands-more : (log : List Turn) (v : View) (moves : List Move) → Stands log v → IsCourse v moves → Stands (log ++ turns_of moves) (view_from v moves)
+stands-more log v moves s h = record {
+  course = s.course ++ moves;
+  log_is = turns_of-append s.course moves ∙ ap (λ l. l ++ turns_of moves) s.log_is;
+  lawful = course-append at_first s.course moves s.lawful (rw s.view_is h);
+  view_is = view_from-append at_first s.course moves ∙ ap (λ w. view_from w moves) s.view_is;
+}
+
+-- the outside of the view moves with each turn
+after_outside : (v : View) (turn : Turn) → (after_turn v turn).scene.outside ≡ outside_after v.scene.outside turn
+after_outside v (Start setup) = refl
+after_outside v OpenFailed = refl
+after_outside v (Polled now) = refl
+after_outside v (Opened till) = refl
+after_outside v (HeardTill till bytes) = refl
+after_outside v (Closed till) = refl
+after_outside v (HeardPt pt bytes) = refl
+after_outside v (Lost pt) = refl
+after_outside v Stopped = refl
+after_outside v (Linked pt) = refl
+after_outside v (LinkFailed pt) = refl
+after_outside v (SentTill till bytes true) = refl
+after_outside v (SentTill till bytes false) = refl
+after_outside v (SentPt pt bytes true) = refl
+after_outside v (SentPt pt bytes false) = refl
+after_outside v (CutTill till) = refl
+after_outside v (CutPt pt) = refl
+after_outside v (Wrote at bytes) = refl
+after_outside v Synced = refl
+after_outside v DiskFailed = refl
+after_outside v (Crash file) = refl
+
+outside_from-moves : (v : View) (moves : List Move) → (view_from v moves).scene.outside ≡ outside_from v.scene.outside (turns_of moves)
+outside_from-moves v [] = refl
+outside_from-moves v (Begin calls ∷ moves) = outside_from-moves (after v (Begin calls)) moves
+outside_from-moves v (Take turn ∷ moves) = outside_from-moves (after_turn v turn) moves ∙ ap (λ o. outside_from o (turns_of moves)) (after_outside v turn)
+
+-- the outside of a log is that of its view
+pub stands-outside : (log : List Turn) (v : View) → Stands log v → v.scene.outside ≡ outside_of log
+stands-outside log v s = ap (λ (w : View). w.scene.outside) (sym s.view_is) ∙ outside_from-moves at_first s.course ∙ ap outside_of s.log_is

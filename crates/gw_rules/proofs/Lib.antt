@@ -1,0 +1,9 @@
+pub mod CourseLemmas
+pub mod KeepsLemmas
+pub mod CallLemmas
+pub mod RunLemmas
+pub mod ReadingLemmas
+pub mod EndLemmas
+pub mod FrontLemmas
+pub mod OneLogLemmas
+pub mod ExampleLemmas

@@ -1,0 +1,5 @@
+use Rattle.gw_rules.proofs.FrontLemmas.{restart-lawful}
+use Rattle.gw_rules.proofs.law_crash.Goals as goal
+
+pub returns : goal.returns
+returns c = record { restart = restart-lawful }

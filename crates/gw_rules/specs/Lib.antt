@@ -1,0 +1,10 @@
+pub mod Scene
+pub mod Owes
+pub mod View
+pub mod Lawful
+pub mod Keeps
+pub mod Script
+pub mod Plays
+pub mod LogText
+pub mod Laws
+pub mod Example

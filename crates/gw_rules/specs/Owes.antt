@@ -1,0 +1,61 @@
+-- What each item owes: one row for each kind of item.
+use Rattle.std.specs.Prelude.{◌≡◌, ◌⊎◌, ℕ, Bool, true, false, nat_le, nat_lt, ◌&&◌, not, if◌then◌else◌, List, [], ◌∷◌, ◌++◌, length, map, Some, pos}
+use Rattle.gw_base.specs.declared.setup.Setup.{Setup}
+use Rattle.gw_base.specs.Moment.{stamp_of}
+use Rattle.gw_site.specs.Outside.{Line, is_open}
+use Rattle.sale_frame.specs.Frame.{frame}
+use Rattle.sale_frame.specs.Reading.{Reading, spelled_length, completed, reading_of}
+use Rattle.status_form.specs.StatusRequest.{Header, IsStatusRequest, IsNoStatusRequest}
+use Rattle.status_form.specs.Answer.{not_found_message, unread_message}
+use Rattle.gw_rules.specs.Scene.{Till, Call, Send, Cut, Item, Crowded, Message, Unframed, Scene}
+
+-- a status request, with this header, is answered with NotFound: no payment is known
+pub record AnswersStatus (message : List ℕ) (header : Header) (answer : List ℕ) : Type 0 where
+  pub request : IsStatusRequest message header
+  pub is : answer ≡ not_found_message header
+
+-- every other message is answered by the event that it wasn't read, under the gateway's name, at the moment of the poll
+pub record AnswersUnread (scene : Scene) (message : List ℕ) (setup : Setup) (answer : List ℕ) : Type 0 where
+  pub none : IsNoStatusRequest message
+  pub setup_is : scene.setup ≡ Some setup
+  pub is : answer ≡ unread_message setup.name (stamp_of (pos scene.outside.moment))
+
+-- the answer to a till's message
+abbrev pub Answers : Scene → List ℕ → List ℕ → Type 0
+Answers scene message answer = ((header : Header) × AnswersStatus message header answer) ⊎ ((setup : Setup) × AnswersUnread scene message setup answer)
+
+-- a message of a till that is there owes the frame of its answer, and one of a till that is gone owes nothing
+abbrev pub MessageOwes : Bool → Scene → ℕ → List ℕ → List Call → Type 0
+MessageOwes true scene till message calls = (answer : List ℕ) × Answers scene message answer × (calls ≡ Send (Till till) (frame answer) ∷ [])
+MessageOwes false scene till message calls = calls ≡ []
+
+-- a till that is there is cut where its bytes begin no frame
+abbrev pub UnframedOwes : Bool → ℕ → List Call → Type 0
+UnframedOwes true till calls = calls ≡ Cut (Till till) ∷ []
+UnframedOwes false till calls = calls ≡ []
+
+-- the calls that an item owes as it begins
+abbrev pub Owes : Scene → Item → List Call → Type 0
+Owes scene (Crowded till) calls = calls ≡ Cut (Till till) ∷ []
+Owes scene (Message till message) calls = MessageOwes (is_open scene.outside.tills till) scene till message calls
+Owes scene (Unframed till) calls = UnframedOwes (is_open scene.outside.tills till) till calls
+
+-- a till that opens is one too many where 64 others are there
+abbrev pub opened_items : ℕ → List Line → List Item
+opened_items till tills = if nat_lt (length tills) 64 then [] else Crowded till ∷ []
+
+-- the first four bytes spell a length that no message has
+abbrev pub is_unframed : List ℕ → Bool
+is_unframed rest = nat_le 4 (length rest) && not (nat_lt 0 (spelled_length rest) && nat_le (spelled_length rest) 65536)
+
+-- the messages, and then the bad rest where there is one
+abbrev pub reading_items : ℕ → Reading → List Item
+reading_items till reading = map (Message till) reading.messages ++ (if is_unframed reading.rest then Unframed till ∷ [] else [])
+
+-- what a piece of a till's bytes newly completes, behind what was heard before
+abbrev pub heard_items : ℕ → List ℕ → List ℕ → List Item
+heard_items till heard piece = reading_items till (completed (reading_of heard).rest piece)
+
+-- what is due at the moment of a poll, behind what its event brings: nothing, while no terminal is served
+abbrev pub due_items : Scene → List Item
+due_items scene = []

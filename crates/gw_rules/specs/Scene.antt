@@ -1,0 +1,82 @@
+-- What the gateway stands before: the outside, the run, the calls that it owes and the items still to come.
+use Rattle.std.specs.Prelude.{ℕ, Bool, List, Option}
+use Rattle.gw_base.specs.declared.setup.Setup.{Setup}
+use Rattle.gw_site.specs.Outside.{Outside}
+
+-- who is at the other end of a line: a till or a terminal, by its number
+pub data Peer : Type 0 where
+  Till : ℕ → Peer
+  Pt : ℕ → Peer
+
+-- a call of the site that is owed
+pub data Call : Type 0 where
+  -- send these bytes
+  Send : Peer → List ℕ → Call
+  -- cut the line
+  Cut : Peer → Call
+  -- connect the terminal
+  Link : ℕ → Call
+  -- write these bytes at this place of the file
+  Write : ℕ → List ℕ → Call
+  -- sync the file
+  Sync : Call
+
+-- what a turn has to handle
+pub data Item : Type 0 where
+  -- a till that has opened while as many are there as may be
+  Crowded : ℕ → Item
+  -- a whole message of a till
+  Message : ℕ → List ℕ → Item
+  -- bytes of a till that begin no frame
+  Unframed : ℕ → Item
+
+-- how far the run is
+pub data Standing : Type 0 where
+  -- there is no run
+  Resting : Standing
+  -- the journal is opened, and the run goes on
+  Opening : Standing
+  -- the journal is opened, and refused once its calls are made
+  Refusing : Standing
+  -- the site was polled, and its event may come
+  AtPoll : Standing
+  -- an event is handled
+  Serving : Standing
+  -- the run has ended
+  Over : Standing
+  -- a call on the disk has failed
+  Broken : Standing
+
+-- the outside, the setup of the run, how far the run is, whether the last turn was a write, and the polls of the run
+pub record Scene : Type 0 where
+  pub outside : Outside
+  pub setup : Option Setup
+  pub standing : Standing
+  pub wrote : Bool
+  pub polls : ℕ
+
+-- the scene, the calls that are owed now, in order, and the items that come behind them
+pub record View : Type 0 where
+  pub scene : Scene
+  pub calls : List Call
+  pub items : List Item
+
+-- a run goes on
+abbrev pub IsRunning : Standing → Type 0
+IsRunning Resting = ⊥
+IsRunning Opening = Unit {0}
+IsRunning Refusing = ⊥
+IsRunning AtPoll = Unit {0}
+IsRunning Serving = Unit {0}
+IsRunning Over = ⊥
+IsRunning Broken = ⊥
+
+-- once anything follows a poll but its event, there is none
+abbrev pub busy : Standing → Standing
+busy Resting = Resting
+busy Opening = Opening
+busy Refusing = Refusing
+busy AtPoll = Serving
+busy Serving = Serving
+busy Over = Over
+busy Broken = Broken

@@ -1,0 +1,30 @@
+//! The rules of the gateway: what it owes after a log, and which logs are lawful.
+#![tactic(auto)]
+
+ghost use Rattle.gw_rules.specs.Example.{PollBeforeReply, StatusHasText, StatusIsLawful, StatusIsOfScript, UnaskedReply};
+ghost use Rattle.gw_rules.specs.Laws.{FrontIsLawful, OneLog, RestartIsLawful};
+
+/// A lawful log, then a power failure that leaves one of the files that it may leave, then a start, is lawful.
+pub fn law_crash()
+    ensures restart { RestartIsLawful }
+{}
+
+/// Each front of a lawful log is lawful.
+pub fn law_front()
+    ensures front { FrontIsLawful }
+{}
+
+/// At most one lawful log plays a script in one run to its end.
+pub fn law_one_log()
+    ensures one { OneLog }
+{}
+
+/// A script in which a till asks for the status of a payment that nobody knows has this lawful log, with this text; a
+/// reply that nothing owes makes a log unlawful, and so does a poll before the reply that is owed.
+pub fn law_examples()
+    ensures status { StatusIsLawful }
+    ensures script { StatusIsOfScript }
+    ensures text { StatusHasText }
+    ensures unasked_reply { UnaskedReply }
+    ensures poll_before_reply { PollBeforeReply }
+{}

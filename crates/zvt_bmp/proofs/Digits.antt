@@ -1,0 +1,50 @@
+-- The test for digits is the fact.
+use Rattle.std.proofs.Common.{◌≡◌, ℕ, ◌/◌, ◌%◌, ◌^◌, ◌<◌, Bool, true, false, cond, leb, Some, None, Result, Ok, Err, List, [], ◌∷◌, length, refl, arith}
+use Rattle.std.specs.Prelude.{◌&&◌, IfSome, MatchResult}
+use Rattle.std.proofs.lemmas.Bool.{leb-true, le-leb, and_parts, and_from}
+use Rattle.std.specs.Result.{result_ok}
+use Rattle.std.proofs.lemmas.Nat.{mul-add-lt}
+use Rattle.std.proofs.Math.Nat.{pow-suc}
+use Rattle.std.proofs.lemmas.List.Elements.{All-nil, All-cons, All-head, All-tail, All-get_or}
+use Rattle.gw_base.specs.Bcd.{IsBcdByte, IsBcd, IsFirstNotBcd, bcd_value, pair_value}
+use Rattle.gw_base.specs.declared.bcd.NotDigits.{NotDigits}
+use Rattle.zvt_bmp.specs.Reading.{is_bcd}
+
+pub bcd_passes : (bytes : List ℕ) → IsBcd bytes → is_bcd bytes ≡ true
+bcd_passes [] all = refl
+bcd_passes (byte ∷ bytes) all =
+    let here : IsBcdByte byte = All-head IsBcdByte byte bytes all in
+    and_from _ _ (le-leb _ _ here.0) (and_from _ _ (le-leb _ _ here.1) (bcd_passes bytes (All-tail IsBcdByte byte bytes all)))
+
+pub passes_bcd : (bytes : List ℕ) → is_bcd bytes ≡ true → IsBcd bytes
+passes_bcd [] passed = All-nil IsBcdByte
+passes_bcd (byte ∷ bytes) passed =
+    let parts = and_parts (leb (byte / 16) 9) (leb (byte % 16) 9 && is_bcd bytes) passed in
+    let others = and_parts (leb (byte % 16) 9) (is_bcd bytes) parts.1 in
+    All-cons IsBcdByte byte bytes (leb-true _ _ parts.0, leb-true _ _ others.0) (passes_bcd bytes others.1)
+
+failed_by : (bytes : List ℕ) (at : ℕ) (passed : Bool) → IsFirstNotBcd bytes at → is_bcd bytes ≡ passed → passed ≡ false
+failed_by bytes at false first e = refl
+failed_by bytes at true first e = absurd (first.here (All-get_or IsBcdByte bytes at 0 first.inside (passes_bcd bytes e)))
+
+pub first_fails : (bytes : List ℕ) (at : ℕ) → IsFirstNotBcd bytes at → is_bcd bytes ≡ false
+first_fails bytes at first = failed_by bytes at (is_bcd bytes) first refl
+
+-- digits in so many bytes spell a number below a power of a hundred
+pub bcd_bound : (bytes : List ℕ) → IsBcd bytes → bcd_value bytes < 100 ^ length bytes
+bcd_bound [] all = omega arith
+bcd_bound (byte ∷ bytes) all =
+    let here : IsBcdByte byte = All-head IsBcdByte byte bytes all in
+    let pair : pair_value byte < 100 = omega (arith, here.0, here.1) in
+    let rest = bcd_bound bytes (All-tail IsBcdByte byte bytes all) in
+    let both = mul-add-lt (pair_value byte) (100 ^ length bytes) (bcd_value bytes) 100 pair rest in
+    omega (arith, both, pow-suc 100 (length bytes))
+
+-- what `ok` makes of what was read
+pub digits_value : (bytes : List ℕ) (read : Result ℕ NotDigits) → MatchResult read (λ value. IsBcd bytes × (value ≡ bcd_value bytes)) (λ fault. IsFirstNotBcd bytes fault.at) → result_ok read ≡ cond (is_bcd bytes) (Some (bcd_value bytes)) None
+digits_value bytes (Ok value) (all, is) = rw (bcd_passes bytes all, is) refl
+digits_value bytes (Err fault) first = rw (first_fails bytes fault.at first) refl
+
+pub digits_bound : (bytes : List ℕ) (read : Result ℕ NotDigits) → MatchResult read (λ value. IsBcd bytes × (value ≡ bcd_value bytes)) (λ fault. IsFirstNotBcd bytes fault.at) → IfSome (result_ok read) (λ value. value < 100 ^ length bytes)
+digits_bound bytes (Ok value) (all, is) = rw is (bcd_bound bytes all)
+digits_bound bytes (Err fault) first = tt

@@ -1,0 +1,30 @@
+-- Each field that is read leaves the rest to be read; the last one tells what all do.
+use Rattle.std.proofs.Common.{◌-◌, length, Ok, sym, ap, ◌∙◌, arith}
+use Rattle.std.proofs.lemmas.Result.{err_from_is_err_and}
+use Rattle.zvt_bmp.specs.Reading.{with_tail}
+use Rattle.zvt_bmp.proofs.Telling.{goes_on, ends_there, fails_there, all_within}
+use Rattle.zvt_bmp.proofs.fields.read_all.Goals as goal
+
+pub loop-after-init : goal.loop-after-init
+loop-after-init c = record { short = omega arith; same = rw c.nothing-seen.ensures (all_within c.args.bytes.now) }
+
+pub returns-in_err-after : goal.returns-in_err-after
+returns-in_err-after c =
+    let p = err_from_is_err_and c.from_residual.result c.from_residual.ensures.1 in
+    let fails = fails_there (length c.args.bytes.now) c.loop-after.seen c.loop-after.rest.now c.in_err-after.field-0.0 c.in_err-after.ensures.field in
+    rw (p.1, p.2) (sym fails ∙ c.loop-after.invariant.same)
+
+pub loop-after-preserved : goal.loop-after-preserved
+loop-after-preserved c =
+    let field = rw c.in-Some.is at c.in_ok-after.ensures.field in
+    let shorter = rw c.in-Some.is at c.in_ok-after.ensures.shorter in
+    record {
+      short = omega (arith, shorter, c.loop-after.invariant.short);
+      same = sym (goes_on (length c.args.bytes.now) c.loop-after.seen c.loop-after.rest.now c.read_field.new.self c.in-Some.after.now field) ∙ c.loop-after.invariant.same;
+    }
+
+pub returns : goal.returns
+returns c =
+    let field = rw c.in_default.is at c.in_ok-after.ensures.field in
+    let ends = ends_there (length c.args.bytes.now) c.loop-after.seen c.loop-after.rest.now field.1 in
+    ap (λ s. Ok (with_tail s (length c.args.bytes.now - length c.loop-after.rest.now))) field.0 ∙ sym ends ∙ c.loop-after.invariant.same
