@@ -1,0 +1,190 @@
+-- What is owed as the engine goes through a turn.
+use Rattle.std.proofs.Common.{◌≡◌, ℕ, ◌+◌, ◌<◌, List, [], ◌∷◌, ◌++◌, length, refl, sym, ◌∙◌, ap, arith, length-append, inl, inr}
+use Rattle.std.specs.Prelude.{ℤ, pos, map, ◌==◌, if◌then◌else◌, Bool, true, false}
+use Rattle.gw_base.specs.Moment.{moment_of, stamp_of}
+use Rattle.status_form.specs.Answer.{unread_message}
+use Rattle.gw_base.specs.declared.setup.Setup.{Setup}
+use Rattle.gw_site.specs.Outside.{Outside, Line, outside_after, is_open, without}
+use Rattle.gw_site.specs.declared.turn.Turn.{Turn}
+use Rattle.gw_site.specs.declared.turn.Turn.TheVariants.{SentTill, CutTill}
+use Rattle.gw_site.specs.Seen.{Seen, Grows}
+use Rattle.gw_site.specs.Turns.{IsTurn}
+use Rattle.sale_frame.specs.Frame.{frame, IsUnfinished, IsBad}
+use Rattle.sale_frame.specs.Reading.{reading_of, Reading}
+use Rattle.gw_rules.specs.Scene.{Till as ATill, Call, Send, Cut, Item, Message, Unframed, Scene, View, Standing, Resting, Opening, Refusing, AtPoll, Serving, Over, Broken, IsRunning, busy}
+use Rattle.gw_rules.specs.Owes.{reading_items, is_unframed, Owes, MessageOwes, Answers}
+use Rattle.gw_rules.specs.View.{called, begun, at_first}
+use Rattle.gw_rules.specs.Lawful.{Begins}
+use Rattle.gw_rules.specs.Keeps.{Keeps, Owing}
+use Rattle.gw_rules.proofs.KeepsLemmas.{keeps-refl, keeps-then, keeps-weaker, keeps-after, keeps-before, keeps-frame, keeps-some, begin-keeps}
+use Rattle.gw_rules.proofs.CallLemmas.{cut-till-keeps}
+use Rattle.gw_rules.proofs.ReadingLemmas.{items-waiting, items-unframed, items-message, reading-message, reading-waiting, unfinished-waits}
+use Rattle.gw_run.specs.Answered.{IsAnswer, IsFramedAnswer, TakesMessage}
+use Rattle.gw_run.specs.Turns.{IsIn, InRun, BeforeTill, Delivered}
+
+running-busy : (s : Standing) → IsRunning s → IsRunning (busy s)
+running-busy Resting r = r
+running-busy Opening r = tt
+running-busy Refusing r = r
+running-busy AtPoll r = tt
+running-busy Serving r = tt
+running-busy Over r = r
+running-busy Broken r = r
+
+-- an item has begun
+abbrev pub begun_scene : Scene → Scene
+begun_scene scene = record scene { standing = busy scene.standing; wrote = false }
+
+begun-in : (setup : Setup) (polls : ℕ) (o : Outside) (scene : Scene) → IsIn setup polls o scene → IsIn setup polls o (begun_scene scene)
+begun-in setup polls o scene f = record { setup_is = f.setup_is; running = running-busy scene.standing f.running; polls_are = f.polls_are; outside_is = f.outside_is }
+
+pub called-in : (setup : Setup) (polls : ℕ) (o : Outside) (scene : Scene) (turn : Turn) → IsIn setup polls o scene → IsIn setup polls (outside_after o turn) (called scene turn false)
+called-in setup polls o scene turn f = record { setup_is = f.setup_is; running = running-busy scene.standing f.running; polls_are = f.polls_are; outside_is = ap (λ p. outside_after p turn) f.outside_is }
+
+without-closed : (lines : List Line) (number : ℕ) → is_open (without lines number) number ≡ false
+without-closed [] number = refl
+without-closed (line ∷ lines) number = by_test (line.number == number) refl (without-closed lines number)
+  where
+    by_test : (test : Bool) → (line.number == number) ≡ test → is_open (without lines number) number ≡ false → is_open (without (line ∷ lines) number) number ≡ false
+    by_test true e h = rw e h
+    by_test false e h = rw (e, e) h
+
+-- the items of a till that is gone owe nothing
+module _ (setup : Setup) (polls : ℕ) (o : Outside) (till : ℕ) (closed : is_open o.tills till ≡ false) (s : Seen) where
+  pass : (item : Item) (items : List Item) → ((scene : Scene) → scene.outside ≡ o → Owes scene item []) →
+      Keeps s s (InRun setup polls o (item ∷ items)) (InRun setup polls o items)
+  pass item items owes = begin-keeps s (InRun setup polls o (item ∷ items)) [] (InRun setup polls o items) step
+    where
+      step : (v : View) → InRun setup polls o (item ∷ items) v → (item : Item) × (items' : List Item) × Begins v item items' [] × InRun setup polls o items (begun v [])
+      step v (scene, is, f) = (
+        item,
+        items,
+        record { running = rw is f.running; idle = rw is refl; first = rw is refl; owes = rw is (owes scene f.outside_is) },
+        (begun_scene scene, rw is refl, begun-in setup polls o scene f),
+      )
+
+  unanswered : (message : List ℕ) (scene : Scene) → scene.outside ≡ o → Owes scene (Message till message) []
+  unanswered message scene e = rw (e, closed) refl
+
+  uncut : (scene : Scene) → scene.outside ≡ o → Owes scene (Unframed till) []
+  uncut scene e = rw (e, closed) refl
+
+  pass-messages : (messages : List (List ℕ)) (items : List Item) → Keeps s s (InRun setup polls o (map (Message till) messages ++ items)) (InRun setup polls o items)
+  pass-messages [] items = keeps-refl s _
+  pass-messages (message ∷ messages) items = keeps-then s s s _ _ _ (pass (Message till message) (map (Message till) messages ++ items) (unanswered message)) (pass-messages messages items)
+
+  pub pass-all : (reading : Reading) → Keeps s s (InRun setup polls o (reading_items till reading)) (InRun setup polls o [])
+  pass-all reading = keeps-then s s s _ _ _ (pass-messages reading.messages _) (by_test (is_unframed reading.rest))
+    where
+      by_test : (test : Bool) → Keeps s s (InRun setup polls o (if test then Unframed till ∷ [] else [])) (InRun setup polls o [])
+      by_test true = pass (Unframed till) [] uncut
+      by_test false = keeps-refl s _
+
+-- these calls are owed, and these items come
+abbrev pub Pending : Setup → ℕ → Outside → List Call → List Item → View → Type 0
+Pending setup polls o calls items v = (scene : Scene) × Owing scene calls items v × IsIn setup polls o scene
+
+-- what is kept for each scene is kept for some
+pub pending-keeps : (a b : Seen) (setup : Setup) (polls : ℕ) (o : Outside) (calls : List Call) (items : List Item) (Q : Scene → View → Type 0) →
+    ((scene : Scene) → Keeps a b (Owing scene calls items) (Q scene)) → Keeps a b (Pending setup polls o calls items) (λ v. (scene : Scene) × Q scene v × IsIn setup polls o scene)
+pending-keeps a b setup polls o calls items Q k =
+    keeps-before a b (Pending setup polls o calls items) (λ v. (scene : Scene) × (Owing scene calls items v × IsIn setup polls o scene)) _ (λ v p. (p.0, (p.1, p.2)))
+    (keeps-some a b (λ scene v. Owing scene calls items v × IsIn setup polls o scene) _ at_first.scene
+    (λ scene. keeps-after a b _ _ _ (keeps-frame a b _ _ (IsIn setup polls o scene) (k scene)) (λ v q. (scene, q.0, q.1))))
+
+-- less than a frame waits
+pub serve-waiting : (s : Seen) (setup : Setup) (polls : ℕ) (o : Outside) (now : ℤ) (till : ℕ) (bytes : List ℕ) → IsUnfinished bytes →
+    Keeps s s (BeforeTill setup polls o now till bytes) (InRun setup polls o [])
+serve-waiting s setup polls o now till bytes h = keeps-before s s _ _ _ (λ v p. (rw (items-waiting till bytes h) at p.0)) (keeps-refl s (InRun setup polls o []))
+
+pub waiting-rest : (bytes : List ℕ) → IsUnfinished bytes → bytes ≡ (reading_of bytes).rest
+waiting-rest bytes h = ap (λ (r : Reading). r.rest) (sym (reading-waiting bytes (unfinished-waits bytes h)))
+
+-- the first item begins, and by a fact that is known owes these calls
+pub begin-first : (s : Seen) (setup : Setup) (polls : ℕ) (o : Outside) (item : Item) (items : List Item) (calls : List Call) (A : Type 0) → (A → (scene : Scene) → IsIn setup polls o scene → Owes scene item calls) →
+    Keeps s s (λ v. InRun setup polls o (item ∷ items) v × A) (λ v. Pending setup polls o calls items v × A)
+begin-first s setup polls o item items calls A owes = begin-keeps s (λ v. InRun setup polls o (item ∷ items) v × A) calls _ step
+  where
+    step : (v : View) → (InRun setup polls o (item ∷ items) v × A) → (item : Item) × (items' : List Item) × Begins v item items' calls × (Pending setup polls o calls items (begun v calls) × A)
+    step v ((scene, is, f), a) = (
+      item,
+      items,
+      record { running = rw is f.running; idle = rw is refl; first = rw is refl; owes = rw is (owes a scene f) },
+      ((begun_scene scene, rw is refl, begun-in setup polls o scene f), a),
+    )
+
+-- the till is there at this moment
+abbrev pub IsHere : Outside → ℤ → ℕ → Type 0
+IsHere o now till = (is_open o.tills till ≡ true) × (o.moment ≡ moment_of now)
+
+-- bytes that begin no frame are followed by the cut
+pub serve-unframed : (a b : Seen) (setup : Setup) (polls : ℕ) (o : Outside) (now : ℤ) (till : ℕ) (bytes : List ℕ) → IsBad bytes → Grows a b (IsTurn (CutTill till)) →
+    Keeps a b (BeforeTill setup polls o now till bytes) (InRun setup polls (outside_after o (CutTill till)) [])
+serve-unframed a b setup polls o now till bytes bad grows =
+    keeps-then a a b _ _ _
+    (keeps-before a a (BeforeTill setup polls o now till bytes) (λ v. InRun setup polls o (Unframed till ∷ []) v × IsHere o now till) _ (λ v p. ((rw (items-unframed till bytes bad) at p.0), (p.1, p.2)))
+    (begin-first a setup polls o (Unframed till) [] (Cut (ATill till) ∷ []) (IsHere o now till) (λ here scene f. rw (f.outside_is, here.0) refl)))
+    (keeps-weaker a b _ _ _ _ (λ v p. p.0)
+    (λ v (q : (scene : Scene) × Owing (called scene (CutTill till) false) [] [] v × IsIn setup polls o scene). (called q.0 (CutTill till) false, q.1, called-in setup polls o q.0 (CutTill till) q.2))
+    (pending-keeps a b setup polls o (Cut (ATill till) ∷ []) [] _ (λ scene. cut-till-keeps scene [] [] a b till grows)))
+
+open-owes : (test : Bool) → test ≡ true → (scene : Scene) (till : ℕ) (message : List ℕ) (calls : List Call) → MessageOwes true scene till message calls → MessageOwes test scene till message calls
+open-owes true e scene till message calls h = h
+open-owes false e scene till message calls h = absurd (let f : false ≡ true = e in cc)
+
+answered : (setup : Setup) (polls : ℕ) (o : Outside) (now : ℤ) (till : ℕ) (name message bytes : List ℕ) → setup.name ≡ name → IsFramedAnswer name (moment_of now) message bytes → IsHere o now till →
+    (scene : Scene) → IsIn setup polls o scene → Owes scene (Message till message) (Send (ATill till) bytes ∷ [])
+answered setup polls o now till name message bytes named (answer, is_answer, framed) here scene f =
+    open-owes (is_open scene.outside.tills till) (ap (λ (p : Outside). is_open p.tills till) f.outside_is ∙ here.0) scene till message (Send (ATill till) bytes ∷ []) (answer, answers is_answer, ap (λ b. Send (ATill till) b ∷ []) framed)
+  where
+    answers : IsAnswer name (moment_of now) message answer → Answers scene message answer
+    answers (inl status) = inl status
+    answers (inr (none, unread)) = inr (setup, record { none = none; setup_is = f.setup_is; is = unread ∙ ap (λ n. unread_message n (stamp_of (pos (moment_of now)))) (sym named) ∙ ap (λ m. unread_message setup.name (stamp_of (pos m))) (sym here.1 ∙ sym (ap (λ (p : Outside). p.moment) f.outside_is)) })
+
+-- a message has begun, and its answer is owed
+begin-message : (s : Seen) (setup : Setup) (polls : ℕ) (o : Outside) (now : ℤ) (till : ℕ) (name bytes old new : List ℕ) → setup.name ≡ name → TakesMessage name (moment_of now) bytes old new →
+    Keeps s s (BeforeTill setup polls o now till old) (λ v. Pending setup polls o (Send (ATill till) bytes ∷ []) (reading_items till (reading_of new)) v × IsHere o now till)
+begin-message s setup polls o now till name bytes old new named t =
+    keeps-before s s (BeforeTill setup polls o now till old) (λ v. InRun setup polls o (Message till t.message ∷ reading_items till (reading_of new)) v × IsHere o now till) _
+    (λ v p. ((rw (t.taken, items-message till t.message new t.lawful) at p.0), (p.1, p.2)))
+    (begin-first s setup polls o (Message till t.message) (reading_items till (reading_of new)) (Send (ATill till) bytes ∷ []) (IsHere o now till)
+    (λ here scene f. answered setup polls o now till name t.message bytes named t.answers here scene f))
+
+-- a message was answered
+pub serve-answered : (a b : Seen) (setup : Setup) (polls : ℕ) (o : Outside) (now : ℤ) (till : ℕ) (name bytes old new : List ℕ) → setup.name ≡ name → TakesMessage name (moment_of now) bytes old new →
+    ((scene : Scene) (items : List Item) → Keeps a b (Owing scene (Send (ATill till) bytes ∷ []) items) (Delivered true scene till bytes items)) →
+    Keeps a b (BeforeTill setup polls o now till old) (BeforeTill setup polls o now till new)
+serve-answered a b setup polls o now till name bytes old new named t sends =
+    let items = reading_items till (reading_of new) in
+    keeps-then a a b _ _ _ (begin-message a setup polls o now till name bytes old new named t)
+    (keeps-after a b _ _ _
+    (keeps-frame a b _ _ (IsHere o now till) (pending-keeps a b setup polls o (Send (ATill till) bytes ∷ []) items _ (λ scene. sends scene items)))
+    (λ v (q : ((scene : Scene) × Delivered true scene till bytes items v × IsIn setup polls o scene) × IsHere o now till).
+    ((called q.0.0 (SentTill till bytes true) false, q.0.1, called-in setup polls o q.0.0 (SentTill till bytes true) q.0.2), q.1.0, q.1.1)))
+
+cut-closed : (o : Outside) (till : ℕ) → is_open (outside_after o (CutTill till)).tills till ≡ false
+cut-closed o till = without-closed o.tills till
+
+-- a message wasn't taken, and the till was cut
+pub serve-unsent : (a b : Seen) (setup : Setup) (polls : ℕ) (o : Outside) (now : ℤ) (till : ℕ) (name bytes old new : List ℕ) → setup.name ≡ name → TakesMessage name (moment_of now) bytes old new →
+    ((scene : Scene) (items : List Item) → Keeps a b (Owing scene (Send (ATill till) bytes ∷ []) items) (Delivered false scene till bytes items)) →
+    Keeps a b (BeforeTill setup polls o now till old) (InRun setup polls (outside_after o (CutTill till)) [])
+serve-unsent a b setup polls o now till name bytes old new named t sends =
+    let items = reading_items till (reading_of new) in
+    keeps-then a b b _ _ _
+    (keeps-then a a b _ _ _ (begin-message a setup polls o now till name bytes old new named t)
+    (keeps-weaker a b _ _ _ _ (λ v p. p.0)
+    (λ v (q : (scene : Scene) × Delivered false scene till bytes items v × IsIn setup polls o scene). (
+      called (called q.0 (SentTill till q.1.0 false) false) (CutTill till) false,
+      q.1.1,
+      called-in setup polls o (called q.0 (SentTill till q.1.0 false) false) (CutTill till) (called-in setup polls o q.0 (SentTill till q.1.0 false) q.2),
+    ))
+    (pending-keeps a b setup polls o (Send (ATill till) bytes ∷ []) items _ (λ scene. sends scene items))))
+    (pass-all setup polls (outside_after o (CutTill till)) till (cut-closed o till) b (reading_of new))
+
+-- what the reader holds is less then, and ends in the same rest
+pub takes-less : (name bytes old new : List ℕ) (moment : ℕ) → TakesMessage name moment bytes old new → (length new < length old) × ((reading_of new).rest ≡ (reading_of old).rest)
+takes-less name bytes old new moment t =
+    let l : length old ≡ length (frame t.message) + length new = ap length t.taken ∙ length-append (frame t.message) new in
+    let m : length (frame t.message) ≡ 4 + length t.message = omega arith in
+    (omega (arith, t.lawful), sym (ap (λ b. (reading_of b).rest) t.taken ∙ ap (λ (r : Reading). r.rest) (reading-message t.message new t.lawful)))

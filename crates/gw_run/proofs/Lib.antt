@@ -1,0 +1,17 @@
+pub mod TillLemmas
+pub mod AnswerLemmas
+pub mod EngineLemmas
+pub mod SendLemmas
+pub mod TurnLemmas
+pub mod CutLemmas
+pub mod NumberLemmas
+pub mod LineLemmas
+pub mod ScriptLemmas
+pub mod TextLemmas
+pub mod PlayedLemmas
+pub mod ReplayLemmas
+pub mod TopLemmas
+pub mod PlayLemmas
+pub mod PlayerTillLemmas
+pub mod PlayerLemmas
+pub mod SaidLemmas

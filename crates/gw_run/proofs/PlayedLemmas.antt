@@ -1,0 +1,206 @@
+-- What a play of a script has written.
+use Rattle.std.proofs.Common.{◌≡◌, ℕ, ◌<◌, List, [], ◌∷◌, ◌++◌, length, refl, sym, ◌∙◌, ap, subst, arith, append_assoc, inl, inr, true, false}
+use Rattle.std.specs.Prelude.{◌⊎◌, Bool, not, Option, Some, Result, Ok, Err}
+use Rattle.gw_site.specs.Seen.{Seen, IsFront}
+use Rattle.gw_site.specs.Outside.{Outside, outside_after, nothing_yet}
+use Rattle.gw_site.specs.declared.turn.Turn.{Turn}
+use Rattle.gw_site.specs.declared.turn.Turn.TheVariants.{Start, Stopped}
+use Rattle.gw_rules.specs.Scene.{View, Resting, Broken}
+use Rattle.gw_rules.specs.Lawful.{IsClear, IsQuiet, Stands}
+use Rattle.gw_rules.specs.View.{at_first}
+use Rattle.gw_rules.specs.Keeps.{IsRun, Runs, Ran}
+use Rattle.gw_rules.specs.LogText.{log_text}
+use Rattle.gw_rules.specs.Plays.{Play, Plays, PlaysFrom, PlaysRead, PlaysLines, play_after, rests, IsOneRun, IsStopped}
+use Rattle.gw_rules.specs.Script.{Line, script_of, script_setup}
+use Rattle.gw_rules.proofs.EndLemmas.{over-ends, polls-most}
+use Rattle.gw_rules.proofs.FrontLemmas.{front-lawful}
+use Rattle.gw_run.specs.Top.{IsAccepted, IsAtMostOneRun, IsInput, IsFresh, IsPlayOf, IsTold, IsToldEnd, IsPlayEnd, NamesLine, PlayWritten, Writes, Written, tail_of}
+use Rattle.gw_run.specs.Turns.{EndedBy}
+use Rattle.gw_run.specs.declared.engine.Ended.TheVariants.{Done}
+use Rattle.gw_run.specs.declared.ending.Ending.{Ending}
+use Rattle.gw_run.specs.declared.ending.Ending.TheVariants.{Played, Words, Long, Line as AtLine, Input, Memory, Cut}
+
+-- what one run of the engine adds, where it plays a script, is one run or nothing
+run-lines : (lines : List Line) (log : List Turn) → PlaysLines lines log → IsRun script_setup log → IsAtMostOneRun log
+run-lines lines log plays (inl none) = inl none
+run-lines lines log plays (inr (inl failed)) = absurd ((subst (λ l. PlaysLines lines l) failed plays).0)
+run-lines lines log plays (inr (inr (run, quiet, inl start))) = inr (run, start, quiet)
+run-lines lines log plays (inr (inr (run, quiet, inr (file, crash)))) = absurd ((subst (λ l. PlaysLines lines l) crash plays).0)
+
+run-read : (read : Result (List Line) ℕ) (log : List Turn) → PlaysRead read log → IsRun script_setup log → IsAtMostOneRun log
+run-read (Ok lines) log plays run = run-lines lines log plays run
+run-read (Err number) log plays run = absurd plays
+
+pub run-once : (script : List ℕ) (log : List Turn) → Plays script log → IsRun script_setup log → IsAtMostOneRun log
+run-once script log plays run = run-read (script_of script) log plays run
+
+front-from : (o : Outside) (p : Play) (front rest : List Turn) → PlaysFrom o p (front ++ rest) → PlaysFrom o p front
+front-from o p [] rest h = tt
+front-from o p (turn ∷ front) rest h = (h.0, front-from (outside_after o turn) (play_after o p turn) front rest h.1)
+
+front-read : (read : Result (List Line) ℕ) (front rest : List Turn) → PlaysRead read (front ++ rest) → PlaysRead read front
+front-read (Ok lines) front rest h = front-from nothing_yet (rests lines) front rest h
+front-read (Err number) front rest h = h
+
+-- a front of a play is a play
+plays-front : (script : List ℕ) (front log : List Turn) → IsFront front log → Plays script log → Plays script front
+plays-front script front log (rest, e) h = front-read (script_of script) front rest (subst (λ l. Plays script l) e h)
+
+quiet-front : (front rest : List Turn) → IsQuiet (front ++ rest) → IsQuiet front
+quiet-front [] rest h = tt
+quiet-front (turn ∷ front) rest h = (h.0, quiet-front front rest h.1)
+
+one-front : (front rest log : List Turn) → log ≡ front ++ rest → IsAtMostOneRun log → IsAtMostOneRun front
+one-front [] rest log e h = inl refl
+one-front (turn ∷ front) rest log e (inl none) = absurd (let n : [] ≡ turn ∷ (front ++ rest) = sym none ∙ e in cc)
+one-front (turn ∷ front) rest log e (inr (run, start, quiet)) =
+    let n : turn ∷ (front ++ rest) ≡ Start script_setup ∷ run = sym e ∙ start in
+    let heads : turn ≡ Start script_setup = cc in
+    let tails : front ++ rest ≡ run = cc in
+    inr (front, ap (λ t. t ∷ front) heads, quiet-front front rest (subst IsQuiet (sym tails) quiet))
+
+-- a front of what was played is played in part
+pub part-front : (script : List ℕ) (whole : Bool) (front log : List Turn) → IsFront front log → IsPlayOf script whole log → IsPlayOf script false front
+part-front script whole front log f p = record {
+  lawful = front-lawful front log f p.lawful;
+  plays = plays-front script front log f p.plays;
+  one_run = one-front front f.0 log f.1 p.one_run;
+  stopped = λ e. absurd (let n : false ≡ true = e in cc);
+}
+
+-- an engine that has done all has come to the end, as no log is so long
+pub done-stops : (log : List Turn) (most : ℕ) (v : View) → Stands log v → length log < most → EndedBy Done most v → IsStopped log
+done-stops log most v s few (inl over) = over-ends log v s over
+done-stops log most v s few (inr all) = absurd (let h = polls-most log v s in let e = all.polls in omega arith)
+
+written-of : (ending : Ending) (words : List (List ℕ)) (input : Option (List ℕ)) (text : List ℕ) → Writes ending input text → Written ending words input text
+written-of Played words input text h = h
+written-of Words words input text h = h
+written-of Long words input text h = h
+written-of (AtLine line) words input text h = h
+written-of Input words input text h = h
+written-of Memory words input text h = h
+written-of Cut words input text h = absurd h
+
+one-run-of : (log : List Turn) → IsAtMostOneRun log → IsStopped log → IsOneRun log
+one-run-of log (inl none) (front, e) = absurd (none-stops front (sym none ∙ e)) where
+  none-stops : (front : List Turn) → [] ≡ front ++ Stopped ∷ [] → ⊥
+  none-stops [] h = cc
+  none-stops (turn ∷ front) h = cc
+one-run-of log (inr one) s = one
+
+-- what is written of a log that was played whole
+pub whole-text : (script : List ℕ) (input : Option (List ℕ)) (log : List Turn) → IsInput input script → IsPlayOf script true log → Writes Played input (log_text log ++ tail_of Played)
+whole-text script input log i p = record {
+  script = script;
+  log = log;
+  input_is = i;
+  log_is = record { lawful = p.lawful; plays = p.plays; one_run = one-run-of log p.one_run (p.stopped refl); stopped = p.stopped refl };
+  is = refl;
+}
+
+-- what is written of a log that was played in part
+pub part-text : (script : List ℕ) (input : Option (List ℕ)) (whole : Bool) (log : List Turn) → IsInput input script → IsPlayOf script whole log → Writes Memory input (log_text log ++ tail_of Memory)
+part-text script input whole log i p = inr (record { script = script; log = log; input_is = i; lawful = p.lawful; plays = p.plays; one_run = p.one_run; is = refl })
+
+front-front : (text added tail : List ℕ) → IsFront added tail → IsFront (text ++ added) (text ++ tail)
+front-front text added tail (rest, e) = (rest, ap (λ t. text ++ t) e ∙ sym (append_assoc text added rest))
+
+-- the lines behind a text, told in full or in part
+pub told-behind : (ending result : Ending) (words : List (List ℕ)) (input : Option (List ℕ)) (text added : List ℕ)
+    → (NamesLine ending → ⊥) → IsAccepted words → Writes ending input (text ++ tail_of ending) → IsTold ending result added → Written result words input (text ++ added)
+told-behind ending result words input text added never acc w (inl (same, all)) = rw (same, all) (written-of ending words input (text ++ tail_of ending) w)
+told-behind ending result words input text added never acc w (inr (inl (m, names, a))) = absurd (never names)
+told-behind ending result words input text added never acc w (inr (inr (cut, (told, inl same, front)))) = rw cut (record {
+  ending = ending;
+  whole = text ++ tail_of ending;
+  words_are = inl acc;
+  writes = w;
+  front = front-front text added (tail_of ending) (rw same at front);
+})
+told-behind ending result words input text added never acc w (inr (inr (cut, (told, inr other, front)))) = absurd (never other.1)
+
+played-line : NamesLine Played → ⊥
+played-line (line, e) = cc
+
+memory-line : NamesLine Memory → ⊥
+memory-line (line, e) = cc
+
+-- the log was written, and the lines behind it
+pub log-told : (script : List ℕ) (whole : Bool) (ending result : Ending) (log : List Turn) (first added : List ℕ)
+    → ((whole ≡ true) × (ending ≡ Played)) ⊎ (ending ≡ Memory) → IsPlayOf script whole log → first ≡ log_text log → IsTold ending result added → PlayWritten script result (first ++ added)
+log-told script whole ending result log first added (inl (w, e)) p f t = λ input i words acc.
+    subst (λ l. Written result words input (l ++ added)) (sym f) (told-behind Played result words input (log_text log) added played-line acc (whole-text script input log i (rw w at p)) (rw e at t))
+log-told script whole ending result log first added (inr e) p f t = λ input i words acc.
+    subst (λ l. Written result words input (l ++ added)) (sym f) (told-behind Memory result words input (log_text log) added memory-line acc (part-text script input whole log i p) (rw e at t))
+
+-- a front of the log's text was written, and then no more
+pub log-cut : (script : List ℕ) (whole : Bool) (log : List Turn) (added : List ℕ) → IsPlayOf script whole log → IsFront added (log_text log) → PlayWritten script Cut added
+log-cut script whole log added p (rest, e) = λ input i words acc. record {
+  ending = Memory;
+  whole = log_text log ++ tail_of Memory;
+  words_are = inl acc;
+  writes = part-text script input whole log i p;
+  front = (rest ++ tail_of Memory, ap (λ t. t ++ tail_of Memory) e ∙ append_assoc added rest (tail_of Memory));
+}
+
+-- a play ends so
+pub told-play-end : (ending result : Ending) → IsPlayEnd ending → IsToldEnd ending result → IsPlayEnd result
+told-play-end ending result h (inl same) = rw same h
+told-play-end ending result h (inr (inl (memory, names))) = rw memory tt
+told-play-end ending result h (inr (inr cut)) = rw cut tt
+
+first-clear : IsClear at_first
+first-clear e = let n : Resting ≡ Broken = e in cc
+
+first-stands : Stands [] at_first
+first-stands = record { course = []; log_is = refl; lawful = tt; view_is = refl }
+
+some-log : {xs ys : List Turn} → Some xs ≡ Some ys → xs ≡ ys
+some-log e = cc
+
+-- where nothing was played yet, nothing stands in the log
+pub fresh-play : (seen : Seen) (script : List ℕ) (log : List Turn) → IsFresh seen script → seen.log ≡ Some log → Plays seen.origin log → IsPlayOf script false log
+fresh-play seen script log fresh e plays =
+    let none : log ≡ [] = some-log (sym e ∙ ap (λ (s : Seen). s.log) fresh) in
+    record {
+      lawful = rw none (at_first, first-stands);
+      plays = subst (λ origin. Plays origin log) (ap (λ (s : Seen). s.origin) fresh) plays;
+      one_run = inl none;
+      stopped = λ h. absurd (let n : false ≡ true = h in cc);
+    }
+
+module _ (old new : Seen) (script : List ℕ) (log : List Turn) (Q : View → Type 0) (fresh : IsFresh old script) (runs : Runs old new (IsRun script_setup) Q) (e : new.log ≡ Some log) (plays : Plays new.origin log) where
+  ran : Ran [] new (IsRun script_setup) Q
+  ran = runs.told [] at_first (ap (λ (s : Seen). s.log) fresh) first-stands first-clear
+
+  added-is : ran.added ≡ log
+  added-is = some-log (sym ran.log_is ∙ e)
+
+  here : Plays script log
+  here = subst (λ origin. Plays origin log) (runs.origin ∙ ap (λ (s : Seen). s.origin) fresh) plays
+
+  stands : Stands log ran.view
+  stands = subst (λ l. Stands l ran.view) added-is ran.lawful
+
+  -- after one run, by which not all may have been played
+  pub ran-play : IsPlayOf script false log
+  ran-play = record {
+    lawful = (ran.view, stands);
+    plays = here;
+    one_run = run-once script log here (subst (IsRun script_setup) added-is ran.shape);
+    stopped = λ h. absurd (let n : false ≡ true = h in cc);
+  }
+
+-- after a run that came to its end
+pub ran-whole : (old new : Seen) (script : List ℕ) (log : List Turn) (most : ℕ) → IsFresh old script → Runs old new (IsRun script_setup) (EndedBy Done most) → new.log ≡ Some log → Plays new.origin log → length log < most → (short : Bool) → short ≡ new.dark → IsPlayOf script (not short) log
+ran-whole old new script log most fresh runs e plays few true s = ran-play old new script log (EndedBy Done most) fresh runs e plays
+ran-whole old new script log most fresh runs e plays few false s =
+    let r = ran old new script log (EndedBy Done most) fresh runs e plays in
+    let p = ran-play old new script log (EndedBy Done most) fresh runs e plays in
+    record {
+      lawful = p.lawful;
+      plays = p.plays;
+      one_run = p.one_run;
+      stopped = λ h. done-stops log most r.view (stands old new script log (EndedBy Done most) fresh runs e plays) few (r.owed (sym s));
+    }

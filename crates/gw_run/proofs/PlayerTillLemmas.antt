@@ -1,0 +1,87 @@
+-- The tills that a player holds by their numbers.
+use Rattle.std.proofs.Common.{◌≡◌, ℕ, ◌+◌, pos, List, [], ◌∷◌, ◌++◌, refl, sym, ◌∙◌, ap}
+use Rattle.std.specs.Prelude.{Bool, true, false, ◌||◌, ◌==◌, not, map, filter}
+use Rattle.std.specs.List.{list_any}
+use Rattle.gw_site.specs.Outside.{Line, Outside, hears, is_open, new_line, outside_after, outside_of, without}
+use Rattle.gw_site.specs.declared.turn.Turn.{Turn}
+use Rattle.gw_site.specs.declared.turn.Turn.TheVariants.{Start, Polled, Opened, HeardTill, Stopped, CutTill}
+use Rattle.gw_site.proofs.OutsideLemmas.{outside_of-append, outside_of_more}
+use Rattle.gw_base.specs.declared.setup.Setup.{Setup}
+use Rattle.gw_run.specs.PlayerTills.{numbers_of}
+
+-- a till is there where its number is held
+pub open_there : (tills : List ℕ) (till : ℕ) → is_open (map new_line tills) till ≡ list_any (λ other. other == till) tills
+open_there [] till = refl
+open_there (other ∷ tills) till = ap (λ rest. (other == till) || rest) (open_there tills till)
+
+-- one more till is there
+pub numbers_more : (lines : List Line) (till : ℕ) → numbers_of (lines ++ new_line till ∷ []) ≡ numbers_of lines ++ till ∷ []
+numbers_more [] till = refl
+numbers_more (line ∷ lines) till = ap (λ rest. line.number ∷ rest) (numbers_more lines till)
+
+-- what is heard makes no difference to who is there
+pub numbers_hears : (lines : List Line) (till : ℕ) (bytes : List ℕ) → numbers_of (hears lines till bytes) ≡ numbers_of lines
+numbers_hears [] till bytes = refl
+numbers_hears (line ∷ lines) till bytes = by_test (line.number == till) refl (numbers_hears lines till bytes)
+  where
+    by_test : (test : Bool) → (line.number == till) ≡ test → numbers_of (hears lines till bytes) ≡ numbers_of lines → numbers_of (hears (line ∷ lines) till bytes) ≡ numbers_of (line ∷ lines)
+    by_test true t later = rw t refl
+    by_test false t later = rw t (ap (λ rest. line.number ∷ rest) later)
+
+-- a till is gone
+pub numbers_without : (lines : List Line) (till : ℕ) → numbers_of (without lines till) ≡ filter (λ other. not (other == till)) (numbers_of lines)
+numbers_without [] till = refl
+numbers_without (line ∷ lines) till = by_test (line.number == till) refl (numbers_without lines till)
+  where
+    by_test : (test : Bool) → (line.number == till) ≡ test → numbers_of (without lines till) ≡ filter (λ other. not (other == till)) (numbers_of lines) → numbers_of (without (line ∷ lines) till) ≡ filter (λ other. not (other == till)) (numbers_of (line ∷ lines))
+    by_test true t later = rw t later
+    by_test false t later = rw t (ap (λ rest. line.number ∷ rest) later)
+
+-- a turn was added where the player isn't dark after it
+pub was_added : {P Q : Type 0} (result short : Bool) → (result ≡ true → P) → (result ≡ false → (short ≡ true) × Q) → short ≡ false → P
+was_added true short added refused lit = added refl
+was_added false short added refused lit = absurd (let h : true ≡ false = sym (refused refl).0 ∙ lit in cc)
+
+-- a turn by which no till opens or goes
+pub turn_tills : (log new : List Turn) (turn : Turn) → ((o : Outside) → ((outside_after o turn).tills ≡ o.tills) × ((outside_after o turn).next_till ≡ o.next_till)) → new ≡ log ++ turn ∷ [] →
+    (numbers_of (outside_of new).tills ≡ numbers_of (outside_of log).tills) × ((outside_of new).next_till ≡ (outside_of log).next_till)
+turn_tills log new turn stays is =
+    let e : outside_of new ≡ outside_after (outside_of log) turn = ap outside_of is ∙ outside_of_more log turn in
+    (ap (λ (o : Outside). numbers_of o.tills) e ∙ ap numbers_of (stays (outside_of log)).0, ap (λ (o : Outside). o.next_till) e ∙ (stays (outside_of log)).1)
+
+-- a run begins
+pub start_tills : (log new : List Turn) (setup : Setup) → new ≡ log ++ Start setup ∷ [] → (numbers_of (outside_of new).tills ≡ []) × ((outside_of new).next_till ≡ 0)
+start_tills log new setup is =
+    let e : outside_of new ≡ outside_after (outside_of log) (Start setup) = ap outside_of is ∙ outside_of_more log (Start setup) in
+    (ap (λ (o : Outside). numbers_of o.tills) e, ap (λ (o : Outside). o.next_till) e)
+
+-- a till is cut
+pub cut_tills : (log new : List Turn) (till : ℕ) → new ≡ log ++ CutTill till ∷ [] →
+    (numbers_of (outside_of new).tills ≡ filter (λ other. not (other == till)) (numbers_of (outside_of log).tills)) × ((outside_of new).next_till ≡ (outside_of log).next_till)
+cut_tills log new till is =
+    let e : outside_of new ≡ outside_after (outside_of log) (CutTill till) = ap outside_of is ∙ outside_of_more log (CutTill till) in
+    (ap (λ (o : Outside). numbers_of o.tills) e ∙ numbers_without (outside_of log).tills till, ap (λ (o : Outside). o.next_till) e)
+
+-- a poll, and a till that opens
+pub opened_tills : (log new : List Turn) (till : ℕ) → new ≡ log ++ Polled (pos 0) ∷ Opened till ∷ [] →
+    (numbers_of (outside_of new).tills ≡ numbers_of (outside_of log).tills ++ till ∷ []) × ((outside_of new).next_till ≡ till + 1)
+opened_tills log new till is =
+    let polled = outside_after (outside_of log) (Polled (pos 0)) in
+    let e : outside_of new ≡ outside_after polled (Opened till) = ap outside_of is ∙ outside_of-append log (Polled (pos 0) ∷ Opened till ∷ []) in
+    (ap (λ (o : Outside). numbers_of o.tills) e ∙ numbers_more (outside_of log).tills till, ap (λ (o : Outside). o.next_till) e)
+
+-- a poll, and bytes of a till
+pub heard_tills : (log new : List Turn) (till : ℕ) (bytes : List ℕ) → new ≡ log ++ Polled (pos 0) ∷ HeardTill till bytes ∷ [] →
+    (numbers_of (outside_of new).tills ≡ numbers_of (outside_of log).tills) × ((outside_of new).next_till ≡ (outside_of log).next_till)
+heard_tills log new till bytes is =
+    let polled = outside_after (outside_of log) (Polled (pos 0)) in
+    let e : outside_of new ≡ outside_after polled (HeardTill till bytes) = ap outside_of is ∙ outside_of-append log (Polled (pos 0) ∷ HeardTill till bytes ∷ []) in
+    (ap (λ (o : Outside). numbers_of o.tills) e ∙ numbers_hears (outside_of log).tills till bytes, ap (λ (o : Outside). o.next_till) e)
+
+-- a poll behind the last line
+pub stopped_tills : (log new : List Turn) → new ≡ log ++ Polled (pos 0) ∷ Stopped ∷ [] →
+    (numbers_of (outside_of new).tills ≡ numbers_of (outside_of log).tills) × ((outside_of new).next_till ≡ (outside_of log).next_till)
+stopped_tills log new is =
+    let polled = outside_after (outside_of log) (Polled (pos 0)) in
+    let e : outside_of new ≡ outside_after polled Stopped = ap outside_of is ∙ outside_of-append log (Polled (pos 0) ∷ Stopped ∷ []) in
+    (ap (λ (o : Outside). numbers_of o.tills) e, ap (λ (o : Outside). o.next_till) e)

@@ -1,0 +1,126 @@
+-- What a replay has written, and why it ended so.
+use Rattle.std.proofs.Common.{◌≡◌, ℕ, ◌≤◌, List, [], length, refl, arith, inl, inr}
+use Rattle.std.specs.Prelude.{◌⊎◌, Option, Some, None, Err}
+use Rattle.gw_site.specs.Seen.{IsFront}
+use Rattle.gw_rules.specs.Script.{script_limit}
+use Rattle.gw_run.specs.Top.{Cause, IfTold, IsAccepted, IsInputFault, IsInputRead, IsPlayEnd, IsScriptLeft, IsTold, IsToldEnd, NamesLine, WritesFront, Written, status_of, tail_of}
+use Rattle.gw_run.specs.declared.ending.Ending.{Ending}
+use Rattle.gw_run.specs.declared.ending.Ending.TheVariants.{Played, Words, Long, Line as AtLine, Input, Memory, Cut}
+
+-- an end in which nothing but its lines is written
+abbrev pub IsFault : Ending → Type 0
+IsFault Played = ⊥
+IsFault Words = Unit {0}
+IsFault Long = Unit {0}
+IsFault (AtLine line) = Unit {0}
+IsFault Input = Unit {0}
+IsFault Memory = Unit {0}
+IsFault Cut = ⊥
+
+lines-written : (ending : Ending) (words : List (List ℕ)) (input : Option (List ℕ)) → IsFault ending → Written ending words input (tail_of ending)
+lines-written Words words input h = refl
+lines-written Long words input h = refl
+lines-written (AtLine line) words input h = refl
+lines-written Input words input h = refl
+lines-written Memory words input h = inl refl
+lines-written Played words input h = absurd h
+lines-written Cut words input h = absurd h
+
+lines-front : (ending : Ending) (words : List (List ℕ)) (input : Option (List ℕ)) (added : List ℕ) → IsFault ending → IsAccepted words ⊎ (ending ≡ Words) → IsFront added (tail_of ending) → WritesFront words input added
+lines-front Words words input added h acc front = record { ending = Words; whole = tail_of Words; words_are = acc; writes = refl; front = front }
+lines-front Long words input added h acc front = record { ending = Long; whole = tail_of Long; words_are = acc; writes = refl; front = front }
+lines-front (AtLine line) words input added h acc front = record { ending = AtLine line; whole = tail_of (AtLine line); words_are = acc; writes = refl; front = front }
+lines-front Input words input added h acc front = record { ending = Input; whole = tail_of Input; words_are = acc; writes = refl; front = front }
+lines-front Memory words input added h acc front = record { ending = Memory; whole = tail_of Memory; words_are = acc; writes = inl refl; front = front }
+lines-front Played words input added h acc front = absurd h
+lines-front Cut words input added h acc front = absurd h
+
+words-line : NamesLine Words → ⊥
+words-line (line, e) = cc
+
+-- the lines of a fault that words accepted may meet, in full or in part
+pub fault-told : (ending result : Ending) (words : List (List ℕ)) (input : Option (List ℕ)) (added : List ℕ) → IsFault ending → IsAccepted words → IsTold ending result added → Written result words input added
+fault-told ending result words input added h acc (inl (same, all)) = rw (same, all) (lines-written ending words input h)
+fault-told ending result words input added h acc (inr (inl (m, names, a))) = rw m (inl a)
+fault-told ending result words input added h acc (inr (inr (cut, (told, inl same, front)))) = rw cut (lines-front ending words input added h (inl acc) (rw same at front))
+fault-told ending result words input added h acc (inr (inr (cut, (told, inr other, front)))) = rw cut (lines-front Memory words input added tt (inl acc) (rw other.0 at front))
+
+-- the lines for refused words, in full or in part
+pub words-told : (result : Ending) (words : List (List ℕ)) (input : Option (List ℕ)) (added : List ℕ) → IsTold Words result added → Written result words input added
+words-told result words input added (inl (same, all)) = rw (same, all) refl
+words-told result words input added (inr (inl (m, names, a))) = absurd (words-line names)
+words-told result words input added (inr (inr (cut, (told, inl same, front)))) = rw cut (lines-front Words words input added tt (inr refl) (rw same at front))
+words-told result words input added (inr (inr (cut, (told, inr other, front)))) = absurd (words-line other.1)
+
+-- the cause of the end that is told is that of the end, or the want of memory, or a failed write
+pub told-cause : (ending result : Ending) (words : List (List ℕ)) (input left : Option (List ℕ)) (input_rose out_rose : Type 0)
+    → IsAccepted words → Cause ending words input left input_rose out_rose → (result ≡ Cut → out_rose) → IsToldEnd ending result → Cause result words input left input_rose out_rose
+told-cause ending result words input left input_rose out_rose acc cause cut (inl same) = rw same cause
+told-cause ending result words input left input_rose out_rose acc cause cut (inr (inl (memory, names))) = rw memory acc
+told-cause ending result words input left input_rose out_rose acc cause cut (inr (inr e)) = rw e (cut e)
+
+-- the cause of the end where the words are refused
+pub words-cause : (result : Ending) (words : List (List ℕ)) (input left : Option (List ℕ)) (input_rose out_rose : Type 0)
+    → (IsAccepted words → ⊥) → (result ≡ Cut → out_rose) → IsToldEnd Words result → Cause result words input left input_rose out_rose
+words-cause result words input left input_rose out_rose never cut (inl same) = rw same never
+words-cause result words input left input_rose out_rose never cut (inr (inl (memory, names))) = absurd (words-line names)
+words-cause result words input left input_rose out_rose never cut (inr (inr e)) = rw e (cut e)
+
+-- the cause of a play's end
+pub play-cause : (result : Ending) (words : List (List ℕ)) (input left : Option (List ℕ)) (input_rose out_rose : Type 0)
+    → IsAccepted words → IfTold input (λ script. (left ≡ Some []) × (length script ≤ script_limit)) → (result ≡ Cut → out_rose) → IsPlayEnd result → Cause result words input left input_rose out_rose
+play-cause Played words input left input_rose out_rose acc read cut end = (acc, read)
+play-cause Memory words input left input_rose out_rose acc read cut end = acc
+play-cause Cut words input left input_rose out_rose acc read cut end = cut refl
+play-cause Words words input left input_rose out_rose acc read cut end = absurd end
+play-cause Long words input left input_rose out_rose acc read cut end = absurd end
+play-cause (AtLine line) words input left input_rose out_rose acc read cut end = absurd end
+play-cause Input words input left input_rose out_rose acc read cut end = absurd end
+
+-- a fault of the reading has its lines alone
+pub input-fault : (fault : Ending) → IsInputFault fault → IsFault fault
+input-fault Long h = tt
+input-fault Input h = tt
+input-fault Memory h = tt
+input-fault Played h = absurd h
+input-fault Words h = absurd h
+input-fault (AtLine line) h = absurd h
+input-fault Cut h = absurd h
+
+-- the cause of a fault of the reading
+pub input-cause : (fault : Ending) (words : List (List ℕ)) (input left : Option (List ℕ)) (input_rose out_rose : Type 0)
+    → IsAccepted words → IsInputFault fault → (fault ≡ Input → input_rose) → IfTold input (λ all. IsInputRead (Err fault) all left) → Cause fault words input left input_rose out_rose
+input-cause Long words input left input_rose out_rose acc h rose long = (acc, long)
+input-cause Input words input left input_rose out_rose acc h rose long = (acc, rose refl)
+input-cause Memory words input left input_rose out_rose acc h rose long = acc
+input-cause Played words input left input_rose out_rose acc h rose long = absurd h
+input-cause Words words input left input_rose out_rose acc h rose long = absurd h
+input-cause (AtLine line) words input left input_rose out_rose acc h rose long = absurd h
+input-cause Cut words input left input_rose out_rose acc h rose long = absurd h
+
+play-end : (ending result : Ending) → IsPlayEnd ending → IsToldEnd ending result → IsPlayEnd result
+play-end ending result h (inl same) = rw same h
+play-end ending result h (inr (inl (memory, names))) = rw memory tt
+play-end ending result h (inr (inr e)) = rw e tt
+
+-- where the input is a script and no reading failed, the reading can only want memory
+pub input-complete : (fault result : Ending) (input left : Option (List ℕ)) (input_rose : Type 0)
+    → IsInputFault fault → (fault ≡ Input → input_rose) → IfTold input (λ all. IsInputRead (Err fault) all left) → IsScriptLeft input → (input_rose → ⊥) → IsToldEnd fault result → IsPlayEnd result
+input-complete Long result None left input_rose h rose long script calm told = absurd script
+input-complete Long result (Some bytes) left input_rose h rose long script calm told = absurd (let a = long bytes refl in let b = script.0 in omega arith)
+input-complete Input result input left input_rose h rose long script calm told = absurd (calm (rose refl))
+input-complete Memory result input left input_rose h rose long script calm told = play-end Memory result tt told
+input-complete Played result input left input_rose h rose long script calm told = absurd h
+input-complete Words result input left input_rose h rose long script calm told = absurd h
+input-complete (AtLine line) result input left input_rose h rose long script calm told = absurd h
+input-complete Cut result input left input_rose h rose long script calm told = absurd h
+
+-- a play's end in which no write has failed
+pub status-end : (ending : Ending) (out_rose : Type 0) (status : ℕ) → status ≡ status_of ending → IsPlayEnd ending → (ending ≡ Cut → out_rose) → (out_rose → ⊥) → (status ≡ 0) ⊎ (status ≡ 71)
+status-end Played out_rose status s h cut calm = inl s
+status-end Memory out_rose status s h cut calm = inr s
+status-end Cut out_rose status s h cut calm = absurd (calm (cut refl))
+status-end Words out_rose status s h cut calm = absurd h
+status-end Long out_rose status s h cut calm = absurd h
+status-end (AtLine line) out_rose status s h cut calm = absurd h
+status-end Input out_rose status s h cut calm = absurd h

@@ -1,0 +1,19 @@
+use Rattle.std.proofs.Common.{◌∙◌, length, arith, sym, ap}
+use Rattle.gw_run.specs.Tills.{rank}
+use Rattle.gw_run.proofs.TurnLemmas.{no-memory, open-held, open-taken, open-crowded}
+use Rattle.gw_run.proofs.engine.on_open.Goals as goal
+
+pub returns-in-Some-clause-keeps : goal.returns-in-Some-clause-keeps
+returns-in-Some-clause-keeps g c = λ setup polls. open-held _ setup c.args.tills.now.items polls c.args.number c.in-Some.field-0 _
+    (ap (rank c.args.number) (sym c.deref.ensures.value) ∙ sym c.place_of.ensures.place ∙ c.in-Some.is)
+
+pub returns-then-len-ge-MOST_TILLS-clause-keeps : goal.returns-then-len-ge-MOST_TILLS-clause-keeps
+returns-then-len-ge-MOST_TILLS-clause-keeps g c = λ setup polls. open-crowded _ _ setup c.args.tills.now.items polls c.args.number
+    (let e = ap length (sym c.deref.ensures.value) ∙ c.deref.ensures.len in omega (arith, c.len.ensures, c.if-len-ge-MOST_TILLS.true)) c.cut_till.ensures.turns
+
+pub returns-in-Ok-clause-keeps : goal.returns-in-Ok-clause-keeps
+returns-in-Ok-clause-keeps g c = λ setup polls. open-taken _ setup c.args.tills.now.items _ polls c.args.number
+    (let e = ap length (sym c.deref.ensures.value) ∙ c.deref.ensures.len in omega (arith, c.len.ensures, c.if-len-ge-MOST_TILLS.false)) c.in-Ok.ensures.ok
+
+pub returns-in-Err-clause-keeps : goal.returns-in-Err-clause-keeps
+returns-in-Err-clause-keeps g c = λ setup polls. no-memory _ _

@@ -1,0 +1,10 @@
+pub mod Tills
+pub mod Answered
+pub mod Turns
+pub mod ScriptRead
+pub mod LogWritten
+pub mod Top
+pub mod PlaysProp
+pub mod PlayerTills
+pub mod PlayerNext
+pub mod Player

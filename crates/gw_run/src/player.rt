@@ -1,0 +1,269 @@
+//! A site in memory, which plays a script.
+ghost use Rattle.std.specs.Prelude.{◌≡◌, ◌≤◌, ◌∷◌, ◌++◌, [], List, Ok, Some, true, false, not, ◌==◌, filter, map, pos, IfOk, OnOk, OnErr};
+ghost use Rattle.gw_site.specs.Causes.{HasCause, Rose};
+ghost use Rattle.gw_site.specs.Outside.{Outside, outside_of, outside_after};
+ghost use Rattle.gw_site.specs.declared.turn.Turn.{Turn as ATurn};
+ghost use Rattle.gw_rules.specs.Plays.{Play, Fits, Plays, play_after, rests};
+ghost use Rattle.gw_rules.specs.Script.{Line, script_of};
+ghost use Rattle.gw_run.specs.ScriptRead.{line_seen};
+ghost use Rattle.gw_run.specs.PlayerTills.{numbers_of, next_after};
+
+mod next;
+mod played;
+
+use crate::script::ScriptLine;
+use gw_base::{Bytes, Setup};
+use gw_site::{Failed, Polled, Site, Turn, What};
+use next::Next;
+use played::Played;
+use std::alloc::{AllocError, Global};
+
+/// A site in memory. Its events are those of a script, its moments are 0, and none of its calls fails while there is
+/// memory for its log.
+///
+/// A poll meets the first line that applies: a till opens with a number above all of its run, and says something while it
+/// is there. It skips the lines in front of it. Behind the last line it stops. Where memory is refused the player is dark,
+/// and its log ends there.
+///
+/// It keeps no journal, and has no disk: a call on the disk fails, and the player is dark.
+#[derive(Drop)]
+pub(crate) struct Player<'a> {
+    alloc: Global,
+    play: Played<'a>,
+    /// The tills that are there.
+    tills: Vec<u64>,
+    /// The till of the run that opened last.
+    opened: Option<u64>,
+    faults: u64,
+    ghost tills_are: { play.short ≡ false → numbers_of (outside_of play.log.items).tills ≡ tills.items },
+    ghost next_is: { play.short ≡ false → (outside_of play.log.items).next_till ≡ next_after opened },
+}
+
+/// One more fault; the count stays at its last value.
+fn risen(faults: u64) -> u64
+    ensures rose { Rose faults result }
+    ensures later { faults ≤ result }
+{
+    faults.saturating_add(1)
+}
+
+/// A copy of a setup.
+fn copied(setup: &Setup) -> Result<Setup, AllocError>
+    ensures { IfOk result (λ copy. copy ≡ setup.now) }
+{
+    setup.clone()
+}
+
+/// A till is gone.
+fn drop_till(tills: &mut Vec<u64>, till: u64)
+    ensures { tills.new.items ≡ filter (λ other. not (other == till)) tills.old.items }
+{
+    tills.retain(|other| *other != till);
+}
+
+/// What a poll brings, at the one moment of a script.
+fn brings(what: What) -> Polled
+    ensures what { result.what ≡ what }
+    ensures now { result.now ≡ pos 0 }
+{
+    Polled { now: 0, what }
+}
+
+impl<'a> Player<'a> {
+    ghost use Rattle.gw_run.specs.Player.{seen_of};
+
+    /// A player of these lines, which the script was read as.
+    pub(crate) fn new(alloc: Global, script: &'a [u8], lines: Vec<ScriptLine>) -> Player<'a>
+        requires { script_of script.now ≡ Ok (map line_seen lines.items) }
+        ensures { seen_of result ≡ record { log = Some []; faults = 0; dark = false; origin = script.now } }
+    {
+        Player {
+            alloc,
+            play: Played::new(alloc, script, lines),
+            tills: Vec::new(alloc),
+            opened: None,
+            faults: 0,
+        }
+    }
+
+    /// What went in and out.
+    pub(crate) fn log(&self) -> &[Turn]
+        ensures { (seen_of self.now).log ≡ Some result.now }
+    {
+        &self.play.log
+    }
+
+    /// Whether the player is dark: memory was refused, or a call on the disk was made.
+    pub(crate) fn is_short(&self) -> bool
+        ensures { result ≡ (seen_of self.now).dark }
+    {
+        self.play.short
+    }
+
+    /// The log plays the script, or a front of it.
+    pub(crate) fn played(&self)
+        ensures { (log : List ATurn) → (seen_of self.now).log ≡ Some log → Plays (seen_of self.now).origin log }
+    {
+        let _ = self.play.at;
+    }
+
+    /// Counts a fault.
+    fn count(&mut self)
+        ensures rose { Rose self.old.faults self.new.faults }
+        ensures later { self.old.faults ≤ self.new.faults }
+        ensures play { self.new.play ≡ self.old.play }
+    {
+        self.faults = risen(self.faults);
+    }
+
+    /// A call fails, and the player is dark from now on.
+    fn fail(&mut self) -> Failed
+        ensures rose { Rose self.old.faults self.new.faults }
+        ensures later { self.old.faults ≤ self.new.faults }
+        ensures short { self.new.play.short ≡ true }
+        ensures log { self.new.play.log.items ≡ self.old.play.log.items }
+        ensures script { self.new.play.script.now ≡ self.old.play.script.now }
+    {
+        self.play.shorten();
+        self.count();
+        Failed
+    }
+
+    /// A poll fails, and the player is dark from now on.
+    fn stop(&mut self) -> Polled
+        ensures what { result.what ≡ What.Stopped }
+        ensures now { result.now ≡ pos 0 }
+        ensures later { self.old.faults ≤ self.new.faults }
+        ensures short { self.new.play.short ≡ true }
+        ensures log { self.new.play.log.items ≡ self.old.play.log.items }
+        ensures script { self.new.play.script.now ≡ self.old.play.script.now }
+    {
+        self.fail();
+        brings(What::Stopped)
+    }
+
+    /// Adds the turn of a call, by which no till opens or goes.
+    fn call(&mut self, turn: Turn) -> Result<(), Failed>
+        requires fits { (lines : List Line) → Fits (rests lines) turn }
+        requires stays { (o : Outside) (p : Play) → play_after o p turn ≡ p }
+        requires tills { (o : Outside) → ((outside_after o turn).tills ≡ o.tills) × ((outside_after o turn).next_till ≡ o.next_till) }
+        ensures ok { OnOk result ((self.old.play.short ≡ false) × (self.new.play.short ≡ false) × (self.new.play.log.items ≡ self.old.play.log.items ++ turn ∷ [])) }
+        ensures err { OnErr result ((self.new.play.short ≡ true) × (self.new.play.log.items ≡ self.old.play.log.items)) }
+        ensures script { self.new.play.script.now ≡ self.old.play.script.now }
+        ensures cause { HasCause self.old.faults self.new.faults result }
+    {
+        if self.play.add(turn) {
+            Ok(())
+        } else {
+            self.count();
+            Err(Failed)
+        }
+    }
+}
+
+impl Site for Player<'_> {
+    ghost use Rattle.gw_run.specs.Player.{seen_of};
+
+    ghost seen = { seen_of };
+
+    fn open(&mut self, setup: &Setup) -> Result<(), Failed> {
+        match copied(setup) {
+            Err(_) => Err(self.fail()),
+            Ok(copy) => {
+                if !self.play.add(Turn::Start(copy)) {
+                    self.count();
+                    return Err(Failed);
+                }
+                self.tills.clear();
+                self.opened = None;
+                Ok(())
+            }
+        }
+    }
+
+    fn poll(&mut self, buf: &mut [u8; 4096]) -> Polled {
+        if self.play.short {
+            return brings(What::Stopped);
+        }
+        let at = self.play.place(&self.tills, self.opened);
+        match self.play.next(self.alloc, at, buf) {
+            Next::Short => self.stop(),
+            Next::Stop => {
+                if !self.play.add_event(Turn::Stopped, at) {
+                    return self.stop();
+                }
+                brings(What::Stopped)
+            }
+            Next::Open(till) => {
+                if self.tills.push(till).is_err() {
+                    return self.stop();
+                }
+                if !self.play.add_event(Turn::Opened { till }, at + 1) {
+                    return self.stop();
+                }
+                self.opened = Some(till);
+                brings(What::TillOpened(till))
+            }
+            Next::Say(till, count, bytes) => {
+                if !self.play.add_event(Turn::HeardTill { till, bytes }, at + 1) {
+                    return self.stop();
+                }
+                brings(What::TillBytes(till, count))
+            }
+        }
+    }
+
+    fn send_till(&mut self, till: u64, bytes: &[u8]) -> Result<(), Failed> {
+        match Bytes::copied(self.alloc, bytes) {
+            Err(_) => Err(self.fail()),
+            Ok(bytes) => self.call(Turn::SentTill {
+                till,
+                bytes,
+                ok: true,
+            }),
+        }
+    }
+
+    fn send_pt(&mut self, pt: u16, bytes: &[u8]) -> Result<(), Failed> {
+        match Bytes::copied(self.alloc, bytes) {
+            Err(_) => Err(self.fail()),
+            Ok(bytes) => self.call(Turn::SentPt {
+                pt,
+                bytes,
+                ok: true,
+            }),
+        }
+    }
+
+    fn link_pt(&mut self, pt: u16) -> Result<(), Failed> {
+        self.call(Turn::Linked { pt })
+    }
+
+    fn cut_till(&mut self, till: u64) {
+        if self.play.add(Turn::CutTill { till }) {
+            drop_till(&mut self.tills, till);
+        } else {
+            self.count();
+        }
+    }
+
+    fn cut_pt(&mut self, pt: u16) {
+        let _ = self.call(Turn::CutPt { pt });
+    }
+
+    fn length(&mut self) -> Result<u64, Failed> {
+        Err(self.fail())
+    }
+
+    fn read_at(&mut self, _pos: u64, _buf: &mut [u8]) -> Result<(), Failed> {
+        Err(self.fail())
+    }
+
+    fn write_at(&mut self, _pos: u64, _bytes: &[u8]) -> Result<(), Failed> {
+        Err(self.fail())
+    }
+
+    fn sync(&mut self) -> Result<(), Failed> {
+        Err(self.fail())
+    }
+}

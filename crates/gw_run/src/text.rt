@@ -1,0 +1,221 @@
+//! The text of a log.
+ghost use Rattle.std.specs.Prelude.{◌≡◌, ◌≤◌, ◌++◌, ◌∷◌, [], drop, string_bytes, codes, if◌then◌else◌, IsErrOf, OnOk, Some, None};
+ghost use Rattle.std.specs.Option.{option_copied};
+ghost use Rattle.std.specs.List.{list_all};
+ghost use Rattle.sale_frame.specs.Reading.{is_frame};
+ghost use Rattle.hex.specs.Hex.{encode_lower};
+ghost use Rattle.gw_site.specs.Causes.{Rose};
+ghost use Rattle.gw_site.specs.declared.turn.Turn.TheVariants.{SentTill, SentPt};
+ghost use Rattle.gw_rules.specs.LogText.{is_printable, is_shown_frame, shown, taken, log_text, turn_text};
+ghost use Rattle.gw_run.specs.LogWritten.{Adds, LogWritten};
+
+use gw_base::Bytes;
+use gw_site::{Failed, Sink, Turn};
+use std::alloc::{AllocError, Global};
+use std::str;
+
+/// As many bytes of lines are written at once, or more.
+const PIECE: usize = 65_536;
+
+/// The size of a frame's length.
+const LENGTH_SIZE: usize = 4;
+
+/// The greatest length of a message, in bytes.
+const MESSAGE_MAX: usize = 65_536;
+
+/// Why a log was not written whole.
+#[derive(Clone, Copy, Debug, PartialEq, Eq)]
+pub enum Unwritten {
+    Memory,
+    /// The sink failed.
+    Sink,
+}
+
+impl From<AllocError> for Unwritten {
+    ghost use Rattle.gw_run.specs.declared.text.Unwritten.TheVariants.{Memory};
+
+    ghost from_gives = { λ _ unwritten. unwritten ≡ Memory };
+
+    fn from(_error: AllocError) -> Unwritten {
+        Unwritten::Memory
+    }
+}
+
+impl From<Failed> for Unwritten {
+    ghost use Rattle.gw_run.specs.declared.text.Unwritten.TheVariants.{Sink};
+
+    ghost from_gives = { λ _ unwritten. unwritten ≡ Sink };
+
+    fn from(_failed: Failed) -> Unwritten {
+        Unwritten::Sink
+    }
+}
+
+/// The message of one whole frame.
+fn framed_message(bytes: &[u8]) -> Option<&[u8]>
+    ensures { option_copied result ≡ (if is_frame bytes.now then Some (drop 4 bytes.now) else None) }
+{
+    let (length, message) = bytes.split_first_chunk::<LENGTH_SIZE>()?;
+    let length = u32::from_be_bytes(*length) as usize;
+    if length == 0 || length > MESSAGE_MAX || length != message.len() {
+        return None;
+    }
+    Some(message)
+}
+
+fn is_printable(byte: u8) -> bool
+    ensures { result ≡ is_printable byte }
+{
+    (b' '..=b'~').contains(&byte)
+}
+
+fn are_printable(bytes: &[u8]) -> bool
+    ensures { result ≡ list_all is_printable bytes.now }
+{
+    bytes.iter().all(|byte| is_printable(*byte))
+}
+
+/// The message of one whole frame, where it is printable ASCII.
+fn shown_message(bytes: &[u8]) -> Option<&str>
+    ensures { option_copied result ≡ (if is_shown_frame bytes.now then Some (drop 4 bytes.now) else None) }
+{
+    let message = framed_message(bytes)?;
+    if are_printable(message) {
+        str::from_utf8(message).ok()
+    } else {
+        None
+    }
+}
+
+/// Appends bytes in lower-case hexadecimal.
+fn push_hex(alloc: Global, lines: &mut String, bytes: &[u8]) -> Result<(), AllocError>
+    ensures { OnOk result (string_bytes lines.new ≡ string_bytes lines.old ++ encode_lower bytes.now) }
+{
+    let text = hex::encode(alloc, bytes)?;
+    lines.push_str(text.as_str())
+}
+
+/// Appends bytes of a till.
+fn push_shown(alloc: Global, lines: &mut String, bytes: &[u8]) -> Result<(), AllocError>
+    ensures { OnOk result (string_bytes lines.new ≡ string_bytes lines.old ++ shown bytes.now) }
+{
+    match shown_message(bytes) {
+        Some(message) => write!(lines, "'{message}"),
+        None => push_hex(alloc, lines, bytes),
+    }
+}
+
+/// Appends the bytes that a failed send took.
+fn push_taken(alloc: Global, lines: &mut String, bytes: &[u8]) -> Result<(), AllocError>
+    ensures { OnOk result (string_bytes lines.new ≡ string_bytes lines.old ++ (taken bytes.now ++ codes " failed")) }
+{
+    if bytes.is_empty() {
+        lines.push_str("-")?;
+    } else {
+        push_hex(alloc, lines, bytes)?;
+    }
+    lines.push_str(" failed")
+}
+
+/// Appends the line of a send to a till, without its end.
+fn push_sent_till(
+    alloc: Global,
+    lines: &mut String,
+    till: u64,
+    bytes: &Bytes,
+    ok: bool,
+) -> Result<(), AllocError>
+    ensures { OnOk result (string_bytes lines.new ≡ string_bytes lines.old ++ turn_text (SentTill till bytes.now ok)) }
+{
+    write!(lines, "till {till} out ")?;
+    if ok {
+        push_shown(alloc, lines, bytes.as_slice())
+    } else {
+        push_taken(alloc, lines, bytes.as_slice())
+    }
+}
+
+/// Appends the line of a send to a terminal, without its end.
+fn push_sent_pt(
+    alloc: Global,
+    lines: &mut String,
+    pt: u16,
+    bytes: &Bytes,
+    ok: bool,
+) -> Result<(), AllocError>
+    ensures { OnOk result (string_bytes lines.new ≡ string_bytes lines.old ++ turn_text (SentPt pt bytes.now ok)) }
+{
+    write!(lines, "pt {pt} out ")?;
+    if ok {
+        push_hex(alloc, lines, bytes.as_slice())
+    } else {
+        push_taken(alloc, lines, bytes.as_slice())
+    }
+}
+
+/// Appends the line of a turn, without its end.
+fn push_turn(alloc: Global, lines: &mut String, turn: &Turn) -> Result<(), AllocError>
+    ensures { OnOk result (string_bytes lines.new ≡ string_bytes lines.old ++ turn_text turn.now) }
+{
+    match turn {
+        Turn::Start(_) => lines.push_str("start"),
+        Turn::OpenFailed => lines.push_str("open failed"),
+        Turn::Polled { now } => write!(lines, "at {now}"),
+        Turn::Opened { till } => write!(lines, "open {till}"),
+        Turn::HeardTill { till, bytes } => {
+            write!(lines, "till {till} in ")?;
+            push_shown(alloc, lines, bytes.as_slice())
+        }
+        Turn::Closed { till } => write!(lines, "close {till}"),
+        Turn::HeardPt { pt, bytes } => {
+            write!(lines, "pt {pt} in ")?;
+            push_hex(alloc, lines, bytes.as_slice())
+        }
+        Turn::Lost { pt } => write!(lines, "lost {pt}"),
+        Turn::Stopped => lines.push_str("stop"),
+        Turn::Linked { pt } => write!(lines, "link {pt}"),
+        Turn::LinkFailed { pt } => write!(lines, "link {pt} failed"),
+        Turn::SentTill { till, bytes, ok } => push_sent_till(alloc, lines, *till, bytes, *ok),
+        Turn::SentPt { pt, bytes, ok } => push_sent_pt(alloc, lines, *pt, bytes, *ok),
+        Turn::CutTill { till } => write!(lines, "till {till} cut"),
+        Turn::CutPt { pt } => write!(lines, "pt {pt} cut"),
+        Turn::Wrote { pos, bytes } => {
+            write!(lines, "wrote {pos} ")?;
+            push_hex(alloc, lines, bytes.as_slice())
+        }
+        Turn::Synced => lines.push_str("synced"),
+        Turn::DiskFailed => lines.push_str("disk failed"),
+        Turn::Crash { file } => {
+            let length = file.as_slice().len();
+            write!(lines, "power {length}")
+        }
+    }
+}
+
+/// Appends the line of a turn.
+fn push_line(alloc: Global, lines: &mut String, turn: &Turn) -> Result<(), AllocError>
+    ensures { OnOk result (string_bytes lines.new ≡ string_bytes lines.old ++ log_text (turn.now ∷ [])) }
+{
+    push_turn(alloc, lines, turn)?;
+    lines.push('\n')
+}
+
+/// Writes the text of a log, a line for each turn.
+///
+/// Where memory is wanting, the lines that were written are whole; where the sink fails, the last one may be cut.
+pub fn write_log<O: Sink>(alloc: Global, log: &[Turn], out: &mut O) -> Result<(), Unwritten>
+    ensures written { Adds (O.written out.old) (O.written out.new) (LogWritten log.now result) }
+    ensures sink { IsErrOf result Unwritten.Sink → Rose (O.faults out.old) (O.faults out.new) }
+    ensures later { O.faults out.old ≤ O.faults out.new }
+{
+    let mut lines = String::new(alloc);
+    for turn in log {
+        push_line(alloc, &mut lines, turn)?;
+        if lines.len() >= PIECE {
+            out.write(lines.as_bytes())?;
+            lines.clear();
+        }
+    }
+    out.write(lines.as_bytes())?;
+    Ok(())
+}
