@@ -1,0 +1,265 @@
+-- What the reader answers at each place.
+use Rattle.std.proofs.Common.{◌≡◌, ◌≢◌, ℕ, ◌<◌, ◌≤◌, List, [], ◌∷◌, ◌++◌, length, map, true, false, refl, sym, ap, subst, ◌∙◌, arith, Vec, Global, Result, String}
+use Rattle.std.specs.Prelude.{MatchResult, string_bytes}
+use Rattle.std.specs.Char.{encode_utf8}
+use Rattle.std.proofs.lemmas.List.{map-append}
+use Rattle.std.proofs.lemmas.Str.{encode_ascii}
+use Rattle.json_text.specs.Tree.{Tree, number, string, array, object, no_items, no_members, names}
+use Rattle.json_text.specs.View.{view, items_onto, members_onto}
+use Rattle.json_text.specs.Number.{IsNumber}
+use Rattle.json_text.specs.Names.{has_name, keys}
+use Rattle.json_text.specs.Spelling.{Rules, is_space}
+use Rattle.json_text.specs.Stand.{outside, inside, stand_step}
+use Rattle.json_text.specs.CharacterLeft.{Left as CharacterLeft, IsSound, LeavesNext, LeavesNone, Starts, stand_within}
+use Rattle.json_text.specs.NumberLeft.{Left as NumberLeft, Leaves, Stops}
+use Rattle.json_text.specs.Reading.{Level, in_list, in_object, Place, value, first_item, first_name, name, colon, after, number_in, text_in, character_in, as_value, as_name, Moves, IsDead, stand_of, pairs, levels, role_of, place, IsWithin, Steps}
+use Rattle.json_text.specs.Stops.{FailsAt, Fails, IsTooDeep, IsRepeated, IsKindAt, IsNoMark}
+use Rattle.json_text.specs.declared.character.Within.{Within}
+use Rattle.json_text.specs.declared.number.Phase.{Phase}
+use Rattle.json_text.specs.declared.state.Frame.{Frame}
+use Rattle.json_text.specs.declared.state.Frame.TheVariants as frames
+use Rattle.json_text.specs.declared.state.Target.{Target}
+use Rattle.json_text.specs.declared.state.Target.TheVariants as targets
+use Rattle.json_text.specs.declared.state.Word.{Word}
+use Rattle.json_text.specs.declared.state.Word.TheVariants as words
+use Rattle.json_text.specs.declared.state.State.{State}
+use Rattle.json_text.specs.declared.state.Mode.{Mode}
+use Rattle.json_text.specs.declared.state.Mode.TheVariants as modes
+use Rattle.json_text.specs.declared.fields.Fields.{Fields}
+use Rattle.json_text.specs.declared.fields.Named.{Named}
+use Rattle.json_text.specs.declared.tree.Json.{Json}
+use Rattle.json_text.specs.declared.tree.Json.TheViews as jsons
+use Rattle.json_text.specs.declared.fault.Stop.{Stop}
+use Rattle.json_text.specs.declared.fault.FaultKind.{FaultKind}
+use Rattle.json_text.specs.declared.fault.FaultKind.TheVariants as kinds
+use Rattle.json_text.proofs.Trees.{view-List, view-Object}
+use Rattle.json_text.proofs.Stands.{stays_outside, space_is}
+use Rattle.json_text.proofs.NameLemmas.{repeated}
+use Rattle.json_text.proofs.CharacterSteps.{starts_scalar}
+use Rattle.json_text.proofs.Values as values
+use Rattle.json_text.proofs.Objects as objects
+use Rattle.json_text.proofs.Places.{space_after, list_dead, object_dead, number_on, number_ends, number_ended, text_closes, text_next, text_whole, text_dead, character_next, character_whole, character_dead}
+use Rattle.json_text.proofs.Live.{first_item_live, first_name_live, lax_colon_live}
+use Rattle.json_text.proofs.States.{levels_sound, levels_pushed, length-levels, keys_pairs, pairs_append, named_distinct, steps_to, same_result, outside_wrong}
+
+abbrev pub state : Vec Frame Global → Mode → State
+state o m = record { stack = o; mode = m }
+
+-- a step from c to a place with the same levels
+stays : (p : Place) (o : Vec Frame Global) (c k : ℕ) (m : Mode) (q : Place) → c ≡ k → place m ≡ q → IsWithin m → ((R : Rules) → 32 ≤ R.limit → Moves R p (levels o.items) k q (levels o.items)) → stand_step (stand_of p) k ≡ stand_of q → Steps p (levels o.items) c (state o m)
+stays p o c k m q e f w h s =
+    subst (λ (x : ℕ). Steps p (levels o.items) x (state o m)) (sym e) (steps_to p (levels o.items) k (state o m) q (levels o.items) f refl w h s)
+
+-- white space is outside of strings
+pub space_stays : (c : ℕ) → is_space c ≡ true → stand_step outside c ≡ outside
+space_stays c e = let s = space_is c e in stays_outside c (omega arith)
+
+-- ---- in_value
+
+pub list_opens : (o : Vec Frame Global) (c : ℕ) → c ≡ 91 → length o.items < 32 → Steps value (levels o.items) c (state o modes.FirstItem)
+list_opens o c e lt = stays value o c 91 modes.FirstItem first_item e refl tt (λ R le. values.opens_list R (levels o.items) (omega (arith, length-levels o.items))) refl
+
+pub object_opens : (o : Vec Frame Global) (c : ℕ) → c ≡ 123 → length o.items < 32 → Steps value (levels o.items) c (state o modes.FirstName)
+object_opens o c e lt = stays value o c 123 modes.FirstName first_name e refl tt (λ R le. objects.opens_object R (levels o.items) (omega (arith, length-levels o.items))) refl
+
+pub list_too_deep : (fs : List Frame) (c : ℕ) → c ≡ 91 → 32 ≤ length fs → IsTooDeep value (levels fs) c
+list_too_deep fs c e le = subst (λ (k : ℕ). IsTooDeep value (levels fs) k) (sym e) (record {
+  dead = λ R lim. values.too_deep_list R (levels fs) (omega (arith, length-levels fs));
+  enough = length (levels fs);
+  alive = λ R lt. (let l = first_item_live R (levels fs) (levels_sound fs) in (l.0, l.1, (values.opens_list R (levels fs) lt).back l.0 l.1 l.2));
+  stands = refl;
+})
+
+pub object_too_deep : (fs : List Frame) (c : ℕ) → c ≡ 123 → 32 ≤ length fs → IsTooDeep value (levels fs) c
+object_too_deep fs c e le = subst (λ (k : ℕ). IsTooDeep value (levels fs) k) (sym e) (record {
+  dead = λ R lim. objects.too_deep_object R (levels fs) (omega (arith, length-levels fs));
+  enough = length (levels fs);
+  alive = λ R lt. (let l = first_name_live R (levels fs) (levels_sound fs) in (l.0, l.1, (objects.opens_object R (levels fs) lt).back l.0 l.1 l.2));
+  stands = refl;
+})
+
+pub string_begins : (o : Vec Frame Global) (text : String Global) (c : ℕ) → c ≡ 34 → string_bytes text ≡ [] → Steps value (levels o.items) c (state o (modes.Text targets.Value text))
+string_begins o text c e empty = stays value o c 34 (modes.Text targets.Value text) (text_in as_value []) e (ap (text_in as_value) empty) tt (λ R le. values.begins_string R (levels o.items)) refl
+
+pub number_begins : (o : Vec Frame Global) (text : String Global) (p : Phase) (c ch : ℕ) (old : List ℕ) → Leaves IsNumber c p → ch ≡ c → old ≡ [] → string_bytes text ≡ old ++ encode_utf8 ch → Steps value (levels o.items) c (state o (modes.Number text p))
+number_begins o text p c ch old m is none e =
+    stays value o c c (modes.Number text p) (number_in (c ∷ []) p) refl
+    (ap (λ (t : List ℕ). number_in t p) (e ∙ ap (λ (l : List ℕ). l ++ encode_utf8 ch) none ∙ ap encode_utf8 is ∙ encode_ascii c m.byte.ascii))
+    tt (λ R le. values.begins_number R (levels o.items) c p m) (stays_outside c m.byte.no_mark.3)
+
+pub null_begins : (o : Vec Frame Global) (at : Word) (c : ℕ) → c ≡ 110 → at ≡ words.Null → Steps value (levels o.items) c (state o (modes.Word at 1))
+null_begins o at c e is = subst (λ (w : Word). Steps value (levels o.items) c (state o (modes.Word w 1))) (sym is) (stays value o c 110 (modes.Word words.Null 1) _ e refl (omega arith) (λ R le. values.begins_null R (levels o.items)) refl)
+
+pub true_begins : (o : Vec Frame Global) (at : Word) (c : ℕ) → c ≡ 116 → at ≡ words.True → Steps value (levels o.items) c (state o (modes.Word at 1))
+true_begins o at c e is = subst (λ (w : Word). Steps value (levels o.items) c (state o (modes.Word w 1))) (sym is) (stays value o c 116 (modes.Word words.True 1) _ e refl (omega arith) (λ R le. values.begins_true R (levels o.items)) refl)
+
+pub false_begins : (o : Vec Frame Global) (at : Word) (c : ℕ) → c ≡ 102 → at ≡ words.False → Steps value (levels o.items) c (state o (modes.Word at 1))
+false_begins o at c e is = subst (λ (w : Word). Steps value (levels o.items) c (state o (modes.Word w 1))) (sym is) (stays value o c 102 (modes.Word words.False 1) _ e refl (omega arith) (λ R le. values.begins_false R (levels o.items)) refl)
+
+pub no_value : (fs : List Frame) (c : ℕ) → is_space c ≡ false → IsNoMark c → Stops IsNumber c → c ≢ 110 → c ≢ 116 → c ≢ 102 → FailsAt value (levels fs) c kinds.NotJson
+no_value fs c space mark stop n t f = outside_wrong value (levels fs) c refl (λ R. values.value_dead R (levels fs) c space (n, t, f, mark.bracket, mark.brace, mark.quote) stop)
+
+-- ---- lists
+
+pub item_space : (o : Vec Frame Global) (c : ℕ) → is_space c ≡ true → Steps first_item (levels o.items) c (state o modes.FirstItem)
+item_space o c e = stays first_item o c c modes.FirstItem first_item refl refl tt (λ R le. values.space_first_item R (levels o.items) c e) (space_stays c e)
+
+pub empty_list : (o : Vec Frame Global) (v : Vec Json Global) (c : ℕ) → c ≡ 93 → v.items ≡ [] → Steps first_item (levels o.items) c (state o (modes.After (jsons.List v)))
+empty_list o v c e none =
+    stays first_item o c 93 (modes.After (jsons.List v)) (after (array no_items)) e
+    (ap after (view-List v ∙ ap (λ (x : List Json). array (items_onto (map view x) no_items)) none)) tt (λ R le. values.closes_empty R (levels o.items)) refl
+
+pub first_result : (r : Result State Stop) (old new : List Frame) (v : Vec Json Global) (c : ℕ) → is_space c ≡ false → c ≢ 93 → new ≡ old ++ frames.List v ∷ [] → v.items ≡ []
+    → MatchResult r (Steps value (levels new) c) (Fails value (levels new) c) → MatchResult r (Steps first_item (levels old) c) (Fails first_item (levels old) c)
+first_result r old new v c solid ne e none h =
+    let pushed : levels new ≡ in_list [] ∷ levels old = levels_pushed old new (frames.List v) e ∙ ap (λ (x : List Json). in_list (map view x) ∷ levels old) none in
+    same_result first_item (levels old) c value (in_list [] ∷ levels old) r
+    (record { on = λ R b v g. values.first_on R (levels old) c solid ne b v g; back = λ R b v g. values.first_back R (levels old) c b v g; stands = refl })
+    (subst (λ (st : List Level). MatchResult r (Steps value st c) (Fails value st c)) pushed h)
+
+-- the items with one more
+list_view : (items done : List Json) (j : Json) → items ≡ done ++ j ∷ [] → map view items ≡ map view done ++ view j ∷ []
+list_view items done j e = ap (map view) e ∙ map-append view done (j ∷ [])
+
+pub next_item : (o new : Vec Frame Global) (items done : Vec Json Global) (j : Json) (c : ℕ) → c ≡ 44 → items.items ≡ done.items ++ j ∷ [] → new.items ≡ o.items ++ frames.List items ∷ []
+    → Steps (after (view j)) (in_list (map view done.items) ∷ levels o.items) c (state new modes.Value)
+next_item o new items done j c e f g =
+    let pushed : levels new.items ≡ in_list (map view done.items ++ view j ∷ []) ∷ levels o.items = levels_pushed o.items new.items (frames.List items) g ∙ ap (λ (x : List Tree). in_list x ∷ levels o.items) (list_view items.items done.items j f) in
+    subst (λ (x : ℕ). Steps (after (view j)) (in_list (map view done.items) ∷ levels o.items) x (state new modes.Value)) (sym e)
+    (steps_to (after (view j)) (in_list (map view done.items) ∷ levels o.items) 44 (state new modes.Value) value (in_list (map view done.items ++ view j ∷ []) ∷ levels o.items) refl pushed tt
+    (λ R le. values.next_item R (map view done.items) (view j) (levels o.items)) refl)
+
+pub list_closes : (o : Vec Frame Global) (items done : Vec Json Global) (j : Json) (c : ℕ) → c ≡ 93 → items.items ≡ done.items ++ j ∷ [] → Steps (after (view j)) (in_list (map view done.items) ∷ levels o.items) c (state o (modes.After (jsons.List items)))
+list_closes o items done j c e f =
+    subst (λ (x : ℕ). Steps (after (view j)) (in_list (map view done.items) ∷ levels o.items) x (state o (modes.After (jsons.List items)))) (sym e)
+    (steps_to (after (view j)) (in_list (map view done.items) ∷ levels o.items) 93 (state o (modes.After (jsons.List items))) (after (array (items_onto (map view done.items ++ view j ∷ []) no_items))) (levels o.items)
+    (ap after (view-List items ∙ ap (λ (x : List Tree). array (items_onto x no_items)) (list_view items.items done.items j f))) refl tt
+    (λ R le. values.closes_list R (map view done.items) (view j) (levels o.items)) refl)
+
+pub no_item : (x : Tree) (done : List Tree) (st : List Level) (c : ℕ) → is_space c ≡ false → c ≢ 44 → c ≢ 93 → FailsAt (after x) (in_list done ∷ st) c kinds.NotJson
+no_item x done st c solid comma close = outside_wrong (after x) (in_list done ∷ st) c refl (λ R. list_dead R x done st c solid comma close)
+
+-- ---- objects
+
+pub name_space : (o : Vec Frame Global) (c : ℕ) → is_space c ≡ true → Steps first_name (levels o.items) c (state o modes.FirstName)
+name_space o c e = stays first_name o c c modes.FirstName first_name refl refl tt (λ R le. objects.space_first_name R (levels o.items) c e) (space_stays c e)
+
+pub first_quote : (o : Vec Frame Global) (f : Fields) (text : String Global) (c : ℕ) → c ≡ 34 → f.members.items ≡ [] → string_bytes text ≡ [] → Steps first_name (levels o.items) c (state o (modes.Text (targets.Name f) text))
+first_quote o f text c e none empty =
+    stays first_name o c 34 (modes.Text (targets.Name f) text) (text_in (as_name []) []) e
+    (ap (λ (ms : List (List ℕ × Json)). text_in (as_name (pairs ms)) (string_bytes text)) none ∙ ap (text_in (as_name [])) empty) tt (λ R le. objects.first_quote R (levels o.items)) refl
+
+pub empty_object : (o : Vec Frame Global) (v : Vec (List ℕ × Json) Global) (c : ℕ) → c ≡ 125 → v.items ≡ [] → Steps first_name (levels o.items) c (state o (modes.After (jsons.Object v)))
+empty_object o v c e none =
+    stays first_name o c 125 (modes.After (jsons.Object v)) (after (object no_members)) e
+    (ap after (view-Object v ∙ ap (λ (x : List (List ℕ × Json)). object (members_onto (pairs x) no_members)) none)) tt (λ R le. objects.closes_empty R (levels o.items)) refl
+
+pub no_name : (fs : List Frame) (c : ℕ) → is_space c ≡ false → c ≢ 34 → c ≢ 125 → FailsAt first_name (levels fs) c kinds.NotJson
+no_name fs c solid quote brace = outside_wrong first_name (levels fs) c refl (λ R. objects.first_name_dead R (levels fs) c solid quote brace)
+
+pairs_more : (new old : List (List ℕ × Json)) (k : List ℕ) (j : Json) → new ≡ old ++ (k, j) ∷ [] → pairs new ≡ pairs old ++ (k, view j) ∷ []
+pairs_more new old k j e = ap pairs e ∙ pairs_append old k j
+
+pub next_name : (o : Vec Frame Global) (n : Named) (f : Fields) (j : Json) (c : ℕ) → c ≡ 44 → f.members.items ≡ n.fields.members.items ++ (n.name, j) ∷ []
+    → Steps (after (view j)) (in_object (pairs n.fields.members.items) n.name ∷ levels o.items) c (state o (modes.Name f))
+next_name o n f j c e g =
+    subst (λ (x : ℕ). Steps (after (view j)) (in_object (pairs n.fields.members.items) n.name ∷ levels o.items) x (state o (modes.Name f))) (sym e)
+    (steps_to (after (view j)) (in_object (pairs n.fields.members.items) n.name ∷ levels o.items) 44 (state o (modes.Name f)) (name (pairs n.fields.members.items ++ (n.name, view j) ∷ [])) (levels o.items)
+    (ap name (pairs_more f.members.items n.fields.members.items n.name j g)) refl tt
+    (λ R le. objects.next_name R (pairs n.fields.members.items) n.name (view j) (levels o.items)) refl)
+
+pub object_closes : (o : Vec Frame Global) (n : Named) (v : Vec (List ℕ × Json) Global) (j : Json) (c : ℕ) → c ≡ 125 → v.items ≡ n.fields.members.items ++ (n.name, j) ∷ []
+    → Steps (after (view j)) (in_object (pairs n.fields.members.items) n.name ∷ levels o.items) c (state o (modes.After (jsons.Object v)))
+object_closes o n v j c e g =
+    subst (λ (x : ℕ). Steps (after (view j)) (in_object (pairs n.fields.members.items) n.name ∷ levels o.items) x (state o (modes.After (jsons.Object v)))) (sym e)
+    (steps_to (after (view j)) (in_object (pairs n.fields.members.items) n.name ∷ levels o.items) 125 (state o (modes.After (jsons.Object v))) (after (object (members_onto (pairs n.fields.members.items ++ (n.name, view j) ∷ []) no_members))) (levels o.items)
+    (ap after (view-Object v ∙ ap (λ (x : List (List ℕ × Tree)). object (members_onto x no_members)) (pairs_more v.items n.fields.members.items n.name j g))) refl tt
+    (λ R le. objects.closes_object R (pairs n.fields.members.items) n.name (view j) (levels o.items) (named_distinct n)) refl)
+
+pub no_member : (x : Tree) (done : List (List ℕ × Tree)) (k : List ℕ) (st : List Level) (c : ℕ) → is_space c ≡ false → c ≢ 44 → c ≢ 125 → FailsAt (after x) (in_object done k ∷ st) c kinds.NotJson
+no_member x done k st c solid comma brace = outside_wrong (after x) (in_object done k ∷ st) c refl (λ R. object_dead R x done k st c solid comma brace)
+
+-- ---- an ended value
+
+pub after_space : (o : Vec Frame Global) (j : Json) (c : ℕ) → is_space c ≡ true → Steps (after (view j)) (levels o.items) c (state o (modes.After j))
+after_space o j c e = stays (after (view j)) o c c (modes.After j) (after (view j)) refl refl tt (λ R le. space_after R (view j) (levels o.items) c e) (space_stays c e)
+
+-- ---- numbers
+
+pub number_goes : (o : Vec Frame Global) (old new : String Global) (p q : Phase) (c ch : ℕ) → Leaves (NumberLeft p) c q → ch ≡ c → string_bytes new ≡ string_bytes old ++ encode_utf8 ch → Steps (number_in (string_bytes old) p) (levels o.items) c (state o (modes.Number new q))
+number_goes o old new p q c ch m is e =
+    stays (number_in (string_bytes old) p) o c c (modes.Number new q) (number_in (string_bytes old ++ c ∷ []) q) refl
+    (ap (λ (t : List ℕ). number_in t q) (e ∙ ap (λ (l : List ℕ). string_bytes old ++ l) (ap encode_utf8 is ∙ encode_ascii c m.byte.ascii)))
+    tt (λ R le. number_on R (levels o.items) (string_bytes old) p q c m) (stays_outside c m.byte.no_mark.3)
+
+pub number_result : (r : Result State Stop) (fs : List Frame) (text : List ℕ) (p : Phase) (x : Tree) (c : ℕ) → Stops (NumberLeft p) c → NumberLeft p [] → x ≡ number text
+    → MatchResult r (Steps (after x) (levels fs) c) (Fails (after x) (levels fs) c) → MatchResult r (Steps (number_in text p) (levels fs) c) (Fails (number_in text p) (levels fs) c)
+number_result r fs text p x c stop whole e h =
+    same_result (number_in text p) (levels fs) c (after (number text)) (levels fs) r
+    (record { on = λ R b v g. number_ends R (levels fs) text p c stop b v g; back = λ R b v g. number_ended R (levels fs) text p whole (c ∷ b) v g; stands = refl })
+    (subst (λ (t : Tree). MatchResult r (Steps (after t) (levels fs) c) (Fails (after t) (levels fs) c)) e h)
+
+-- ---- strings
+
+pub text_goes : (o : Vec Frame Global) (t : Target) (old new : String Global) (x ch : ℕ) → x ≢ 34 → LeavesNone Starts inside x ch → string_bytes new ≡ string_bytes old ++ encode_utf8 ch → Steps (text_in (role_of t) (string_bytes old)) (levels o.items) x (state o (modes.Text t new))
+text_goes o t old new x ch ne m e =
+    stays (text_in (role_of t) (string_bytes old)) o x x (modes.Text t new) (text_in (role_of t) (string_bytes old ++ encode_utf8 ch)) refl (ap (text_in (role_of t)) e) tt
+    (λ R le. text_whole R (levels o.items) (role_of t) (string_bytes old) x ch ne m) m.stands
+
+pub text_enters : (o : Vec Frame Global) (t : Target) (text : String Global) (x : ℕ) (s : Within) → x ≢ 34 → LeavesNext Starts inside x s → Steps (text_in (role_of t) (string_bytes text)) (levels o.items) x (state o (modes.Character t text s))
+text_enters o t text x s ne m =
+    stays (text_in (role_of t) (string_bytes text)) o x x (modes.Character t text s) (character_in (role_of t) (string_bytes text) s) refl refl
+    (record { bounds = m.bounds; scalar = λ w c l. starts_scalar (x ∷ w) c (m.back w c l) })
+    (λ R le. text_next R (levels o.items) (role_of t) (string_bytes text) x s ne m) m.stands
+
+pub character_goes : (o : Vec Frame Global) (t : Target) (text : String Global) (x : ℕ) (s u : Within) → IsSound s → LeavesNext (CharacterLeft s) (stand_within s) x u → Steps (character_in (role_of t) (string_bytes text) s) (levels o.items) x (state o (modes.Character t text u))
+character_goes o t text x s u sound m =
+    stays (character_in (role_of t) (string_bytes text) s) o x x (modes.Character t text u) (character_in (role_of t) (string_bytes text) u) refl refl
+    (record { bounds = m.bounds; scalar = λ w c l. sound.scalar (x ∷ w) c (m.back w c l) })
+    (λ R le. character_next R (levels o.items) (role_of t) (string_bytes text) s u (stand_within s) x sound m) m.stands
+
+pub character_ends : (o : Vec Frame Global) (t : Target) (old new : String Global) (x ch : ℕ) (s : Within) → IsSound s → LeavesNone (CharacterLeft s) (stand_within s) x ch → string_bytes new ≡ string_bytes old ++ encode_utf8 ch → Steps (character_in (role_of t) (string_bytes old) s) (levels o.items) x (state o (modes.Text t new))
+character_ends o t old new x ch s sound m e =
+    stays (character_in (role_of t) (string_bytes old) s) o x x (modes.Text t new) (text_in (role_of t) (string_bytes old ++ encode_utf8 ch)) refl (ap (text_in (role_of t)) e) tt
+    (λ R le. character_whole R (levels o.items) (role_of t) (string_bytes old) s (stand_within s) x ch sound m) m.stands
+
+by_kind : (p : Place) (st : List Level) (c : ℕ) (kind : FaultKind) → ((R : Rules) → IsDead R p st c) → IsKindAt (stand_of p) c kind → FailsAt p st c kind
+by_kind p st c kinds.NotJson dead k = record { dead = dead; utf8 = k }
+by_kind p st c kinds.BadUtf8 dead k = record { dead = dead; utf8 = k }
+by_kind p st c kinds.TooDeep dead k = absurd k
+by_kind p st c kinds.Repeated dead k = absurd k
+
+pub text_wrong : (fs : List Frame) (t : Target) (text : List ℕ) (x : ℕ) (kind : FaultKind) → x ≢ 34 → ((w : List ℕ) (c : ℕ) → Starts (x ∷ w) c → ⊥) → IsKindAt inside x kind → FailsAt (text_in (role_of t) text) (levels fs) x kind
+text_wrong fs t text x kind ne dead k = by_kind (text_in (role_of t) text) (levels fs) x kind (λ R. text_dead R (levels fs) (role_of t) text x ne dead) k
+
+pub character_wrong : (fs : List Frame) (t : Target) (text : List ℕ) (s : Within) (x : ℕ) (kind : FaultKind) → IsSound s → ((w : List ℕ) (c : ℕ) → CharacterLeft s (x ∷ w) c → ⊥) → IsKindAt (stand_within s) x kind → FailsAt (character_in (role_of t) text s) (levels fs) x kind
+character_wrong fs t text s x kind sound dead k = by_kind (character_in (role_of t) text s) (levels fs) x kind (λ R. character_dead R (levels fs) (role_of t) text s x sound dead) k
+
+-- ---- the closing quotation mark
+
+pub string_closes : (o : Vec Frame Global) (t : Target) (text : String Global) (j : Json) → t ≡ targets.Value → view j ≡ string (string_bytes text) → Steps (text_in (role_of t) (string_bytes text)) (levels o.items) 34 (state o (modes.After j))
+string_closes o t text j is e =
+    subst (λ (u : Target). Steps (text_in (role_of u) (string_bytes text)) (levels o.items) 34 (state o (modes.After j))) (sym is)
+    (stays (text_in as_value (string_bytes text)) o 34 34 (modes.After j) (after (string (string_bytes text))) refl (ap after e) tt (λ R le. text_closes R (levels o.items) (string_bytes text)) refl)
+
+pub name_closes : (o : Vec Frame Global) (t : Target) (f : Fields) (text : String Global) (n : Named) → t ≡ targets.Name f → n.fields.members.items ≡ f.members.items → n.name ≡ string_bytes text → Steps (text_in (role_of t) (string_bytes text)) (levels o.items) 34 (state o (modes.Colon n))
+name_closes o t f text n is e g =
+    subst (λ (u : Target). Steps (text_in (role_of u) (string_bytes text)) (levels o.items) 34 (state o (modes.Colon n))) (sym is)
+    (stays (text_in (as_name (pairs f.members.items)) (string_bytes text)) o 34 34 (modes.Colon n) (colon (pairs f.members.items) (string_bytes text)) refl
+    (ap (λ (ms : List (List ℕ × Json)). colon (pairs ms) n.name) e ∙ ap (colon (pairs f.members.items)) g) tt
+    (λ R le. objects.name_closes R (pairs f.members.items) (string_bytes text) (levels o.items)) refl)
+
+pub name_repeats : (fs : List Frame) (t : Target) (f : Fields) (text : List ℕ) → t ≡ targets.Name f → has_name text (keys f.members.items) ≡ true → FailsAt (text_in (role_of t) text) (levels fs) 34 kinds.Repeated
+name_repeats fs t f text is has =
+    subst (λ (u : Target). IsRepeated (text_in (role_of u) text) (levels fs) 34) (sym is)
+    (record {
+      dead = λ R strict b v h.
+          (let g = (objects.name_closes R (pairs f.members.items) text (levels fs)).on b v h in
+          let a = g.after in
+          repeated (keys (pairs f.members.items)) text (names a.0) (ap (λ (l : List (List ℕ)). has_name text l) (keys_pairs f.members.items) ∙ has) (a.3 strict));
+      alive = λ R lax.
+          (let l = lax_colon_live R (levels fs) (pairs f.members.items) text (levels_sound fs) lax in
+          (l.0, l.1, (objects.name_closes R (pairs f.members.items) text (levels fs)).back l.0 l.1 l.2));
+      stands = refl;
+      quote = refl;
+    })

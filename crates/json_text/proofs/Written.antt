@@ -1,0 +1,226 @@
+-- What is written of a tree that has a text is a text of it.
+use Rattle.std.proofs.Common.{◌≡◌, ◌≢◌, ℕ, suc, ◌+◌, ◌/◌, ◌%◌, ◌<◌, ◌≤◌, List, [], ◌∷◌, ◌++◌, true, false, Some, refl, sym, ap, subst, ◌∙◌, arith, append_assoc, inl, inr, ◌⊎◌}
+use Rattle.std.specs.Prelude.{flat_map}
+use Rattle.std.specs.Int.{is_in_range}
+use Rattle.std.specs.Char.{encode_utf8, digit_char, InScalarRange}
+use Rattle.std.specs.Str.{encode_utf8_all}
+use Rattle.std.proofs.lemmas.List.{append-nil}
+use Rattle.std.proofs.lemmas.List.Concat.{flat_map-append}
+use Rattle.std.proofs.lemmas.Bool.{lt-ltb, le-ltb, cases_lt}
+use Rattle.std.proofs.lemmas.Bool.Decides.{nat_tests}
+use Rattle.json_text.specs.Tree.{Tree, null, boolean, number, string, array, object, Items, no_items, item, Members, no_members, member}
+use Rattle.json_text.specs.Number.{IsNumber}
+use Rattle.json_text.specs.Character.{IsCharacter, unescaped, short, unit, AreCharacters, hex_value}
+use Rattle.json_text.specs.Spelling.{Rules, skip, Value, First, More, FirstMember, MoreMembers, IsMember, IsQuoted, Spells, profile}
+use Rattle.json_text.specs.Canonical.{written_byte, written_text, canonical, canonical_first, canonical_more, canonical_first_member, canonical_more_members}
+use Rattle.json_text.proofs.Stands.{no_space, neq_test}
+use Rattle.json_text.proofs.Utf8.{bytes_of, one, two, three, four}
+use Rattle.json_text.proofs.CharacterSteps.{starts_scalar}
+use Rattle.json_text.proofs.NumberSteps.{number_head, number_nil}
+
+-- ---- one byte
+
+plain : (x : ℕ) → 32 ≤ x → x ≢ 34 → x ≢ 92 → written_byte x ≡ x ∷ []
+plain x le q b = rw (neq_test x 34 q, neq_test x 92 b, le-ltb x 32 le) refl
+
+behind_backslash : (x : ℕ) → (x ≡ 34) ⊎ (x ≡ 92) → written_byte x ≡ 92 ∷ x ∷ []
+behind_backslash x (inl e) = subst (λ (k : ℕ). written_byte k ≡ 92 ∷ k ∷ []) (sym e) refl
+behind_backslash x (inr e) = subst (λ (k : ℕ). written_byte k ≡ 92 ∷ k ∷ []) (sym e) refl
+
+control : (x : ℕ) → x < 32 → written_byte x ≡ 92 ∷ 117 ∷ 48 ∷ 48 ∷ digit_char (x / 16) ∷ digit_char (x % 16) ∷ []
+control x lt = rw (neq_test x 34 (omega arith), neq_test x 92 (omega arith), lt-ltb x 32 lt) refl
+
+in_yes : (lo hi x : ℕ) → lo ≤ x → x ≤ hi → is_in_range lo hi x ≡ true
+in_yes lo hi x p q = grind (arith, nat_tests)
+
+in_no : (lo hi x : ℕ) → hi < x → is_in_range lo hi x ≡ false
+in_no lo hi x p = grind (arith, nat_tests)
+
+hex_of_digit : (d : ℕ) → d < 16 → hex_value (digit_char d) ≡ Some d
+hex_of_digit d lt =
+    elim (cases_lt d 10) [
+      | inl l ↦ rw (lt-ltb d 10 l, in_yes 48 57 (48 + d) (omega arith) (omega arith)) (ap (λ (k : ℕ). Some k) (omega arith))
+      | inr g ↦ rw (le-ltb d 10 g, in_no 48 57 (87 + d) (omega arith), in_yes 97 102 (87 + d) (omega arith) (omega arith)) (ap (λ (k : ℕ). Some k) (omega arith))
+    ]
+
+-- ---- one character
+
+itself : (c : ℕ) → InScalarRange c → 32 ≤ c → c ≢ 34 → c ≢ 92 → (w : List ℕ) → w ≡ encode_utf8 c → IsCharacter c w
+itself c s p q b w e = unescaped (record { scalar = s; no_control = p; no_quote = q; no_backslash = b; bytes = e })
+
+equal_or_not : (x k : ℕ) → (x ≡ k) ⊎ (x ≢ k)
+equal_or_not x k =
+    elim (cases_lt x k) [
+      | inl l ↦ inr (λ e. omega arith)
+      | inr g ↦ elim (cases_lt k x) [ inl l ↦ inr (λ e. omega arith) | inr h ↦ inl (omega arith) ]
+    ]
+
+control_written : (c : ℕ) → c < 32 → IsCharacter c (written_byte c)
+control_written c lt =
+    rw (control c lt)
+    (unit (inl (omega arith)) (record {
+      digits = 48 ∷ 48 ∷ digit_char (c / 16) ∷ digit_char (c % 16) ∷ [];
+      four = refl;
+      value = (0, refl, (0, refl, (c / 16, hex_of_digit (c / 16) (omega arith), (c % 16, hex_of_digit (c % 16) (omega arith), omega arith))));
+      parts = refl;
+    }))
+
+quote_written : (c : ℕ) → c ≡ 34 → IsCharacter c (written_byte c)
+quote_written c e = subst (λ (k : ℕ). IsCharacter k (written_byte k)) (sym e) (short 34 refl refl)
+
+backslash_written : (c : ℕ) → c ≡ 92 → IsCharacter c (written_byte c)
+backslash_written c e = subst (λ (k : ℕ). IsCharacter k (written_byte k)) (sym e) (short 92 refl refl)
+
+plain_written : (c : ℕ) → c < 128 → 32 ≤ c → c ≢ 34 → c ≢ 92 → encode_utf8 c ≡ c ∷ [] → IsCharacter c (written_byte c)
+plain_written c lt p q b e = rw (plain c p q b) (itself c (inl (omega arith)) p q b (c ∷ []) (sym e))
+
+ascii_written : (c : ℕ) → c < 128 → encode_utf8 c ≡ c ∷ [] → IsCharacter c (written_byte c)
+ascii_written c lt e =
+    elim (cases_lt c 32) [
+      | inl l ↦ control_written c l
+      | inr p ↦ elim (equal_or_not c 34) [
+        | inl q ↦ quote_written c q
+        | inr q ↦ elim (equal_or_not c 92) [ inl b ↦ backslash_written c b | inr b ↦ plain_written c lt p q b e ]
+      ]
+    ]
+
+high : (x : ℕ) → 128 ≤ x → written_byte x ≡ x ∷ []
+high x le = plain x (omega arith) (omega arith) (omega arith)
+
+two_bytes : (x y : ℕ) → 128 ≤ x → 128 ≤ y → flat_map written_byte (x ∷ y ∷ []) ≡ x ∷ y ∷ []
+two_bytes x y p q = rw (high x p, high y q) refl
+
+three_bytes : (x y z : ℕ) → 128 ≤ x → 128 ≤ y → 128 ≤ z → flat_map written_byte (x ∷ y ∷ z ∷ []) ≡ x ∷ y ∷ z ∷ []
+three_bytes x y z p q r = rw (high x p) (ap (λ (l : List ℕ). x ∷ l) (two_bytes y z q r))
+
+four_bytes : (x y z u : ℕ) → 128 ≤ x → 128 ≤ y → 128 ≤ z → 128 ≤ u → flat_map written_byte (x ∷ y ∷ z ∷ u ∷ []) ≡ x ∷ y ∷ z ∷ u ∷ []
+four_bytes x y z u p q r s = rw (high x p) (ap (λ (l : List ℕ). x ∷ l) (three_bytes y z u q r s))
+
+-- the bytes are written as they are
+by_bytes : (c : ℕ) (w : List ℕ) → InScalarRange c → 128 ≤ c → encode_utf8 c ≡ w → flat_map written_byte w ≡ w → IsCharacter c (flat_map written_byte (encode_utf8 c))
+by_bytes c w s le e f = itself c s (omega arith) (omega arith) (omega arith) (flat_map written_byte (encode_utf8 c)) (ap (flat_map written_byte) e ∙ f ∙ sym e)
+
+character_written : (c : ℕ) → InScalarRange c → IsCharacter c (flat_map written_byte (encode_utf8 c))
+character_written c s =
+    elim (bytes_of c) [
+      | one lt e ↦ subst (λ (w : List ℕ). IsCharacter c w) (sym (ap (flat_map written_byte) e ∙ append-nil (written_byte c))) (ascii_written c lt e)
+      | two le lt e ↦ by_bytes c _ s le e (two_bytes _ _ (omega arith) (omega arith))
+      | three le lt e ↦ by_bytes c _ s (omega arith) e (three_bytes _ _ _ (omega arith) (omega arith) (omega arith))
+      | four le e ↦ by_bytes c _ s (omega arith) e (four_bytes _ _ _ _ (omega arith) (omega arith) (omega arith) (omega arith))
+    ]
+
+-- ---- strings
+
+characters_written : (cs b r : List ℕ) → AreCharacters cs b r → (n : List ℕ) → AreCharacters cs (flat_map written_byte (encode_utf8_all cs) ++ 34 ∷ n) n
+characters_written [] b r h n = refl
+characters_written (c ∷ cs) b r h n =
+    let first = flat_map written_byte (encode_utf8 c) in
+    let rest = flat_map written_byte (encode_utf8_all cs) in (
+      first,
+      rest ++ 34 ∷ n,
+      character_written c (starts_scalar h.0 c h.2),
+      ap (λ (l : List ℕ). l ++ 34 ∷ n) (flat_map-append written_byte (encode_utf8 c) (encode_utf8_all cs)) ∙ append_assoc first rest (34 ∷ n),
+      characters_written cs h.1 r h.4 n,
+    )
+
+text_written : (s b r : List ℕ) → IsQuoted s b r → (n : List ℕ) → IsQuoted s (flat_map written_byte s ++ 34 ∷ n) n
+text_written s b r h n = record {
+  characters = h.characters;
+  spelled = subst (λ (t : List ℕ). AreCharacters h.characters (flat_map written_byte t ++ 34 ∷ n) n) (sym h.text) (characters_written h.characters b r h.spelled n);
+  text = h.text;
+}
+
+-- a string, and what is behind it
+closed_text : (s n : List ℕ) → written_text s ++ n ≡ 34 ∷ (flat_map written_byte s ++ 34 ∷ n)
+closed_text s n = ap (λ (l : List ℕ). 34 ∷ l) (append_assoc (flat_map written_byte s) (34 ∷ []) n)
+
+-- ---- trees
+
+number_solid : (text n : List ℕ) → IsNumber text → skip (text ++ n) ≡ text ++ n
+number_solid [] n h = absurd (number_nil h)
+number_solid (c ∷ s) n h =
+    let d = number_head c s h in
+    let e = no_space c (omega (arith, d)) (omega (arith, d)) (omega (arith, d)) (omega (arith, d)) in rw e refl
+
+-- what is written of a value begins with no white space
+solid : (R : Rules) (d : ℕ) (x : Tree) (b r n : List ℕ) → Value R d x b r → skip (canonical x ++ n) ≡ canonical x ++ n
+solid R d null b r n h = refl
+solid R d (boolean true) b r n h = refl
+solid R d (boolean false) b r n h = refl
+solid R d (number text) b r n h = number_solid text n h.0
+solid R d (string s) b r n h = refl
+solid R d (array xs) b r n h = refl
+solid R d (object ms) b r n h = refl
+
+-- a written value behind white space that isn't there
+at_value : (R : Rules) (d : ℕ) (x : Tree) (b r n m : List ℕ) → Value R d x b r → m ≡ canonical x ++ n → Value R d x (canonical x ++ n) n → Value R d x (skip m) n
+at_value R d x b r n m h e v = subst (λ (l : List ℕ). Value R d x l n) (sym (ap skip e ∙ solid R d x b r n h)) v
+
+member_written : (R : Rules) (d : ℕ) (k : List ℕ) (x : Tree) (b r n : List ℕ) → IsMember (Value R d x) k b r → Value R d x (canonical x ++ n) n → IsMember (Value R d x) k (written_text k ++ (58 ∷ (canonical x ++ n))) n
+member_written R d k x b r n h v = record {
+  inside = flat_map written_byte k ++ 34 ∷ 58 ∷ (canonical x ++ n);
+  behind = 58 ∷ (canonical x ++ n);
+  value = canonical x ++ n;
+  opens = ap skip (closed_text k (58 ∷ (canonical x ++ n)));
+  named = text_written k h.inside h.behind h.named (58 ∷ (canonical x ++ n));
+  colon = refl;
+  valued = at_value R d x (skip h.value) r n (canonical x ++ n) h.valued refl v;
+}
+
+-- a member's parts, regrouped
+grouped : (k x rest n : List ℕ) → (k ++ (58 ∷ (x ++ rest))) ++ n ≡ k ++ (58 ∷ (x ++ (rest ++ n)))
+grouped k x rest n = append_assoc k (58 ∷ (x ++ rest)) n ∙ ap (λ (l : List ℕ). k ++ (58 ∷ l)) (append_assoc x rest n)
+
+mutual
+  value_written : (R : Rules) (d : ℕ) (x : Tree) (b r : List ℕ) → Value R d x b r → (n : List ℕ) → Value R d x (canonical x ++ n) n
+  value_written R d null b r h n = refl
+  value_written R d (boolean true) b r h n = refl
+  value_written R d (boolean false) b r h n = refl
+  value_written R d (number text) b r h n = (h.0, refl)
+  value_written R d (string s) b r h n = (flat_map written_byte s ++ 34 ∷ n, closed_text s n, text_written s h.0 r h.2 n)
+  value_written R d (array xs) b r h n = (h.0, (canonical_first xs ++ n, refl, first_written R (suc d) xs h.1.0 r h.1.2 n))
+  value_written R d (object ms) b r h n = (h.0, h.1, (canonical_first_member ms ++ n, refl, first_member_written R (suc d) ms h.2.0 r h.2.2 n))
+
+  first_written : (R : Rules) (d : ℕ) (xs : Items) (b r : List ℕ) → First R d xs b r → (n : List ℕ) → First R d xs (canonical_first xs ++ n) n
+  first_written R d no_items b r h n = refl
+  first_written R d (item x rest) b r h n = (
+    canonical_more rest ++ n,
+    at_value R d x (skip b) h.0 (canonical_more rest ++ n) ((canonical x ++ canonical_more rest) ++ n) h.1 (append_assoc (canonical x) (canonical_more rest) n) (value_written R d x (skip b) h.0 h.1 (canonical_more rest ++ n)),
+    more_written R d rest h.0 r h.2 n,
+  )
+
+  more_written : (R : Rules) (d : ℕ) (xs : Items) (b r : List ℕ) → More R d xs b r → (n : List ℕ) → More R d xs (canonical_more xs ++ n) n
+  more_written R d no_items b r h n = refl
+  more_written R d (item x rest) b r h n = (
+    (canonical x ++ canonical_more rest) ++ n,
+    canonical_more rest ++ n,
+    refl,
+    at_value R d x (skip h.0) h.1 (canonical_more rest ++ n) ((canonical x ++ canonical_more rest) ++ n) h.3 (append_assoc (canonical x) (canonical_more rest) n) (value_written R d x (skip h.0) h.1 h.3 (canonical_more rest ++ n)),
+    more_written R d rest h.1 r h.4 n,
+  )
+
+  first_member_written : (R : Rules) (d : ℕ) (ms : Members) (b r : List ℕ) → FirstMember R d ms b r → (n : List ℕ) → FirstMember R d ms (canonical_first_member ms ++ n) n
+  first_member_written R d no_members b r h n = refl
+  first_member_written R d (member k x rest) b r h n =
+      let m = canonical_more_members rest ++ n in (
+        m,
+        subst (λ (l : List ℕ). IsMember (Value R d x) k l m) (sym (grouped (written_text k) (canonical x) (canonical_more_members rest) n))
+            (member_written R d k x b h.0 m h.1 (value_written R d x (skip h.1.value) h.0 h.1.valued m)),
+        more_members_written R d rest h.0 r h.2 n,
+      )
+
+  more_members_written : (R : Rules) (d : ℕ) (ms : Members) (b r : List ℕ) → MoreMembers R d ms b r → (n : List ℕ) → MoreMembers R d ms (canonical_more_members ms ++ n) n
+  more_members_written R d no_members b r h n = refl
+  more_members_written R d (member k x rest) b r h n =
+      let m = canonical_more_members rest ++ n in (
+        (written_text k ++ (58 ∷ (canonical x ++ canonical_more_members rest))) ++ n,
+        m,
+        refl,
+        subst (λ (l : List ℕ). IsMember (Value R d x) k l m) (sym (grouped (written_text k) (canonical x) (canonical_more_members rest) n))
+            (member_written R d k x h.0 h.1 m h.3 (value_written R d x (skip h.3.value) h.1 h.3.valued m)),
+        more_members_written R d rest h.1 r h.4 n,
+      )
+
+pub spells_canonical : (v : Tree) (b : List ℕ) → Spells v b → Spells v (canonical v)
+spells_canonical v b h =
+    ([], subst (λ (l : List ℕ). Value profile 0 v l []) (append-nil (canonical v) ∙ sym (ap skip (sym (append-nil (canonical v))) ∙ solid profile 0 v (skip b) h.0 [] h.1 ∙ append-nil (canonical v))) (value_written profile 0 v (skip b) h.0 h.1 []), refl)

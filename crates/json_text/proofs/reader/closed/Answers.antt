@@ -1,0 +1,14 @@
+use Rattle.std.proofs.Common.{◌∙◌, string_bytes, ap}
+use Rattle.json_text.specs.Tree.{string}
+use Rattle.json_text.proofs.Trees.{view-Str}
+use Rattle.json_text.proofs.Answers.{string_closes, name_closes, name_repeats}
+use Rattle.json_text.proofs.reader.closed.Goals as goal
+
+pub returns-in-Value : goal.returns-in-Value
+returns-in-Value c = string_closes c.args.stack c.args.target c.args.text _ c.in-Value.is (view-Str c.new.result ∙ ap string c.new.ensures)
+
+pub returns-in-Some : goal.returns-in-Some
+returns-in-Some c = name_closes c.args.stack c.args.target c.in-Name.fields c.args.text _ c.in-Name.is c.in-Some.ensures.0 c.in-Some.ensures.1
+
+pub returns-in-None : goal.returns-in-None
+returns-in-None c = name_repeats c.args.stack.items c.args.target c.in-Name.fields (string_bytes c.args.text) c.in-Name.is c.in-None.ensures

@@ -1,0 +1,27 @@
+use Rattle.std.proofs.Common.{arith, sym, subst, refl}
+use Rattle.json_text.specs.View.{view}
+use Rattle.json_text.specs.Fault.{Refuses}
+use Rattle.json_text.specs.declared.fault.ReadError.{ReadError}
+use Rattle.json_text.proofs.Follow.{end_spells, end_only, end_fault}
+use Rattle.json_text.proofs.Runs.{first_read, next_read, refused, all_read}
+use Rattle.json_text.proofs.reader.read.Goals as goal
+
+pub loop-at-init : goal.loop-at-init
+loop-at-init c = record { within = tt; read = first_read c.new.result.items c.new.ensures.items }
+
+pub loop-at-preserved : goal.loop-at-preserved
+loop-at-preserved c = record { within = c.in-Ok.ensures.within; read = next_read c.args.bytes.now c.loop-at.at _ _ _ c.in-Ok.next c.loop-at-test.true refl c.loop-at.invariant.read c.in-Ok.ensures }
+
+pub returns-in-Err-clause-fault : goal.returns-in-Err-clause-fault
+returns-in-Err-clause-fault c =
+    subst (λ (e : ReadError). Refuses c.args.bytes.now e) (sym c.at.ensures)
+    (refused c.args.bytes.now c.loop-at.at _ _ _ c.in-Err.stop c.loop-at-test.true refl c.loop-at.invariant.read c.in-Err.ensures)
+
+pub returns-in-Some-clause-spelled : goal.returns-in-Some-clause-spelled
+returns-in-Some-clause-spelled c = end_spells c.args.bytes.now _ _ (view c.in-Some.json) (all_read c.args.bytes.now c.loop-at.at _ _ (omega arith) c.loop-at.invariant.read) c.in-Some.ensures
+
+pub returns-in-Some-clause-only : goal.returns-in-Some-clause-only
+returns-in-Some-clause-only c = λ v. end_only c.args.bytes.now _ _ (view c.in-Some.json) (all_read c.args.bytes.now c.loop-at.at _ _ (omega arith) c.loop-at.invariant.read) c.in-Some.ensures v
+
+pub returns-in-None-clause-fault : goal.returns-in-None-clause-fault
+returns-in-None-clause-fault c = end_fault c.args.bytes.now _ _ (all_read c.args.bytes.now c.loop-at.at _ _ (omega arith) c.loop-at.invariant.read) c.in-None.ensures

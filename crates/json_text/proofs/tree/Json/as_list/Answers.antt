@@ -1,0 +1,7 @@
+use Rattle.std.proofs.Common.{ap, map, ◌∙◌, Some}
+use Rattle.json_text.specs.View.{view}
+use Rattle.json_text.proofs.Trees.{array_of-view}
+use Rattle.json_text.proofs.tree.Json.as_list.Goals as goal
+
+pub returns-in-List : goal.returns-in-List
+returns-in-List c = ap (λ l. Some (map view l)) c.deref.ensures.value ∙ array_of-view c.args.self.now c.in-List.items c.in-List.is

@@ -1,0 +1,5 @@
+use Rattle.json_text.proofs.Written.{spells_canonical}
+use Rattle.json_text.proofs.writer.written_is_read_again.Goals as goal
+
+pub returns : goal.returns
+returns c = spells_canonical

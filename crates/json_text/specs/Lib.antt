@@ -1,0 +1,13 @@
+pub mod Tree
+pub mod View
+pub mod Number
+pub mod Character
+pub mod Spelling
+pub mod Canonical
+pub mod Stand
+pub mod CharacterLeft
+pub mod NumberLeft
+pub mod Names
+pub mod Reading
+pub mod Fault
+pub mod Stops

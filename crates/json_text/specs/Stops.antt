@@ -1,0 +1,57 @@
+-- Why the reader stops at a byte.
+use Rattle.std.specs.Prelude.{◌≡◌, ◌≢◌, ℕ, ◌<◌, ◌≤◌, List, true, false}
+use Rattle.json_text.specs.Spelling.{Rules}
+use Rattle.json_text.specs.Stand.{Stand, outside, inside, IsBadUtf8}
+use Rattle.json_text.specs.Reading.{Place, Level, IsDead, IsAlive, stand_of}
+use Rattle.json_text.specs.declared.fault.FaultKind.{FaultKind}
+use Rattle.json_text.specs.declared.fault.FaultKind.TheVariants as kinds
+use Rattle.json_text.specs.declared.fault.Stop.{Stop}
+use Rattle.json_text.specs.declared.fault.Stop.TheVariants as stops
+use Rattle.json_text.specs.declared.fault.ReadError.{ReadError}
+use Rattle.json_text.specs.declared.fault.ReadError.TheVariants as errors
+
+abbrev pub stop_at : Stop → ℕ → ReadError
+stop_at stops.Memory at = errors.Memory
+stop_at (stops.Fault kind) at = errors.Fault (record { at = at; kind = kind })
+
+-- no text has another level here, but for the limit
+pub record IsTooDeep (p : Place) (st : List Level) (c : ℕ) : Type 0 where
+  pub dead : (R : Rules) → R.limit ≤ 32 → IsDead R p st c
+  pub enough : ℕ
+  pub alive : (R : Rules) → enough < R.limit → IsAlive R p st c
+  pub stands : stand_of p ≡ outside
+
+-- no text has the name again, but for the rule
+pub record IsRepeated (p : Place) (st : List Level) (c : ℕ) : Type 0 where
+  pub dead : (R : Rules) → R.distinct ≡ true → IsDead R p st c
+  pub alive : (R : Rules) → R.distinct ≡ false → IsAlive R p st c
+  pub stands : stand_of p ≡ inside
+  pub quote : c ≡ 34
+
+-- no text goes on so, whatever the rules; in a string that is no UTF-8, or isn't
+pub record IsWrong (p : Place) (st : List Level) (c : ℕ) (U : Type 0) : Type 0 where
+  pub dead : (R : Rules) → IsDead R p st c
+  pub utf8 : U
+
+-- no bracket, brace or quotation mark that begins a value
+pub record IsNoMark (c : ℕ) : Type 0 where
+  pub bracket : c ≢ 91
+  pub brace : c ≢ 123
+  pub quote : c ≢ 34
+
+-- the kind of a byte with which no string goes on
+abbrev pub IsKindAt : Stand → ℕ → FaultKind → Type 0
+IsKindAt s c kinds.NotJson = IsBadUtf8 s c → ⊥
+IsKindAt s c kinds.TooDeep = ⊥
+IsKindAt s c kinds.Repeated = ⊥
+IsKindAt s c kinds.BadUtf8 = IsBadUtf8 s c
+
+abbrev pub FailsAt : Place → List Level → ℕ → FaultKind → Type 0
+FailsAt p st c kinds.NotJson = IsWrong p st c (IsBadUtf8 (stand_of p) c → ⊥)
+FailsAt p st c kinds.TooDeep = IsTooDeep p st c
+FailsAt p st c kinds.Repeated = IsRepeated p st c
+FailsAt p st c kinds.BadUtf8 = IsWrong p st c (IsBadUtf8 (stand_of p) c)
+
+abbrev pub Fails : Place → List Level → ℕ → Stop → Type 0
+Fails p st c stops.Memory = Unit {0}
+Fails p st c (stops.Fault kind) = FailsAt p st c kind

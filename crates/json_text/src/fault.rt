@@ -1,0 +1,104 @@
+//! What a text can be refused for.
+ghost use Rattle.std.specs.Prelude.{◌≡◌};
+ghost use Rattle.json_text.specs.Stops.{stop_at};
+
+use std::alloc::{AllocError, AllocFailed};
+use std::error::Error;
+use std::fmt;
+
+/// Why a text is refused.
+#[derive(Clone, Copy, Debug, PartialEq, Eq)]
+pub enum FaultKind {
+    /// None of the others.
+    NotJson,
+    /// More than 32 arrays and objects would be open.
+    TooDeep,
+    /// A member name that the object has already.
+    Repeated,
+    /// No UTF-8 in a string.
+    BadUtf8,
+}
+
+/// Where a text is refused, and why.
+#[derive(Clone, Copy, Debug, PartialEq, Eq)]
+pub struct JsonFault {
+    /// The length of the longest front with which some text begins.
+    pub at: usize,
+    pub kind: FaultKind,
+}
+
+#[derive(Clone, Copy, Debug, PartialEq, Eq)]
+pub enum ReadError {
+    Memory,
+    Fault(JsonFault),
+}
+
+impl FaultKind {
+    /// The kind's name.
+    pub fn as_str(self) -> &'static str {
+        match self {
+            FaultKind::NotJson => "NotJson",
+            FaultKind::TooDeep => "TooDeep",
+            FaultKind::Repeated => "Repeated",
+            FaultKind::BadUtf8 => "BadUtf8",
+        }
+    }
+}
+
+impl fmt::Display for JsonFault {
+    fn fmt<W: fmt::Write>(&self, f: &mut fmt::Formatter<W>) -> fmt::Result {
+        let (kind, at) = (self.kind.as_str(), self.at);
+        write!(f, "{kind} {at}")
+    }
+}
+
+impl Error for JsonFault {}
+
+impl fmt::Display for ReadError {
+    fn fmt<W: fmt::Write>(&self, f: &mut fmt::Formatter<W>) -> fmt::Result {
+        match self {
+            ReadError::Memory => write!(f, "out of memory"),
+            ReadError::Fault(fault) => write!(f, "{fault}"),
+        }
+    }
+}
+
+impl Error for ReadError {}
+
+/// What ends the reading at a byte.
+#[derive(Clone, Copy, Debug)]
+pub(crate) enum Stop {
+    Memory,
+    Fault(FaultKind),
+}
+
+impl Stop {
+    pub(crate) fn at(self, at: usize) -> ReadError
+        ensures { result ≡ stop_at self at }
+    {
+        match self {
+            Stop::Memory => ReadError::Memory,
+            Stop::Fault(kind) => ReadError::Fault(JsonFault { at, kind }),
+        }
+    }
+}
+
+impl From<AllocError> for Stop {
+    ghost use Rattle.json_text.specs.declared.fault.Stop.TheVariants.{Memory};
+
+    ghost from_gives = { λ _ e. e ≡ Memory };
+
+    fn from(_: AllocError) -> Self {
+        Stop::Memory
+    }
+}
+
+impl<T: Drop> From<AllocFailed<T>> for Stop {
+    ghost use Rattle.json_text.specs.declared.fault.Stop.TheVariants.{Memory};
+
+    ghost from_gives = { λ _ e. e ≡ Memory };
+
+    fn from(_: AllocFailed<T>) -> Self {
+        Stop::Memory
+    }
+}

@@ -1,0 +1,162 @@
+//! JSON values.
+ghost use Rattle.std.specs.Prelude.{◌≡◌, map, option_map, option_copied, string_bytes, is_some, IfOk, IsNone, ◌↔◌};
+ghost use Rattle.json_text.specs.Tree.{get_of, names_of, member_of, boolean_of, number_of, string_of, array_of, object_of};
+ghost use Rattle.json_text.specs.Spelling.{IsNew};
+ghost use Rattle.json_text.specs.View.{view, members_view};
+
+use std::alloc::{AllocError, Global};
+use std::marker::Model;
+
+/// The text of a string or of a member's name, in UTF-8, its escapes read.
+#[derive(Debug, Drop)]
+pub struct Chars {
+    text: String,
+}
+
+impl Model for Chars {
+    ghost use Rattle.std.specs.Prelude.{List, ℕ, string_bytes};
+
+    ghost Value = { List ℕ };
+
+    ghost view = { λ c. string_bytes c.text };
+}
+
+impl Chars {
+    pub fn new(text: String) -> Chars
+        ensures { result ≡ string_bytes text }
+    {
+        Chars { text }
+    }
+
+    pub fn as_bytes(&self) -> &[u8]
+        ensures { result.now ≡ self.now }
+    {
+        self.text.as_bytes()
+    }
+
+    pub fn as_str(&self) -> &str
+        ensures { result.now ≡ self.now }
+    {
+        self.text.as_str()
+    }
+
+    pub(crate) fn copied(&self, alloc: Global) -> Result<String, AllocError>
+        ensures { IfOk result (λ text. string_bytes text ≡ self.now) }
+    {
+        String::from_str(alloc, self.text.as_str())
+    }
+}
+
+/// The text of a number, as it was read.
+#[derive(Debug, Drop)]
+pub struct Numeral {
+    text: String,
+}
+
+impl Model for Numeral {
+    ghost use Rattle.std.specs.Prelude.{List, ℕ, string_bytes};
+
+    ghost Value = { List ℕ };
+
+    ghost view = { λ n. string_bytes n.text };
+}
+
+impl Numeral {
+    pub(crate) fn new(text: String) -> Numeral
+        ensures { result ≡ string_bytes text }
+    {
+        Numeral { text }
+    }
+
+    pub fn as_bytes(&self) -> &[u8]
+        ensures { result.now ≡ self.now }
+    {
+        self.text.as_bytes()
+    }
+}
+
+/// A JSON value. The members of an object are in the order of the text.
+#[derive(Debug, Drop)]
+pub enum Json {
+    Null,
+    Bool(bool),
+    Number(Numeral),
+    Str(Chars),
+    List(Vec<Json>),
+    Object(Vec<(Chars, Json)>),
+}
+
+impl Json {
+    /// The value of the member of this name, the first where a value made by hand has several.
+    pub fn get(&self, name: &[u8]) -> Option<&Json>
+        ensures value { option_map (λ v. view v.now) result ≡ get_of name.now (view self.now) }
+        ensures absent { IsNone result ↔ IsNew name.now (names_of (view self.now)) }
+    {
+        self.member(name)
+    }
+
+    fn member(&self, name: &[u8]) -> Option<&Json>
+        ensures { option_map (λ v. view v.now) result ≡ get_of name.now (view self.now) }
+    {
+        match self {
+            Json::Object(members) => find(members, name),
+            _ => None,
+        }
+    }
+
+    pub fn as_bool(&self) -> Option<bool>
+        ensures { result ≡ boolean_of (view self.now) }
+    {
+        match self {
+            Json::Bool(value) => Some(*value),
+            _ => None,
+        }
+    }
+
+    pub fn as_number(&self) -> Option<&Numeral>
+        ensures { option_copied result ≡ number_of (view self.now) }
+    {
+        match self {
+            Json::Number(text) => Some(text),
+            _ => None,
+        }
+    }
+
+    pub fn as_str(&self) -> Option<&Chars>
+        ensures { option_copied result ≡ string_of (view self.now) }
+    {
+        match self {
+            Json::Str(text) => Some(text),
+            _ => None,
+        }
+    }
+
+    pub fn as_list(&self) -> Option<&[Json]>
+        ensures { option_map (λ items. map view items.now) result ≡ array_of (view self.now) }
+    {
+        match self {
+            Json::List(items) => Some(items),
+            _ => None,
+        }
+    }
+
+    pub fn is_object(&self) -> bool
+        ensures { result ≡ is_some (object_of (view self.now)) }
+    {
+        match self {
+            Json::Object(_) => true,
+            _ => false,
+        }
+    }
+}
+
+fn find<'a>(members: &'a [(Chars, Json)], name: &[u8]) -> Option<&'a Json>
+    ensures { option_map (λ v. view v.now) result ≡ member_of name.now (members_view members.now) }
+{
+    for (key, value) in members {
+        if key.as_bytes() == name {
+            return Some(value);
+        }
+    }
+    None
+}
