@@ -12,7 +12,7 @@ use Rattle.json_text.specs.Spelling.{Rules, is_space}
 use Rattle.json_text.specs.Stand.{outside, inside, stand_step}
 use Rattle.json_text.specs.CharacterLeft.{Left as CharacterLeft, IsSound, LeavesNext, LeavesNone, Starts, stand_within}
 use Rattle.json_text.specs.NumberLeft.{Left as NumberLeft, Leaves, Stops}
-use Rattle.json_text.specs.Reading.{Level, in_list, in_object, Place, value, first_item, first_name, name, colon, after, number_in, text_in, character_in, as_value, as_name, Moves, IsDead, stand_of, pairs, levels, role_of, place, IsWithin, Steps}
+use Rattle.json_text.specs.Reading.{Level, in_list, in_object, Place, value, first_item, first_name, name, colon, after, number_in, text_in, character_in, as_value, as_name, Moves, IsDead, stand_of, pairs, levels, role_of, place, IsWithin, IsPlain, Stays, Steps}
 use Rattle.json_text.specs.Stops.{FailsAt, Fails, IsTooDeep, IsRepeated, IsKindAt, IsNoMark}
 use Rattle.json_text.specs.declared.character.Within.{Within}
 use Rattle.json_text.specs.declared.number.Phase.{Phase}
@@ -35,7 +35,7 @@ use Rattle.json_text.specs.declared.fault.FaultKind.TheVariants as kinds
 use Rattle.json_text.proofs.Trees.{view-List, view-Object}
 use Rattle.json_text.proofs.Stands.{stays_outside, space_is}
 use Rattle.json_text.proofs.NameLemmas.{repeated}
-use Rattle.json_text.proofs.CharacterSteps.{starts_scalar}
+use Rattle.json_text.proofs.CharacterSteps.{starts_scalar, first_ascii}
 use Rattle.json_text.proofs.Values as values
 use Rattle.json_text.proofs.Objects as objects
 use Rattle.json_text.proofs.Places.{space_after, list_dead, object_dead, number_on, number_ends, number_ended, text_closes, text_next, text_whole, text_dead, character_next, character_whole, character_dead}
@@ -109,13 +109,13 @@ empty_list o v c e none =
     stays first_item o c 93 (modes.After (jsons.List v)) (after (array no_items)) e
     (ap after (view-List v ∙ ap (λ (x : List Json). array (items_onto (map view x) no_items)) none)) tt (λ R le. values.closes_empty R (levels o.items)) refl
 
-pub first_result : (r : Result State Stop) (old new : List Frame) (v : Vec Json Global) (c : ℕ) → is_space c ≡ false → c ≢ 93 → new ≡ old ++ frames.List v ∷ [] → v.items ≡ []
-    → MatchResult r (Steps value (levels new) c) (Fails value (levels new) c) → MatchResult r (Steps first_item (levels old) c) (Fails first_item (levels old) c)
-first_result r old new v c solid ne e none h =
+pub first_result : {U : Type 0} (r : Result U Stop) (t : State) (old new : List Frame) (v : Vec Json Global) (c : ℕ) → is_space c ≡ false → c ≢ 93 → new ≡ old ++ frames.List v ∷ [] → v.items ≡ []
+    → MatchResult r (λ _. Steps value (levels new) c t) (Fails value (levels new) c) → MatchResult r (λ _. Steps first_item (levels old) c t) (Fails first_item (levels old) c)
+first_result r t old new v c solid ne e none h =
     let pushed : levels new ≡ in_list [] ∷ levels old = levels_pushed old new (frames.List v) e ∙ ap (λ (x : List Json). in_list (map view x) ∷ levels old) none in
-    same_result first_item (levels old) c value (in_list [] ∷ levels old) r
+    same_result first_item (levels old) c value (in_list [] ∷ levels old) t r
     (record { on = λ R b v g. values.first_on R (levels old) c solid ne b v g; back = λ R b v g. values.first_back R (levels old) c b v g; stands = refl })
-    (subst (λ (st : List Level). MatchResult r (Steps value st c) (Fails value st c)) pushed h)
+    (subst (λ (st : List Level). MatchResult r (λ _. Steps value st c t) (Fails value st c)) pushed h)
 
 -- the items with one more
 list_view : (items done : List Json) (j : Json) → items ≡ done ++ j ∷ [] → map view items ≡ map view done ++ view j ∷ []
@@ -160,21 +160,21 @@ no_name fs c solid quote brace = outside_wrong first_name (levels fs) c refl (λ
 pairs_more : (new old : List (List ℕ × Json)) (k : List ℕ) (j : Json) → new ≡ old ++ (k, j) ∷ [] → pairs new ≡ pairs old ++ (k, view j) ∷ []
 pairs_more new old k j e = ap pairs e ∙ pairs_append old k j
 
-pub next_name : (o : Vec Frame Global) (n : Named) (f : Fields) (j : Json) (c : ℕ) → c ≡ 44 → f.members.items ≡ n.fields.members.items ++ (n.name, j) ∷ []
-    → Steps (after (view j)) (in_object (pairs n.fields.members.items) n.name ∷ levels o.items) c (state o (modes.Name f))
+pub next_name : (o : Vec Frame Global) (n : Named) (f : Fields) (j : Json) (c : ℕ) → c ≡ 44 → f.members.items ≡ n.members.items ++ (n.name, j) ∷ []
+    → Steps (after (view j)) (in_object (pairs n.members.items) n.name ∷ levels o.items) c (state o (modes.Name f))
 next_name o n f j c e g =
-    subst (λ (x : ℕ). Steps (after (view j)) (in_object (pairs n.fields.members.items) n.name ∷ levels o.items) x (state o (modes.Name f))) (sym e)
-    (steps_to (after (view j)) (in_object (pairs n.fields.members.items) n.name ∷ levels o.items) 44 (state o (modes.Name f)) (name (pairs n.fields.members.items ++ (n.name, view j) ∷ [])) (levels o.items)
-    (ap name (pairs_more f.members.items n.fields.members.items n.name j g)) refl tt
-    (λ R le. objects.next_name R (pairs n.fields.members.items) n.name (view j) (levels o.items)) refl)
+    subst (λ (x : ℕ). Steps (after (view j)) (in_object (pairs n.members.items) n.name ∷ levels o.items) x (state o (modes.Name f))) (sym e)
+    (steps_to (after (view j)) (in_object (pairs n.members.items) n.name ∷ levels o.items) 44 (state o (modes.Name f)) (name (pairs n.members.items ++ (n.name, view j) ∷ [])) (levels o.items)
+    (ap name (pairs_more f.members.items n.members.items n.name j g)) refl tt
+    (λ R le. objects.next_name R (pairs n.members.items) n.name (view j) (levels o.items)) refl)
 
-pub object_closes : (o : Vec Frame Global) (n : Named) (v : Vec (List ℕ × Json) Global) (j : Json) (c : ℕ) → c ≡ 125 → v.items ≡ n.fields.members.items ++ (n.name, j) ∷ []
-    → Steps (after (view j)) (in_object (pairs n.fields.members.items) n.name ∷ levels o.items) c (state o (modes.After (jsons.Object v)))
+pub object_closes : (o : Vec Frame Global) (n : Named) (v : Vec (List ℕ × Json) Global) (j : Json) (c : ℕ) → c ≡ 125 → v.items ≡ n.members.items ++ (n.name, j) ∷ []
+    → Steps (after (view j)) (in_object (pairs n.members.items) n.name ∷ levels o.items) c (state o (modes.After (jsons.Object v)))
 object_closes o n v j c e g =
-    subst (λ (x : ℕ). Steps (after (view j)) (in_object (pairs n.fields.members.items) n.name ∷ levels o.items) x (state o (modes.After (jsons.Object v)))) (sym e)
-    (steps_to (after (view j)) (in_object (pairs n.fields.members.items) n.name ∷ levels o.items) 125 (state o (modes.After (jsons.Object v))) (after (object (members_onto (pairs n.fields.members.items ++ (n.name, view j) ∷ []) no_members))) (levels o.items)
-    (ap after (view-Object v ∙ ap (λ (x : List (List ℕ × Tree)). object (members_onto x no_members)) (pairs_more v.items n.fields.members.items n.name j g))) refl tt
-    (λ R le. objects.closes_object R (pairs n.fields.members.items) n.name (view j) (levels o.items) (named_distinct n)) refl)
+    subst (λ (x : ℕ). Steps (after (view j)) (in_object (pairs n.members.items) n.name ∷ levels o.items) x (state o (modes.After (jsons.Object v)))) (sym e)
+    (steps_to (after (view j)) (in_object (pairs n.members.items) n.name ∷ levels o.items) 125 (state o (modes.After (jsons.Object v))) (after (object (members_onto (pairs n.members.items ++ (n.name, view j) ∷ []) no_members))) (levels o.items)
+    (ap after (view-Object v ∙ ap (λ (x : List (List ℕ × Tree)). object (members_onto x no_members)) (pairs_more v.items n.members.items n.name j g))) refl tt
+    (λ R le. objects.closes_object R (pairs n.members.items) n.name (view j) (levels o.items) (named_distinct n)) refl)
 
 pub no_member : (x : Tree) (done : List (List ℕ × Tree)) (k : List ℕ) (st : List Level) (c : ℕ) → is_space c ≡ false → c ≢ 44 → c ≢ 125 → FailsAt (after x) (in_object done k ∷ st) c kinds.NotJson
 no_member x done k st c solid comma brace = outside_wrong (after x) (in_object done k ∷ st) c refl (λ R. object_dead R x done k st c solid comma brace)
@@ -192,12 +192,12 @@ number_goes o old new p q c ch m is e =
     (ap (λ (t : List ℕ). number_in t q) (e ∙ ap (λ (l : List ℕ). string_bytes old ++ l) (ap encode_utf8 is ∙ encode_ascii c m.byte.ascii)))
     tt (λ R le. number_on R (levels o.items) (string_bytes old) p q c m) (stays_outside c m.byte.no_mark.3)
 
-pub number_result : (r : Result State Stop) (fs : List Frame) (text : List ℕ) (p : Phase) (x : Tree) (c : ℕ) → Stops (NumberLeft p) c → NumberLeft p [] → x ≡ number text
-    → MatchResult r (Steps (after x) (levels fs) c) (Fails (after x) (levels fs) c) → MatchResult r (Steps (number_in text p) (levels fs) c) (Fails (number_in text p) (levels fs) c)
-number_result r fs text p x c stop whole e h =
-    same_result (number_in text p) (levels fs) c (after (number text)) (levels fs) r
+pub number_result : {U : Type 0} (r : Result U Stop) (t : State) (fs : List Frame) (text : List ℕ) (p : Phase) (x : Tree) (c : ℕ) → Stops (NumberLeft p) c → NumberLeft p [] → x ≡ number text
+    → MatchResult r (λ _. Steps (after x) (levels fs) c t) (Fails (after x) (levels fs) c) → MatchResult r (λ _. Steps (number_in text p) (levels fs) c t) (Fails (number_in text p) (levels fs) c)
+number_result r t fs text p x c stop whole e h =
+    same_result (number_in text p) (levels fs) c (after (number text)) (levels fs) t r
     (record { on = λ R b v g. number_ends R (levels fs) text p c stop b v g; back = λ R b v g. number_ended R (levels fs) text p whole (c ∷ b) v g; stands = refl })
-    (subst (λ (t : Tree). MatchResult r (Steps (after t) (levels fs) c) (Fails (after t) (levels fs) c)) e h)
+    (subst (λ (y : Tree). MatchResult r (λ _. Steps (after y) (levels fs) c t) (Fails (after y) (levels fs) c)) e h)
 
 -- ---- strings
 
@@ -235,6 +235,29 @@ text_wrong fs t text x kind ne dead k = by_kind (text_in (role_of t) text) (leve
 pub character_wrong : (fs : List Frame) (t : Target) (text : List ℕ) (s : Within) (x : ℕ) (kind : FaultKind) → IsSound s → ((w : List ℕ) (c : ℕ) → CharacterLeft s (x ∷ w) c → ⊥) → IsKindAt (stand_within s) x kind → FailsAt (character_in (role_of t) text s) (levels fs) x kind
 character_wrong fs t text s x kind sound dead k = by_kind (character_in (role_of t) text s) (levels fs) x kind (λ R. character_dead R (levels fs) (role_of t) text s x sound dead) k
 
+-- ---- bytes taken in place
+
+pub text_stays : (m : Mode) (t : Target) (old new : String Global) (x ch : ℕ) → m ≡ modes.Text t old → IsPlain x → ch ≡ x → string_bytes new ≡ string_bytes old ++ encode_utf8 ch → Stays m x (modes.Text t new)
+text_stays m t old new x ch is p e f =
+    let l : LeavesNone Starts inside x ch = subst (λ (k : ℕ). LeavesNone Starts inside x k) (sym e) (first_ascii x p.0 (omega (arith, p)) p.2 p.3) in
+    subst (λ (n : Mode). Stays n x (modes.Text t new)) (sym is) (record {
+      within = tt;
+      moves = λ R st. subst (λ (q : Place). Moves R (text_in (role_of t) (string_bytes old)) st x q st) (sym (ap (text_in (role_of t)) f)) (text_whole R st (role_of t) (string_bytes old) x ch p.2 l);
+      stands = l.stands;
+    })
+
+pub number_stays : (m : Mode) (old new : String Global) (p q : Phase) (c ch : ℕ) → m ≡ modes.Number old p → Leaves (NumberLeft p) c q → ch ≡ c → string_bytes new ≡ string_bytes old ++ encode_utf8 ch → Stays m c (modes.Number new q)
+number_stays m old new p q c ch is l e f =
+    let g : string_bytes new ≡ string_bytes old ++ c ∷ [] = f ∙ ap (λ (t : List ℕ). string_bytes old ++ t) (ap encode_utf8 e ∙ encode_ascii c l.byte.ascii) in
+    subst (λ (n : Mode). Stays n c (modes.Number new q)) (sym is) (record {
+      within = tt;
+      moves = λ R st. subst (λ (t : List ℕ). Moves R (number_in (string_bytes old) p) st c (number_in t q) st) (sym g) (number_on R st (string_bytes old) p q c l);
+      stands = stays_outside c l.byte.no_mark.3;
+    })
+
+pub stays_steps : (m : Mode) (c : ℕ) (n : Mode) (o : Vec Frame Global) → Stays m c n → Steps (place m) (levels o.items) c (state o n)
+stays_steps m c n o h = record { within = h.within; moves = λ R le. h.moves R (levels o.items); stands = h.stands }
+
 -- ---- the closing quotation mark
 
 pub string_closes : (o : Vec Frame Global) (t : Target) (text : String Global) (j : Json) → t ≡ targets.Value → view j ≡ string (string_bytes text) → Steps (text_in (role_of t) (string_bytes text)) (levels o.items) 34 (state o (modes.After j))
@@ -242,7 +265,7 @@ string_closes o t text j is e =
     subst (λ (u : Target). Steps (text_in (role_of u) (string_bytes text)) (levels o.items) 34 (state o (modes.After j))) (sym is)
     (stays (text_in as_value (string_bytes text)) o 34 34 (modes.After j) (after (string (string_bytes text))) refl (ap after e) tt (λ R le. text_closes R (levels o.items) (string_bytes text)) refl)
 
-pub name_closes : (o : Vec Frame Global) (t : Target) (f : Fields) (text : String Global) (n : Named) → t ≡ targets.Name f → n.fields.members.items ≡ f.members.items → n.name ≡ string_bytes text → Steps (text_in (role_of t) (string_bytes text)) (levels o.items) 34 (state o (modes.Colon n))
+pub name_closes : (o : Vec Frame Global) (t : Target) (f : Fields) (text : String Global) (n : Named) → t ≡ targets.Name f → n.members.items ≡ f.members.items → n.name ≡ string_bytes text → Steps (text_in (role_of t) (string_bytes text)) (levels o.items) 34 (state o (modes.Colon n))
 name_closes o t f text n is e g =
     subst (λ (u : Target). Steps (text_in (role_of u) (string_bytes text)) (levels o.items) 34 (state o (modes.Colon n))) (sym is)
     (stays (text_in (as_name (pairs f.members.items)) (string_bytes text)) o 34 34 (modes.Colon n) (colon (pairs f.members.items) (string_bytes text)) refl

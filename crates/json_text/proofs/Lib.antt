@@ -16,3 +16,4 @@ pub mod Answers
 pub mod End
 pub mod Runs
 pub mod Written
+pub mod Unique

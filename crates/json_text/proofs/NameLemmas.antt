@@ -31,11 +31,15 @@ bytes_eq_sym [] (y ∷ ys) = refl
 bytes_eq_sym (x ∷ xs) [] = refl
 bytes_eq_sym (x ∷ xs) (y ∷ ys) = ap (λ (b : Bool). b && bytes_eq xs ys) (eq_sym x y) ∙ ap (λ (b : Bool). nat_eq y x && b) (bytes_eq_sym xs ys)
 
--- a set with one more name in it, beside the members with one more
-pub added : {A : Type 0} (q own k : List ℕ) (ms new : List (List ℕ × A)) (x : A) (had : Bool) → own ≡ k → new ≡ ms ++ (k, x) ∷ [] → had ≡ has_name q (keys ms) → cond (bytes_eq own q) true had ≡ has_name q (keys new)
-added q own k ms new x had e f g =
+-- a set with one more name in it, beside the names and this one
+pub added : {A : Type 0} (q own k : List ℕ) (ms : List (List ℕ × A)) (had : Bool) → own ≡ k → had ≡ has_name q (keys ms) → cond (bytes_eq own q) true had ≡ has_name q (keys ms ++ k ∷ [])
+added q own k ms had e g =
     of_cond (bytes_eq own q) had ∙ ap (λ (b : Bool). b || had) (bytes_eq_sym own q ∙ ap (bytes_eq q) e) ∙ ap (λ (b : Bool). bytes_eq q k || b) g
-    ∙ sym (has_name_append q (keys ms) k) ∙ ap (has_name q) (sym (keys_append ms k x) ∙ ap keys (sym f))
+    ∙ sym (has_name_append q (keys ms) k)
+
+pub not_true : (b : Bool) → not b ≡ true → b ≡ false
+not_true true e = absurd (true≢false (sym e))
+not_true false e = refl
 
 -- names that differ, and one that is none of them
 pub distinct_append : (ns : List (List ℕ)) (k : List ℕ) → are_distinct ns ≡ true → has_name k ns ≡ false → are_distinct (ns ++ k ∷ []) ≡ true

@@ -1,11 +1,13 @@
 -- The loop over the bytes.
-use Rattle.std.proofs.Common.{◌≡◌, ℕ, ◌+◌, ◌<◌, ◌≤◌, List, [], length, get_or, take, refl, sym, ap, subst, ◌∙◌}
+use Rattle.std.proofs.Common.{◌≡◌, ℕ, ◌+◌, ◌<◌, ◌≤◌, List, [], length, get_or, take, refl, sym, ap, subst, ◌∙◌, Bool, true, false, true≢false}
+use Rattle.std.specs.Prelude.{MatchBool}
 use Rattle.std.proofs.lemmas.List.{take_all}
 use Rattle.json_text.specs.Stand.{Stand, outside, stand, stand_step}
-use Rattle.json_text.specs.Reading.{Level, Place, value, place, levels, Steps}
+use Rattle.json_text.specs.Reading.{Level, Place, value, place, levels, Stays, Steps}
 use Rattle.json_text.specs.Fault.{Refuses}
 use Rattle.json_text.specs.Stops.{Fails, stop_at}
 use Rattle.json_text.specs.declared.state.Frame.{Frame}
+use Rattle.json_text.specs.declared.state.Mode.{Mode}
 use Rattle.json_text.specs.declared.state.State.{State}
 use Rattle.json_text.specs.declared.fault.Stop.{Stop}
 use Rattle.json_text.specs.declared.fault.Stop.TheVariants as stops
@@ -26,6 +28,18 @@ one_read b at c p st t i r s = record {
 
 pub next_read : (b : List ℕ) (at c : ℕ) (p : Place) (st : List Level) (t : State) → at < length b → c ≡ get_or b at 0 → IsRead (take at b) p st → Steps p st c t → IsRead (take (at + 1) b) (place t.mode) (levels t.stack.items)
 next_read b at c p st t lt e r s = one_read b at c p st t (at_byte b at c lt e) r s
+
+-- the mode hasn't changed
+pub same_read : (b : List ℕ) (at : ℕ) (m n : Mode) (st : List Level) → n ≡ m → IsRead (take at b) (place m) st → IsRead (take at b) (place n) st
+same_read b at m n st e r = subst (λ (o : Mode). IsRead (take at b) (place o) st) (sym e) r
+
+pub taken : (m n : Mode) (c : ℕ) (b : Bool) → b ≡ true → MatchBool b (Stays m c n) (n ≡ m) → Stays m c n
+taken m n c true e h = h
+taken m n c false e h = absurd (true≢false (sym e))
+
+pub untouched : (m n : Mode) (c : ℕ) (b : Bool) → b ≡ false → MatchBool b (Stays m c n) (n ≡ m) → n ≡ m
+untouched m n c true e h = absurd (true≢false e)
+untouched m n c false e h = h
 
 pub refused : (b : List ℕ) (at c : ℕ) (p : Place) (st : List Level) (s : Stop) → at < length b → c ≡ get_or b at 0 → IsRead (take at b) p st → Fails p st c s → Refuses b (stop_at s at)
 refused b at c p st stops.Memory lt e r f = tt

@@ -49,8 +49,8 @@ pub levels_none : (fs : List Frame) → length fs ≡ 0 → levels fs ≡ []
 levels_none [] e = refl
 levels_none (f ∷ fs) e = absurd cc
 
-pub named_distinct : (n : Named) → AreDistinct (keys (pairs n.fields.members.items) ++ n.name ∷ [])
-named_distinct n = subst (λ (l : List (List ℕ)). AreDistinct (l ++ n.name ∷ [])) (sym (keys_pairs n.fields.members.items)) (are_new (keys n.fields.members.items ++ n.name ∷ []) n.new)
+pub named_distinct : (n : Named) → AreDistinct (keys (pairs n.members.items) ++ n.name ∷ [])
+named_distinct n = subst (λ (l : List (List ℕ)). AreDistinct (l ++ n.name ∷ [])) (sym (keys_pairs n.members.items)) (are_new (keys n.members.items ++ n.name ∷ []) n.new)
 
 pub fields_distinct : (f : Fields) → AreDistinct (keys (pairs f.members.items))
 fields_distinct f = subst (λ (l : List (List ℕ)). AreDistinct l) (sym (keys_pairs f.members.items)) (are_new (keys f.members.items) f.distinct)
@@ -79,7 +79,7 @@ mode_live R modes.Value fs w = value_live R (levels fs) (levels_sound fs)
 mode_live R modes.FirstItem fs w = first_item_live R (levels fs) (levels_sound fs)
 mode_live R modes.FirstName fs w = first_name_live R (levels fs) (levels_sound fs)
 mode_live R (modes.Name f) fs w = name_live R (levels fs) (pairs f.members.items) (levels_sound fs) (fields_distinct f)
-mode_live R (modes.Colon n) fs w = colon_live R (levels fs) (pairs n.fields.members.items) n.name (levels_sound fs) (named_distinct n)
+mode_live R (modes.Colon n) fs w = colon_live R (levels fs) (pairs n.members.items) n.name (levels_sound fs) (named_distinct n)
 mode_live R (modes.After x) fs w = after_live R (levels fs) (view x) (levels_sound fs)
 mode_live R (modes.Word at read) fs w = word_live R _ _ (levels fs) (levels_sound fs)
 mode_live R (modes.Number text p) fs w = number_live R (string_bytes text) p (levels fs) (levels_sound fs)
@@ -134,9 +134,9 @@ same_fails p st c q st' (stops.Fault kinds.Repeated) i h = record {
   quote = h.quote;
 }
 
-pub same_result : (p : Place) (st : List Level) (c : ℕ) (q : Place) (st' : List Level) (r : Result State Stop) → IsSame p st c q st' → MatchResult r (Steps q st' c) (Fails q st' c) → MatchResult r (Steps p st c) (Fails p st c)
-same_result p st c q st' (Ok t) i h = same_steps p st c q st' t i h
-same_result p st c q st' (Err s) i h = same_fails p st c q st' s i h
+pub same_result : {U : Type 0} (p : Place) (st : List Level) (c : ℕ) (q : Place) (st' : List Level) (t : State) (r : Result U Stop) → IsSame p st c q st' → MatchResult r (λ _. Steps q st' c t) (Fails q st' c) → MatchResult r (λ _. Steps p st c t) (Fails p st c)
+same_result p st c q st' t (Ok u) i h = same_steps p st c q st' t i h
+same_result p st c q st' t (Err s) i h = same_fails p st c q st' s i h
 
 -- outside of strings no byte is bad UTF-8
 pub outside_wrong : (p : Place) (st : List Level) (c : ℕ) → stand_of p ≡ outside → ((R : Rules) → IsDead R p st c) → IsWrong p st c (IsBadUtf8 (stand_of p) c → ⊥)

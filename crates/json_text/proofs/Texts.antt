@@ -17,7 +17,7 @@ use Rattle.json_text.proofs.CharacterSteps.{not_empty, not_unescaped, only_unesc
 
 -- ---- the closing quotation mark
 
-no_quote : (c : ℕ) (w n b : List ℕ) → IsCharacter c w → 34 ∷ b ≡ w ++ n → ⊥
+pub no_quote : (c : ℕ) (w n b : List ℕ) → IsCharacter c w → 34 ∷ b ≡ w ++ n → ⊥
 no_quote c [] n b h e = not_empty c h
 no_quote c (x ∷ w) n b h e =
     let u = only_unescaped 34 c w (omega arith) (subst (λ (k : ℕ). IsCharacter c (k ∷ w)) (sym (head_is _ _ _ _ e)) h) in

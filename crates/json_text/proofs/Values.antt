@@ -114,7 +114,7 @@ begins_string R st = record {
   back = λ b v h. record { tree = string (encode_utf8_all h.characters); rest = h.rest; valued = (b, refl, record { characters = h.characters; spelled = h.spelled; text = refl }); after = h.closed };
 }
 
-no_other : (R : Rules) (d : ℕ) (x : Tree) (c : ℕ) (b n : List ℕ) → (c ≡ 45) ⊎ ((48 ≤ c) × (c ≤ 57)) → Value R d x (c ∷ b) n → (text : List ℕ) × (x ≡ number text) × IsNumber text × (c ∷ b ≡ text ++ n)
+pub no_other : (R : Rules) (d : ℕ) (x : Tree) (c : ℕ) (b n : List ℕ) → (c ≡ 45) ⊎ ((48 ≤ c) × (c ≤ 57)) → Value R d x (c ∷ b) n → (text : List ℕ) × (x ≡ number text) × IsNumber text × (c ∷ b ≡ text ++ n)
 no_other R d (number text) c b n s h = (text, refl, h.0, h.1)
 no_other R d null c b n s h = absurd (omega (arith, s, value_starts R d null c b n h))
 no_other R d (boolean y) c b n s h = absurd (omega (arith, s, value_starts R d (boolean y) c b n h))
@@ -186,7 +186,7 @@ bracket_on R done x st b v (item y ys) n h a = absurd (omega (arith, head_is _ _
 pub closes_list : (R : Rules) (done : List Tree) (x : Tree) (st : List Level) → Moves R (after x) (in_list done ∷ st) 93 (after (array (items_onto (done ++ x ∷ []) no_items))) st
 closes_list R done x st = record { on = λ b v h. bracket_on R done x st b v h.0 h.1 h.2 h.3; back = λ b v h. (no_items, b, refl, rw (items_onto_append done x no_items) at h) }
 
-no_bracket : (R : Rules) (d : ℕ) (x : Tree) (b r : List ℕ) → Value R d x (93 ∷ b) r → ⊥
+pub no_bracket : (R : Rules) (d : ℕ) (x : Tree) (b r : List ℕ) → Value R d x (93 ∷ b) r → ⊥
 no_bracket R d null b r h = omega (arith, value_starts R d null 93 b r h)
 no_bracket R d x b r h = omega (arith, value_starts R d x 93 b r h)
 

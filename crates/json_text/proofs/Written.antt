@@ -1,9 +1,11 @@
--- What is written of a tree that has a text is a text of it.
-use Rattle.std.proofs.Common.{◌≡◌, ◌≢◌, ℕ, suc, ◌+◌, ◌/◌, ◌%◌, ◌<◌, ◌≤◌, List, [], ◌∷◌, ◌++◌, true, false, Some, refl, sym, ap, subst, ◌∙◌, arith, append_assoc, inl, inr, ◌⊎◌}
+-- What is written of a spellable tree is a text of it.
+use Rattle.std.proofs.Common.{◌≡◌, ◌≢◌, ℕ, suc, ◌+◌, ◌/◌, ◌%◌, ◌<◌, ◌≤◌, List, [], ◌∷◌, ◌++◌, Bool, true, false, Some, refl, sym, ap, subst, ◌∙◌, arith, append_assoc, inl, inr, ◌⊎◌}
 use Rattle.std.specs.Prelude.{flat_map}
 use Rattle.std.specs.Int.{is_in_range}
-use Rattle.std.specs.Char.{encode_utf8, digit_char, InScalarRange}
-use Rattle.std.specs.Str.{encode_utf8_all}
+use Rattle.std.specs.Char.{encode_utf8, digit_char, InScalarRange, IsScalar}
+use Rattle.std.specs.Str.{encode_utf8_all, all_scalars, IsUtf8}
+use Rattle.std.specs.Prelude.{◌&&◌}
+use lib.Utf8.{scalar_cases}
 use Rattle.std.proofs.lemmas.List.{append-nil}
 use Rattle.std.proofs.lemmas.List.Concat.{flat_map-append}
 use Rattle.std.proofs.lemmas.Bool.{lt-ltb, le-ltb, cases_lt}
@@ -11,7 +13,8 @@ use Rattle.std.proofs.lemmas.Bool.Decides.{nat_tests}
 use Rattle.json_text.specs.Tree.{Tree, null, boolean, number, string, array, object, Items, no_items, item, Members, no_members, member}
 use Rattle.json_text.specs.Number.{IsNumber}
 use Rattle.json_text.specs.Character.{IsCharacter, unescaped, short, unit, AreCharacters, hex_value}
-use Rattle.json_text.specs.Spelling.{Rules, skip, Value, First, More, FirstMember, MoreMembers, IsMember, IsQuoted, Spells, profile}
+use Rattle.json_text.specs.Spelling.{skip, Value, First, More, FirstMember, MoreMembers, IsMember, IsQuoted, Spells, profile}
+use Rattle.json_text.specs.Spellable.{IsSpellableAt, AreSpellable, HaveSpellable, IsSpellable}
 use Rattle.json_text.specs.Canonical.{written_byte, written_text, canonical, canonical_first, canonical_more, canonical_first_member, canonical_more_members}
 use Rattle.json_text.proofs.Stands.{no_space, neq_test}
 use Rattle.json_text.proofs.Utf8.{bytes_of, one, two, three, four}
@@ -109,25 +112,40 @@ character_written c s =
       | four le e ↦ by_bytes c _ s (omega arith) e (four_bytes _ _ _ _ (omega arith) (omega arith) (omega arith) (omega arith))
     ]
 
+-- ---- characters and UTF-8
+
+in_scalar : (c : ℕ) → InScalarRange c → IsScalar c
+in_scalar c (inl lt) = grind (arith, nat_tests)
+in_scalar c (inr le) = grind (arith, nat_tests)
+
+of_scalar : (c : ℕ) → IsScalar c → InScalarRange c
+of_scalar c e =
+    elim (scalar_cases c e) [ inl lt ↦ inl lt | inr r ↦ inr (r.0, omega arith) ]
+
+both : (x y : Bool) → x && y ≡ true → (x ≡ true) × (y ≡ true)
+both true y e = (refl, e)
+both false y e = absurd cc
+
 -- ---- strings
 
-characters_written : (cs b r : List ℕ) → AreCharacters cs b r → (n : List ℕ) → AreCharacters cs (flat_map written_byte (encode_utf8_all cs) ++ 34 ∷ n) n
-characters_written [] b r h n = refl
-characters_written (c ∷ cs) b r h n =
+characters_written : (cs : List ℕ) → all_scalars cs ≡ true → (n : List ℕ) → AreCharacters cs (flat_map written_byte (encode_utf8_all cs) ++ 34 ∷ n) n
+characters_written [] e n = refl
+characters_written (c ∷ cs) e n =
+    let p = both _ (all_scalars cs) e in
     let first = flat_map written_byte (encode_utf8 c) in
     let rest = flat_map written_byte (encode_utf8_all cs) in (
       first,
       rest ++ 34 ∷ n,
-      character_written c (starts_scalar h.0 c h.2),
+      character_written c (of_scalar c p.0),
       ap (λ (l : List ℕ). l ++ 34 ∷ n) (flat_map-append written_byte (encode_utf8 c) (encode_utf8_all cs)) ∙ append_assoc first rest (34 ∷ n),
-      characters_written cs h.1 r h.4 n,
+      characters_written cs p.1 n,
     )
 
-text_written : (s b r : List ℕ) → IsQuoted s b r → (n : List ℕ) → IsQuoted s (flat_map written_byte s ++ 34 ∷ n) n
-text_written s b r h n = record {
-  characters = h.characters;
-  spelled = subst (λ (t : List ℕ). AreCharacters h.characters (flat_map written_byte t ++ 34 ∷ n) n) (sym h.text) (characters_written h.characters b r h.spelled n);
-  text = h.text;
+pub text_written : (s : List ℕ) → IsUtf8 s → (n : List ℕ) → IsQuoted s (flat_map written_byte s ++ 34 ∷ n) n
+text_written s h n = record {
+  characters = h.0;
+  spelled = subst (λ (t : List ℕ). AreCharacters h.0 (flat_map written_byte t ++ 34 ∷ n) n) h.1.1 (characters_written h.0 h.1.0 n);
+  text = sym h.1.1;
 }
 
 -- a string, and what is behind it
@@ -143,28 +161,28 @@ number_solid (c ∷ s) n h =
     let e = no_space c (omega (arith, d)) (omega (arith, d)) (omega (arith, d)) (omega (arith, d)) in rw e refl
 
 -- what is written of a value begins with no white space
-solid : (R : Rules) (d : ℕ) (x : Tree) (b r n : List ℕ) → Value R d x b r → skip (canonical x ++ n) ≡ canonical x ++ n
-solid R d null b r n h = refl
-solid R d (boolean true) b r n h = refl
-solid R d (boolean false) b r n h = refl
-solid R d (number text) b r n h = number_solid text n h.0
-solid R d (string s) b r n h = refl
-solid R d (array xs) b r n h = refl
-solid R d (object ms) b r n h = refl
+solid : (d : ℕ) (x : Tree) (n : List ℕ) → IsSpellableAt d x → skip (canonical x ++ n) ≡ canonical x ++ n
+solid d null n h = refl
+solid d (boolean true) n h = refl
+solid d (boolean false) n h = refl
+solid d (number text) n h = number_solid text n h
+solid d (string s) n h = refl
+solid d (array xs) n h = refl
+solid d (object ms) n h = refl
 
 -- a written value behind white space that isn't there
-at_value : (R : Rules) (d : ℕ) (x : Tree) (b r n m : List ℕ) → Value R d x b r → m ≡ canonical x ++ n → Value R d x (canonical x ++ n) n → Value R d x (skip m) n
-at_value R d x b r n m h e v = subst (λ (l : List ℕ). Value R d x l n) (sym (ap skip e ∙ solid R d x b r n h)) v
+at_value : (d : ℕ) (x : Tree) (n m : List ℕ) → IsSpellableAt d x → m ≡ canonical x ++ n → Value profile d x (canonical x ++ n) n → Value profile d x (skip m) n
+at_value d x n m h e v = subst (λ (l : List ℕ). Value profile d x l n) (sym (ap skip e ∙ solid d x n h)) v
 
-member_written : (R : Rules) (d : ℕ) (k : List ℕ) (x : Tree) (b r n : List ℕ) → IsMember (Value R d x) k b r → Value R d x (canonical x ++ n) n → IsMember (Value R d x) k (written_text k ++ (58 ∷ (canonical x ++ n))) n
-member_written R d k x b r n h v = record {
+member_written : (d : ℕ) (k : List ℕ) (x : Tree) (n : List ℕ) → IsUtf8 k → IsSpellableAt d x → Value profile d x (canonical x ++ n) n → IsMember (Value profile d x) k (written_text k ++ (58 ∷ (canonical x ++ n))) n
+member_written d k x n u h v = record {
   inside = flat_map written_byte k ++ 34 ∷ 58 ∷ (canonical x ++ n);
   behind = 58 ∷ (canonical x ++ n);
   value = canonical x ++ n;
   opens = ap skip (closed_text k (58 ∷ (canonical x ++ n)));
-  named = text_written k h.inside h.behind h.named (58 ∷ (canonical x ++ n));
+  named = text_written k u (58 ∷ (canonical x ++ n));
   colon = refl;
-  valued = at_value R d x (skip h.value) r n (canonical x ++ n) h.valued refl v;
+  valued = at_value d x n (canonical x ++ n) h refl v;
 }
 
 -- a member's parts, regrouped
@@ -172,55 +190,97 @@ grouped : (k x rest n : List ℕ) → (k ++ (58 ∷ (x ++ rest))) ++ n ≡ k ++ 
 grouped k x rest n = append_assoc k (58 ∷ (x ++ rest)) n ∙ ap (λ (l : List ℕ). k ++ (58 ∷ l)) (append_assoc x rest n)
 
 mutual
-  value_written : (R : Rules) (d : ℕ) (x : Tree) (b r : List ℕ) → Value R d x b r → (n : List ℕ) → Value R d x (canonical x ++ n) n
-  value_written R d null b r h n = refl
-  value_written R d (boolean true) b r h n = refl
-  value_written R d (boolean false) b r h n = refl
-  value_written R d (number text) b r h n = (h.0, refl)
-  value_written R d (string s) b r h n = (flat_map written_byte s ++ 34 ∷ n, closed_text s n, text_written s h.0 r h.2 n)
-  value_written R d (array xs) b r h n = (h.0, (canonical_first xs ++ n, refl, first_written R (suc d) xs h.1.0 r h.1.2 n))
-  value_written R d (object ms) b r h n = (h.0, h.1, (canonical_first_member ms ++ n, refl, first_member_written R (suc d) ms h.2.0 r h.2.2 n))
+  value_written : (d : ℕ) (x : Tree) → IsSpellableAt d x → (n : List ℕ) → Value profile d x (canonical x ++ n) n
+  value_written d null h n = refl
+  value_written d (boolean true) h n = refl
+  value_written d (boolean false) h n = refl
+  value_written d (number text) h n = (h, refl)
+  value_written d (string s) h n = (flat_map written_byte s ++ 34 ∷ n, closed_text s n, text_written s h n)
+  value_written d (array xs) h n = (h.0, (canonical_first xs ++ n, refl, first_written (suc d) xs h.1 n))
+  value_written d (object ms) h n = (h.0, (λ e. h.1), (canonical_first_member ms ++ n, refl, first_member_written (suc d) ms h.2 n))
 
-  first_written : (R : Rules) (d : ℕ) (xs : Items) (b r : List ℕ) → First R d xs b r → (n : List ℕ) → First R d xs (canonical_first xs ++ n) n
-  first_written R d no_items b r h n = refl
-  first_written R d (item x rest) b r h n = (
-    canonical_more rest ++ n,
-    at_value R d x (skip b) h.0 (canonical_more rest ++ n) ((canonical x ++ canonical_more rest) ++ n) h.1 (append_assoc (canonical x) (canonical_more rest) n) (value_written R d x (skip b) h.0 h.1 (canonical_more rest ++ n)),
-    more_written R d rest h.0 r h.2 n,
-  )
+  first_written : (d : ℕ) (xs : Items) → AreSpellable d xs → (n : List ℕ) → First profile d xs (canonical_first xs ++ n) n
+  first_written d no_items h n = refl
+  first_written d (item x rest) h n =
+      let m = canonical_more rest ++ n in
+      (m, at_value d x m ((canonical x ++ canonical_more rest) ++ n) h.0 (append_assoc (canonical x) (canonical_more rest) n) (value_written d x h.0 m), more_written d rest h.1 n)
 
-  more_written : (R : Rules) (d : ℕ) (xs : Items) (b r : List ℕ) → More R d xs b r → (n : List ℕ) → More R d xs (canonical_more xs ++ n) n
-  more_written R d no_items b r h n = refl
-  more_written R d (item x rest) b r h n = (
-    (canonical x ++ canonical_more rest) ++ n,
-    canonical_more rest ++ n,
-    refl,
-    at_value R d x (skip h.0) h.1 (canonical_more rest ++ n) ((canonical x ++ canonical_more rest) ++ n) h.3 (append_assoc (canonical x) (canonical_more rest) n) (value_written R d x (skip h.0) h.1 h.3 (canonical_more rest ++ n)),
-    more_written R d rest h.1 r h.4 n,
-  )
-
-  first_member_written : (R : Rules) (d : ℕ) (ms : Members) (b r : List ℕ) → FirstMember R d ms b r → (n : List ℕ) → FirstMember R d ms (canonical_first_member ms ++ n) n
-  first_member_written R d no_members b r h n = refl
-  first_member_written R d (member k x rest) b r h n =
-      let m = canonical_more_members rest ++ n in (
+  more_written : (d : ℕ) (xs : Items) → AreSpellable d xs → (n : List ℕ) → More profile d xs (canonical_more xs ++ n) n
+  more_written d no_items h n = refl
+  more_written d (item x rest) h n =
+      let m = canonical_more rest ++ n in (
+        (canonical x ++ canonical_more rest) ++ n,
         m,
-        subst (λ (l : List ℕ). IsMember (Value R d x) k l m) (sym (grouped (written_text k) (canonical x) (canonical_more_members rest) n))
-            (member_written R d k x b h.0 m h.1 (value_written R d x (skip h.1.value) h.0 h.1.valued m)),
-        more_members_written R d rest h.0 r h.2 n,
+        refl,
+        at_value d x m ((canonical x ++ canonical_more rest) ++ n) h.0 (append_assoc (canonical x) (canonical_more rest) n) (value_written d x h.0 m),
+        more_written d rest h.1 n,
       )
 
-  more_members_written : (R : Rules) (d : ℕ) (ms : Members) (b r : List ℕ) → MoreMembers R d ms b r → (n : List ℕ) → MoreMembers R d ms (canonical_more_members ms ++ n) n
-  more_members_written R d no_members b r h n = refl
-  more_members_written R d (member k x rest) b r h n =
+  first_member_written : (d : ℕ) (ms : Members) → HaveSpellable d ms → (n : List ℕ) → FirstMember profile d ms (canonical_first_member ms ++ n) n
+  first_member_written d no_members h n = refl
+  first_member_written d (member k x rest) h n =
+      let m = canonical_more_members rest ++ n in (
+        m,
+        subst (λ (l : List ℕ). IsMember (Value profile d x) k l m) (sym (grouped (written_text k) (canonical x) (canonical_more_members rest) n))
+            (member_written d k x m h.0 h.1 (value_written d x h.1 m)),
+        more_members_written d rest h.2 n,
+      )
+
+  more_members_written : (d : ℕ) (ms : Members) → HaveSpellable d ms → (n : List ℕ) → MoreMembers profile d ms (canonical_more_members ms ++ n) n
+  more_members_written d no_members h n = refl
+  more_members_written d (member k x rest) h n =
       let m = canonical_more_members rest ++ n in (
         (written_text k ++ (58 ∷ (canonical x ++ canonical_more_members rest))) ++ n,
         m,
         refl,
-        subst (λ (l : List ℕ). IsMember (Value R d x) k l m) (sym (grouped (written_text k) (canonical x) (canonical_more_members rest) n))
-            (member_written R d k x h.0 h.1 m h.3 (value_written R d x (skip h.3.value) h.1 h.3.valued m)),
-        more_members_written R d rest h.1 r h.4 n,
+        subst (λ (l : List ℕ). IsMember (Value profile d x) k l m) (sym (grouped (written_text k) (canonical x) (canonical_more_members rest) n))
+            (member_written d k x m h.0 h.1 (value_written d x h.1 m)),
+        more_members_written d rest h.2 n,
       )
 
+pub spellable_written : (v : Tree) → IsSpellable v → Spells v (canonical v)
+spellable_written v h =
+    let e = append-nil (canonical v) in
+    ([], subst (λ (l : List ℕ). Value profile 0 v l []) (e ∙ sym (ap skip (sym e) ∙ solid 0 v [] h ∙ e)) (value_written 0 v h []), refl)
+
+-- ---- what has a text is spellable
+
+spelled_scalars : (cs b r : List ℕ) → AreCharacters cs b r → all_scalars cs ≡ true
+spelled_scalars [] b r h = refl
+spelled_scalars (c ∷ cs) b r h = rw (in_scalar c (starts_scalar h.0 c h.2)) (spelled_scalars cs h.1 r h.4)
+
+quoted_utf8 : (s b r : List ℕ) → IsQuoted s b r → IsUtf8 s
+quoted_utf8 s b r h = (h.characters, (spelled_scalars h.characters b r h.spelled, sym h.text))
+
+mutual
+  value_spellable : (d : ℕ) (x : Tree) (b r : List ℕ) → Value profile d x b r → IsSpellableAt d x
+  value_spellable d null b r h = tt
+  value_spellable d (boolean y) b r h = tt
+  value_spellable d (number text) b r h = h.0
+  value_spellable d (string s) b r h = quoted_utf8 s h.0 r h.2
+  value_spellable d (array xs) b r h = (h.0, first_spellable (suc d) xs h.1.0 r h.1.2)
+  value_spellable d (object ms) b r h = (h.0, h.1 refl, first_member_spellable (suc d) ms h.2.0 r h.2.2)
+
+  first_spellable : (d : ℕ) (xs : Items) (b r : List ℕ) → First profile d xs b r → AreSpellable d xs
+  first_spellable d no_items b r h = tt
+  first_spellable d (item x rest) b r h = (value_spellable d x (skip b) h.0 h.1, more_spellable d rest h.0 r h.2)
+
+  more_spellable : (d : ℕ) (xs : Items) (b r : List ℕ) → More profile d xs b r → AreSpellable d xs
+  more_spellable d no_items b r h = tt
+  more_spellable d (item x rest) b r h = (value_spellable d x (skip h.0) h.1 h.3, more_spellable d rest h.1 r h.4)
+
+  first_member_spellable : (d : ℕ) (ms : Members) (b r : List ℕ) → FirstMember profile d ms b r → HaveSpellable d ms
+  first_member_spellable d no_members b r h = tt
+  first_member_spellable d (member k x rest) b r h =
+      let m = h.1 in (quoted_utf8 k m.inside m.behind m.named, value_spellable d x (skip m.value) h.0 m.valued, more_members_spellable d rest h.0 r h.2)
+
+  more_members_spellable : (d : ℕ) (ms : Members) (b r : List ℕ) → MoreMembers profile d ms b r → HaveSpellable d ms
+  more_members_spellable d no_members b r h = tt
+  more_members_spellable d (member k x rest) b r h =
+      let m = h.3 in (quoted_utf8 k m.inside m.behind m.named, value_spellable d x (skip m.value) h.1 m.valued, more_members_spellable d rest h.1 r h.4)
+
+pub spelled_spellable : (v : Tree) (b : List ℕ) → Spells v b → IsSpellable v
+spelled_spellable v b h = value_spellable 0 v (skip b) h.0 h.1
+
 pub spells_canonical : (v : Tree) (b : List ℕ) → Spells v b → Spells v (canonical v)
-spells_canonical v b h =
-    ([], subst (λ (l : List ℕ). Value profile 0 v l []) (append-nil (canonical v) ∙ sym (ap skip (sym (append-nil (canonical v))) ∙ solid profile 0 v (skip b) h.0 [] h.1 ∙ append-nil (canonical v))) (value_written profile 0 v (skip b) h.0 h.1 []), refl)
+spells_canonical v b h = spellable_written v (spelled_spellable v b h)

@@ -51,6 +51,7 @@ abbrev pub canonical_items : Bool → Items → List ℕ
 canonical_items true xs = canonical_first xs
 canonical_items false xs = canonical_more xs
 
+-- the same of members
 abbrev pub canonical_members : Bool → Members → List ℕ
 canonical_members true ms = canonical_first_member ms
 canonical_members false ms = canonical_more_members ms

@@ -46,6 +46,7 @@ pub record IsUnit (u : ℕ) (w : List ℕ) : Type 0 where
 abbrev pub IsHigh : ℕ → Type 0
 IsHigh u = (0xD800 ≤ u) × (u < 0xDC00)
 
+-- a surrogate behind
 abbrev pub IsLow : ℕ → Type 0
 IsLow u = (0xDC00 ≤ u) × (u < 0xE000)
 

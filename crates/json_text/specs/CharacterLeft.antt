@@ -51,6 +51,7 @@ Left (withins.Between high) w c = IsSecond high w c
 Left (withins.SecondEscape high) w c = IsSecond high (92 ∷ w) c
 Left (withins.Second high owed bits) w c = InSecond high owed bits w c
 
+-- where this state stands in its string
 abbrev pub stand_within : Within → Stand
 stand_within (withins.Utf8 owed low high bits) = owes owed
 stand_within withins.Escape = escaped
@@ -70,6 +71,7 @@ pub record Utf8Bounds (owed low high bits : ℕ) : Type 0 where
   pub two : 2 ≤ owed → bits < 512
   pub three : 3 ≤ owed → bits < 8
 
+-- so many digits of the first unit are owed, those read are of these bits, and no low surrogate can come of them
 pub record FirstBounds (owed bits : ℕ) : Type 0 where
   pub some : 1 ≤ owed
   pub few : owed ≤ 4
@@ -80,6 +82,7 @@ pub record FirstBounds (owed bits : ℕ) : Type 0 where
   pub two_digits : owed ≡ 2 → 0xDC ≤ bits → 0xE0 ≤ bits
   pub three_digits : owed ≡ 1 → 0xDC0 ≤ bits → 0xE00 ≤ bits
 
+-- the same of the second unit, of which only a low surrogate can come
 pub record SecondBounds (owed bits : ℕ) : Type 0 where
   pub some : 1 ≤ owed
   pub few : owed ≤ 4
@@ -88,6 +91,7 @@ pub record SecondBounds (owed bits : ℕ) : Type 0 where
   pub two_digits : owed ≡ 2 → (0xDC ≤ bits) × (bits < 0xE0)
   pub three_digits : owed ≡ 1 → (0xDC0 ≤ bits) × (bits < 0xE00)
 
+-- the bounds of each state
 abbrev pub Bounds : Within → Type 0
 Bounds (withins.Utf8 owed low high bits) = Utf8Bounds owed low high bits
 Bounds withins.Escape = Unit {0}
@@ -96,6 +100,7 @@ Bounds (withins.Between high) = IsHigh high
 Bounds (withins.SecondEscape high) = IsHigh high
 Bounds (withins.Second high owed bits) = IsHigh high × SecondBounds owed bits
 
+-- what is left in this state completes characters
 pub record IsSound (s : Within) : Type 0 where
   pub bounds : Bounds s
   pub scalar : (w : List ℕ) (c : ℕ) → Left s w c → InScalarRange c

@@ -4,6 +4,7 @@ pub mod Number
 pub mod Character
 pub mod Spelling
 pub mod Canonical
+pub mod Spellable
 pub mod Stand
 pub mod CharacterLeft
 pub mod NumberLeft
@@ -11,3 +12,4 @@ pub mod Names
 pub mod Reading
 pub mod Fault
 pub mod Stops
+pub mod FaultText

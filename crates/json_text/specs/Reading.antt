@@ -1,5 +1,5 @@
 -- What may follow in each state of the reader.
-use Rattle.std.specs.Prelude.{◌≡◌, ℕ, suc, ◌<◌, ◌≤◌, List, [], ◌∷◌, ◌++◌, length, map, reverse, drop, true, false, string_bytes}
+use Rattle.std.specs.Prelude.{◌≡◌, ◌≢◌, ℕ, suc, ◌<◌, ◌≤◌, List, [], ◌∷◌, ◌++◌, length, map, reverse, drop, true, false, string_bytes}
 use Rattle.std.specs.Char.{encode_utf8}
 use Rattle.std.specs.Str.{encode_utf8_all}
 use Rattle.json_text.specs.Tree.{Tree, null, boolean, number, string, array, object, Items, item, Members, member, names}
@@ -85,6 +85,7 @@ pub data Role : Type 0 where
   as_value : Role
   as_name : List (List ℕ × Tree) → Role
 
+-- where the reader stands, with what it keeps there
 pub data Place : Type 0 where
   value : Place
   first_item : Place
@@ -120,10 +121,11 @@ pub record Moves (R : Rules) (p : Place) (st : List Level) (c : ℕ) (q : Place)
   pub on : (b : List ℕ) (v : Tree) → Rest R p st (c ∷ b) v → Rest R q st' b v
   pub back : (b : List ℕ) (v : Tree) → Rest R q st' b v → Rest R p st (c ∷ b) v
 
--- nothing goes on with the byte c; something does
+-- nothing goes on with the byte c
 abbrev pub IsDead : Rules → Place → List Level → ℕ → Type 0
 IsDead R p st c = (b : List ℕ) (v : Tree) → Rest R p st (c ∷ b) v → ⊥
 
+-- something goes on with the byte c
 abbrev pub IsAlive : Rules → Place → List Level → ℕ → Type 0
 IsAlive R p st c = (b : List ℕ) × (v : Tree) × Rest R p st (c ∷ b) v
 
@@ -132,6 +134,7 @@ pub record Follows (R : Rules) (front : List ℕ) (p : Place) (st : List Level) 
   pub on : (b : List ℕ) (v : Tree) → SpellsBy R v (front ++ b) → Rest R p st b v
   pub back : (b : List ℕ) (v : Tree) → Rest R p st b v → SpellsBy R v (front ++ b)
 
+-- where this place stands, as far as strings and UTF-8 go
 abbrev pub stand_of : Place → Stand
 stand_of value = outside
 stand_of first_item = outside
@@ -146,36 +149,43 @@ stand_of (character_in role text s) = stand_within s
 
 -- ---- the reader's values as places and levels
 
+-- members as names and trees
 abbrev pub pairs : List (List ℕ × Json) → List (List ℕ × Tree)
 pairs ms = map (λ m. (m.0, view m.1)) ms
 
+-- an open array or object
 abbrev pub level : Frame → Level
 level (frames.List v) = in_list (map view v.items)
-level (frames.Object n) = in_object (pairs n.fields.members.items) n.name
+level (frames.Object n) = in_object (pairs n.members.items) n.name
 
+-- the innermost first
 abbrev pub levels : List Frame → List Level
 levels fs = reverse (map level fs)
 
+-- what the string is
 abbrev pub role_of : Target → Role
 role_of targets.Value = as_value
 role_of (targets.Name f) = as_name (pairs f.members.items)
 
+-- the letters of a word
 abbrev pub word_text : Word → List ℕ
 word_text words.Null = word_null
 word_text words.True = word_true
 word_text words.False = word_false
 
+-- the value that it is
 abbrev pub word_tree : Word → Tree
 word_tree words.Null = null
 word_tree words.True = boolean true
 word_tree words.False = boolean false
 
+-- the place of each mode of the reader
 abbrev pub place : Mode → Place
 place modes.Value = value
 place modes.FirstItem = first_item
 place modes.FirstName = first_name
 place (modes.Name f) = name (pairs f.members.items)
-place (modes.Colon n) = colon (pairs n.fields.members.items) n.name
+place (modes.Colon n) = colon (pairs n.members.items) n.name
 place (modes.After x) = after (view x)
 place (modes.Word w read) = word (drop read (word_text w)) (word_tree w)
 place (modes.Number text p) = number_in (string_bytes text) p
@@ -194,6 +204,16 @@ IsWithin (modes.Word w read) = read < length (word_text w)
 IsWithin (modes.Number text p) = Unit {0}
 IsWithin (modes.Text t text) = Unit {0}
 IsWithin (modes.Character t text s) = IsSound s
+
+-- a character of a string by itself: ASCII, and no control character, quotation mark or backslash
+abbrev pub IsPlain : ℕ → Type 0
+IsPlain c = (32 ≤ c) × (c < 128) × (c ≢ 34) × (c ≢ 92)
+
+-- the byte leads from one mode to another, whatever is open
+pub record Stays (m : Mode) (c : ℕ) (n : Mode) : Type 0 where
+  pub within : IsWithin n
+  pub moves : (R : Rules) (st : List Level) → Moves R (place m) st c (place n) st
+  pub stands : stand_step (stand_of (place m)) c ≡ stand_of (place n)
 
 -- the byte leads to this state
 pub record Steps (p : Place) (st : List Level) (c : ℕ) (t : State) : Type 0 where

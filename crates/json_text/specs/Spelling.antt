@@ -19,6 +19,7 @@ abbrev pub skip : List ℕ → List ℕ
 skip [] = []
 skip (c ∷ b) = cond (is_space c) (skip b) (c ∷ b)
 
+-- null, true and false
 abbrev pub word_null : List ℕ
 word_null = 110 ∷ 117 ∷ 108 ∷ 108 ∷ []
 

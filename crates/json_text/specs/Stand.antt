@@ -20,10 +20,12 @@ stand_step inside c =
 stand_step escaped c = inside
 stand_step (owes n) c = if nat_lt 1 n then owes (n - 1) else inside
 
+-- behind some bytes
 abbrev pub stand_from : Stand → List ℕ → Stand
 stand_from s [] = s
 stand_from s (c ∷ b) = stand_from (stand_step s c) b
 
+-- at the end of a front
 abbrev pub stand : List ℕ → Stand
 stand front = stand_from outside front
 

@@ -10,6 +10,7 @@ use Rattle.json_text.specs.declared.fault.Stop.TheVariants as stops
 use Rattle.json_text.specs.declared.fault.ReadError.{ReadError}
 use Rattle.json_text.specs.declared.fault.ReadError.TheVariants as errors
 
+-- the answer where the reader stops at this place
 abbrev pub stop_at : Stop → ℕ → ReadError
 stop_at stops.Memory at = errors.Memory
 stop_at (stops.Fault kind) at = errors.Fault (record { at = at; kind = kind })
@@ -46,12 +47,14 @@ IsKindAt s c kinds.TooDeep = ⊥
 IsKindAt s c kinds.Repeated = ⊥
 IsKindAt s c kinds.BadUtf8 = IsBadUtf8 s c
 
+-- the byte c is a fault of this kind
 abbrev pub FailsAt : Place → List Level → ℕ → FaultKind → Type 0
 FailsAt p st c kinds.NotJson = IsWrong p st c (IsBadUtf8 (stand_of p) c → ⊥)
 FailsAt p st c kinds.TooDeep = IsTooDeep p st c
 FailsAt p st c kinds.Repeated = IsRepeated p st c
 FailsAt p st c kinds.BadUtf8 = IsWrong p st c (IsBadUtf8 (stand_of p) c)
 
+-- the byte c is a fault, unless memory was wanting
 abbrev pub Fails : Place → List Level → ℕ → Stop → Type 0
 Fails p st c stops.Memory = Unit {0}
 Fails p st c (stops.Fault kind) = FailsAt p st c kind

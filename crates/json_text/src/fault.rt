@@ -1,6 +1,7 @@
 //! What a text can be refused for.
 ghost use Rattle.std.specs.Prelude.{◌≡◌};
 ghost use Rattle.json_text.specs.Stops.{stop_at};
+ghost use Rattle.json_text.specs.FaultText.{kind_text};
 
 use std::alloc::{AllocError, AllocFailed};
 use std::error::Error;
@@ -35,7 +36,9 @@ pub enum ReadError {
 
 impl FaultKind {
     /// The kind's name.
-    pub fn as_str(self) -> &'static str {
+    pub fn as_str(self) -> &'static str
+        ensures { result.now ≡ kind_text self }
+    {
         match self {
             FaultKind::NotJson => "NotJson",
             FaultKind::TooDeep => "TooDeep",
@@ -46,6 +49,11 @@ impl FaultKind {
 }
 
 impl fmt::Display for JsonFault {
+    ghost use Rattle.std.specs.Prelude.{Some};
+    ghost use Rattle.json_text.specs.FaultText.{fault_text};
+
+    ghost output = { λ f. Some (fault_text f) };
+
     fn fmt<W: fmt::Write>(&self, f: &mut fmt::Formatter<W>) -> fmt::Result {
         let (kind, at) = (self.kind.as_str(), self.at);
         write!(f, "{kind} {at}")
@@ -55,6 +63,11 @@ impl fmt::Display for JsonFault {
 impl Error for JsonFault {}
 
 impl fmt::Display for ReadError {
+    ghost use Rattle.std.specs.Prelude.{Some};
+    ghost use Rattle.json_text.specs.FaultText.{error_text};
+
+    ghost output = { λ e. Some (error_text e) };
+
     fn fmt<W: fmt::Write>(&self, f: &mut fmt::Formatter<W>) -> fmt::Result {
         match self {
             ReadError::Memory => write!(f, "out of memory"),

@@ -4,7 +4,7 @@ ghost use Rattle.std.specs.BTreeSet.{contains_text};
 ghost use Rattle.json_text.specs.Names.{has_name, are_distinct, keys};
 
 use crate::tree::{Chars, Json};
-use std::alloc::{AllocError, Global};
+use std::alloc::{AllocError, AllocFailed, Global};
 use std::collections::BTreeSet;
 
 /// The members so far, in order, beside their names in a set.
@@ -16,12 +16,14 @@ pub(crate) struct Fields {
     pub ghost distinct: { are_distinct (keys members.items) ≡ true },
 }
 
-/// The members so far, and the name of the member whose value comes next, which none of them has.
+/// The members so far, and the name of the member whose value comes next, which none of them has; the set has it too.
 #[derive(Drop)]
 pub(crate) struct Named {
-    pub fields: Fields,
+    pub members: Vec<(Chars, Json)>,
+    names: BTreeSet<String>,
     pub name: Chars,
-    pub ghost new: { are_distinct (keys fields.members.items ++ name ∷ []) ≡ true },
+    pub ghost known: { (q : List ℕ) → contains_text names q ≡ has_name q (keys members.items ++ name ∷ []) },
+    pub ghost new: { are_distinct (keys members.items ++ name ∷ []) ≡ true },
 }
 
 impl Fields {
@@ -41,32 +43,34 @@ impl Fields {
     }
 
     /// `None` where a member has this name.
-    pub(crate) fn named(self, name: String) -> Option<Named>
-        ensures { MatchOption result (has_name (string_bytes name) (keys self.members.items) ≡ true)
-            (λ named. (named.fields.members.items ≡ self.members.items) × (named.name ≡ string_bytes name)) }
+    pub(crate) fn named(self, alloc: Global, name: String) -> Result<Option<Named>, AllocError>
+        ensures { IfOk result (λ found. MatchOption found (has_name (string_bytes name) (keys self.members.items) ≡ true)
+            (λ named. (named.members.items ≡ self.members.items) × (named.name ≡ string_bytes name))) }
     {
-        if self.names.contains(name.as_str()) {
-            None
-        } else {
-            Some(Named {
-                fields: self,
+        let Fields { members, mut names } = self;
+        let copy = String::from_str(alloc, name.as_str())?;
+        if names.insert(copy)? {
+            Ok(Some(Named {
+                members,
+                names,
                 name: Chars::new(name),
-            })
+            }))
+        } else {
+            Ok(None)
         }
     }
 }
 
 impl Named {
     /// The members with this value behind them.
-    pub(crate) fn with(self, alloc: Global, value: Json) -> Result<Fields, AllocError>
-        ensures { IfOk result (λ fields. fields.members.items ≡ self.fields.members.items ++ (self.name, value) ∷ []) }
+    pub(crate) fn with(self, value: Json) -> Result<Fields, AllocFailed<(Chars, Json)>>
+        ensures { IfOk result (λ fields. fields.members.items ≡ self.members.items ++ (self.name, value) ∷ []) }
     {
-        let Named { fields, name } = self;
-        let Fields {
+        let Named {
             mut members,
-            mut names,
-        } = fields;
-        names.insert(name.copied(alloc)?)?;
+            names,
+            name,
+        } = self;
         members.push((name, value))?;
         Ok(Fields { members, names })
     }

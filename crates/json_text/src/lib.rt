@@ -7,6 +7,7 @@
 mod character;
 mod fault;
 mod fields;
+mod laws;
 mod number;
 mod reader;
 mod state;
@@ -16,6 +17,7 @@ mod tree;
 mod writer;
 
 pub use fault::{FaultKind, JsonFault, ReadError};
+pub use laws::{one_tree_of_a_text, spellable_trees_have_texts, written_tells_apart};
 pub use reader::read;
 pub use tree::{Chars, Json, Numeral};
 pub use writer::{write, write_text, written_is_read_again};

@@ -1,5 +1,5 @@
 //! The reader: one byte after another, with a stack of its own.
-ghost use Rattle.std.specs.Prelude.{◌≡◌, ◌≢◌, ◌<◌, [], ◌∷◌, length, drop, map, false, string_bytes, IfOk, IfErr, MatchOption, MatchResult};
+ghost use Rattle.std.specs.Prelude.{◌≡◌, ◌≢◌, ◌<◌, [], ◌∷◌, length, drop, map, false, string_bytes, IfOk, IfErr, IsTrue, ◌↔◌, MatchBool, MatchOption, MatchResult};
 ghost use Rattle.json_text.specs.Tree.{Tree};
 ghost use Rattle.json_text.specs.View.{view};
 ghost use Rattle.json_text.specs.NumberLeft.{Leaves, Stops};
@@ -7,7 +7,7 @@ ghost use Rattle.json_text.specs.Number.{IsNumber};
 ghost use Rattle.json_text.specs.CharacterLeft.{IsSound, stand_within};
 ghost use Rattle.json_text.specs.Stand.{inside};
 ghost use Rattle.json_text.specs.Spelling.{is_space, Spells};
-ghost use Rattle.json_text.specs.Reading.{pairs, levels, place, role_of, word_text, word_tree, value, first_item, first_name, name, colon, after, word, number_in, text_in, character_in, in_list, in_object, IsWithin, Steps, IsOpen, Ends};
+ghost use Rattle.json_text.specs.Reading.{pairs, levels, place, role_of, word_text, word_tree, value, first_item, first_name, name, colon, after, word, number_in, text_in, character_in, in_list, in_object, IsWithin, IsPlain, Stays, Steps, IsOpen, Ends};
 ghost use Rattle.json_text.specs.Stops.{Fails, IsKindAt, IsNoMark};
 ghost use Rattle.json_text.specs.Fault.{Refuses};
 
@@ -17,7 +17,8 @@ use crate::fields::{Fields, Named};
 use crate::number::Phase;
 use crate::state::{Frame, MAX_DEPTH, Mode, State, Target, Word};
 use crate::tree::{Chars, Json, Numeral};
-use std::alloc::Global;
+use std::alloc::{AllocError, Global};
+use std::mem;
 
 /// The tree that the bytes spell, all of the bytes.
 ///
@@ -35,8 +36,13 @@ pub fn read(alloc: Global, bytes: &[u8]) -> Result<Json, ReadError>
         mode: Mode::Value,
     };
     for (at, byte) in bytes.iter().enumerate() {
-        match step(alloc, state, *byte) {
-            Ok(next) => state = next,
+        match take(&mut state.mode, *byte) {
+            Ok(true) => continue,
+            Ok(false) => {}
+            Err(_) => return Err(ReadError::Memory),
+        }
+        match step(alloc, &mut state, *byte) {
+            Ok(()) => {}
             Err(stop) => return Err(stop.at(at)),
         }
     }
@@ -49,22 +55,52 @@ pub fn read(alloc: Global, bytes: &[u8]) -> Result<Json, ReadError>
     }
 }
 
-fn step(alloc: Global, state: State, byte: u8) -> Result<State, Stop>
-    requires { IsWithin state.mode }
-    ensures { MatchResult result (Steps (place state.mode) (levels state.stack.items) byte) (Fails (place state.mode) (levels state.stack.items) byte) }
+/// Takes a byte of a string or of a number in place. `false` where it is another byte, which changes nothing.
+fn take(mode: &mut Mode, byte: u8) -> Result<bool, AllocError>
+    ensures { IfOk result (λ taken. MatchBool taken (Stays mode.old byte mode.new) (mode.new ≡ mode.old)) }
 {
-    let State { stack, mode } = state;
     match mode {
-        Mode::Value => in_value(alloc, stack, byte),
-        Mode::FirstItem => in_first_item(alloc, stack, byte),
-        Mode::FirstName => in_first_name(alloc, stack, byte),
-        Mode::Name(fields) => in_name(alloc, stack, fields, byte),
-        Mode::Colon(named) => in_colon(stack, named, byte),
-        Mode::After(json) => in_after(alloc, stack, json, byte),
-        Mode::Word(at, read) => in_word(stack, at, read, byte),
-        Mode::Number(text, phase) => in_number(alloc, stack, text, phase, byte),
-        Mode::Text(target, text) => in_text(stack, target, text, byte),
-        Mode::Character(target, text, within) => in_character(stack, target, text, within, byte),
+        Mode::Text(_, text) => {
+            if !is_plain(byte) {
+                return Ok(false);
+            }
+            text.push(char::from(byte))?;
+            Ok(true)
+        }
+        Mode::Number(text, phase) => {
+            let Some(next) = phase.next(byte) else {
+                return Ok(false);
+            };
+            text.push(char::from(byte))?;
+            *phase = next;
+            Ok(true)
+        }
+        _ => Ok(false),
+    }
+}
+
+/// A character of a string by itself.
+fn is_plain(byte: u8) -> bool
+    ensures { IsTrue result ↔ IsPlain byte }
+{
+    byte >= 0x20 && byte < 0x80 && byte != b'"' && byte != b'\\'
+}
+
+fn step(alloc: Global, state: &mut State, byte: u8) -> Result<(), Stop>
+    requires { IsWithin state.old.mode }
+    ensures { MatchResult result (λ _. Steps (place state.old.mode) (levels state.old.stack.items) byte state.new) (Fails (place state.old.mode) (levels state.old.stack.items) byte) }
+{
+    match mem::replace(&mut state.mode, Mode::Value) {
+        Mode::Value => in_value(alloc, state, byte),
+        Mode::FirstItem => in_first_item(alloc, state, byte),
+        Mode::FirstName => in_first_name(alloc, state, byte),
+        Mode::Name(fields) => in_name(alloc, state, fields, byte),
+        Mode::Colon(named) => in_colon(state, named, byte),
+        Mode::After(json) => in_after(state, json, byte),
+        Mode::Word(at, read) => in_word(state, at, read, byte),
+        Mode::Number(text, phase) => in_number(state, text, phase, byte),
+        Mode::Text(target, text) => in_text(alloc, state, target, text, byte),
+        Mode::Character(target, text, within) => in_character(state, target, text, within, byte),
     }
 }
 
@@ -97,50 +133,44 @@ fn is_white(byte: u8) -> bool
     byte == b' ' || byte == b'\t' || byte == b'\n' || byte == b'\r'
 }
 
-fn in_value(alloc: Global, stack: Vec<Frame>, byte: u8) -> Result<State, Stop>
-    ensures { MatchResult result (Steps value (levels stack.items) byte) (Fails value (levels stack.items) byte) }
+fn in_value(alloc: Global, state: &mut State, byte: u8) -> Result<(), Stop>
+    ensures { MatchResult result (λ _. Steps value (levels state.old.stack.items) byte state.new) (Fails value (levels state.old.stack.items) byte) }
 {
     if is_white(byte) {
-        return Ok(State {
-            stack,
-            mode: Mode::Value,
-        });
+        state.mode = Mode::Value;
+        return Ok(());
     }
     if let Some(phase) = Phase::first(byte) {
-        return begin_number(alloc, stack, phase, byte);
+        return begin_number(alloc, state, phase, byte);
     }
     match byte {
         b'[' => {
-            if stack.len() >= MAX_DEPTH {
+            if state.stack.len() >= MAX_DEPTH {
                 return Err(Stop::Fault(FaultKind::TooDeep));
             }
-            Ok(State {
-                stack,
-                mode: Mode::FirstItem,
-            })
+            state.mode = Mode::FirstItem;
+            Ok(())
         }
         b'{' => {
-            if stack.len() >= MAX_DEPTH {
+            if state.stack.len() >= MAX_DEPTH {
                 return Err(Stop::Fault(FaultKind::TooDeep));
             }
-            Ok(State {
-                stack,
-                mode: Mode::FirstName,
-            })
+            state.mode = Mode::FirstName;
+            Ok(())
         }
-        b'"' => Ok(State {
-            stack,
-            mode: Mode::Text(Target::Value, String::new(alloc)),
-        }),
-        _ => begin_word(stack, byte),
+        b'"' => {
+            state.mode = Mode::Text(Target::Value, String::new(alloc));
+            Ok(())
+        }
+        _ => begin_word(state, byte),
     }
 }
 
-fn begin_word(stack: Vec<Frame>, byte: u8) -> Result<State, Stop>
+fn begin_word(state: &mut State, byte: u8) -> Result<(), Stop>
     requires space { is_space byte ≡ false }
     requires other { IsNoMark byte }
     requires number { Stops IsNumber byte }
-    ensures { MatchResult result (Steps value (levels stack.items) byte) (Fails value (levels stack.items) byte) }
+    ensures { MatchResult result (λ _. Steps value (levels state.old.stack.items) byte state.new) (Fails value (levels state.old.stack.items) byte) }
 {
     let at = match byte {
         b'n' => Word::Null,
@@ -148,210 +178,168 @@ fn begin_word(stack: Vec<Frame>, byte: u8) -> Result<State, Stop>
         b'f' => Word::False,
         _ => return Err(Stop::Fault(FaultKind::NotJson)),
     };
-    Ok(State {
-        stack,
-        mode: Mode::Word(at, 1),
-    })
+    state.mode = Mode::Word(at, 1);
+    Ok(())
 }
 
-fn begin_number(alloc: Global, stack: Vec<Frame>, phase: Phase, byte: u8) -> Result<State, Stop>
+fn begin_number(alloc: Global, state: &mut State, phase: Phase, byte: u8) -> Result<(), Stop>
     requires { Leaves IsNumber byte phase }
-    ensures { MatchResult result (Steps value (levels stack.items) byte) (Fails value (levels stack.items) byte) }
+    ensures { MatchResult result (λ _. Steps value (levels state.old.stack.items) byte state.new) (Fails value (levels state.old.stack.items) byte) }
 {
     let mut text = String::new(alloc);
     text.push(char::from(byte))?;
-    Ok(State {
-        stack,
-        mode: Mode::Number(text, phase),
-    })
+    state.mode = Mode::Number(text, phase);
+    Ok(())
 }
 
-fn in_first_item(alloc: Global, stack: Vec<Frame>, byte: u8) -> Result<State, Stop>
-    ensures { MatchResult result (Steps first_item (levels stack.items) byte) (Fails first_item (levels stack.items) byte) }
+fn in_first_item(alloc: Global, state: &mut State, byte: u8) -> Result<(), Stop>
+    ensures { MatchResult result (λ _. Steps first_item (levels state.old.stack.items) byte state.new) (Fails first_item (levels state.old.stack.items) byte) }
 {
     if is_white(byte) {
-        return Ok(State {
-            stack,
-            mode: Mode::FirstItem,
-        });
+        state.mode = Mode::FirstItem;
+        return Ok(());
     }
     if byte == b']' {
-        return Ok(State {
-            stack,
-            mode: Mode::After(Json::List(Vec::new(alloc))),
-        });
+        state.mode = Mode::After(Json::List(Vec::new(alloc)));
+        return Ok(());
     }
-    let mut stack = stack;
-    stack.push(Frame::List(Vec::new(alloc)))?;
-    in_value(alloc, stack, byte)
+    // Most lists of messages have one item.
+    let items = Vec::with_capacity(alloc, 1)?;
+    state.stack.push(Frame::List(items))?;
+    in_value(alloc, state, byte)
 }
 
-fn in_first_name(alloc: Global, stack: Vec<Frame>, byte: u8) -> Result<State, Stop>
-    ensures { MatchResult result (Steps first_name (levels stack.items) byte) (Fails first_name (levels stack.items) byte) }
+fn in_first_name(alloc: Global, state: &mut State, byte: u8) -> Result<(), Stop>
+    ensures { MatchResult result (λ _. Steps first_name (levels state.old.stack.items) byte state.new) (Fails first_name (levels state.old.stack.items) byte) }
 {
     if is_white(byte) {
-        return Ok(State {
-            stack,
-            mode: Mode::FirstName,
-        });
+        state.mode = Mode::FirstName;
+        return Ok(());
     }
     match byte {
-        b'"' => Ok(State {
-            stack,
-            mode: Mode::Text(Target::Name(Fields::new(alloc)), String::new(alloc)),
-        }),
-        b'}' => Ok(State {
-            stack,
-            mode: Mode::After(Json::Object(Vec::new(alloc))),
-        }),
+        b'"' => {
+            state.mode = Mode::Text(Target::Name(Fields::new(alloc)), String::new(alloc));
+            Ok(())
+        }
+        b'}' => {
+            state.mode = Mode::After(Json::Object(Vec::new(alloc)));
+            Ok(())
+        }
         _ => Err(Stop::Fault(FaultKind::NotJson)),
     }
 }
 
-fn in_name(alloc: Global, stack: Vec<Frame>, fields: Fields, byte: u8) -> Result<State, Stop>
-    ensures { MatchResult result (Steps (name (pairs fields.members.items)) (levels stack.items) byte) (Fails (name (pairs fields.members.items)) (levels stack.items) byte) }
+fn in_name(alloc: Global, state: &mut State, fields: Fields, byte: u8) -> Result<(), Stop>
+    ensures { MatchResult result (λ _. Steps (name (pairs fields.members.items)) (levels state.old.stack.items) byte state.new) (Fails (name (pairs fields.members.items)) (levels state.old.stack.items) byte) }
 {
     if is_white(byte) {
-        return Ok(State {
-            stack,
-            mode: Mode::Name(fields),
-        });
+        state.mode = Mode::Name(fields);
+        return Ok(());
     }
     if byte != b'"' {
         return Err(Stop::Fault(FaultKind::NotJson));
     }
-    Ok(State {
-        stack,
-        mode: Mode::Text(Target::Name(fields), String::new(alloc)),
-    })
+    state.mode = Mode::Text(Target::Name(fields), String::new(alloc));
+    Ok(())
 }
 
-fn in_colon(stack: Vec<Frame>, named: Named, byte: u8) -> Result<State, Stop>
-    ensures { MatchResult result (Steps (colon (pairs named.fields.members.items) named.name) (levels stack.items) byte) (Fails (colon (pairs named.fields.members.items) named.name) (levels stack.items) byte) }
+fn in_colon(state: &mut State, named: Named, byte: u8) -> Result<(), Stop>
+    ensures { MatchResult result (λ _. Steps (colon (pairs named.members.items) named.name) (levels state.old.stack.items) byte state.new) (Fails (colon (pairs named.members.items) named.name) (levels state.old.stack.items) byte) }
 {
     if is_white(byte) {
-        return Ok(State {
-            stack,
-            mode: Mode::Colon(named),
-        });
+        state.mode = Mode::Colon(named);
+        return Ok(());
     }
     if byte != b':' {
         return Err(Stop::Fault(FaultKind::NotJson));
     }
-    let mut stack = stack;
-    stack.push(Frame::Object(named))?;
-    Ok(State {
-        stack,
-        mode: Mode::Value,
-    })
+    state.stack.push(Frame::Object(named))?;
+    state.mode = Mode::Value;
+    Ok(())
 }
 
-fn in_after(alloc: Global, stack: Vec<Frame>, json: Json, byte: u8) -> Result<State, Stop>
-    ensures { MatchResult result (Steps (after (view json)) (levels stack.items) byte) (Fails (after (view json)) (levels stack.items) byte) }
+fn in_after(state: &mut State, json: Json, byte: u8) -> Result<(), Stop>
+    ensures { MatchResult result (λ _. Steps (after (view json)) (levels state.old.stack.items) byte state.new) (Fails (after (view json)) (levels state.old.stack.items) byte) }
 {
     if is_white(byte) {
-        return Ok(State {
-            stack,
-            mode: Mode::After(json),
-        });
+        state.mode = Mode::After(json);
+        return Ok(());
     }
-    let mut stack = stack;
-    match stack.pop() {
+    match state.stack.pop() {
         None => Err(Stop::Fault(FaultKind::NotJson)),
-        Some(Frame::List(items)) => after_item(stack, items, json, byte),
-        Some(Frame::Object(named)) => after_member(alloc, stack, named, json, byte),
+        Some(Frame::List(items)) => after_item(state, items, json, byte),
+        Some(Frame::Object(named)) => after_member(state, named, json, byte),
     }
 }
 
-fn after_item(stack: Vec<Frame>, items: Vec<Json>, json: Json, byte: u8) -> Result<State, Stop>
+fn after_item(state: &mut State, items: Vec<Json>, json: Json, byte: u8) -> Result<(), Stop>
     requires { is_space byte ≡ false }
-    ensures { MatchResult result (Steps (after (view json)) (in_list (map view items.items) ∷ levels stack.items) byte) (Fails (after (view json)) (in_list (map view items.items) ∷ levels stack.items) byte) }
+    ensures { MatchResult result (λ _. Steps (after (view json)) (in_list (map view items.items) ∷ levels state.old.stack.items) byte state.new) (Fails (after (view json)) (in_list (map view items.items) ∷ levels state.old.stack.items) byte) }
 {
-    let mut stack = stack;
     let mut items = items;
     items.push(json)?;
     match byte {
         b',' => {
-            stack.push(Frame::List(items))?;
-            Ok(State {
-                stack,
-                mode: Mode::Value,
-            })
+            state.stack.push(Frame::List(items))?;
+            state.mode = Mode::Value;
+            Ok(())
         }
-        b']' => Ok(State {
-            stack,
-            mode: Mode::After(Json::List(items)),
-        }),
+        b']' => {
+            state.mode = Mode::After(Json::List(items));
+            Ok(())
+        }
         _ => Err(Stop::Fault(FaultKind::NotJson)),
     }
 }
 
-fn after_member(
-    alloc: Global,
-    stack: Vec<Frame>,
-    named: Named,
-    json: Json,
-    byte: u8,
-) -> Result<State, Stop>
+fn after_member(state: &mut State, named: Named, json: Json, byte: u8) -> Result<(), Stop>
     requires { is_space byte ≡ false }
-    ensures { MatchResult result (Steps (after (view json)) (in_object (pairs named.fields.members.items) named.name ∷ levels stack.items) byte) (Fails (after (view json)) (in_object (pairs named.fields.members.items) named.name ∷ levels stack.items) byte) }
+    ensures { MatchResult result (λ _. Steps (after (view json)) (in_object (pairs named.members.items) named.name ∷ levels state.old.stack.items) byte state.new) (Fails (after (view json)) (in_object (pairs named.members.items) named.name ∷ levels state.old.stack.items) byte) }
 {
-    let fields = named.with(alloc, json)?;
+    let fields = named.with(json)?;
     match byte {
-        b',' => Ok(State {
-            stack,
-            mode: Mode::Name(fields),
-        }),
-        b'}' => Ok(State {
-            stack,
-            mode: Mode::After(Json::Object(fields.into_members())),
-        }),
+        b',' => {
+            state.mode = Mode::Name(fields);
+            Ok(())
+        }
+        b'}' => {
+            state.mode = Mode::After(Json::Object(fields.into_members()));
+            Ok(())
+        }
         _ => Err(Stop::Fault(FaultKind::NotJson)),
     }
 }
 
-fn in_word(stack: Vec<Frame>, at: Word, read: usize, byte: u8) -> Result<State, Stop>
+fn in_word(state: &mut State, at: Word, read: usize, byte: u8) -> Result<(), Stop>
     requires { read < length (word_text at) }
-    ensures { MatchResult result (Steps (word (drop read (word_text at)) (word_tree at)) (levels stack.items) byte) (Fails (word (drop read (word_text at)) (word_tree at)) (levels stack.items) byte) }
+    ensures { MatchResult result (λ _. Steps (word (drop read (word_text at)) (word_tree at)) (levels state.old.stack.items) byte state.new) (Fails (word (drop read (word_text at)) (word_tree at)) (levels state.old.stack.items) byte) }
 {
     let text = at.text();
     if byte != text[read] {
         return Err(Stop::Fault(FaultKind::NotJson));
     }
     if read + 1 < text.len() {
-        Ok(State {
-            stack,
-            mode: Mode::Word(at, read + 1),
-        })
+        state.mode = Mode::Word(at, read + 1);
+        Ok(())
     } else {
-        Ok(State {
-            stack,
-            mode: Mode::After(at.json()),
-        })
+        state.mode = Mode::After(at.json());
+        Ok(())
     }
 }
 
-fn in_number(
-    alloc: Global,
-    stack: Vec<Frame>,
-    text: String,
-    phase: Phase,
-    byte: u8,
-) -> Result<State, Stop>
-    ensures { MatchResult result (Steps (number_in (string_bytes text) phase) (levels stack.items) byte) (Fails (number_in (string_bytes text) phase) (levels stack.items) byte) }
+fn in_number(state: &mut State, text: String, phase: Phase, byte: u8) -> Result<(), Stop>
+    ensures { MatchResult result (λ _. Steps (number_in (string_bytes text) phase) (levels state.old.stack.items) byte state.new) (Fails (number_in (string_bytes text) phase) (levels state.old.stack.items) byte) }
 {
     match phase.next(byte) {
         Some(next) => {
             let mut text = text;
             text.push(char::from(byte))?;
-            Ok(State {
-                stack,
-                mode: Mode::Number(text, next),
-            })
+            state.mode = Mode::Number(text, next);
+            Ok(())
         }
         None => {
             if phase.is_whole() {
-                in_after(alloc, stack, Json::Number(Numeral::new(text)), byte)
+                in_after(state, Json::Number(Numeral::new(text)), byte)
             } else {
                 Err(Stop::Fault(FaultKind::NotJson))
             }
@@ -359,72 +347,77 @@ fn in_number(
     }
 }
 
-fn in_text(stack: Vec<Frame>, target: Target, text: String, byte: u8) -> Result<State, Stop>
-    ensures { MatchResult result (Steps (text_in (role_of target) (string_bytes text)) (levels stack.items) byte) (Fails (text_in (role_of target) (string_bytes text)) (levels stack.items) byte) }
+fn in_text(
+    alloc: Global,
+    state: &mut State,
+    target: Target,
+    text: String,
+    byte: u8,
+) -> Result<(), Stop>
+    ensures { MatchResult result (λ _. Steps (text_in (role_of target) (string_bytes text)) (levels state.old.stack.items) byte state.new) (Fails (text_in (role_of target) (string_bytes text)) (levels state.old.stack.items) byte) }
 {
     if byte == b'"' {
-        return closed(stack, target, text);
+        return closed(alloc, state, target, text);
     }
     match character::first(byte) {
         Turn::Whole(c) => {
             let mut text = text;
             text.push(c)?;
-            Ok(State {
-                stack,
-                mode: Mode::Text(target, text),
-            })
+            state.mode = Mode::Text(target, text);
+            Ok(())
         }
-        Turn::Next(within) => Ok(State {
-            stack,
-            mode: Mode::Character(target, text, within),
-        }),
+        Turn::Next(within) => {
+            state.mode = Mode::Character(target, text, within);
+            Ok(())
+        }
         Turn::Wrong => Err(Stop::Fault(fault_between(byte))),
     }
 }
 
 fn in_character(
-    stack: Vec<Frame>,
+    state: &mut State,
     target: Target,
     text: String,
     within: Within,
     byte: u8,
-) -> Result<State, Stop>
+) -> Result<(), Stop>
     requires { IsSound within }
-    ensures { MatchResult result (Steps (character_in (role_of target) (string_bytes text) within) (levels stack.items) byte) (Fails (character_in (role_of target) (string_bytes text) within) (levels stack.items) byte) }
+    ensures { MatchResult result (λ _. Steps (character_in (role_of target) (string_bytes text) within) (levels state.old.stack.items) byte state.new) (Fails (character_in (role_of target) (string_bytes text) within) (levels state.old.stack.items) byte) }
 {
     match within.next(byte) {
         Turn::Whole(c) => {
             let mut text = text;
             text.push(c)?;
-            Ok(State {
-                stack,
-                mode: Mode::Text(target, text),
-            })
+            state.mode = Mode::Text(target, text);
+            Ok(())
         }
-        Turn::Next(within) => Ok(State {
-            stack,
-            mode: Mode::Character(target, text, within),
-        }),
+        Turn::Next(within) => {
+            state.mode = Mode::Character(target, text, within);
+            Ok(())
+        }
         Turn::Wrong => Err(Stop::Fault(fault_inside(within, byte))),
     }
 }
 
 /// The closing quotation mark.
-fn closed(stack: Vec<Frame>, target: Target, text: String) -> Result<State, Stop>
-    ensures { MatchResult result (Steps (text_in (role_of target) (string_bytes text)) (levels stack.items) 34) (Fails (text_in (role_of target) (string_bytes text)) (levels stack.items) 34) }
+fn closed(alloc: Global, state: &mut State, target: Target, text: String) -> Result<(), Stop>
+    ensures { MatchResult result (λ _. Steps (text_in (role_of target) (string_bytes text)) (levels state.old.stack.items) 34 state.new) (Fails (text_in (role_of target) (string_bytes text)) (levels state.old.stack.items) 34) }
 {
     match target {
-        Target::Value => Ok(State {
-            stack,
-            mode: Mode::After(Json::Str(Chars::new(text))),
-        }),
-        Target::Name(fields) => match fields.named(text) {
-            Some(named) => Ok(State {
-                stack,
-                mode: Mode::Colon(named),
-            }),
-            None => Err(Stop::Fault(FaultKind::Repeated)),
-        },
+        Target::Value => {
+            state.mode = Mode::After(Json::Str(Chars::new(text)));
+            Ok(())
+        }
+        Target::Name(fields) => {
+            let found = fields.named(alloc, text)?;
+            match found {
+                Some(named) => {
+                    state.mode = Mode::Colon(named);
+                    Ok(())
+                }
+                None => Err(Stop::Fault(FaultKind::Repeated)),
+            }
+        }
     }
 }
 

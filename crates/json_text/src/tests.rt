@@ -1,5 +1,5 @@
 //! Texts from RFC 8259, and places and kinds of faults.
-use crate::{FaultKind, Json, ReadError, read, write};
+use crate::{Chars, FaultKind, ReadError, read, write, write_text};
 use std::alloc::{AllocError, Global};
 use std::test::Fail;
 
@@ -23,7 +23,7 @@ fn again(alloc: Global, text: &[u8]) -> Result<Vec<u8>, AllocError> {
 #[test]
 fn refused(rt: HostRuntime) -> Result<(), Fail> {
     use FaultKind::{BadUtf8, NotJson, Repeated, TooDeep};
-    let rows: [(&[u8], FaultKind, usize); 38] = [
+    let rows: [(&[u8], FaultKind, usize); 39] = [
         (b"", NotJson, 0),
         (b"{", NotJson, 1),
         (b"nulL", NotJson, 3),
@@ -44,6 +44,7 @@ fn refused(rt: HostRuntime) -> Result<(), Fail> {
         (b"\"\\ud800\"", NotJson, 7),
         (b"\"\\ud800\\u0041\"", NotJson, 9),
         (b"\"\\udc00\"", NotJson, 4),
+        (b"\"\\uDEAD\"", NotJson, 4),
         (b"\"\\u12", NotJson, 5),
         (b"\x22\x7f", NotJson, 2),
         (b"\x7b\xff", NotJson, 1),
@@ -71,13 +72,20 @@ fn refused(rt: HostRuntime) -> Result<(), Fail> {
 
 #[test]
 fn written(rt: HostRuntime) -> Result<(), Fail> {
-    let rows: [(&[u8], &[u8]); 12] = [
+    let rows: [(&[u8], &[u8]); 16] = [
         (b"\"Hello world!\"", b"\"Hello world!\""),
-        (b" 42 ", b"42"),
-        (b"true", b"true"),
+        (b"42", b"42"),
+        (b" true ", b"true"),
         (b"[null , false]", b"[null,false]"),
         (b"{ }", b"{}"),
         (b"-0.50E+1", b"-0.50E+1"),
+        (b"1E400", b"1E400"),
+        (
+            b"3.141592653589793238462643383279",
+            b"3.141592653589793238462643383279",
+        ),
+        (b"\"\\u005C\"", b"\"\\\\\""),
+        (b"\"a\\u005Cb\"", b"\"a\\\\b\""),
         (b"\"\\uD834\\uDD1E\"", b"\"\xf0\x9d\x84\x9e\""),
         (
             b"\"\\/\\b\\f\\n\\r\\t\\\"\\\\\\u007F\"",
@@ -89,12 +97,12 @@ fn written(rt: HostRuntime) -> Result<(), Fail> {
             b"[[[[[[[[[[[[[[[[[[[[[[[[[[[[[[[[]]]]]]]]]]]]]]]]]]]]]]]]]]]]]]]]",
         ),
         (
-            b"{\n \"Image\": {\n \"Width\": 800,\n \"Height\": 600,\n \"Title\": \"View from 15th Floor\",\n \"Thumbnail\": {\n \"Url\": \"http://www.example.com/image/481989943\",\n \"Height\": 125,\n \"Width\": 100\n },\n \"Animated\" : false,\n \"IDs\": [116, 943, 234, 38793]\n }\n }",
+            b"{\n  \"Image\": {\n    \"Width\":  800,\n    \"Height\": 600,\n    \"Title\":  \"View from 15th Floor\",\n    \"Thumbnail\": {\n      \"Url\":    \"http://www.example.com/image/481989943\",\n      \"Height\": 125,\n      \"Width\":  100\n    },\n    \"Animated\" : false,\n    \"IDs\": [116, 943, 234, 38793]\n  }\n}",
             b"{\"Image\":{\"Width\":800,\"Height\":600,\"Title\":\"View from 15th Floor\",\"Thumbnail\":{\"Url\":\"http://www.example.com/image/481989943\",\"Height\":125,\"Width\":100},\"Animated\":false,\"IDs\":[116,943,234,38793]}}",
         ),
         (
-            b"[\r\n {\r\n \"precision\": \"zip\",\r\n \"Latitude\":  37.7668,\r\n \"Longitude\": -122.3959,\r\n \"City\": \"SAN FRANCISCO\"\r\n }\r\n]",
-            b"[{\"precision\":\"zip\",\"Latitude\":37.7668,\"Longitude\":-122.3959,\"City\":\"SAN FRANCISCO\"}]",
+            b"[\n  {\n    \"precision\": \"zip\",\n    \"Latitude\":  37.7668,\n    \"Longitude\": -122.3959,\n    \"Address\":   \"\",\n    \"City\":      \"SAN FRANCISCO\",\n    \"State\":     \"CA\",\n    \"Zip\":       \"94107\",\n    \"Country\":   \"US\"\n  },\n  {\n    \"precision\": \"zip\",\n    \"Latitude\":  37.371991,\n    \"Longitude\": -122.026020,\n    \"Address\":   \"\",\n    \"City\":      \"SUNNYVALE\",\n    \"State\":     \"CA\",\n    \"Zip\":       \"94085\",\n    \"Country\":   \"US\"\n  }\n]",
+            b"[{\"precision\":\"zip\",\"Latitude\":37.7668,\"Longitude\":-122.3959,\"Address\":\"\",\"City\":\"SAN FRANCISCO\",\"State\":\"CA\",\"Zip\":\"94107\",\"Country\":\"US\"},{\"precision\":\"zip\",\"Latitude\":37.371991,\"Longitude\":-122.026020,\"Address\":\"\",\"City\":\"SUNNYVALE\",\"State\":\"CA\",\"Zip\":\"94085\",\"Country\":\"US\"}]",
         ),
     ];
     for (text, want) in rows {
@@ -114,13 +122,19 @@ fn members(rt: HostRuntime) -> Result<(), Fail> {
         list[0].as_number().ok_or("number")?.as_bytes(),
         b"1".as_slice()
     );
-    assert_eq!(rt;
-        list[1].as_str().ok_or("string")?.as_bytes(),
-        b"x".as_slice()
-    );
+    assert_eq!(rt; list[1].as_str().ok_or("string")?.as_str(), "x");
     assert_eq!(rt; tree.get(b"b").ok_or("b")?.as_bool(), Some(true));
     assert!(rt; tree.get(b"c").ok_or("c")?.is_object());
     assert!(rt; tree.get(b"d").is_none());
     assert!(rt; list[0].get(b"a").is_none());
+    Ok(())
+}
+
+#[test]
+fn text(rt: HostRuntime) -> Result<(), Fail> {
+    let chars = Chars::new("a\"\n\u{e9}".to_string(rt.alloc())?);
+    let mut out = Vec::new(rt.alloc());
+    write_text(chars.as_bytes(), &mut out)?;
+    assert_eq!(rt; out.as_slice(), b"\"a\\\"\\u000a\xc3\xa9\"".as_slice());
     Ok(())
 }

@@ -1,10 +1,9 @@
 //! JSON values.
-ghost use Rattle.std.specs.Prelude.{◌≡◌, map, option_map, option_copied, string_bytes, is_some, IfOk, IsNone, ◌↔◌};
+ghost use Rattle.std.specs.Prelude.{◌≡◌, map, option_map, option_copied, string_bytes, is_some, IsNone, ◌↔◌};
 ghost use Rattle.json_text.specs.Tree.{get_of, names_of, member_of, boolean_of, number_of, string_of, array_of, object_of};
 ghost use Rattle.json_text.specs.Spelling.{IsNew};
 ghost use Rattle.json_text.specs.View.{view, members_view};
 
-use std::alloc::{AllocError, Global};
 use std::marker::Model;
 
 /// The text of a string or of a member's name, in UTF-8, its escapes read.
@@ -38,12 +37,6 @@ impl Chars {
         ensures { result.now ≡ self.now }
     {
         self.text.as_str()
-    }
-
-    pub(crate) fn copied(&self, alloc: Global) -> Result<String, AllocError>
-        ensures { IfOk result (λ text. string_bytes text ≡ self.now) }
-    {
-        String::from_str(alloc, self.text.as_str())
     }
 }
 

@@ -5,10 +5,10 @@ use Rattle.json_text.proofs.Answers.{next_item, list_closes, no_item}
 use Rattle.json_text.proofs.reader.after_item.Goals as goal
 
 pub returns-in_ok-push-in-44 : goal.returns-in_ok-push-in-44
-returns-in_ok-push-in-44 c = next_item c.args.stack _ _ c.args.items c.args.json c.args.byte c.in-44.is c.in_ok-push.ensures.items c.in_ok-push-in-44.ensures.items
+returns-in_ok-push-in-44 c = next_item c.args.state.now.stack _ _ c.args.items c.args.json c.args.byte c.in-44.is c.in_ok-push.ensures.items c.in_ok-push-in-44.ensures.items
 
 pub returns-in-93 : goal.returns-in-93
-returns-in-93 c = list_closes c.args.stack _ c.args.items c.args.json c.args.byte c.in-93.is c.in_ok-push.ensures.items
+returns-in-93 c = list_closes c.args.state.now.stack _ c.args.items c.args.json c.args.byte c.in-93.is c.in_ok-push.ensures.items
 
 pub returns-in_default : goal.returns-in_default
-returns-in_default c = no_item (view c.args.json) (map view c.args.items.items) (levels c.args.stack.items) c.args.byte c.requires (omega arith) (omega arith)
+returns-in_default c = no_item (view c.args.json) (map view c.args.items.items) (levels c.args.state.now.stack.items) c.args.byte c.requires (omega arith) (omega arith)

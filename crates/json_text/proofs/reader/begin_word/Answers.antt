@@ -6,10 +6,10 @@ use Rattle.json_text.proofs.reader.begin_word.Goals as goal
 pub returns : goal.returns
 returns c =
     elim c.match-byte.branch [
-      | in-110 w ↦ null_begins c.args.stack c.match-byte.at c.args.byte w.in-110.is w.at-is
-      | in-116 w ↦ true_begins c.args.stack c.match-byte.at c.args.byte w.in-116.is w.at-is
-      | in-102 w ↦ false_begins c.args.stack c.match-byte.at c.args.byte w.in-102.is w.at-is
+      | in-110 w ↦ null_begins c.args.state.now.stack c.match-byte.at c.args.byte w.in-110.is w.at-is
+      | in-116 w ↦ true_begins c.args.state.now.stack c.match-byte.at c.args.byte w.in-116.is w.at-is
+      | in-102 w ↦ false_begins c.args.state.now.stack c.match-byte.at c.args.byte w.in-102.is w.at-is
     ]
 
 pub returns-in_default : goal.returns-in_default
-returns-in_default c = no_value c.args.stack.items c.args.byte c.requires.space c.requires.other c.requires.number (omega arith) (omega arith) (omega arith)
+returns-in_default c = no_value c.args.state.now.stack.items c.args.byte c.requires.space c.requires.other c.requires.number (omega arith) (omega arith) (omega arith)

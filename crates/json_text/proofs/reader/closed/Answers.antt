@@ -5,10 +5,12 @@ use Rattle.json_text.proofs.Answers.{string_closes, name_closes, name_repeats}
 use Rattle.json_text.proofs.reader.closed.Goals as goal
 
 pub returns-in-Value : goal.returns-in-Value
-returns-in-Value c = string_closes c.args.stack c.args.target c.args.text _ c.in-Value.is (view-Str c.new.result ∙ ap string c.new.ensures)
+returns-in-Value c = string_closes c.args.state.now.stack c.args.target c.args.text _ c.in-Value.is (view-Str c.new.result ∙ ap string c.new.ensures)
 
 pub returns-in-Some : goal.returns-in-Some
-returns-in-Some c = name_closes c.args.stack c.args.target c.in-Name.fields c.args.text _ c.in-Name.is c.in-Some.ensures.0 c.in-Some.ensures.1
+returns-in-Some c =
+    let h = rw c.in-Some.is at c.in_ok-found-in-Name.ensures in
+    name_closes c.args.state.now.stack c.args.target c.in-Name.fields c.args.text _ c.in-Name.is h.0 h.1
 
 pub returns-in-None : goal.returns-in-None
-returns-in-None c = name_repeats c.args.stack.items c.args.target c.in-Name.fields (string_bytes c.args.text) c.in-Name.is c.in-None.ensures
+returns-in-None c = name_repeats c.args.state.now.stack.items c.args.target c.in-Name.fields (string_bytes c.args.text) c.in-Name.is (rw c.in-None.is at c.in_ok-found-in-Name.ensures)

@@ -3,19 +3,35 @@ use Rattle.json_text.specs.View.{view}
 use Rattle.json_text.specs.Fault.{Refuses}
 use Rattle.json_text.specs.declared.fault.ReadError.{ReadError}
 use Rattle.json_text.proofs.Follow.{end_spells, end_only, end_fault}
-use Rattle.json_text.proofs.Runs.{first_read, next_read, refused, all_read}
+use Rattle.json_text.proofs.Runs.{first_read, next_read, same_read, taken, untouched, refused, all_read}
+use Rattle.json_text.proofs.Answers.{state, stays_steps}
 use Rattle.json_text.proofs.reader.read.Goals as goal
 
 pub loop-at-init : goal.loop-at-init
 loop-at-init c = record { within = tt; read = first_read c.new.result.items c.new.ensures.items }
 
-pub loop-at-preserved : goal.loop-at-preserved
-loop-at-preserved c = record { within = c.in-Ok.ensures.within; read = next_read c.args.bytes.now c.loop-at.at _ _ _ c.in-Ok.next c.loop-at-test.true refl c.loop-at.invariant.read c.in-Ok.ensures }
+pub loop-at-preserved-in-Ok-true : goal.loop-at-preserved-in-Ok-true
+loop-at-preserved-in-Ok-true c =
+    let h = taken c.loop-at.state.mode c.take.new.mode _ _ c.in-Ok-true.field-0-test c.in-Ok-true.ensures in
+    record {
+      within = h.within;
+      read = next_read c.args.bytes.now c.loop-at.at _ _ _ (state c.loop-at.state.stack c.take.new.mode) c.loop-at-test.true refl c.loop-at.invariant.read
+          (stays_steps c.loop-at.state.mode _ c.take.new.mode c.loop-at.state.stack h);
+    }
 
-pub returns-in-Err-clause-fault : goal.returns-in-Err-clause-fault
-returns-in-Err-clause-fault c =
+pub loop-at-preserved : goal.loop-at-preserved
+loop-at-preserved c =
+    let e = untouched c.loop-at.state.mode c.take.new.mode _ _ c.in-Ok-false.field-0-test c.in-Ok-false.ensures in
+    record {
+      within = c.in-Ok.ensures.within;
+      read = next_read c.args.bytes.now c.loop-at.at _ _ _ c.step.new.state c.loop-at-test.true refl (same_read c.args.bytes.now c.loop-at.at _ _ _ e c.loop-at.invariant.read) c.in-Ok.ensures;
+    }
+
+pub returns-in-Err-step-clause-fault : goal.returns-in-Err-step-clause-fault
+returns-in-Err-step-clause-fault c =
+    let e = untouched c.loop-at.state.mode c.take.new.mode _ _ c.in-Ok-false.field-0-test c.in-Ok-false.ensures in
     subst (λ (e : ReadError). Refuses c.args.bytes.now e) (sym c.at.ensures)
-    (refused c.args.bytes.now c.loop-at.at _ _ _ c.in-Err.stop c.loop-at-test.true refl c.loop-at.invariant.read c.in-Err.ensures)
+    (refused c.args.bytes.now c.loop-at.at _ _ _ c.in-Err-step.stop c.loop-at-test.true refl (same_read c.args.bytes.now c.loop-at.at _ _ _ e c.loop-at.invariant.read) c.in-Err-step.ensures)
 
 pub returns-in-Some-clause-spelled : goal.returns-in-Some-clause-spelled
 returns-in-Some-clause-spelled c = end_spells c.args.bytes.now _ _ (view c.in-Some.json) (all_read c.args.bytes.now c.loop-at.at _ _ (omega arith) c.loop-at.invariant.read) c.in-Some.ensures

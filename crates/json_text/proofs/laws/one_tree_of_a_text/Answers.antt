@@ -1,0 +1,5 @@
+use Rattle.json_text.proofs.Unique.{same_tree}
+use Rattle.json_text.proofs.laws.one_tree_of_a_text.Goals as goal
+
+pub returns : goal.returns
+returns c = same_tree

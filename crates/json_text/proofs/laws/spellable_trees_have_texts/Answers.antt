@@ -1,0 +1,5 @@
+use Rattle.json_text.proofs.Written.{spellable_written, spelled_spellable}
+use Rattle.json_text.proofs.laws.spellable_trees_have_texts.Goals as goal
+
+pub returns : goal.returns
+returns c = record { has = spellable_written; only = spelled_spellable }
