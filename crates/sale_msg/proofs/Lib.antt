@@ -1,0 +1,9 @@
+pub mod Paths
+pub mod Forms
+pub mod Rows
+pub mod Messages
+pub mod One
+pub mod Money
+pub mod Again
+pub mod Bodies
+pub mod Spelled

@@ -1,0 +1,121 @@
+-- Money that was written is read again.
+use Rattle.std.proofs.Common.{◌≡◌, ℕ, ◌+◌, ◌/◌, ◌%◌, ◌^◌, ◌<◌, ◌≤◌, List, [], ◌∷◌, ◌++◌, Option, Some, None, Bool, true, false, refl, ap, subst, ◌∙◌, length, take, drop, not, ◌&&◌, ◌||◌, ◌==◌, MatchOption, arith, decimal}
+use Rattle.std.specs.Char.{is_ascii_digit}
+use Rattle.std.specs.Option.{option_and_then}
+use Rattle.std.proofs.Math.Seq.{take-append_seam, drop-append_seam}
+use Rattle.std.specs.List.{list_all, prefix_len}
+use Rattle.std.proofs.lemmas.Fmt.{decimal_by_steps}
+use Rattle.std.proofs.lemmas.Bool.Decides.{nat_tests}
+use Rattle.std.proofs.lemmas.Bool.{eqb-true}
+use Rattle.gw_base.specs.Amount.{decimal_value, fraction_of, is_empty, is_amount, is_whole, minor_units, minor_value, minor_with, rest_of, whole_of, IsAmountText}
+use Rattle.gw_base.specs.Digits.{digits}
+use Rattle.gw_base.specs.Limits.{IsAmount}
+use Rattle.gw_base.proofs.AmountLemmas.{decimal_value-snoc, minor_units-meaning}
+use Rattle.sale_msg.specs.Written.{money_text}
+
+-- a digit
+digit_is : (d : ℕ) → d < 10 → is_ascii_digit (48 + d) ≡ true
+digit_is d h = grind (arith, nat_tests)
+
+both : (a b : Bool) → (a && b) ≡ true → (a ≡ true) × (b ≡ true)
+both true b h = (refl, h)
+both false b h = absurd cc
+
+-- the first byte is no zero, where there are others
+abbrev pub IsTrim : List ℕ → Type 0
+IsTrim [] = ⊥
+IsTrim (digit ∷ digits) = (digit ≡ 48) → digits ≡ []
+
+-- decimal digits of a number
+pub record SpellsNumber (n : ℕ) (text : List ℕ) : Type 0 where
+  pub digits : list_all is_ascii_digit text ≡ true
+  pub value : decimal_value text ≡ n
+  pub trim : IsTrim text
+
+digits_snoc : (text : List ℕ) (d : ℕ) → list_all is_ascii_digit text ≡ true → is_ascii_digit d ≡ true → list_all is_ascii_digit (text ++ d ∷ []) ≡ true
+digits_snoc [] d h k = rw k refl
+digits_snoc (x ∷ text) d h k =
+    let p = both (is_ascii_digit x) (list_all is_ascii_digit text) h in
+    let here : is_ascii_digit x ≡ true = p.0 in
+    rw here (digits_snoc text d p.1 k)
+
+one_digit : (n : ℕ) → n < 10 → SpellsNumber n ((48 + n) ∷ [])
+one_digit n h = record { digits = rw (digit_is n h) refl; value = omega arith; trim = λ e. refl }
+
+trim_more : (n c : ℕ) (text : List ℕ) → 1 ≤ n → decimal_value text ≡ n → IsTrim text → IsTrim (text ++ c ∷ [])
+trim_more n c [] p v t = absurd t
+trim_more n c (x ∷ text) p v t =
+    λ e.
+    let P : List ℕ → Type 0 = λ l. decimal_value (x ∷ l) ≡ n in
+    let w : decimal_value (x ∷ []) ≡ n = subst P (t e) v in
+    absurd (omega arith)
+
+more_digits : (n : ℕ) (text : List ℕ) → 10 ≤ n → SpellsNumber (n / 10) text → SpellsNumber n (text ++ ((48 + n % 10) ∷ []))
+more_digits n text h s = record {
+  digits = digits_snoc text (48 + n % 10) s.digits (digit_is (n % 10) (omega arith));
+  value = decimal_value-snoc text (48 + n % 10) ∙ omega (arith, s.value);
+  trim = trim_more (n / 10) (48 + n % 10) text (omega arith) s.value s.trim;
+}
+
+pub decimal_spells : (n : ℕ) → n < 2 ^ 64 → SpellsNumber n (decimal n)
+decimal_spells n h = decimal_by_steps SpellsNumber one_digit more_digits n h
+
+whole_is : (text : List ℕ) → list_all is_ascii_digit text ≡ true → IsTrim text → is_whole text ≡ true
+whole_is [] h t = absurd t
+whole_is (x ∷ text) h t = rw h (by (x == 48) refl)
+  where
+    by : (b : Bool) → (x == 48) ≡ b → (not b || is_empty text) ≡ true
+    by true e = ap is_empty (t (eqb-true x 48 e))
+    by false e = refl
+
+prefix_is : (text rest : List ℕ) → list_all is_ascii_digit text ≡ true → prefix_len is_ascii_digit (text ++ 0x2E ∷ rest) ≡ length text
+prefix_is [] rest h = refl
+prefix_is (x ∷ text) rest h =
+    let p = both (is_ascii_digit x) (list_all is_ascii_digit text) h in
+    let here : is_ascii_digit x ≡ true = p.0 in
+    let later : prefix_len is_ascii_digit (text ++ 0x2E ∷ rest) ≡ length text = prefix_is text rest p.1 in
+    rw here (omega (arith, later))
+
+fraction_is : (m : ℕ) → m < 100 → fraction_of (0x2E ∷ digits 2 m) ≡ Some (digits 2 m)
+fraction_is m h = rw (digit_is (m / 10 % 10) (omega arith), digit_is (m % 10) (omega arith)) refl
+
+amount_is : (n : ℕ) → IsAmount n → is_amount n ≡ true
+amount_is n h = let low = h.0 in let high = h.1 in grind (arith, nat_tests)
+
+value_is : (n : ℕ) (text : List ℕ) → decimal_value text ≡ n / 100 → minor_value text (digits 2 (n % 100)) ≡ n
+value_is n text e = omega (arith, e)
+
+chosen : (n : ℕ) (text fraction : List ℕ) → is_whole text ≡ true → list_all (λ digit. digit == 0x30) (drop 2 fraction) ≡ true
+    → minor_value text fraction ≡ n → is_amount n ≡ true → minor_with text (Some fraction) ≡ Some n
+chosen n text fraction w z v a =
+    let b : is_amount (minor_value text fraction) ≡ true = ap is_amount v ∙ a in rw (w, z, b) (ap (λ (x : ℕ). Some x) v)
+
+-- the minor units that were written
+pub money_again : (n : ℕ) → IsAmount n → minor_units (money_text n) ≡ Some n
+unfolding minor_units money_text
+money_again n h =
+    let s = decimal_spells (n / 100) (omega (arith, h.1)) in
+    let whole = decimal (n / 100) in
+    let text : List ℕ = whole ++ 0x2E ∷ digits 2 (n % 100) in
+    let count = prefix_is whole (digits 2 (n % 100)) s.digits in
+    let front : whole_of text ≡ whole =
+    ap (λ k. take k text) count ∙ take-append_seam whole (0x2E ∷ digits 2 (n % 100)) in
+    let back : rest_of text ≡ 0x2E ∷ digits 2 (n % 100) =
+    ap (λ k. drop k text) count ∙ drop-append_seam whole (0x2E ∷ digits 2 (n % 100)) in
+    ap (λ w. minor_with w (fraction_of (rest_of text))) front
+    ∙ ap (λ r. minor_with whole (fraction_of r)) back
+    ∙ ap (minor_with whole) (fraction_is (n % 100) (omega arith))
+    ∙ chosen n whole (digits 2 (n % 100)) (whole_is whole s.digits s.trim) refl (value_is n whole s.value) (amount_is n h)
+
+-- what is written is the text of an amount
+pub money_is_amount : (n : ℕ) → IsAmount n → (m : ℕ) × IsAmountText (money_text n) m
+money_is_amount n h =
+    let P : Option ℕ → Type 0 = λ o. MatchOption o ((minor : ℕ) → ¬ IsAmountText (money_text n) minor) (IsAmountText (money_text n)) in
+    (n, subst P (money_again n h) (minor_units-meaning (money_text n)))
+
+-- the minor units that are read of some text are an amount
+pub read_is_amount : (numeral : Option (List ℕ)) (n : ℕ) → option_and_then minor_units numeral ≡ Some n → IsAmount n
+read_is_amount None n e = let nothing : Option ℕ = None in let f : nothing ≡ Some n = e in absurd cc
+read_is_amount (Some text) n e =
+    let P : Option ℕ → Type 0 = λ o. MatchOption o ((minor : ℕ) → ¬ IsAmountText text minor) (IsAmountText text) in
+    let is : IsAmountText text n = subst P e (minor_units-meaning text) in is.amount

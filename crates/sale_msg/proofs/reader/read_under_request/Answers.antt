@@ -1,0 +1,18 @@
+use Rattle.std.proofs.Common.{inr}
+use Rattle.json_text.specs.View.{view}
+use Rattle.sale_msg.specs.declared.table.Envelope.TheVariants as envelopes
+use Rattle.sale_msg.proofs.Messages.{kind_is_notification}
+use Rattle.sale_msg.proofs.reader.read_under_request.Goals as goal
+
+pub returns-in_default : goal.returns-in_default
+returns-in_default c =
+    λ message stands. (
+      envelopes.Request,
+      view c.args.body.now,
+      c.in-Ok.header,
+      record {
+        stands = stands;
+        header_is = c.in-Ok.ensures;
+        silent = inr (kind_is_notification (view c.args.body.now) c.in-Ok.header c.in-Ok.ensures c.in_default.not-Request);
+      },
+    )

@@ -1,0 +1,52 @@
+-- What is wrong with an object, by a table: its first row that isn't met.
+use Rattle.std.specs.Prelude.{◌≡◌, ℕ, List, [], ◌∷◌, Some, codes, MatchOption, ◌⊎◌}
+use Rattle.json_text.specs.Tree.{Tree}
+use Rattle.sale_msg.specs.Path.{text_at, value_at}
+use Rattle.sale_msg.specs.Form.{HasForm}
+use Rattle.sale_msg.specs.Table.{Row}
+use Rattle.sale_msg.specs.declared.table.Form.{Form}
+use Rattle.sale_msg.specs.declared.table.Presence.{Presence}
+use Rattle.sale_msg.specs.declared.table.Presence.TheVariants.{Required, Optional, ByHeader}
+use Rattle.sale_msg.specs.declared.flaw.Flaw.{Flaw}
+use Rattle.sale_msg.specs.declared.flaw.Flaw.TheVariants as flaws
+
+-- a member of this presence may be absent
+abbrev pub MayBeAbsent : Presence → Tree → Type 0
+MayBeAbsent Required tree = ⊥
+MayBeAbsent Optional tree = Unit {0}
+MayBeAbsent ByHeader tree =
+    (text_at (codes "MessageHeader.MessageClass") tree ≡ Some (codes "Device"))
+    ⊎ (text_at (codes "MessageHeader.MessageType") tree ≡ Some (codes "Notification"))
+
+-- a value of this form is at the path
+abbrev pub HoldsAt : List ℕ → Form → Tree → Type 0
+HoldsAt path form tree = MatchOption (value_at path tree) ⊥ (HasForm form)
+
+-- nothing is at the path, or a value of this form
+abbrev pub MayHoldAt : List ℕ → Form → Tree → Type 0
+MayHoldAt path form tree = MatchOption (value_at path tree) (Unit {0}) (HasForm form)
+
+-- the member is of its form, or is absent and may be
+unfoldable pub IsMet : Row → Tree → Type 0
+IsMet row tree = MatchOption (value_at row.at tree) (MayBeAbsent row.presence tree) (HasForm row.form)
+
+-- the member is absent and may not be, or is of another form
+unfoldable pub IsFlaw : Row → Tree → Flaw → Type 0
+IsFlaw row tree flaw = MatchOption (value_at row.at tree)
+    ((¬ MayBeAbsent row.presence tree) × (flaw ≡ flaws.Missing row.path))
+    (λ value. (¬ HasForm row.form value) × (flaw ≡ flaws.Wrong row.path))
+
+-- the object meets each row of the table
+abbrev pub AreMet : List Row → Tree → Type 0
+AreMet [] tree = Unit {0}
+AreMet (row ∷ rows) tree = IsMet row tree × AreMet rows tree
+
+-- the flaw is that of the first row that the object doesn't meet
+abbrev pub IsFirstFlaw : List Row → Tree → Flaw → Type 0
+IsFirstFlaw [] tree flaw = ⊥
+IsFirstFlaw (row ∷ rows) tree flaw = IsFlaw row tree flaw ⊎ (IsMet row tree × IsFirstFlaw rows tree flaw)
+
+-- the flaw is the first one of the first object that has any
+abbrev pub IsFirstAmong : List Row → List Tree → Flaw → Type 0
+IsFirstAmong rows [] flaw = ⊥
+IsFirstAmong rows (tree ∷ trees) flaw = IsFirstFlaw rows tree flaw ⊎ (AreMet rows tree × IsFirstAmong rows trees flaw)

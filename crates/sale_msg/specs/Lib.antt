@@ -1,0 +1,9 @@
+pub mod Category
+pub mod Path
+pub mod Form
+pub mod Table
+pub mod Shown
+pub mod Flaw
+pub mod Message
+pub mod Written
+pub mod Pieces

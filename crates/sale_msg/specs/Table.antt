@@ -1,0 +1,168 @@
+-- The tables of members: of the header, and of the body of each category. A table's order is the order in which
+-- faults are looked for.
+use Rattle.std.specs.Prelude.{ℕ, List, [], ◌∷◌, ◌++◌, codes}
+use Prim.Native.String.{String}
+use Rattle.sale_msg.specs.declared.category.Category.{Category}
+use Rattle.sale_msg.specs.declared.category.Category.TheVariants as categories
+use Rattle.sale_msg.specs.declared.table.Form.{Form}
+use Rattle.sale_msg.specs.declared.table.Form.TheVariants.{Object, Text, Ident, Letters, Version, Class, RequestKind, Kind, Currency, Amount, Flag, Period, Outputs, Texts}
+use Rattle.sale_msg.specs.declared.table.Presence.{Presence}
+use Rattle.sale_msg.specs.declared.table.Presence.TheVariants.{Required, Optional, ByHeader}
+use Rattle.sale_msg.specs.declared.table.Envelope.{Envelope}
+use Rattle.sale_msg.specs.declared.table.Envelope.TheVariants as envelopes
+
+-- a member by its path in the table's object, how a fault tells it, whether it may be absent, and what it is to be
+pub record Row : Type 0 where
+  pub at : List ℕ
+  pub path : List ℕ
+  pub presence : Presence
+  pub form : Form
+
+-- a member of the body object, told by its own path
+abbrev pub row : String → Presence → Form → Row
+row path presence form = record { at = codes path; path = codes path; presence = presence; form = form }
+
+-- a member of an object of its own, which is told by the path of that object too
+abbrev pub part_row : String → String → Presence → Form → Row
+part_row object path presence form =
+    record { at = codes path; path = codes object ++ 0x2E ∷ codes path; presence = presence; form = form }
+
+-- the type of a message in each envelope
+abbrev pub kind_form : Envelope → Form
+kind_form envelopes.Request = RequestKind
+kind_form envelopes.Response = Kind
+
+-- the header, in each envelope
+abbrev pub header_rows : Envelope → List Row
+header_rows envelope =
+    row "MessageHeader" Required Object
+    ∷ row "MessageHeader.ProtocolVersion" Optional Version
+    ∷ row "MessageHeader.MessageClass" Required Class
+    ∷ row "MessageHeader.MessageCategory" Required Letters
+    ∷ row "MessageHeader.MessageType" Required (kind_form envelope)
+    ∷ row "MessageHeader.ServiceID" ByHeader (Ident 10)
+    ∷ row "MessageHeader.DeviceID" Optional (Ident 10)
+    ∷ row "MessageHeader.SaleID" Required (Ident 40)
+    ∷ row "MessageHeader.POIID" Required (Ident 40)
+    ∷ []
+
+-- what every body but those of Display and Print asks of the header
+abbrev pub service_row : Row
+service_row = row "MessageHeader.ServiceID" Required (Ident 10)
+
+-- a Payment
+abbrev pub payment_rows : List Row
+payment_rows =
+    service_row
+    ∷ row "PaymentRequest" Required Object
+    ∷ row "PaymentRequest.SaleData" Required Object
+    ∷ row "PaymentRequest.SaleData.SaleTransactionID" Required Object
+    ∷ row "PaymentRequest.SaleData.SaleTransactionID.TransactionID" Required (Ident 80)
+    ∷ row "PaymentRequest.SaleData.SaleTransactionID.TimeStamp" Required (Ident 35)
+    ∷ row "PaymentRequest.PaymentTransaction" Required Object
+    ∷ row "PaymentRequest.PaymentTransaction.AmountsReq" Required Object
+    ∷ row "PaymentRequest.PaymentTransaction.AmountsReq.Currency" Required Currency
+    ∷ row "PaymentRequest.PaymentTransaction.AmountsReq.RequestedAmount" Required Amount
+    ∷ row "PaymentRequest.PaymentData" Optional Object
+    ∷ row "PaymentRequest.PaymentData.PaymentType" Optional Text
+    ∷ []
+
+-- a Reversal
+abbrev pub reversal_rows : List Row
+reversal_rows =
+    service_row
+    ∷ row "ReversalRequest" Required Object
+    ∷ row "ReversalRequest.OriginalPOITransaction" Required Object
+    ∷ row "ReversalRequest.OriginalPOITransaction.POITransactionID" Required Object
+    ∷ row "ReversalRequest.OriginalPOITransaction.POITransactionID.TransactionID" Required (Ident 80)
+    ∷ row "ReversalRequest.ReversalReason" Required Text
+    ∷ row "ReversalRequest.ReversedAmount" Optional Amount
+    ∷ []
+
+-- an Abort, with its reference
+abbrev pub abort_rows : List Row
+abort_rows =
+    service_row
+    ∷ row "AbortRequest" Required Object
+    ∷ row "AbortRequest.MessageReference" Required Object
+    ∷ row "AbortRequest.MessageReference.ServiceID" Required (Ident 10)
+    ∷ row "AbortRequest.MessageReference.SaleID" Optional (Ident 40)
+    ∷ row "AbortRequest.MessageReference.POIID" Optional (Ident 40)
+    ∷ row "AbortRequest.AbortReason" Optional Text
+    ∷ []
+
+-- a TransactionStatus
+abbrev pub status_rows : List Row
+status_rows =
+    service_row
+    ∷ row "TransactionStatusRequest" Required Object
+    ∷ row "TransactionStatusRequest.MessageReference" Optional Object
+    ∷ []
+
+-- the reference of a TransactionStatus, where it has one
+abbrev pub status_reference_rows : List Row
+status_reference_rows =
+    part_row "TransactionStatusRequest.MessageReference" "ServiceID" Required (Ident 10)
+    ∷ part_row "TransactionStatusRequest.MessageReference" "SaleID" Optional (Ident 40)
+    ∷ part_row "TransactionStatusRequest.MessageReference" "POIID" Optional (Ident 40)
+    ∷ []
+
+-- a Reconciliation
+abbrev pub reconciliation_rows : List Row
+reconciliation_rows =
+    service_row
+    ∷ row "ReconciliationRequest" Required Object
+    ∷ row "ReconciliationRequest.ReconciliationType" Required Period
+    ∷ []
+
+-- a Display
+abbrev pub display_rows : List Row
+display_rows =
+    row "DisplayRequest" Required Object
+    ∷ row "DisplayRequest.DisplayOutput" Required Outputs
+    ∷ []
+
+-- each output of a Display
+abbrev pub output_rows : List Row
+output_rows =
+    part_row "DisplayRequest.DisplayOutput" "Device" Required (Ident 40)
+    ∷ part_row "DisplayRequest.DisplayOutput" "InfoQualify" Required (Ident 40)
+    ∷ part_row "DisplayRequest.DisplayOutput" "ResponseRequiredFlag" Optional Flag
+    ∷ part_row "DisplayRequest.DisplayOutput" "OutputContent" Required Object
+    ∷ part_row "DisplayRequest.DisplayOutput" "OutputContent.OutputFormat" Required Text
+    ∷ part_row "DisplayRequest.DisplayOutput" "OutputContent.OutputText" Optional Texts
+    ∷ []
+
+-- a Print
+abbrev pub print_rows : List Row
+print_rows =
+    row "PrintRequest" Required Object
+    ∷ row "PrintRequest.PrintOutput" Required Object
+    ∷ row "PrintRequest.PrintOutput.DocumentQualifier" Required (Ident 40)
+    ∷ []
+
+-- the body of each category
+abbrev pub rows_of : Category → List Row
+rows_of categories.Login = service_row ∷ row "LoginRequest" Required Object ∷ []
+rows_of categories.Logout = service_row ∷ row "LogoutRequest" Required Object ∷ []
+rows_of categories.Payment = payment_rows
+rows_of categories.Reversal = reversal_rows
+rows_of categories.Abort = abort_rows
+rows_of categories.TransactionStatus = status_rows
+rows_of categories.Reconciliation = reconciliation_rows
+rows_of categories.Display = display_rows
+rows_of categories.Print = print_rows
+rows_of categories.Diagnosis = service_row ∷ row "DiagnosisRequest" Required Object ∷ []
+
+-- each object within a body that has a table of its own
+abbrev pub part_rows : Category → List Row
+part_rows categories.Login = []
+part_rows categories.Logout = []
+part_rows categories.Payment = []
+part_rows categories.Reversal = []
+part_rows categories.Abort = []
+part_rows categories.TransactionStatus = status_reference_rows
+part_rows categories.Reconciliation = []
+part_rows categories.Display = output_rows
+part_rows categories.Print = []
+part_rows categories.Diagnosis = []

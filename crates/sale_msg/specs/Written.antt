@@ -1,0 +1,146 @@
+-- The tree of a request that is written: the members of the tables in their order, none for what is absent.
+use Rattle.std.specs.Prelude.{ℕ, ◌/◌, ◌%◌, List, [], ◌∷◌, ◌++◌, Option, Some, None, codes, decimal}
+use Rattle.gw_base.specs.Digits.{digits}
+use Rattle.json_text.specs.Tree.{Tree, boolean, number, string, array, object, Items, no_items, item, Members, no_members, member}
+use Rattle.sale_values.specs.Names.{class_name, kind_name, period_name}
+use Rattle.sale_values.specs.declared.header.Header.{Header}
+use Rattle.sale_values.specs.declared.request.Output.{Output}
+use Rattle.sale_values.specs.declared.request.PaymentAsk.{PaymentAsk}
+use Rattle.sale_values.specs.declared.request.Reference.{Reference}
+use Rattle.sale_values.specs.declared.request.ReversalAsk.{ReversalAsk}
+use Rattle.sale_values.specs.declared.request.SaleRequest.{SaleRequest}
+use Rattle.sale_values.specs.declared.request.SaleRequest.TheVariants as requests
+
+-- a member that is a text
+abbrev pub text_member : List ℕ → List ℕ → Members → Members
+text_member name text more = member name (string text) more
+
+-- a member that is a text, where there is one
+abbrev pub optional_text : List ℕ → Option (List ℕ) → Members → Members
+optional_text name None more = more
+optional_text name (Some text) more = text_member name text more
+
+-- a member that is an object
+abbrev pub object_member : List ℕ → Members → Members → Members
+object_member name inside more = member name (object inside) more
+
+-- minor units of a currency with two decimals: whole units, a point and two digits
+unfoldable pub money_text : ℕ → List ℕ
+money_text minor = decimal (minor / 100) ++ 0x2E ∷ digits 2 (minor % 100)
+
+-- the header
+abbrev pub header_members : Header → Members
+header_members header =
+    text_member (codes "ProtocolVersion") (codes "3.0")
+    (text_member (codes "MessageClass") (class_name header.class)
+    (text_member (codes "MessageCategory") header.category
+    (text_member (codes "MessageType") (kind_name header.kind)
+    (optional_text (codes "ServiceID") header.service
+    (optional_text (codes "DeviceID") header.device
+    (text_member (codes "SaleID") header.sale
+    (text_member (codes "POIID") header.poi no_members)))))))
+
+-- the type of a Payment, where it is told
+abbrev pub payment_data : Option (List ℕ) → Members
+payment_data None = no_members
+payment_data (Some kind) = object_member (codes "PaymentData") (text_member (codes "PaymentType") kind no_members) no_members
+
+abbrev pub payment_members : PaymentAsk → Members
+payment_members ask =
+    object_member (codes "SaleData")
+    (object_member (codes "SaleTransactionID")
+    (text_member (codes "TransactionID") ask.transaction (text_member (codes "TimeStamp") ask.stamp no_members))
+    no_members)
+    (object_member (codes "PaymentTransaction")
+    (object_member (codes "AmountsReq")
+    (text_member (codes "Currency") ask.currency (member (codes "RequestedAmount") (number (money_text ask.amount)) no_members))
+    no_members)
+    (payment_data ask.kind))
+
+-- the amount of a Reversal, where it is told
+abbrev pub reversed_amount : Option ℕ → Members
+reversed_amount None = no_members
+reversed_amount (Some minor) = member (codes "ReversedAmount") (number (money_text minor)) no_members
+
+abbrev pub reversal_members : ReversalAsk → Members
+reversal_members ask =
+    object_member (codes "OriginalPOITransaction")
+    (object_member (codes "POITransactionID") (text_member (codes "TransactionID") ask.transaction no_members) no_members)
+    (text_member (codes "ReversalReason") (codes "MerchantCancel") (reversed_amount ask.amount))
+
+-- a reference
+abbrev pub reference_members : Reference → Members
+reference_members reference =
+    text_member (codes "ServiceID") reference.service
+    (optional_text (codes "SaleID") reference.sale (optional_text (codes "POIID") reference.poi no_members))
+
+-- a body that holds a reference alone
+abbrev pub referring_members : Reference → Members
+referring_members reference = object_member (codes "MessageReference") (reference_members reference) no_members
+
+-- the reference of a TransactionStatus, where it has one
+abbrev pub status_members : Option Reference → Members
+status_members None = no_members
+status_members (Some reference) = referring_members reference
+
+-- one object for each text
+abbrev pub text_items : List (List ℕ) → Items
+text_items [] = no_items
+text_items (text ∷ texts) = item (object (text_member (codes "Text") text no_members)) (text_items texts)
+
+-- the texts of an output, where they are told
+abbrev pub texts_members : Option (List (List ℕ)) → Members
+texts_members None = no_members
+texts_members (Some texts) = member (codes "OutputText") (array (text_items texts)) no_members
+
+-- an output, with its flag
+unfoldable pub output_tree : Output → Tree
+output_tree output = object
+    (text_member (codes "Device") output.device
+    (text_member (codes "InfoQualify") output.qualify
+    (member (codes "ResponseRequiredFlag") (boolean output.required)
+    (object_member (codes "OutputContent")
+    (text_member (codes "OutputFormat") (codes "Text") (texts_members output.texts))
+    no_members))))
+
+-- the outputs in order
+abbrev pub output_items : List Output → Items
+output_items [] = no_items
+output_items (output ∷ outputs) = item (output_tree output) (output_items outputs)
+
+-- the members of a request's body
+abbrev pub body_members : SaleRequest → Members
+body_members requests.Login = no_members
+body_members requests.Logout = no_members
+body_members (requests.Payment ask) = payment_members ask
+body_members (requests.Reversal ask) = reversal_members ask
+body_members (requests.Abort reference) = referring_members reference
+body_members (requests.Status reference) = status_members reference
+body_members (requests.Reconciliation period) = text_member (codes "ReconciliationType") (period_name period) no_members
+body_members (requests.Display outputs) = member (codes "DisplayOutput") (array (output_items outputs)) no_members
+body_members (requests.Print qualifier) =
+    object_member (codes "PrintOutput") (text_member (codes "DocumentQualifier") qualifier no_members) no_members
+body_members requests.Diagnosis = no_members
+
+-- the name of a request's body
+abbrev pub body_name : SaleRequest → List ℕ
+body_name requests.Login = codes "LoginRequest"
+body_name requests.Logout = codes "LogoutRequest"
+body_name (requests.Payment ask) = codes "PaymentRequest"
+body_name (requests.Reversal ask) = codes "ReversalRequest"
+body_name (requests.Abort reference) = codes "AbortRequest"
+body_name (requests.Status reference) = codes "TransactionStatusRequest"
+body_name (requests.Reconciliation period) = codes "ReconciliationRequest"
+body_name (requests.Display outputs) = codes "DisplayRequest"
+body_name (requests.Print qualifier) = codes "PrintRequest"
+body_name requests.Diagnosis = codes "DiagnosisRequest"
+
+-- the body object: the header, and the body of the request
+abbrev pub body_object : Header → SaleRequest → Tree
+body_object header request = object
+    (object_member (codes "MessageHeader") (header_members header)
+    (object_member (body_name request) (body_members request) no_members))
+
+-- the message
+abbrev pub request_tree : Header → SaleRequest → Tree
+request_tree header request = object (member (codes "SaleToPOIRequest") (body_object header request) no_members)

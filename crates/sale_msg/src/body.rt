@@ -1,0 +1,136 @@
+//! What the bodies of requests ask.
+ghost use Rattle.std.specs.Prelude.{◌≡◌, Some, IfOk, codes};
+ghost use Rattle.json_text.specs.View.{view};
+ghost use Rattle.sale_values.specs.Names.{period_name};
+ghost use Rattle.sale_msg.specs.Flaw.{AreMet, IsMet};
+ghost use Rattle.sale_msg.specs.Message.{Asks, HasBody, IsPayment, IsReversal, IsReference, IsReferenceAt};
+ghost use Rattle.sale_msg.specs.Category.{category_of};
+ghost use Rattle.sale_msg.specs.Path.{text_at};
+ghost use Rattle.sale_msg.specs.Table.{abort_rows, payment_rows, print_rows, reconciliation_rows, reversal_rows, status_reference_rows};
+
+use crate::Category;
+use crate::outputs::outputs;
+use crate::parts::parts;
+use crate::path::find;
+use crate::values::{amount, amount_or_none, currency, ident, ident_or_none, period, text_or_none};
+use gw_base::Ident;
+use json_text::Json;
+use sale_values::{PaymentAsk, Period, Reference, ReversalAsk, SaleRequest};
+use std::alloc::{AllocError, Global};
+
+/// What a Payment asks.
+#[tactic(auto, unfolding(crate::specs::Flaw::IsMet))]
+pub(crate) fn payment(alloc: Global, body: &Json) -> Result<PaymentAsk, AllocError>
+    requires { AreMet payment_rows (view body.now) }
+    ensures { IfOk result (IsPayment (view body.now)) }
+{
+    let kind = text_or_none(alloc, body, "PaymentRequest.PaymentData.PaymentType")?;
+    Ok(PaymentAsk {
+        transaction: ident(
+            body,
+            "PaymentRequest.SaleData.SaleTransactionID.TransactionID",
+        ),
+        stamp: ident(body, "PaymentRequest.SaleData.SaleTransactionID.TimeStamp"),
+        currency: currency(
+            body,
+            "PaymentRequest.PaymentTransaction.AmountsReq.Currency",
+        ),
+        amount: amount(
+            body,
+            "PaymentRequest.PaymentTransaction.AmountsReq.RequestedAmount",
+        ),
+        kind,
+    })
+}
+
+/// What a Reversal asks.
+#[tactic(auto, unfolding(crate::specs::Flaw::IsMet))]
+pub(crate) fn reversal(body: &Json) -> ReversalAsk
+    requires { AreMet reversal_rows (view body.now) }
+    ensures { IsReversal (view body.now) result }
+{
+    ReversalAsk {
+        transaction: ident(
+            body,
+            "ReversalRequest.OriginalPOITransaction.POITransactionID.TransactionID",
+        ),
+        amount: amount_or_none(body, "ReversalRequest.ReversedAmount"),
+    }
+}
+
+/// The reference that an object is.
+#[tactic(auto, unfolding(crate::specs::Flaw::IsMet))]
+pub(crate) fn reference(object: &Json) -> Reference
+    requires { AreMet status_reference_rows (view object.now) }
+    ensures { IsReference (view object.now) result }
+{
+    Reference {
+        service: ident(object, "ServiceID"),
+        sale: ident_or_none(object, "SaleID"),
+        poi: ident_or_none(object, "POIID"),
+    }
+}
+
+/// The type that a Reconciliation asks for.
+#[tactic(auto, unfolding(crate::specs::Flaw::IsMet))]
+pub(crate) fn reconciliation(body: &Json) -> Period
+    requires { AreMet reconciliation_rows (view body.now) }
+    ensures { text_at (codes "ReconciliationRequest.ReconciliationType") (view body.now) ≡ Some (period_name result) }
+{
+    period(body, "ReconciliationRequest.ReconciliationType")
+}
+
+/// The qualifier of a Print.
+#[tactic(auto, unfolding(crate::specs::Flaw::IsMet))]
+pub(crate) fn qualifier(body: &Json) -> Ident<40>
+    requires { AreMet print_rows (view body.now) }
+    ensures { text_at (codes "PrintRequest.PrintOutput.DocumentQualifier") (view body.now) ≡ Some result }
+{
+    ident(body, "PrintRequest.PrintOutput.DocumentQualifier")
+}
+
+/// The reference of an Abort.
+pub(crate) fn abort(body: &Json) -> Reference
+    requires { AreMet abort_rows (view body.now) }
+    ensures { IsReferenceAt (codes "AbortRequest.MessageReference") (view body.now) (Some result) }
+{
+    match find(body, "AbortRequest.MessageReference") {
+        None => unreachable!(),
+        Some(object) => reference(object),
+    }
+}
+
+/// The reference of a TransactionStatus, where it has one.
+pub(crate) fn status(body: &Json) -> Option<Reference>
+    requires { HasBody Category.TransactionStatus (view body.now) }
+    ensures { IsReferenceAt (codes "TransactionStatusRequest.MessageReference") (view body.now) result }
+{
+    match find(body, "TransactionStatusRequest.MessageReference") {
+        None => None,
+        Some(object) => Some(reference(object)),
+    }
+}
+
+/// What the body of a request of this category asks.
+pub(crate) fn request(
+    alloc: Global,
+    category: Category,
+    body: &Json,
+) -> Result<SaleRequest, AllocError>
+    requires { HasBody category (view body.now) }
+    ensures { IfOk result (λ request. (category_of request ≡ category) × Asks (view body.now) request) }
+{
+    let request = match category {
+        Category::Login => SaleRequest::Login,
+        Category::Logout => SaleRequest::Logout,
+        Category::Payment => SaleRequest::Payment(payment(alloc, body)?),
+        Category::Reversal => SaleRequest::Reversal(reversal(body)),
+        Category::Abort => SaleRequest::Abort(abort(body)),
+        Category::TransactionStatus => SaleRequest::Status(status(body)),
+        Category::Reconciliation => SaleRequest::Reconciliation(reconciliation(body)),
+        Category::Display => SaleRequest::Display(outputs(alloc, parts(category, body))?),
+        Category::Print => SaleRequest::Print(qualifier(body)),
+        Category::Diagnosis => SaleRequest::Diagnosis,
+    };
+    Ok(request)
+}

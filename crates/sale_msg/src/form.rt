@@ -1,0 +1,120 @@
+//! What values are.
+ghost use Rattle.std.specs.Prelude.{◌≡◌, ◌↔◌, ℕ, ◌≤◌, ◌++◌, List, All, IsTrue, length, codes, ◌⊎◌};
+ghost use Rattle.gw_base.specs.Ident.{IsIdent};
+ghost use Rattle.json_text.specs.View.{view};
+ghost use Rattle.sale_values.specs.Names.{kind_name};
+ghost use Rattle.sale_msg.specs.Form.{HasForm, HasText, IsAmountNumber, IsObject, IsCapital, IsLetter, IsOutputList, IsTextList, TextHasForm};
+
+use crate::path::find;
+use crate::table::Form;
+use gw_base::minor_of;
+use json_text::Json;
+use sale_values::{Class, Kind, Period};
+
+/// Whether the value is of the form.
+pub(crate) fn has_form(form: Form, value: &Json) -> bool
+    ensures { IsTrue result ↔ HasForm form (view value.now) }
+{
+    match form {
+        Form::Object => value.is_object(),
+        Form::Amount => is_amount(value),
+        Form::Flag => value.as_bool().is_some(),
+        Form::Outputs => is_output_list(value),
+        Form::Texts => is_text_list(value),
+        _ => match value.as_str() {
+            None => false,
+            Some(text) => text_has_form(form, text.as_bytes()),
+        },
+    }
+}
+
+/// Whether the text is of the form.
+fn text_has_form(form: Form, text: &[u8]) -> bool
+    ensures { IsTrue result ↔ TextHasForm form text.now }
+{
+    match form {
+        Form::Text => true,
+        Form::Ident(most) => is_ident(text, most),
+        Form::Letters => (1..=40).contains(&text.len()) && are_letters(text),
+        Form::Version => text.starts_with(b"3."),
+        Form::Class => Class::from_name(text).is_some(),
+        Form::RequestKind => is_request_kind(text),
+        Form::Kind => Kind::from_name(text).is_some(),
+        Form::Currency => text.len() == 3 && are_capitals(text),
+        Form::Period => Period::from_name(text).is_some(),
+        _ => false,
+    }
+}
+
+fn is_ident(text: &[u8], most: usize) -> bool
+    ensures { IsTrue result ↔ IsIdent most text.now }
+{
+    (1..=most).contains(&text.len()) && text.iter().all(|byte| (0x20..=0x7E).contains(byte))
+}
+
+fn are_letters(text: &[u8]) -> bool
+    ensures { IsTrue result ↔ All IsLetter text.now }
+{
+    text.iter().all(|byte| byte.is_ascii_alphabetic())
+}
+
+fn are_capitals(text: &[u8]) -> bool
+    ensures { IsTrue result ↔ All IsCapital text.now }
+{
+    text.iter().all(|byte| byte.is_ascii_uppercase())
+}
+
+fn is_request_kind(text: &[u8]) -> bool
+    ensures { IsTrue result ↔ ((kind_name Kind.Request ≡ text.now) ⊎ (kind_name Kind.Notification ≡ text.now)) }
+{
+    text == Kind::Request.name().as_bytes() || text == Kind::Notification.name().as_bytes()
+}
+
+fn is_amount(value: &Json) -> bool
+    ensures { IsTrue result ↔ IsAmountNumber (view value.now) }
+{
+    match value.as_number() {
+        None => false,
+        Some(numeral) => minor_of(numeral.as_bytes()).is_some(),
+    }
+}
+
+fn is_output_list(value: &Json) -> bool
+    ensures { IsTrue result ↔ IsOutputList (view value.now) }
+{
+    match value.as_list() {
+        None => value.is_object(),
+        Some(items) => (1..=16).contains(&items.len()) && are_objects(items),
+    }
+}
+
+fn are_objects(items: &[Json]) -> bool
+    ensures { IsTrue result ↔ All (λ item. IsObject (view item)) items.now }
+{
+    items.iter().all(|item| item.is_object())
+}
+
+fn is_text_list(value: &Json) -> bool
+    ensures { IsTrue result ↔ IsTextList (view value.now) }
+{
+    match value.as_list() {
+        None => false,
+        Some(items) => have_texts(items),
+    }
+}
+
+fn have_texts(items: &[Json]) -> bool
+    ensures { IsTrue result ↔ All (λ item. HasText (view item)) items.now }
+{
+    items.iter().all(|item| has_text(item))
+}
+
+/// Whether it is an object with a text as its `Text`.
+fn has_text(item: &Json) -> bool
+    ensures { IsTrue result ↔ HasText (view item.now) }
+{
+    match find(item, "Text") {
+        None => false,
+        Some(text) => text.as_str().is_some(),
+    }
+}

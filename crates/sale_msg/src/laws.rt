@@ -1,0 +1,22 @@
+//! Laws of messages.
+ghost use Rattle.std.specs.Prelude.{◌≡◌};
+ghost use Rattle.json_text.specs.Tree.{Tree};
+ghost use Rattle.sale_values.specs.declared.fault.SaleFault.{SaleFault};
+ghost use Rattle.sale_values.specs.declared.header.Header.{Header};
+ghost use Rattle.sale_values.specs.declared.request.Incoming.{Incoming};
+ghost use Rattle.sale_values.specs.declared.request.SaleRequest.{SaleRequest};
+ghost use Rattle.sale_msg.specs.Written.{request_tree};
+ghost use Rattle.sale_msg.specs.Message.{IsFault, IsMessage};
+
+/// A tree is one message at most, has one fault at most, and not both.
+pub fn law_one_reading()
+    ensures message { (tree : Tree) (m n : Incoming) → IsMessage tree m → IsMessage tree n → m ≡ n }
+    ensures fault { (tree : Tree) (f g : SaleFault) → IsFault tree f → IsFault tree g → f ≡ g }
+    ensures not_both { (tree : Tree) (m : Incoming) (f : SaleFault) → IsMessage tree m → IsFault tree f → ⊥ }
+{}
+
+/// What is written of a request that some tree is, is this request again.
+pub fn law_written_again()
+    ensures { (tree : Tree) (header : Header) (request : SaleRequest) → IsMessage tree (Incoming.Request header request)
+        → IsMessage (request_tree header request) (Incoming.Request header request) }
+{}

@@ -1,0 +1,69 @@
+//! The outputs of a Display.
+ghost use Rattle.std.specs.Prelude.{◌≡◌, All, codes, map, option_map, IfOk};
+ghost use Rattle.std.specs.List.{AllZip};
+ghost use Rattle.std.specs.Option.{option_and_then};
+ghost use Rattle.json_text.specs.Tree.{array_of};
+ghost use Rattle.json_text.specs.View.{view};
+ghost use Rattle.sale_msg.specs.Flaw.{AreMet, IsMet};
+ghost use Rattle.sale_msg.specs.Message.{IsOutput, texts_of};
+ghost use Rattle.sale_msg.specs.Path.{value_at};
+ghost use Rattle.sale_msg.specs.Table.{output_rows};
+
+use crate::path::find;
+use crate::values::{chars_at, copied, flag_or_true, ident};
+use json_text::Json;
+use sale_values::{Output, Outputs, Texts};
+use std::alloc::{AllocError, Global};
+
+/// The outputs that these objects are.
+pub(crate) fn outputs(alloc: Global, parts: &[Json]) -> Result<Outputs, AllocError>
+    requires { All (λ part. AreMet output_rows (view part)) parts.now }
+    ensures { IfOk result (AllZip IsOutput (map view parts.now)) }
+{
+    let mut outputs = Vec::new(alloc);
+    for part in parts {
+        outputs.push(output(alloc, part)?)?;
+    }
+    Ok(Outputs::new(outputs))
+}
+
+#[tactic(auto, unfolding(crate::specs::Flaw::IsMet))]
+fn output(alloc: Global, part: &Json) -> Result<Output, AllocError>
+    requires { AreMet output_rows (view part.now) }
+    ensures { IfOk result (IsOutput (view part.now)) }
+{
+    let texts = texts_or_none(alloc, part)?;
+    Ok(Output {
+        device: ident(part, "Device"),
+        qualify: ident(part, "InfoQualify"),
+        required: flag_or_true(part, "ResponseRequiredFlag"),
+        texts,
+    })
+}
+
+/// The texts of an output; `None` where it has none.
+fn texts_or_none(alloc: Global, part: &Json) -> Result<Option<Texts>, AllocError>
+    ensures { IfOk result (λ texts. option_map texts_of
+        (option_and_then array_of (value_at (codes "OutputContent.OutputText") (view part.now))) ≡ texts) }
+{
+    match find(part, "OutputContent.OutputText") {
+        None => Ok(None),
+        Some(list) => match list.as_list() {
+            None => Ok(None),
+            Some(items) => Ok(Some(texts(alloc, items)?)),
+        },
+    }
+}
+
+/// The texts of these objects.
+fn texts(alloc: Global, items: &[Json]) -> Result<Texts, AllocError>
+    ensures { IfOk result (λ texts. texts ≡ texts_of (map view items.now)) }
+{
+    let mut texts = Vec::new(alloc);
+    for item in items {
+        if let Some(text) = chars_at(item, "Text") {
+            texts.push(copied(alloc, text)?)?;
+        }
+    }
+    Ok(Texts::new(texts))
+}

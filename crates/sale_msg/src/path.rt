@@ -1,0 +1,19 @@
+//! Values at paths.
+ghost use Rattle.std.specs.Prelude.{◌≡◌, option_map};
+ghost use Rattle.json_text.specs.View.{view};
+ghost use Rattle.sale_msg.specs.Path.{value_at};
+
+use json_text::Json;
+
+/// The value at a path of names, divided by points, of which each is a member of the object before.
+pub(crate) fn find<'a>(tree: &'a Json, path: &str) -> Option<&'a Json>
+    ensures { option_map (λ v. view v.now) result ≡ value_at path.now (view tree.now) }
+{
+    match path.split_once('.') {
+        None => tree.get(path.as_bytes()),
+        Some((name, rest)) => match tree.get(name.as_bytes()) {
+            None => None,
+            Some(value) => find(value, rest),
+        },
+    }
+}

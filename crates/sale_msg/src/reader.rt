@@ -1,0 +1,99 @@
+//! Messages, read from trees.
+ghost use Rattle.std.specs.Prelude.{◌≡◌, Ok, Err, IfOk, IfErr, MatchResult, ◌⊎◌};
+ghost use Rattle.json_text.specs.Tree.{Tree};
+ghost use Rattle.json_text.specs.View.{view};
+ghost use Rattle.sale_values.specs.declared.fault.SaleFault.{SaleFault};
+ghost use Rattle.sale_values.specs.declared.request.Incoming.{Incoming};
+ghost use Rattle.sale_msg.specs.Message.{IsFault, IsHeader, IsMessage, IsRequest, IsRequestOf, Refuses, RefusesHeader, StandsIn};
+ghost use Rattle.sale_msg.specs.Table.{header_rows};
+
+use crate::body::request;
+use crate::check::{check, check_body, told};
+use crate::flaw::Flaw;
+use crate::header::header_of;
+use crate::table::{Envelope, header_table};
+use crate::{Category, MessageError};
+use json_text::Json;
+use sale_values::{Header, Incoming, Kind, SaleFault, SaleRequest};
+use std::alloc::Global;
+
+/// Reads a message of a till from the tree of its text.
+///
+/// The tables of nexo's header and of each category's body stand in this order, and the first fault in it is told.
+/// Members that no table names are ignored.
+pub fn read_message(alloc: Global, tree: &Json) -> Result<Incoming, MessageError>
+    // The tree is this message, and it has this fault.
+    ensures ok { IfOk result (IsMessage (view tree.now)) }
+    ensures err { IfErr result (Refuses (view tree.now)) }
+
+    // Where it is a message it is given, and where it has a fault this is told, unless memory is wanting.
+    ensures every { (m : Incoming) → IsMessage (view tree.now) m → (result ≡ Ok m) ⊎ (result ≡ Err MessageError.Memory) }
+    ensures each { (f : SaleFault) → IsFault (view tree.now) f → (result ≡ Err (MessageError.Fault f)) ⊎ (result ≡ Err MessageError.Memory) }
+{
+    match tree.get(b"SaleToPOIRequest") {
+        Some(body) => read_under_request(alloc, body),
+        None => match tree.get(b"SaleToPOIResponse") {
+            Some(body) => read_under_response(body),
+            None => Err(MessageError::Fault(SaleFault::NoHeader {
+                path: told("SaleToPOIRequest"),
+            })),
+        },
+    }
+}
+
+/// The message of which this is the body object under `SaleToPOIResponse`.
+fn read_under_response(body: &Json) -> Result<Incoming, MessageError>
+    ensures { (message : Tree) → StandsIn Envelope.Response message (view body.now)
+        → MatchResult result (IsMessage message) (Refuses message) }
+{
+    match read_header(Envelope::Response, body) {
+        Ok(_) => Ok(Incoming::Silent),
+        Err(fault) => Err(MessageError::Fault(fault)),
+    }
+}
+
+/// The message of which this is the body object under `SaleToPOIRequest`.
+fn read_under_request(alloc: Global, body: &Json) -> Result<Incoming, MessageError>
+    ensures { (message : Tree) → StandsIn Envelope.Request message (view body.now)
+        → MatchResult result (IsMessage message) (Refuses message) }
+{
+    let header = match read_header(Envelope::Request, body) {
+        Ok(header) => header,
+        Err(fault) => return Err(MessageError::Fault(fault)),
+    };
+    match header.kind {
+        Kind::Request => match read_body(alloc, &header, body) {
+            Ok(request) => Ok(Incoming::Request(header, request)),
+            Err(error) => Err(error),
+        },
+        _ => Ok(Incoming::Silent),
+    }
+}
+
+/// The header of the body object.
+fn read_header(envelope: Envelope, body: &Json) -> Result<Header, SaleFault>
+    ensures { MatchResult result (IsHeader envelope (view body.now))
+        (RefusesHeader (header_rows envelope) (view body.now)) }
+{
+    match check(body, header_table(envelope)) {
+        Ok(()) => Ok(header_of(body)),
+        Err(flaw) => Err(SaleFault::NoHeader { path: flaw.path() }),
+    }
+}
+
+/// The request that the body object asks.
+fn read_body(alloc: Global, header: &Header, body: &Json) -> Result<SaleRequest, MessageError>
+    ensures { (message : Tree) → IsRequestOf message (view body.now) header.now
+        → MatchResult result (IsRequest message (view body.now) header.now) (Refuses message) }
+{
+    let Some(category) = Category::from_name(header.category.as_bytes()) else {
+        return Err(MessageError::Fault(SaleFault::Unserved { header: *header }));
+    };
+    if let Err(flaw) = check_body(category, body) {
+        return Err(MessageError::Fault(flaw.fault(*header)));
+    }
+    match request(alloc, category, body) {
+        Ok(request) => Ok(request),
+        Err(_) => Err(MessageError::Memory),
+    }
+}

@@ -1,0 +1,280 @@
+//! Requests, written.
+ghost use Rattle.std.specs.Prelude.{◌≡◌, ◌++◌, codes, OnOk, OnErr};
+ghost use Rattle.json_text.specs.Canonical.{canonical, canonical_first, written_text};
+ghost use Rattle.json_text.specs.Tree.{boolean, object};
+ghost use Rattle.sale_msg.specs.Pieces.{money_piece, optional_piece, texts_piece};
+ghost use Rattle.sale_msg.specs.Written.{body_members, body_name, header_members, money_text, output_items, output_tree, payment_members, referring_members, request_tree, reversal_members, text_items};
+
+use gw_base::{Ident, Text};
+use itoa::Buffer;
+use json_text::write_text;
+use sale_values::{Header, Output, PaymentAsk, Reference, ReversalAsk, SaleRequest, Texts};
+use std::alloc::{AllocError, Global};
+
+/// Appends the one written spelling of a request: no white space, the members of the tables in their order, none for
+/// what is absent.
+///
+/// `ProtocolVersion` is written as `3.0`, `ReversalReason` as `MerchantCancel`, `OutputFormat` as `Text`, and
+/// `ResponseRequiredFlag` always. An amount has two digits behind the point. What [`read_message`](crate::read_message)
+/// gave is written so that it is read again.
+pub fn write_request(
+    alloc: Global,
+    header: &Header,
+    request: &SaleRequest,
+    out: &mut Vec<u8>,
+) -> Result<(), AllocError>
+    ensures ok { OnOk result (out.new.items ≡ out.old.items ++ canonical (request_tree header.now request.now)) }
+    ensures err { OnErr result (out.new.items ≡ out.old.items) }
+{
+    let mut text = Vec::new(alloc);
+    write_message(header, request, &mut text)?;
+    out.extend_from_slice(&text)
+}
+
+fn write_message(
+    header: &Header,
+    request: &SaleRequest,
+    out: &mut Vec<u8>,
+) -> Result<(), AllocError>
+    ensures { OnOk result (out.new.items ≡ out.old.items ++ canonical (request_tree header.now request.now)) }
+{
+    out.extend_from_slice(b"{\"SaleToPOIRequest\":{\"MessageHeader\":")?;
+    write_header(header, out)?;
+    out.extend_from_slice(b",")?;
+    write_text(name_of_body(request), out)?;
+    out.extend_from_slice(b":")?;
+    write_body(request, out)?;
+    out.extend_from_slice(b"}}")
+}
+
+/// The name of a request's body.
+fn name_of_body(request: &SaleRequest) -> &'static [u8]
+    ensures { result.now ≡ body_name request.now }
+{
+    match request {
+        SaleRequest::Login => b"LoginRequest",
+        SaleRequest::Logout => b"LogoutRequest",
+        SaleRequest::Payment(_) => b"PaymentRequest",
+        SaleRequest::Reversal(_) => b"ReversalRequest",
+        SaleRequest::Abort(_) => b"AbortRequest",
+        SaleRequest::Status(_) => b"TransactionStatusRequest",
+        SaleRequest::Reconciliation(_) => b"ReconciliationRequest",
+        SaleRequest::Display(_) => b"DisplayRequest",
+        SaleRequest::Print(_) => b"PrintRequest",
+        SaleRequest::Diagnosis => b"DiagnosisRequest",
+    }
+}
+
+fn write_header(header: &Header, out: &mut Vec<u8>) -> Result<(), AllocError>
+    ensures { OnOk result (out.new.items ≡ out.old.items ++ canonical (object (header_members header.now))) }
+{
+    write_named(
+        b"{\"ProtocolVersion\":\"3.0\",\"MessageClass\":",
+        header.class.name().as_bytes(),
+        out,
+    )?;
+    write_named(b",\"MessageCategory\":", header.category.as_bytes(), out)?;
+    write_named(b",\"MessageType\":", header.kind.name().as_bytes(), out)?;
+    write_optional(b",\"ServiceID\":", &header.service, out)?;
+    write_optional(b",\"DeviceID\":", &header.device, out)?;
+    write_named(b",\"SaleID\":", header.sale.as_bytes(), out)?;
+    write_named(b",\"POIID\":", header.poi.as_bytes(), out)?;
+    out.extend_from_slice(b"}")
+}
+
+/// A text behind what stands in front of it.
+fn write_named(front: &[u8], text: &[u8], out: &mut Vec<u8>) -> Result<(), AllocError>
+    ensures { OnOk result (out.new.items ≡ out.old.items ++ (front.now ++ written_text text.now)) }
+{
+    out.extend_from_slice(front)?;
+    write_text(text, out)
+}
+
+/// The same, where there is a text.
+fn write_optional<const N: usize>(
+    front: &[u8],
+    text: &Option<Ident<N>>,
+    out: &mut Vec<u8>,
+) -> Result<(), AllocError>
+    ensures { OnOk result (out.new.items ≡ out.old.items ++ optional_piece front.now text.now) }
+{
+    match text {
+        None => Ok(()),
+        Some(text) => write_named(front, text.as_bytes(), out),
+    }
+}
+
+fn write_body(request: &SaleRequest, out: &mut Vec<u8>) -> Result<(), AllocError>
+    ensures { OnOk result (out.new.items ≡ out.old.items ++ canonical (object (body_members request.now))) }
+{
+    match request {
+        SaleRequest::Payment(ask) => write_payment(ask, out),
+        SaleRequest::Reversal(ask) => write_reversal(ask, out),
+        SaleRequest::Abort(reference) => write_referring(reference, out),
+        SaleRequest::Status(Some(reference)) => write_referring(reference, out),
+        SaleRequest::Reconciliation(period) => {
+            write_named(b"{\"ReconciliationType\":", period.name().as_bytes(), out)?;
+            out.extend_from_slice(b"}")
+        }
+        SaleRequest::Display(outputs) => {
+            out.extend_from_slice(b"{\"DisplayOutput\":[")?;
+            write_outputs(outputs.as_slice(), out)?;
+            out.extend_from_slice(b"}")
+        }
+        SaleRequest::Print(qualifier) => {
+            write_named(
+                b"{\"PrintOutput\":{\"DocumentQualifier\":",
+                qualifier.as_bytes(),
+                out,
+            )?;
+            out.extend_from_slice(b"}}")
+        }
+        SaleRequest::Login
+        | SaleRequest::Logout
+        | SaleRequest::Diagnosis
+        | SaleRequest::Status(None) => out.extend_from_slice(b"{}"),
+    }
+}
+
+fn write_payment(ask: &PaymentAsk, out: &mut Vec<u8>) -> Result<(), AllocError>
+    ensures { OnOk result (out.new.items ≡ out.old.items ++ canonical (object (payment_members ask.now))) }
+{
+    write_named(
+        b"{\"SaleData\":{\"SaleTransactionID\":{\"TransactionID\":",
+        ask.transaction.as_bytes(),
+        out,
+    )?;
+    write_named(b",\"TimeStamp\":", ask.stamp.as_bytes(), out)?;
+    write_named(
+        b"}},\"PaymentTransaction\":{\"AmountsReq\":{\"Currency\":",
+        &ask.currency,
+        out,
+    )?;
+    out.extend_from_slice(b",\"RequestedAmount\":")?;
+    write_money(ask.amount, out)?;
+    match &ask.kind {
+        None => out.extend_from_slice(b"}}}"),
+        Some(kind) => {
+            write_named(
+                b"}},\"PaymentData\":{\"PaymentType\":",
+                kind.as_str().as_bytes(),
+                out,
+            )?;
+            out.extend_from_slice(b"}}")
+        }
+    }
+}
+
+fn write_reversal(ask: &ReversalAsk, out: &mut Vec<u8>) -> Result<(), AllocError>
+    ensures { OnOk result (out.new.items ≡ out.old.items ++ canonical (object (reversal_members ask.now))) }
+{
+    write_named(
+        b"{\"OriginalPOITransaction\":{\"POITransactionID\":{\"TransactionID\":",
+        ask.transaction.as_bytes(),
+        out,
+    )?;
+    out.extend_from_slice(b"}},\"ReversalReason\":\"MerchantCancel\"")?;
+    write_optional_money(b",\"ReversedAmount\":", ask.amount, out)?;
+    out.extend_from_slice(b"}")
+}
+
+/// An object whose only member is the reference.
+fn write_referring(reference: &Reference, out: &mut Vec<u8>) -> Result<(), AllocError>
+    ensures { OnOk result (out.new.items ≡ out.old.items ++ canonical (object (referring_members reference.now))) }
+{
+    write_named(
+        b"{\"MessageReference\":{\"ServiceID\":",
+        reference.service.as_bytes(),
+        out,
+    )?;
+    write_optional(b",\"SaleID\":", &reference.sale, out)?;
+    write_optional(b",\"POIID\":", &reference.poi, out)?;
+    out.extend_from_slice(b"}}")
+}
+
+/// Outputs behind the opening bracket, with the closing one.
+fn write_outputs(outputs: &[Output], out: &mut Vec<u8>) -> Result<(), AllocError>
+    ensures { OnOk result (out.new.items ≡ out.old.items ++ canonical_first (output_items outputs.now)) }
+{
+    for (i, output) in outputs.iter().enumerate() {
+        if i > 0 {
+            out.extend_from_slice(b",")?;
+        }
+        write_output(output, out)?;
+    }
+    out.extend_from_slice(b"]")
+}
+
+fn write_output(output: &Output, out: &mut Vec<u8>) -> Result<(), AllocError>
+    ensures { OnOk result (out.new.items ≡ out.old.items ++ canonical (output_tree output.now)) }
+{
+    write_named(b"{\"Device\":", output.device.as_bytes(), out)?;
+    write_named(b",\"InfoQualify\":", output.qualify.as_bytes(), out)?;
+    out.extend_from_slice(b",\"ResponseRequiredFlag\":")?;
+    out.extend_from_slice(word_of(output.required))?;
+    out.extend_from_slice(b",\"OutputContent\":{\"OutputFormat\":\"Text\"")?;
+    write_optional_texts(&output.texts, out)?;
+    out.extend_from_slice(b"}}")
+}
+
+/// The word of true or false.
+fn word_of(flag: bool) -> &'static [u8]
+    ensures { result.now ≡ canonical (boolean flag) }
+{
+    if flag { b"true" } else { b"false" }
+}
+
+/// The texts of an output, where it has some.
+fn write_optional_texts(texts: &Option<Texts>, out: &mut Vec<u8>) -> Result<(), AllocError>
+    ensures { OnOk result (out.new.items ≡ out.old.items ++ texts_piece (codes ",\"OutputText\":") texts.now) }
+{
+    match texts {
+        None => Ok(()),
+        Some(texts) => {
+            out.extend_from_slice(b",\"OutputText\":[")?;
+            write_texts(texts.as_slice(), out)
+        }
+    }
+}
+
+/// Texts behind the opening bracket, with the closing one.
+fn write_texts(texts: &[Text], out: &mut Vec<u8>) -> Result<(), AllocError>
+    ensures { OnOk result (out.new.items ≡ out.old.items ++ canonical_first (text_items texts.now)) }
+{
+    for (i, text) in texts.iter().enumerate() {
+        if i > 0 {
+            out.extend_from_slice(b",")?;
+        }
+        write_named(b"{\"Text\":", text.as_str().as_bytes(), out)?;
+        out.extend_from_slice(b"}")?;
+    }
+    out.extend_from_slice(b"]")
+}
+
+/// Minor units with two digits behind the point.
+#[tactic(auto, unfolding(crate::specs::Written::money_text))]
+fn write_money(minor: u64, out: &mut Vec<u8>) -> Result<(), AllocError>
+    ensures { OnOk result (out.new.items ≡ out.old.items ++ money_text minor) }
+{
+    let mut whole = Buffer::new();
+    out.extend_from_slice(whole.format(minor / 100).as_bytes())?;
+    let cents = (minor % 100) as u8;
+    out.extend_from_slice(&[b'.', b'0' + cents / 10, b'0' + cents % 10])
+}
+
+/// Money behind what stands in front of it, where there is some.
+fn write_optional_money(
+    front: &[u8],
+    minor: Option<u64>,
+    out: &mut Vec<u8>,
+) -> Result<(), AllocError>
+    ensures { OnOk result (out.new.items ≡ out.old.items ++ money_piece front.now minor) }
+{
+    match minor {
+        None => Ok(()),
+        Some(minor) => {
+            out.extend_from_slice(front)?;
+            write_money(minor, out)
+        }
+    }
+}

@@ -1,0 +1,16 @@
+//! Why a message is no message of a till.
+use crate::Header;
+use gw_base::Ident;
+
+/// Why a message is refused, with the path of the member in question: names divided by points.
+#[derive(Clone, Copy, PartialEq, Eq, Debug)]
+pub enum SaleFault {
+    /// No header was read.
+    NoHeader { path: Ident<100> },
+    /// A required member is absent.
+    Missing { header: Header, path: Ident<100> },
+    /// A member is of another form.
+    Wrong { header: Header, path: Ident<100> },
+    /// The category isn't one of this profile.
+    Unserved { header: Header },
+}

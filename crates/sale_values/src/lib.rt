@@ -1,0 +1,17 @@
+//! The messages of tills as values: headers, requests and faults of nexo Sale to POI 3.0, narrowed to this profile.
+#![tactic(auto)]
+
+mod fault;
+mod header;
+mod lists;
+mod names;
+mod request;
+
+pub use fault::SaleFault;
+pub use header::Header;
+pub use lists::{Outputs, Texts};
+pub use names::{Class, Kind, Period, law_names};
+pub use request::{Incoming, Output, PaymentAsk, Reference, ReversalAsk, SaleRequest};
+
+#[cfg(test)]
+mod tests;
