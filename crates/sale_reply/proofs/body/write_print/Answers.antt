@@ -1,0 +1,8 @@
+use Rattle.sale_reply.proofs.PieceLemmas.{and_then, spelled}
+use Rattle.sale_reply.proofs.Spellings.{print_parts}
+use Rattle.sale_reply.proofs.body.write_print.Goals as goal
+
+pub returns : goal.returns
+returns c =
+    spelled (and_then c.raw.ensures (and_then c.first_text.ensures (and_then c.next_name.ensures (and_then c.write_verdict.ensures c.raw-2.ensures))))
+    (cc (print_parts c.args.qualifier.now c.args.verdict.now))

@@ -1,0 +1,7 @@
+use Rattle.std.proofs.Common.{◌≡◌, ◌++◌, length, drop}
+use Rattle.gw_base.specs.Digits.{digits}
+use Rattle.sale_reply.proofs.text.fill_digits.Given as goal
+
+-- the digits still to be written, and those that are, spell the value
+abbrev pub invariant-loop-at : goal.invariant-loop-at
+invariant-loop-at l = digits l.at l.rest ++ drop l.at l.cells ≡ digits (length l.initial.cells) l.value

@@ -1,0 +1,190 @@
+//! The buffer of a message to a till.
+ghost use Rattle.std.specs.Prelude.{◌≡◌, ◌<◌, ◌≤◌, [], ◌∷◌, length, drop, IfOk, flat_map, encode_utf8};
+ghost use Rattle.sale_reply.specs.Texts.{line_text};
+ghost use Rattle.std.specs.Char.{digit_char};
+ghost use Rattle.json_text.specs.Canonical.{written_text, written_byte};
+ghost use Rattle.sale_frame.specs.Frame.{frame};
+ghost use Rattle.sale_reply.specs.Pieces.{first_name, next_name, first_text, next_text, next_optional, next_number};
+ghost use Rattle.sale_reply.specs.Appends.{Appends};
+
+use gw_base::{Ident, char_of_437};
+use sale_frame::frame_length;
+use std::alloc::{AllocError, Global};
+use std::marker::Model;
+
+/// A frame's length and the longest message.
+const ROOM: usize = 65_540;
+
+/// A message to a till in its frame: four bytes of length, most significant first, and at most 65,536 bytes of JSON
+/// text. A contract sees the bytes.
+///
+/// Its memory is taken once; no message takes more.
+#[derive(Debug, Drop)]
+pub struct Out {
+    bytes: Vec<u8>,
+}
+
+impl Model for Out {
+    ghost use Rattle.std.specs.Prelude.{◌≤◌, List, ℕ, length};
+    ghost use Rattle.std.specs.Vec.{vec_capacity};
+
+    ghost Value = { List ℕ };
+
+    ghost view = { λ out. out.bytes.items };
+
+    ghost invariant = { λ out. (length out.bytes.items ≤ 65540) × (65540 ≤ vec_capacity out.bytes) };
+}
+
+impl Out {
+    /// An empty buffer.
+    pub fn new(alloc: Global) -> Result<Out, AllocError>
+        ensures { IfOk result (λ out. out ≡ []) }
+    {
+        Ok(Out {
+            bytes: Vec::with_capacity(alloc, ROOM)?,
+        })
+    }
+
+    /// The bytes of the message that was written last, in its frame.
+    pub fn as_bytes(&self) -> &[u8]
+        ensures { result.now ≡ self.now }
+    {
+        &self.bytes
+    }
+
+    /// Begins a message, with room for its length in front.
+    pub(crate) fn begin(&mut self)
+        ensures { self.new ≡ 0 ∷ 0 ∷ 0 ∷ 0 ∷ [] }
+    {
+        self.bytes.clear();
+        self.raw(&[0; 4]);
+    }
+
+    /// Writes the message's length in front.
+    pub(crate) fn end(&mut self)
+        requires begun { 4 < length self.old }
+        requires fits { length self.old ≤ 65540 }
+        ensures { self.new ≡ frame (drop 4 self.old) }
+    {
+        let [first, second, third, fourth] = frame_length(self.bytes.len() - 4);
+        self.bytes[0] = first;
+        self.bytes[1] = second;
+        self.bytes[2] = third;
+        self.bytes[3] = fourth;
+    }
+
+    /// Appends bytes as they are; none of them where there is no room for all.
+    pub(crate) fn raw(&mut self, bytes: &[u8])
+        ensures { Appends self.old self.new bytes.now }
+    {
+        if bytes.len() <= ROOM - self.bytes.len() {
+            self.bytes.extend_from_slice(bytes).unwrap();
+        }
+    }
+
+    /// Appends a byte of a string, escaped where it has to be.
+    fn byte(&mut self, byte: u8)
+        ensures { Appends self.old self.new (written_byte byte) }
+    {
+        if byte == b'"' || byte == b'\\' {
+            self.raw(&[b'\\', byte]);
+        } else if byte < 32 {
+            let (high, low) = (hex_digit(byte / 16), hex_digit(byte % 16));
+            self.raw(&[b'\\', b'u', b'0', b'0', high, low]);
+        } else {
+            self.raw(&[byte]);
+        }
+    }
+
+    /// Appends a string between its quotation marks.
+    pub(crate) fn string(&mut self, text: &[u8])
+        ensures { Appends self.old self.new (written_text text.now) }
+    {
+        self.raw(b"\"");
+        for byte in text {
+            self.byte(*byte);
+        }
+        self.raw(b"\"");
+    }
+
+    /// Appends what the bytes of a terminal's line show, between quotation marks.
+    pub(crate) fn line(&mut self, line: &[u8])
+        ensures { Appends self.old self.new (written_text (line_text line.now)) }
+    {
+        self.raw(b"\"");
+        for byte in line {
+            self.character(char_of_437(*byte));
+        }
+        self.raw(b"\"");
+    }
+
+    /// Appends a character of a string, escaped where it has to be.
+    fn character(&mut self, character: char)
+        ensures { Appends self.old self.new (flat_map written_byte (encode_utf8 character)) }
+    {
+        for byte in character.encode_utf8(&mut [0; 4]).as_bytes() {
+            self.byte(*byte);
+        }
+    }
+
+    /// Appends `"name":`.
+    pub(crate) fn first_name(&mut self, name: &[u8])
+        ensures { Appends self.old self.new (first_name name.now) }
+    {
+        self.string(name);
+        self.raw(b":");
+    }
+
+    /// Appends `,"name":`.
+    pub(crate) fn next_name(&mut self, name: &[u8])
+        ensures { Appends self.old self.new (next_name name.now) }
+    {
+        self.raw(b",");
+        self.string(name);
+        self.raw(b":");
+    }
+
+    /// Appends `"name":"text"`.
+    pub(crate) fn first_text(&mut self, name: &[u8], text: &[u8])
+        ensures { Appends self.old self.new (first_text name.now text.now) }
+    {
+        self.first_name(name);
+        self.string(text);
+    }
+
+    /// Appends `,"name":"text"`.
+    pub(crate) fn next_text(&mut self, name: &[u8], text: &[u8])
+        ensures { Appends self.old self.new (next_text name.now text.now) }
+    {
+        self.next_name(name);
+        self.string(text);
+    }
+
+    /// Appends `,"name":"text"` where there is an identifier.
+    pub(crate) fn next_id<const N: usize>(&mut self, name: &[u8], id: &Option<Ident<N>>)
+        ensures { Appends self.old self.new (next_optional name.now id.now) }
+    {
+        if let Some(id) = id {
+            self.next_text(name, id.as_bytes());
+        }
+    }
+
+    /// Appends `,"name":` and the digits of a number.
+    pub(crate) fn next_number(&mut self, name: &[u8], digits: &[u8])
+        ensures { Appends self.old self.new (next_number name.now digits.now) }
+    {
+        self.next_name(name);
+        self.raw(digits);
+    }
+}
+
+fn hex_digit(value: u8) -> u8
+    requires { value < 16 }
+    ensures { result ≡ digit_char value }
+{
+    if value < 10 {
+        b'0' + value
+    } else {
+        b'a' + (value - 10)
+    }
+}

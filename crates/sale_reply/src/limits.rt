@@ -1,0 +1,220 @@
+//! The limits of the parts of a message, and that a message within them fits.
+ghost use Rattle.std.specs.Prelude.{◌^◌, ◌<◌, ◌≤◌, ◌↔◌, ◌⊎◌, All, IfSome, IsTrue, length, sum_by};
+ghost use Rattle.gw_base.specs.Ident.{IsIdent};
+ghost use Rattle.json_text.specs.Canonical.{canonical};
+ghost use Rattle.sale_reply.specs.declared.reply.SaleReply.{SaleReply};
+ghost use Rattle.sale_reply.specs.Limits.{IsDetail, IsHeader, IsShown, IsTold, IsPrintRequest, IsTotal, IsWithinLimits};
+ghost use Rattle.sale_reply.specs.Reply.{tree_of};
+
+use crate::reply::{Detail, SaleReply, Shown, Told};
+use gw_base::{Ident, law_stamp};
+use sale_values::Header;
+
+/// The most bytes that the lines of a print request have together: those of one APDU of a terminal.
+const MOST_LINES: usize = 12_000;
+
+/// Whether the message's parts lie within the limits of this profile. Only a print request can have too much, since
+/// the types of all others see to it.
+pub fn is_within_limits(reply: &SaleReply<'_>) -> bool
+    ensures within { IsTrue result ↔ IsWithinLimits reply.now }
+    ensures others { IsPrintRequest reply.now ⊎ IsTrue result }
+{
+    match reply {
+        SaleReply::PrintRequest { header, lines } => {
+            law_header(header);
+            are_within_limits(lines.as_slice())
+        }
+        SaleReply::Plain { header, verdict } => {
+            law_header(header);
+            law_optional(&verdict.path);
+            true
+        }
+        SaleReply::Told { header, told } => {
+            law_header(header);
+            law_told(told);
+            true
+        }
+        SaleReply::Status {
+            header,
+            repeated,
+            told,
+        } => {
+            law_header(header);
+            law_header(repeated);
+            law_told(told);
+            true
+        }
+        SaleReply::Display { header, outputs } => {
+            law_header(header);
+            law_outputs(outputs.as_slice());
+            true
+        }
+        SaleReply::Print {
+            header,
+            qualifier,
+            verdict,
+        } => {
+            law_header(header);
+            law_ident(qualifier);
+            law_optional(&verdict.path);
+            true
+        }
+        SaleReply::Diagnosis { header, .. } | SaleReply::DisplayRequest { header, .. } => {
+            law_header(header);
+            true
+        }
+        SaleReply::Reject {
+            sale,
+            poi,
+            detail,
+            ..
+        } => {
+            law_ident(sale);
+            law_ident(poi);
+            law_detail(detail);
+            true
+        }
+    }
+}
+
+/// Whether the lines are few enough and short enough.
+fn are_within_limits(lines: &[&[u8]]) -> bool
+    ensures { IsTrue result ↔ (length lines.now ≤ 400) × (sum_by (λ line. length line.now) lines.now ≤ 12000) }
+{
+    if lines.len() > 400 {
+        return false;
+    }
+    let mut room = MOST_LINES;
+    for line in lines {
+        if line.len() > room {
+            return false;
+        }
+        room -= line.len();
+    }
+    true
+}
+
+// What follows holds by the types.
+
+fn law_u32(value: u32)
+    ensures { value < 2 ^ 32 }
+{
+    let _value = value;
+}
+
+fn law_u64(value: u64)
+    ensures { value < 2 ^ 64 }
+{
+    let _value = value;
+}
+
+fn law_total(total: &(u32, u64))
+    ensures { IsTotal total.now }
+{
+    law_u32(total.0);
+    law_u64(total.1);
+}
+
+fn law_ident<const N: usize>(ident: &Ident<N>)
+    ensures { IsIdent N ident.now }
+{
+    let _bytes = ident.as_bytes();
+}
+
+fn law_optional<const N: usize>(ident: &Option<Ident<N>>)
+    ensures { IfSome ident.now (λ bytes. IsIdent N bytes) }
+{
+    if let Some(ident) = ident {
+        law_ident(ident);
+    }
+}
+
+fn law_header(header: &Header)
+    ensures { IsHeader header.now }
+{
+    law_ident(&header.category);
+    law_optional(&header.service);
+    law_optional(&header.device);
+    law_ident(&header.sale);
+    law_ident(&header.poi);
+}
+
+fn law_told(told: &Told)
+    ensures { IsTold told.now }
+{
+    match told {
+        Told::PaymentApproved {
+            transaction,
+            stamp,
+            mark,
+            paid,
+            ..
+        } => {
+            law_ident(transaction);
+            law_ident(stamp);
+            law_u32(mark.slot);
+            law_u64(paid.minor);
+        }
+        Told::PaymentDeclined {
+            transaction,
+            stamp,
+            mark,
+            ..
+        } => {
+            law_ident(transaction);
+            law_ident(stamp);
+            law_u32(mark.slot);
+        }
+        Told::ReversalApproved { mark, reversed } => {
+            law_u32(mark.slot);
+            law_u64(reversed.minor);
+        }
+        Told::ReversalDeclined { mark, .. } => {
+            law_u32(mark.slot);
+        }
+        Told::Reconciled {
+            debit,
+            reversed,
+            ..
+        } => {
+            law_total(debit);
+            law_total(reversed);
+        }
+    }
+}
+
+fn law_outputs(outputs: &[Shown])
+    ensures { All IsShown outputs.now }
+{
+    for shown in outputs {
+        law_shown(shown);
+    }
+}
+
+fn law_shown(shown: &Shown)
+    ensures { IsShown shown.now }
+{
+    law_ident(&shown.device);
+    law_ident(&shown.qualify);
+    law_optional(&shown.verdict.path);
+}
+
+fn law_detail(detail: &Detail)
+    ensures { IsDetail detail.now }
+{
+    match detail {
+        Detail::Json(fault) => {
+            law_u64(fault.at as u64);
+        }
+        Detail::Header(path) => law_ident(path),
+        Detail::Body(path) => law_ident(path),
+        Detail::Abort => {}
+    }
+}
+
+/// A message whose parts lie within the limits fits its frame.
+pub fn law_size()
+    ensures { (reply : SaleReply) → IsWithinLimits reply → length (canonical (tree_of reply)) ≤ 65536 }
+{
+    law_stamp();
+}

@@ -1,0 +1,173 @@
+//! What is told to a till.
+ghost use Rattle.std.specs.Prelude.{◌≡◌};
+ghost use Rattle.gw_base.specs.Ident.{IsIdent};
+
+use arrayvec::ArrayVec;
+use gw_base::{Condition, Currency, Ident, Money};
+use json_text::JsonFault;
+use sale_values::{Header, Period};
+
+/// A name that is known.
+fn name(text: &[u8]) -> Ident<40>
+    requires { IsIdent 40 text.now }
+    ensures { result ≡ text.now }
+{
+    match Ident::of(text) {
+        Some(ident) => ident,
+        None => unreachable!(),
+    }
+}
+
+/// What stands as `POITransactionID`: the numbers that the terminal told, the slot of the record of the
+/// intent, and the moment of the outcome.
+#[derive(Clone, Copy, Debug, PartialEq, Eq)]
+pub struct PoiMark {
+    /// The trace number, of six digits.
+    pub number: u32,
+    /// The receipt number, of four digits.
+    pub receipt: u16,
+    pub slot: u32,
+    pub moment: i64,
+}
+
+/// A result: Success without a condition, else Failure. The path is that of the member at fault.
+#[derive(Clone, Copy, Debug, PartialEq, Eq)]
+pub struct Verdict {
+    pub condition: Option<Condition>,
+    pub path: Option<Ident<100>>,
+}
+
+/// What is told of a finished payment, reversal or reconciliation.
+#[derive(Clone, Copy, Debug, PartialEq, Eq)]
+pub enum Told {
+    PaymentApproved {
+        transaction: Ident<80>,
+        stamp: Ident<35>,
+        mark: PoiMark,
+        /// What was asked for, in minor units.
+        requested: u64,
+        paid: Money,
+    },
+    PaymentDeclined {
+        transaction: Ident<80>,
+        stamp: Ident<35>,
+        mark: PoiMark,
+        condition: Condition,
+    },
+    ReversalApproved {
+        mark: PoiMark,
+        reversed: Money,
+    },
+    ReversalDeclined {
+        mark: PoiMark,
+        condition: Condition,
+    },
+    /// The totals of a period: how many, and their sum in minor units.
+    Reconciled {
+        period: Period,
+        currency: Currency,
+        debit: (u32, u64),
+        reversed: (u32, u64),
+    },
+}
+
+/// nexo's `Result`.
+#[derive(Clone, Copy, Debug, PartialEq, Eq)]
+pub enum ReplyResult {
+    Success,
+    Partial,
+    Failure,
+}
+
+/// The result of one output of a display.
+#[derive(Clone, Copy, Debug, PartialEq, Eq)]
+pub struct Shown {
+    pub device: Ident<40>,
+    pub qualify: Ident<40>,
+    pub verdict: Verdict,
+}
+
+impl Default for Shown {
+    /// The one entry of an answer to a Display whose outputs could not be read.
+    fn default() -> Self {
+        Shown {
+            device: name(b"CustomerDisplay"),
+            qualify: name(b"Display"),
+            verdict: Verdict {
+                condition: Some(Condition::MessageFormat),
+                path: None,
+            },
+        }
+    }
+}
+
+/// Whether a terminal can be used.
+#[derive(Clone, Copy, Debug, PartialEq, Eq)]
+pub enum GlobalStatus {
+    /// Written `OK`.
+    Ready,
+    Busy,
+    Maintenance,
+    Unreachable,
+}
+
+/// Why a message was rejected.
+#[derive(Clone, Copy, Debug, PartialEq, Eq)]
+pub enum Detail {
+    Json(JsonFault),
+    /// The path of the member of the header that is absent or of another form.
+    Header(Ident<100>),
+    /// The path of the member of an Abort's body that is absent or of another form.
+    Body(Ident<100>),
+    /// An Abort of what is neither open nor waits.
+    Abort,
+}
+
+/// A message to a till. Each header is the one that is written.
+#[derive(Drop)]
+pub enum SaleReply<'a> {
+    Plain {
+        header: Header,
+        verdict: Verdict,
+    },
+    Told {
+        header: Header,
+        told: Told,
+    },
+    /// What was told before, told again, with the header that it had.
+    Status {
+        header: Header,
+        repeated: Header,
+        told: Told,
+    },
+    Diagnosis {
+        header: Header,
+        status: GlobalStatus,
+    },
+    Display {
+        header: Header,
+        outputs: ArrayVec<Shown, 16>,
+    },
+    Print {
+        header: Header,
+        qualifier: Ident<40>,
+        verdict: Verdict,
+    },
+    /// Shows a cashier what the terminal does, by the code of its intermediate status.
+    DisplayRequest {
+        header: Header,
+        code: u8,
+    },
+    /// Prints what the terminal sent, each line in the bytes of a terminal's text.
+    PrintRequest {
+        header: Header,
+        lines: ArrayVec<&'a [u8], 400>,
+    },
+    /// Tells that a message was rejected.
+    Reject {
+        sale: Ident<40>,
+        poi: Ident<40>,
+        moment: i64,
+        detail: Detail,
+    },
+}

@@ -1,0 +1,288 @@
+//! Messages byte by byte.
+
+use crate::*;
+use arrayvec::ArrayVec;
+use gw_base::{Condition, Currency, Ident, Money};
+use json_text::{FaultKind, JsonFault};
+use sale_values::{Class, Header, Kind, Period};
+use std::process::Abort;
+use std::test::Fail;
+
+fn header(class: Class, category: &[u8], kind: Kind) -> Option<Header> {
+    Some(Header {
+        class,
+        category: Ident::of(category)?,
+        kind,
+        service: Ident::of(b"1"),
+        device: None,
+        sale: Ident::of(b"S1")?,
+        poi: Ident::of(b"T1")?,
+    })
+}
+
+fn approved() -> Option<Told> {
+    Some(Told::PaymentApproved {
+        transaction: Ident::of(b"27908")?,
+        stamp: Ident::of(b"2025-03-07T10:11:04+00:00")?,
+        mark: PoiMark {
+            number: 123,
+            receipt: 17,
+            slot: 0,
+            moment: 1_741_342_264,
+        },
+        requested: 1099,
+        paid: Money {
+            minor: 1099,
+            currency: Currency::Eur,
+        },
+    })
+}
+
+/// Writes it where it is within the limits, and says whether it is.
+fn put(reply: &SaleReply<'_>, out: &mut Out) -> bool {
+    if is_within_limits(reply) {
+        law_size();
+        write_reply(reply, out);
+        true
+    } else {
+        false
+    }
+}
+
+fn tells(rt: &impl Abort, out: &mut Out, reply: &SaleReply<'_>, text: &str) {
+    assert!(rt; put(reply, out));
+    let length = (text.len() as u64).to_be_bytes();
+    assert_eq!(rt; out.as_bytes().get(..4), length.get(4..));
+    assert_eq!(rt; out.as_bytes().get(4..), Some(text.as_bytes()));
+}
+
+const APPROVED: &str =
+    r#"{"SaleToPOIResponse":{"MessageHeader":{"ProtocolVersion":"3.0","MessageClass":"Service","MessageCategory":"Payment","MessageType":"Response","ServiceID":"1","SaleID":"S1","POIID":"T1"},"PaymentResponse":{"Response":{"Result":"Success"},"SaleData":{"SaleTransactionID":{"TransactionID":"27908","TimeStamp":"2025-03-07T10:11:04+00:00"}},"POIData":{"POITransactionID":{"TransactionID":"000123-0017-0","TimeStamp":"2025-03-07T10:11:04Z"}},"PaymentResult":{"AmountsResp":{"Currency":"EUR","AuthorizedAmount":10.99}}}}}"#;
+
+const FAILED: &str =
+    r#"{"SaleToPOIResponse":{"MessageHeader":{"ProtocolVersion":"3.0","MessageClass":"Service","MessageCategory":"Payment","MessageType":"Response","ServiceID":"1","SaleID":"S1","POIID":"T1"},"PaymentResponse":{"Response":{"Result":"Failure","ErrorCondition":"MessageFormat","AdditionalResponse":"PaymentRequest.PaymentTransaction.AmountsReq.RequestedAmount"}}}}"#;
+
+const LOGGED_IN: &str =
+    r#"{"SaleToPOIResponse":{"MessageHeader":{"ProtocolVersion":"3.0","MessageClass":"Service","MessageCategory":"Login","MessageType":"Response","ServiceID":"1","SaleID":"S1","POIID":"T1"},"LoginResponse":{"Response":{"Result":"Success"}}}}"#;
+
+const STATUS: &str =
+    r#"{"SaleToPOIResponse":{"MessageHeader":{"ProtocolVersion":"3.0","MessageClass":"Service","MessageCategory":"TransactionStatus","MessageType":"Response","ServiceID":"1","SaleID":"S1","POIID":"T1"},"TransactionStatusResponse":{"Response":{"Result":"Success"},"RepeatedMessageResponse":{"MessageHeader":{"ProtocolVersion":"3.0","MessageClass":"Service","MessageCategory":"Payment","MessageType":"Response","ServiceID":"7","SaleID":"S1","POIID":"T1"},"RepeatedResponseMessageBody":{"PaymentResponse":{"Response":{"Result":"Failure","ErrorCondition":"Aborted"},"SaleData":{"SaleTransactionID":{"TransactionID":"27908","TimeStamp":"2025-03-07T10:11:04+00:00"}},"POIData":{"POITransactionID":{"TransactionID":"000000-0000-0","TimeStamp":"2025-03-07T10:11:04Z"}}}}}}}}"#;
+
+const TOTALS: &str =
+    r#"{"SaleToPOIResponse":{"MessageHeader":{"ProtocolVersion":"3.0","MessageClass":"Service","MessageCategory":"Reconciliation","MessageType":"Response","ServiceID":"1","SaleID":"S1","POIID":"T1"},"ReconciliationResponse":{"Response":{"Result":"Success"},"ReconciliationType":"SaleReconciliation","TransactionTotals":[{"PaymentInstrumentType":"Card","PaymentCurrency":"EUR","PaymentTotals":[{"TransactionType":"Debit","TransactionCount":2,"TransactionAmount":15.99},{"TransactionType":"ReverseDebit","TransactionCount":1,"TransactionAmount":10.99}]}]}}}"#;
+
+const DIAGNOSIS: &str =
+    r#"{"SaleToPOIResponse":{"MessageHeader":{"ProtocolVersion":"3.0","MessageClass":"Service","MessageCategory":"Diagnosis","MessageType":"Response","ServiceID":"1","SaleID":"S1","POIID":"T1"},"DiagnosisResponse":{"Response":{"Result":"Success"},"POIStatus":{"GlobalStatus":"OK"}}}}"#;
+
+const SHOWN: &str =
+    r#"{"SaleToPOIResponse":{"MessageHeader":{"ProtocolVersion":"3.0","MessageClass":"Device","MessageCategory":"Display","MessageType":"Response","ServiceID":"1","DeviceID":"9","SaleID":"S1","POIID":"T1"},"DisplayResponse":{"OutputResult":[{"Device":"CustomerDisplay","InfoQualify":"Display","Response":{"Result":"Success"}},{"Device":"CashierDisplay","InfoQualify":"Display","Response":{"Result":"Failure","ErrorCondition":"UnavailableDevice"}}]}}}"#;
+
+const PRINTED: &str =
+    r#"{"SaleToPOIResponse":{"MessageHeader":{"ProtocolVersion":"3.0","MessageClass":"Device","MessageCategory":"Print","MessageType":"Response","ServiceID":"1","SaleID":"S1","POIID":"T1"},"PrintResponse":{"DocumentQualifier":"Document","Response":{"Result":"Failure","ErrorCondition":"UnavailableDevice"}}}}"#;
+
+const REVERSED: &str =
+    r#"{"SaleToPOIResponse":{"MessageHeader":{"ProtocolVersion":"3.0","MessageClass":"Service","MessageCategory":"Reversal","MessageType":"Response","ServiceID":"1","SaleID":"S1","POIID":"T1"},"ReversalResponse":{"Response":{"Result":"Success"},"POIData":{"POITransactionID":{"TransactionID":"000124-0018-2","TimeStamp":"2025-03-07T10:11:04Z"}},"ReversedAmount":10.99}}}"#;
+
+const UNREVERSED: &str =
+    r#"{"SaleToPOIResponse":{"MessageHeader":{"ProtocolVersion":"3.0","MessageClass":"Service","MessageCategory":"Reversal","MessageType":"Response","ServiceID":"1","SaleID":"S1","POIID":"T1"},"ReversalResponse":{"Response":{"Result":"Failure","ErrorCondition":"NotAllowed"},"POIData":{"POITransactionID":{"TransactionID":"000000-0000-2","TimeStamp":"2025-03-07T10:11:04Z"}}}}}"#;
+
+const SHOW: &str =
+    r#"{"SaleToPOIRequest":{"MessageHeader":{"ProtocolVersion":"3.0","MessageClass":"Device","MessageCategory":"Display","MessageType":"Request","ServiceID":"1","DeviceID":"0","SaleID":"S1","POIID":"T1"},"DisplayRequest":{"DisplayOutput":[{"ResponseRequiredFlag":false,"Device":"CashierDisplay","InfoQualify":"Status","OutputContent":{"OutputFormat":"Text","OutputText":[{"Text":"ZVT status 0A"}]}}]}}}"#;
+
+const PAPER: &str =
+    r#"{"SaleToPOIRequest":{"MessageHeader":{"ProtocolVersion":"3.0","MessageClass":"Device","MessageCategory":"Print","MessageType":"Request","ServiceID":"1","DeviceID":"0","SaleID":"S1","POIID":"T1"},"PrintRequest":{"PrintOutput":{"DocumentQualifier":"Document","ResponseMode":"NotRequired","OutputContent":{"OutputFormat":"Text","OutputText":[{"Text":"ä?"},{"Text":""},{"Text":"\"\\"}]}}}}}"#;
+
+const REJECTED: &str =
+    r#"{"SaleToPOIRequest":{"MessageHeader":{"ProtocolVersion":"3.0","MessageClass":"Event","MessageCategory":"Event","MessageType":"Notification","SaleID":"0","POIID":"GATEWAY"},"EventNotification":{"TimeStamp":"1970-01-01T00:00:00Z","EventToNotify":"Reject","EventDetails":"header SaleToPOIRequest"}}}"#;
+
+#[test]
+fn replies(rt: HostRuntime) -> Result<(), Fail> {
+    let mut out = Out::new(rt.alloc())?;
+    let payment = header(Class::Service, b"Payment", Kind::Response).ok_or("printable")?;
+    let told = SaleReply::Told {
+        header: payment,
+        told: approved().ok_or("printable")?,
+    };
+    tells(&rt, &mut out, &told, APPROVED);
+    let failed = SaleReply::Plain {
+        header: payment,
+        verdict: Verdict {
+            condition: Some(Condition::MessageFormat),
+            path: Ident::of(b"PaymentRequest.PaymentTransaction.AmountsReq.RequestedAmount"),
+        },
+    };
+    tells(&rt, &mut out, &failed, FAILED);
+    let logged_in = SaleReply::Plain {
+        header: header(Class::Service, b"Login", Kind::Response).ok_or("printable")?,
+        verdict: Verdict {
+            condition: None,
+            path: None,
+        },
+    };
+    tells(&rt, &mut out, &logged_in, LOGGED_IN);
+    let diagnosis = SaleReply::Diagnosis {
+        header: header(Class::Service, b"Diagnosis", Kind::Response).ok_or("printable")?,
+        status: GlobalStatus::Ready,
+    };
+    tells(&rt, &mut out, &diagnosis, DIAGNOSIS);
+    Ok(())
+}
+
+#[test]
+fn outcomes(rt: HostRuntime) -> Result<(), Fail> {
+    let mut out = Out::new(rt.alloc())?;
+    let mark = PoiMark {
+        number: 124,
+        receipt: 18,
+        slot: 2,
+        moment: 1_741_342_264,
+    };
+    let first = Header {
+        service: Ident::of(b"7"),
+        ..header(Class::Service, b"Payment", Kind::Response).ok_or("printable")?
+    };
+    let status = SaleReply::Status {
+        header: header(Class::Service, b"TransactionStatus", Kind::Response).ok_or("printable")?,
+        repeated: first,
+        told: Told::PaymentDeclined {
+            transaction: Ident::of(b"27908").ok_or("printable")?,
+            stamp: Ident::of(b"2025-03-07T10:11:04+00:00").ok_or("printable")?,
+            mark: PoiMark { slot: 0, ..mark },
+            condition: Condition::Aborted,
+        },
+    };
+    tells(&rt, &mut out, &status, STATUS);
+    let reversal = header(Class::Service, b"Reversal", Kind::Response).ok_or("printable")?;
+    let reversed = SaleReply::Told {
+        header: reversal,
+        told: Told::ReversalApproved {
+            mark,
+            reversed: Money {
+                minor: 1099,
+                currency: Currency::Eur,
+            },
+        },
+    };
+    tells(&rt, &mut out, &reversed, REVERSED);
+    let unreversed = SaleReply::Told {
+        header: reversal,
+        told: Told::ReversalDeclined {
+            mark,
+            condition: Condition::NotAllowed,
+        },
+    };
+    tells(&rt, &mut out, &unreversed, UNREVERSED);
+    let totals = SaleReply::Told {
+        header: header(Class::Service, b"Reconciliation", Kind::Response).ok_or("printable")?,
+        told: Told::Reconciled {
+            period: Period::SaleReconciliation,
+            currency: Currency::Eur,
+            debit: (2, 1599),
+            reversed: (1, 1099),
+        },
+    };
+    tells(&rt, &mut out, &totals, TOTALS);
+    Ok(())
+}
+
+#[test]
+fn devices(rt: HostRuntime) -> Result<(), Fail> {
+    let mut out = Out::new(rt.alloc())?;
+    let display = Header {
+        device: Ident::of(b"9"),
+        ..header(Class::Device, b"Display", Kind::Response).ok_or("printable")?
+    };
+    let unavailable = Verdict {
+        condition: Some(Condition::UnavailableDevice),
+        path: None,
+    };
+    let mut outputs = ArrayVec::new();
+    let customer = Shown {
+        verdict: Verdict {
+            condition: None,
+            path: None,
+        },
+        ..Shown::default()
+    };
+    let cashier = Shown {
+        device: Ident::of(b"CashierDisplay").ok_or("printable")?,
+        verdict: unavailable,
+        ..customer
+    };
+    outputs.push(customer);
+    outputs.push(cashier);
+    let shown = SaleReply::Display {
+        header: display,
+        outputs,
+    };
+    tells(&rt, &mut out, &shown, SHOWN);
+    let printed = SaleReply::Print {
+        header: header(Class::Device, b"Print", Kind::Response).ok_or("printable")?,
+        qualifier: Ident::of(b"Document").ok_or("printable")?,
+        verdict: unavailable,
+    };
+    tells(&rt, &mut out, &printed, PRINTED);
+    Ok(())
+}
+
+#[test]
+fn device_requests_and_events(rt: HostRuntime) -> Result<(), Fail> {
+    let mut out = Out::new(rt.alloc())?;
+    let show = SaleReply::DisplayRequest {
+        header: Header {
+            device: Ident::of(b"0"),
+            ..header(Class::Device, b"Display", Kind::Request).ok_or("printable")?
+        },
+        code: 0x0A,
+    };
+    tells(&rt, &mut out, &show, SHOW);
+    let mut lines = ArrayVec::new();
+    lines.push([0x84, 0xFF].as_slice());
+    lines.push(b"".as_slice());
+    lines.push(b"\"\\".as_slice());
+    let paper = SaleReply::PrintRequest {
+        header: Header {
+            device: Ident::of(b"0"),
+            ..header(Class::Device, b"Print", Kind::Request).ok_or("printable")?
+        },
+        lines,
+    };
+    tells(&rt, &mut out, &paper, PAPER);
+    let rejected = SaleReply::Reject {
+        sale: Ident::of(b"0").ok_or("printable")?,
+        poi: Ident::of(b"GATEWAY").ok_or("printable")?,
+        moment: 0,
+        detail: Detail::Header(Ident::of(b"SaleToPOIRequest").ok_or("printable")?),
+    };
+    tells(&rt, &mut out, &rejected, REJECTED);
+    Ok(())
+}
+
+#[test]
+fn details_of_rejects(rt: HostRuntime) -> Result<(), Fail> {
+    let mut out = Out::new(rt.alloc())?;
+    let fault = |kind, at| Detail::Json(JsonFault { at, kind });
+    let rows = [
+        (fault(FaultKind::Repeated, 9), "json Repeated 9"),
+        (fault(FaultKind::NotJson, 7), "json NotJson 7"),
+        (fault(FaultKind::TooDeep, 32), "json TooDeep 32"),
+        (
+            Detail::Body(Ident::of(b"AbortRequest.MessageReference").ok_or("printable")?),
+            "body AbortRequest.MessageReference",
+        ),
+        (Detail::Abort, "abort"),
+    ];
+    for (detail, text) in rows {
+        let reply = SaleReply::Reject {
+            sale: Ident::of(b"S1").ok_or("printable")?,
+            poi: Ident::of(b"T1").ok_or("printable")?,
+            moment: 253_370_764_800,
+            detail,
+        };
+        let text = format!(in rt.alloc();
+            "{{\"SaleToPOIRequest\":{{\"MessageHeader\":{{\"ProtocolVersion\":\"3.0\",\"MessageClass\":\"Event\",\"MessageCategory\":\"Event\",\"MessageType\":\"Notification\",\"SaleID\":\"S1\",\"POIID\":\"T1\"}},\"EventNotification\":{{\"TimeStamp\":\"9999-01-01T00:00:00Z\",\"EventToNotify\":\"Reject\",\"EventDetails\":\"{text}\"}}}}}}"
+        )?;
+        tells(&rt, &mut out, &reply, text.as_str());
+    }
+    Ok(())
+}

@@ -1,0 +1,148 @@
+//! The texts that a reply puts together.
+ghost use Rattle.std.specs.Prelude.{◌≡◌, ◌≤◌, ◌<◌, ◌++◌, length};
+ghost use Rattle.gw_base.specs.Digits.{digits};
+ghost use Rattle.sale_reply.specs.Names.{fault_name};
+ghost use Rattle.sale_reply.specs.Texts.{money_text, transaction_text, upper_digit, status_text, detail_text};
+
+use crate::reply::Detail;
+use arrayvec::ArrayVec;
+use gw_base::Ident;
+use itoa::Buffer;
+use json_text::{FaultKind, JsonFault};
+
+/// An amount of minor units with two digits behind the point.
+#[tactic(auto, unfolding(crate::specs::Texts::money_text))]
+pub(crate) fn money(minor: u64) -> ArrayVec<u8, 24>
+    ensures { result.items ≡ money_text minor }
+{
+    let mut text = ArrayVec::new();
+    let mut whole = Buffer::new();
+    text.try_extend_from_slice(whole.format(minor / 100).as_bytes())
+        .unwrap();
+    text.push(b'.');
+    text.try_extend_from_slice(&last_digits::<2>(minor % 100))
+        .unwrap();
+    text
+}
+
+/// A POITransactionID's `TransactionID`.
+#[tactic(auto, unfolding(crate::specs::Texts::transaction_text))]
+pub(crate) fn transaction(number: u32, receipt: u16, slot: u32) -> ArrayVec<u8, 24>
+    ensures { result.items ≡ transaction_text number receipt slot }
+{
+    let mut text = ArrayVec::new();
+    text.try_extend_from_slice(&last_digits::<6>(u64::from(number)))
+        .unwrap();
+    text.push(b'-');
+    text.try_extend_from_slice(&last_digits::<4>(u64::from(receipt)))
+        .unwrap();
+    text.push(b'-');
+    text.try_extend_from_slice(Buffer::new().format(slot).as_bytes())
+        .unwrap();
+    text
+}
+
+/// The last digits of a number, with zeros in front.
+fn last_digits<const N: usize>(value: u64) -> [u8; N]
+    ensures { result ≡ digits N value }
+{
+    let mut cells = [b'0'; N];
+    fill_digits(value, &mut cells);
+    cells
+}
+
+fn fill_digits(value: u64, cells: &mut [u8])
+    ensures { cells.new ≡ digits (length cells.old) value }
+{
+    let mut rest = value;
+    for at in (0..cells.len()).rev() {
+        cells[at] = b'0' + (rest % 10) as u8;
+        rest /= 10;
+    }
+}
+
+/// What a cashier is shown of an intermediate status of the terminal.
+#[tactic(auto, unfolding(crate::specs::Texts::status_text))]
+pub(crate) fn status(code: u8) -> [u8; 13]
+    ensures { result ≡ status_text code }
+{
+    let (high, low) = (upper_digit(code / 16), upper_digit(code % 16));
+    [
+        b'Z', b'V', b'T', b' ', b's', b't', b'a', b't', b'u', b's', b' ', high, low,
+    ]
+}
+
+fn upper_digit(value: u8) -> u8
+    requires { value < 16 }
+    ensures { result ≡ upper_digit value }
+{
+    if value < 10 {
+        b'0' + value
+    } else {
+        b'A' + (value - 10)
+    }
+}
+
+/// The `EventDetails` of a rejected message.
+#[tactic(auto, unfolding(crate::specs::Texts::detail_text))]
+pub(crate) fn details(detail: &Detail) -> ArrayVec<u8, 128>
+    ensures { result.items ≡ detail_text detail.now }
+{
+    match detail {
+        Detail::Json(fault) => json_details(fault),
+        Detail::Header(path) => path_details(b"header ", path),
+        Detail::Body(path) => path_details(b"body ", path),
+        Detail::Abort => {
+            let mut text = ArrayVec::new();
+            text.try_extend_from_slice(b"abort").unwrap();
+            text
+        }
+    }
+}
+
+#[tactic(auto, unfolding(crate::specs::Texts::detail_text))]
+fn json_details(fault: &JsonFault) -> ArrayVec<u8, 128>
+    ensures { result.items ≡ detail_text (Detail.Json fault.now) }
+{
+    let mut text = ArrayVec::new();
+    text.try_extend_from_slice(b"json ").unwrap();
+    text.try_extend_from_slice(fault_name(fault.kind).as_bytes())
+        .unwrap();
+    text.try_extend_from_slice(b" ").unwrap();
+    text.try_extend_from_slice(Buffer::new().format(fault.at).as_bytes())
+        .unwrap();
+    text
+}
+
+fn path_details(front: &[u8], path: &Ident<100>) -> ArrayVec<u8, 128>
+    requires { length front.now ≤ 8 }
+    ensures { result.items ≡ front.now ++ path.now }
+{
+    let mut text = ArrayVec::new();
+    text.try_extend_from_slice(front).unwrap();
+    text.try_extend_from_slice(path.as_bytes()).unwrap();
+    text
+}
+
+fn fault_name(kind: FaultKind) -> &'static str
+    ensures named { result.now ≡ fault_name kind }
+    ensures short { length result.now ≤ 8 }
+{
+    match kind {
+        FaultKind::NotJson => "NotJson",
+        FaultKind::TooDeep => "TooDeep",
+        FaultKind::Repeated => "Repeated",
+        FaultKind::BadUtf8 => "BadUtf8",
+    }
+}
+
+/// The name of a message's body: the category, and what the message is.
+pub(crate) fn body_name(category: &Ident<40>, suffix: &[u8]) -> ArrayVec<u8, 48>
+    requires { length suffix.now ≤ 8 }
+    ensures { result.items ≡ category.now ++ suffix.now }
+{
+    let mut name = ArrayVec::new();
+    name.try_extend_from_slice(category.as_bytes()).unwrap();
+    name.try_extend_from_slice(suffix).unwrap();
+    name
+}

@@ -1,0 +1,177 @@
+//! The messages, written.
+ghost use Rattle.std.specs.Prelude.{◌≡◌, ◌≤◌, codes, length};
+ghost use Rattle.json_text.specs.Canonical.{canonical};
+ghost use Rattle.sale_frame.specs.Frame.{frame};
+ghost use Rattle.sale_reply.specs.Appends.{Appends};
+ghost use Rattle.sale_reply.specs.Pieces.{message_front};
+ghost use Rattle.sale_reply.specs.Reply.{header_tree, event_header, status_body, told_body, event, tree_of};
+
+use crate::body::{
+    write_diagnosis, write_event, write_plain, write_print, write_success, write_told,
+};
+use crate::buffer::Out;
+use crate::device::{write_display, write_paper, write_show};
+use crate::reply::{Detail, SaleReply, Told};
+use crate::text::body_name;
+use gw_base::Ident;
+use sale_values::Header;
+
+/// Puts the message into the buffer, in its frame, in place of what was there. It takes no memory.
+///
+/// JSON text (RFC 8259) of nexo Sale to POI 3.0 without white space. A message within the limits of this profile has
+/// at most 65,536 bytes.
+pub fn write_reply(reply: &SaleReply<'_>, out: &mut Out)
+    requires { length (canonical (tree_of reply.now)) ≤ 65536 }
+    ensures { out.new ≡ frame (canonical (tree_of reply.now)) }
+{
+    out.begin();
+    write_message(reply, out);
+    out.end();
+}
+
+fn write_message(reply: &SaleReply<'_>, out: &mut Out)
+    ensures { Appends out.old out.new (canonical (tree_of reply.now)) }
+{
+    match reply {
+        SaleReply::Reject {
+            sale,
+            poi,
+            moment,
+            detail,
+        } => write_reject(sale, poi, *moment, detail, out),
+        SaleReply::DisplayRequest { header, code } => {
+            open_request(header, out);
+            write_show(*code, out);
+            out.raw(b"}}");
+        }
+        SaleReply::PrintRequest { header, lines } => {
+            open_request(header, out);
+            write_paper(lines.as_slice(), out);
+            out.raw(b"}}");
+        }
+        SaleReply::Plain { header, verdict } => {
+            open_response(header, out);
+            write_plain(verdict, out);
+            out.raw(b"}}");
+        }
+        SaleReply::Told { header, told } => {
+            open_response(header, out);
+            write_told(told, out);
+            out.raw(b"}}");
+        }
+        SaleReply::Status {
+            header,
+            repeated,
+            told,
+        } => {
+            open_response(header, out);
+            write_status(repeated, told, out);
+            out.raw(b"}}");
+        }
+        SaleReply::Diagnosis { header, status } => {
+            open_response(header, out);
+            write_diagnosis(*status, out);
+            out.raw(b"}}");
+        }
+        SaleReply::Display { header, outputs } => {
+            open_response(header, out);
+            write_display(outputs.as_slice(), out);
+            out.raw(b"}}");
+        }
+        SaleReply::Print {
+            header,
+            qualifier,
+            verdict,
+        } => {
+            open_response(header, out);
+            write_print(qualifier, verdict, out);
+            out.raw(b"}}");
+        }
+    }
+}
+
+/// A reply up to its body.
+fn open_response(header: &Header, out: &mut Out)
+    ensures { Appends out.old out.new (message_front (codes "SaleToPOIResponse") header.now (codes "Response")) }
+{
+    open_message(b"SaleToPOIResponse", header, b"Response", out);
+}
+
+/// A device request up to its body.
+fn open_request(header: &Header, out: &mut Out)
+    ensures { Appends out.old out.new (message_front (codes "SaleToPOIRequest") header.now (codes "Request")) }
+{
+    open_message(b"SaleToPOIRequest", header, b"Request", out);
+}
+
+fn open_message(envelope: &[u8], header: &Header, suffix: &[u8], out: &mut Out)
+    requires { length suffix.now ≤ 8 }
+    ensures { Appends out.old out.new (message_front envelope.now header.now suffix.now) }
+{
+    out.raw(b"{");
+    out.first_name(envelope);
+    out.raw(b"{");
+    out.first_name(b"MessageHeader");
+    write_header(header, out);
+    out.next_name(body_name(&header.category, suffix).as_slice());
+}
+
+/// A message header.
+fn write_header(header: &Header, out: &mut Out)
+    ensures { Appends out.old out.new (canonical (header_tree header.now)) }
+{
+    out.raw(b"{");
+    out.first_text(b"ProtocolVersion", b"3.0");
+    out.next_text(b"MessageClass", header.class.name().as_bytes());
+    out.next_text(b"MessageCategory", header.category.as_bytes());
+    out.next_text(b"MessageType", header.kind.name().as_bytes());
+    out.next_id(b"ServiceID", &header.service);
+    out.next_id(b"DeviceID", &header.device);
+    out.next_text(b"SaleID", header.sale.as_bytes());
+    out.next_text(b"POIID", header.poi.as_bytes());
+    out.raw(b"}");
+}
+
+/// The body that tells a finished request again.
+fn write_status(repeated: &Header, told: &Told, out: &mut Out)
+    ensures { Appends out.old out.new (canonical (status_body repeated.now (told_body told.now))) }
+{
+    out.raw(b"{");
+    out.first_name(b"Response");
+    write_success(out);
+    out.next_name(b"RepeatedMessageResponse");
+    out.raw(b"{");
+    out.first_name(b"MessageHeader");
+    write_header(repeated, out);
+    out.next_name(b"RepeatedResponseMessageBody");
+    out.raw(b"{");
+    out.first_name(body_name(&repeated.category, b"Response").as_slice());
+    write_told(told, out);
+    out.raw(b"}}}");
+}
+
+fn write_reject(sale: &Ident<40>, poi: &Ident<40>, moment: i64, detail: &Detail, out: &mut Out)
+    ensures { Appends out.old out.new (canonical (event sale.now poi.now moment detail.now)) }
+{
+    out.raw(b"{");
+    out.first_name(b"SaleToPOIRequest");
+    out.raw(b"{");
+    out.first_name(b"MessageHeader");
+    write_event_header(sale, poi, out);
+    out.next_name(b"EventNotification");
+    write_event(moment, detail, out);
+    out.raw(b"}}");
+}
+
+fn write_event_header(sale: &Ident<40>, poi: &Ident<40>, out: &mut Out)
+    ensures { Appends out.old out.new (canonical (event_header sale.now poi.now)) }
+{
+    out.raw(b"{");
+    out.first_text(b"ProtocolVersion", b"3.0");
+    out.next_text(b"MessageClass", b"Event");
+    out.next_text(b"MessageCategory", b"Event");
+    out.next_text(b"MessageType", b"Notification");
+    out.next_text(b"SaleID", sale.as_bytes());
+    out.next_text(b"POIID", poi.as_bytes());
+    out.raw(b"}");
+}
