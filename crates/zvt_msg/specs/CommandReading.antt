@@ -1,0 +1,135 @@
+-- The command that an APDU spells, as a function that computes it.
+use Rattle.std.specs.Prelude.{ℕ, zero, suc, ◌+◌, ◌-◌, ◌*◌, List, [], ◌∷◌, length, take, drop, Option, None, Some, ◌&&◌, nat_lt, nat_le, ◌==◌, if◌then◌else◌}
+use Rattle.arrayvec.specs.ArrayVec.{ArrayVec}
+use Rattle.gw_base.specs.Bcd.{bcd_value}
+use Rattle.zvt_apdu.specs.Apdu.{ApduValue}
+use Rattle.zvt_bmp.specs.Reading.{is_bcd}
+use Rattle.zvt_msg.specs.declared.command.Command.{Command}
+use Rattle.zvt_msg.specs.declared.command.Command.TheVariants.{Register, Authorise, Enquire, Reverse, EndOfDay, Stop, Show}
+
+-- ---- the parts
+
+-- the bytes, if they are six digits
+abbrev pub password_of : List ℕ → Option (List ℕ)
+password_of bytes = if (length bytes == 3) && is_bcd bytes then Some bytes else None
+
+-- the number that the digits spell, if they are digits in so many bytes
+abbrev pub number_of : ℕ → List ℕ → Option ℕ
+number_of count bytes = if (length bytes == count) && is_bcd bytes then Some (bcd_value bytes) else None
+
+-- the digit in a byte F0 to F9
+abbrev pub digit_of : ℕ → Option ℕ
+digit_of byte = if nat_le 240 byte && nat_le byte 249 then Some (byte - 240) else None
+
+-- a line of so many bytes, and what follows it
+abbrev pub line_with : ℕ → List ℕ → Option (ArrayVec ℕ × List ℕ)
+line_with n bytes =
+    if nat_lt 40 n then None
+    else if nat_lt (length bytes) n then None
+    else Some (record { items = take n bytes }, drop n bytes)
+
+abbrev pub line_by : Option ℕ → Option ℕ → List ℕ → Option (ArrayVec ℕ × List ℕ)
+line_by None units bytes = None
+line_by (Some tens) None bytes = None
+line_by (Some tens) (Some units) bytes = line_with (10 * tens + units) bytes
+
+-- the line at the front, by its length
+abbrev pub line_of : List ℕ → Option (ArrayVec ℕ × List ℕ)
+line_of [] = None
+line_of (tens ∷ []) = None
+line_of (tens ∷ units ∷ bytes) = line_by (digit_of tens) (digit_of units) bytes
+
+abbrev pub with_first : ArrayVec ℕ → Option (List (ArrayVec ℕ)) → Option (List (ArrayVec ℕ))
+with_first line None = None
+with_first line (Some lines) = Some (line ∷ lines)
+
+-- the line at the front, and what more gives for the bytes behind it
+abbrev pub lines_from : (List ℕ → Option (List (ArrayVec ℕ))) → Option (ArrayVec ℕ × List ℕ) → Option (List (ArrayVec ℕ))
+lines_from more None = None
+lines_from more (Some found) = with_first found.0 (more found.1)
+
+-- at most so many lines, numbered on from this one
+abbrev pub lines_within : ℕ → ℕ → List ℕ → Option (List (ArrayVec ℕ))
+lines_within n number [] = Some []
+lines_within zero number (b ∷ bytes) = None
+lines_within (suc n) number (b ∷ bytes) = if b == number then lines_from (lines_within n (number + 1)) (line_of bytes) else None
+
+-- the lines of a display
+unfoldable pub lines_of : List ℕ → Option (List (ArrayVec ℕ))
+lines_of bytes = lines_within 8 0xF1 bytes
+
+-- ---- the commands, by their data
+
+abbrev pub register_with : Option (List ℕ) → ℕ → Option ℕ → Option Command
+register_with None config currency = None
+register_with (Some password) config None = None
+register_with (Some password) config (Some currency) = Some (Register password config currency)
+
+abbrev pub register_at : Option (List ℕ) → List ℕ → Option Command
+register_at password [] = None
+register_at password (config ∷ number) = register_with password config (number_of 2 number)
+
+abbrev pub register_of : List ℕ → Option Command
+register_of body = register_at (password_of (take 3 body)) (drop 3 body)
+
+abbrev pub authorise_with : Option ℕ → Option ℕ → Option Command
+authorise_with None currency = None
+authorise_with (Some amount) None = None
+authorise_with (Some amount) (Some currency) = Some (Authorise amount currency)
+
+abbrev pub authorise_at : Option ℕ → List ℕ → Option Command
+authorise_at amount [] = None
+authorise_at amount (b ∷ number) = if b == 0x49 then authorise_with amount (number_of 2 number) else None
+
+abbrev pub authorise_of : List ℕ → Option Command
+authorise_of [] = None
+authorise_of (b ∷ bytes) = if b == 0x04 then authorise_at (number_of 6 (take 6 bytes)) (drop 6 bytes) else None
+
+abbrev pub reverse_with : Option (List ℕ) → Option ℕ → Option Command
+reverse_with None receipt = None
+reverse_with (Some password) None = None
+reverse_with (Some password) (Some receipt) = Some (Reverse password receipt)
+
+abbrev pub reverse_at : Option (List ℕ) → List ℕ → Option Command
+reverse_at password [] = None
+reverse_at password (b ∷ number) = if b == 0x87 then reverse_with password (number_of 2 number) else None
+
+abbrev pub reverse_of : List ℕ → Option Command
+reverse_of body = reverse_at (password_of (take 3 body)) (drop 3 body)
+
+abbrev pub enquire_with : Option (List ℕ) → Option Command
+enquire_with None = None
+enquire_with (Some password) = Some (Enquire password)
+
+abbrev pub end_of_day_with : Option (List ℕ) → Option Command
+end_of_day_with None = None
+end_of_day_with (Some password) = Some (EndOfDay password)
+
+abbrev pub stop_of : List ℕ → Option Command
+stop_of [] = Some Stop
+stop_of (b ∷ bytes) = None
+
+abbrev pub show_with : Option (List (ArrayVec ℕ)) → Option Command
+show_with None = None
+show_with (Some lines) = Some (Show (record { items = lines }))
+
+abbrev pub show_of : List ℕ → Option Command
+show_of [] = None
+show_of (b ∷ []) = None
+show_of (b ∷ c ∷ bytes) = if (b == 0xF0) && (c == 0x05) then show_with (lines_of bytes) else None
+
+-- ---- the command of an APDU
+
+abbrev pub command_by : ℕ → List ℕ → Option Command
+command_by instr body =
+    if instr == 0x00 then register_of body
+    else if instr == 0x01 then authorise_of body
+    else if instr == 0x20 then enquire_with (password_of body)
+    else if instr == 0x30 then reverse_of body
+    else if instr == 0x50 then end_of_day_with (password_of body)
+    else if instr == 0xB0 then stop_of body
+    else if instr == 0xE0 then show_of body
+    else None
+
+unfoldable pub command_of : ApduValue → Option Command
+command_of apdu = if apdu.class == 0x06 then command_by apdu.instr apdu.body else None

@@ -1,0 +1,10 @@
+pub mod Block
+pub mod BlockReading
+pub mod Command
+pub mod CommandReading
+pub mod CommandWriting
+pub mod Found
+pub mod Message
+pub mod MessageReading
+pub mod MessageWriting
+pub mod Messages

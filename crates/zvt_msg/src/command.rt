@@ -1,0 +1,43 @@
+use arrayvec::ArrayVec;
+
+/// A text line of a terminal's display, in the terminal's character set: at most 40 bytes.
+pub type Line = ArrayVec<u8, 40>;
+
+/// The lines of a terminal's display, from the top: at most eight.
+pub type Lines = ArrayVec<Line, 8>;
+
+/// A command of the till to a terminal. A password is its six digits in three bytes, two in each, and a currency its
+/// number of ISO 4217.
+#[derive(Clone, Debug, PartialEq, Eq, Drop)]
+pub enum Command {
+    /// `06 00`, registration, with the configuration byte.
+    Register {
+        password: [u8; 3],
+        config: u8,
+        currency: u16,
+    },
+    /// `06 01`, authorisation of an amount in minor units.
+    Authorise {
+        amount: u64,
+        currency: u16,
+    },
+    /// `06 20`, repeat receipt: asks for the last transaction.
+    Enquire {
+        password: [u8; 3],
+    },
+    /// `06 30`, reversal of the payment with this receipt number.
+    Reverse {
+        password: [u8; 3],
+        receipt: u16,
+    },
+    /// `06 50`, end of day.
+    EndOfDay {
+        password: [u8; 3],
+    },
+    /// `06 B0`, abort.
+    Stop,
+    /// `06 E0`, display of a text.
+    Show {
+        lines: Lines,
+    },
+}

@@ -1,0 +1,151 @@
+ghost use Rattle.std.specs.Prelude.{◌≡◌, ◌↔◌, ◌^◌, ◌<◌, ◌≤◌, length, take, drop, Some, IsNone, IfSome};
+ghost use Rattle.zvt_apdu.specs.Apdu.{value_of};
+ghost use Rattle.zvt_msg.specs.declared.command.Command.{Command};
+ghost use Rattle.zvt_msg.specs.Command.{Spells};
+ghost use Rattle.zvt_msg.specs.CommandReading.{password_of, number_of, register_of, authorise_of, reverse_of, enquire_with, end_of_day_with, stop_of, show_of, command_by, command_of};
+
+use crate::command::Command;
+use crate::display::read_lines;
+use gw_base::bcd_read;
+use zvt_apdu::Apdu;
+
+/// The command that an APDU of a till spells.
+pub fn read_command(apdu: &Apdu<'_>) -> Option<Command>
+    ensures some { (command : Command) → (result ≡ Some command) ↔ Spells (value_of apdu.now) command }
+    ensures none { IsNone result ↔ ((command : Command) → ¬ Spells (value_of apdu.now) command) }
+
+    // The same by the function that computes it.
+    ensures front { result ≡ command_of (value_of apdu.now) }
+{
+    recognise(apdu)
+}
+
+#[tactic(auto, unfolding(crate::specs::CommandReading::command_of))]
+fn recognise(apdu: &Apdu<'_>) -> Option<Command>
+    ensures { result ≡ command_of (value_of apdu.now) }
+{
+    if apdu.class != 0x06 {
+        return None;
+    }
+    match apdu.instr {
+        0x00 => read_register(apdu.body),
+        0x01 => read_authorise(apdu.body),
+        0x20 => read_enquire(apdu.body),
+        0x30 => read_reverse(apdu.body),
+        0x50 => read_end_of_day(apdu.body),
+        0xB0 => read_stop(apdu.body),
+        0xE0 => read_show(apdu.body),
+        _ => None,
+    }
+}
+
+fn read_register(body: &[u8]) -> Option<Command>
+    ensures { result ≡ register_of body.now }
+{
+    if body.len() < 3 {
+        return None;
+    }
+    let (password, rest) = body.split_at(3);
+    let [config, currency @ ..] = rest else {
+        return None;
+    };
+    Some(Command::Register {
+        password: read_password(password)?,
+        config: *config,
+        currency: read_number(2, currency)? as u16,
+    })
+}
+
+fn read_authorise(body: &[u8]) -> Option<Command>
+    ensures { result ≡ authorise_of body.now }
+{
+    let [0x04, rest @ ..] = body else {
+        return None;
+    };
+    if rest.len() < 6 {
+        return None;
+    }
+    let (amount, rest) = rest.split_at(6);
+    let [0x49, currency @ ..] = rest else {
+        return None;
+    };
+    Some(Command::Authorise {
+        amount: read_number(6, amount)?,
+        currency: read_number(2, currency)? as u16,
+    })
+}
+
+fn read_enquire(body: &[u8]) -> Option<Command>
+    ensures { result ≡ enquire_with (password_of body.now) }
+{
+    Some(Command::Enquire {
+        password: read_password(body)?,
+    })
+}
+
+fn read_reverse(body: &[u8]) -> Option<Command>
+    ensures { result ≡ reverse_of body.now }
+{
+    if body.len() < 3 {
+        return None;
+    }
+    let (password, rest) = body.split_at(3);
+    let [0x87, receipt @ ..] = rest else {
+        return None;
+    };
+    Some(Command::Reverse {
+        password: read_password(password)?,
+        receipt: read_number(2, receipt)? as u16,
+    })
+}
+
+fn read_end_of_day(body: &[u8]) -> Option<Command>
+    ensures { result ≡ end_of_day_with (password_of body.now) }
+{
+    Some(Command::EndOfDay {
+        password: read_password(body)?,
+    })
+}
+
+fn read_stop(body: &[u8]) -> Option<Command>
+    ensures { result ≡ stop_of body.now }
+{
+    match body {
+        [] => Some(Command::Stop),
+        _ => None,
+    }
+}
+
+fn read_show(body: &[u8]) -> Option<Command>
+    ensures { result ≡ show_of body.now }
+{
+    match body {
+        [0xF0, 0x05, text @ ..] => Some(Command::Show {
+            lines: read_lines(text)?,
+        }),
+        _ => None,
+    }
+}
+
+/// Six digits in three bytes.
+fn read_password(bytes: &[u8]) -> Option<[u8; 3]>
+    ensures { result ≡ password_of bytes.now }
+{
+    let [first, second, third] = bytes else {
+        return None;
+    };
+    read_number(3, bytes)?;
+    Some([*first, *second, *third])
+}
+
+/// The number whose digits fill so many bytes.
+fn read_number(count: usize, bytes: &[u8]) -> Option<u64>
+    requires { count ≤ 6 }
+    ensures number { result ≡ number_of count bytes.now }
+    ensures bound { IfSome result (λ number. number < 100 ^ count) }
+{
+    if bytes.len() != count {
+        return None;
+    }
+    bcd_read(bytes).ok()
+}

@@ -1,0 +1,127 @@
+ghost use Rattle.std.specs.Prelude.{◌≡◌, ◌+◌, ◌*◌, ◌^◌, ◌<◌, ◌≤◌, [], ◌∷◌, ◌++◌, length};
+ghost use Rattle.arrayvec.specs.ArrayVec.{array_vec_len};
+ghost use Rattle.gw_base.specs.Bcd.{bcd_of};
+ghost use Rattle.zvt_msg.specs.Command.{HasDigits};
+ghost use Rattle.zvt_msg.specs.CommandWriting.{llvar_of, written_lines, instr_of, body_of, written};
+
+use crate::command::{Command, Line, Lines};
+use arrayvec::ArrayVec;
+use gw_base::bcd_write;
+use zvt_apdu::write_apdu;
+
+/// Writes the one APDU that spells a command.
+pub fn write_command(command: &Command, out: &mut ArrayVec<u8, 512>)
+    requires empty { out.old.items ≡ [] }
+    requires digits { HasDigits command.now }
+    ensures { out.new.items ≡ written command.now }
+{
+    let mut body = ArrayVec::new();
+    write_body(command, &mut body);
+    write_apdu(0x06, instr(command), body.as_slice(), out);
+}
+
+fn instr(command: &Command) -> u8
+    ensures { result ≡ instr_of command.now }
+{
+    match command {
+        Command::Register { .. } => 0x00,
+        Command::Authorise { .. } => 0x01,
+        Command::Enquire { .. } => 0x20,
+        Command::Reverse { .. } => 0x30,
+        Command::EndOfDay { .. } => 0x50,
+        Command::Stop => 0xB0,
+        Command::Show { .. } => 0xE0,
+    }
+}
+
+fn write_body(command: &Command, body: &mut ArrayVec<u8, 512>)
+    requires empty { body.old.items ≡ [] }
+    requires digits { HasDigits command.now }
+    ensures body { body.new.items ≡ body_of command.now }
+    ensures bound { array_vec_len body.new ≤ 346 }
+{
+    match command {
+        Command::Register {
+            password,
+            config,
+            currency,
+        } => {
+            write_bytes(password, body);
+            body.push(*config);
+            write_number(2, u64::from(*currency), body);
+        }
+        Command::Authorise { amount, currency } => {
+            write_tagged(0x04, 6, *amount, body);
+            write_tagged(0x49, 2, u64::from(*currency), body);
+        }
+        Command::Enquire { password } => write_bytes(password, body),
+        Command::Reverse { password, receipt } => {
+            write_bytes(password, body);
+            write_tagged(0x87, 2, u64::from(*receipt), body);
+        }
+        Command::EndOfDay { password } => write_bytes(password, body),
+        Command::Stop => {}
+        Command::Show { lines } => {
+            body.push(0xF0);
+            body.push(0x05);
+            write_lines(lines, body);
+        }
+    }
+}
+
+fn write_bytes(bytes: &[u8], out: &mut ArrayVec<u8, 512>)
+    requires { array_vec_len out.old + length bytes.now ≤ 512 }
+    ensures { out.new.items ≡ out.old.items ++ bytes.now }
+{
+    out.try_extend_from_slice(bytes).unwrap();
+}
+
+/// The number of a field, and its value's decimal digits in so many bytes.
+fn write_tagged(number: u8, count: usize, value: u64, out: &mut ArrayVec<u8, 512>)
+    requires count { count ≤ 6 }
+    requires digits { value < 100 ^ count }
+    requires fits { array_vec_len out.old + 1 + count ≤ 512 }
+    ensures field { out.new.items ≡ out.old.items ++ number ∷ bcd_of count value }
+    ensures len { array_vec_len out.new ≡ array_vec_len out.old + 1 + count }
+{
+    out.push(number);
+    write_number(count, value, out);
+}
+
+/// The decimal digits of a number, in so many bytes.
+fn write_number(count: usize, value: u64, out: &mut ArrayVec<u8, 512>)
+    requires count { count ≤ 6 }
+    requires digits { value < 100 ^ count }
+    requires fits { array_vec_len out.old + count ≤ 512 }
+    ensures digits { out.new.items ≡ out.old.items ++ bcd_of count value }
+    ensures len { array_vec_len out.new ≡ array_vec_len out.old + count }
+{
+    let mut digits = [0; 6];
+    let digits = &mut digits[..count];
+    bcd_write(value, digits);
+    write_bytes(digits, out);
+}
+
+fn write_lines(lines: &Lines, out: &mut ArrayVec<u8, 512>)
+    requires { array_vec_len out.old ≤ 2 }
+    ensures lines { out.new.items ≡ out.old.items ++ written_lines 0xF1 lines.now.items }
+    ensures bound { array_vec_len out.new ≤ 346 }
+{
+    let mut number = 0xF1;
+    for line in lines.as_slice() {
+        write_line(number, line, out);
+        number += 1;
+    }
+}
+
+fn write_line(number: u8, line: &Line, out: &mut ArrayVec<u8, 512>)
+    requires { array_vec_len out.old ≤ 400 }
+    ensures line { out.new.items ≡ out.old.items ++ number ∷ (llvar_of (array_vec_len line.now) ++ line.now.items) }
+    ensures len { array_vec_len out.new ≤ array_vec_len out.old + 43 }
+{
+    let length = line.len() as u8;
+    out.push(number);
+    out.push(0xF0 + length / 10);
+    out.push(0xF0 + length % 10);
+    write_bytes(line.as_slice(), out);
+}

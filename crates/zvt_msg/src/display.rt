@@ -1,0 +1,52 @@
+ghost use Rattle.std.specs.Prelude.{◌≡◌, ◌≤◌, ◌<◌, length, IfSome};
+ghost use Rattle.zvt_msg.specs.CommandReading.{digit_of, line_of, lines_of};
+ghost use Rattle.zvt_msg.specs.Found.{FindsLine, FindsLines};
+
+use crate::command::{Line, Lines};
+
+/// The lines of a display that fill the bytes.
+#[tactic(auto, unfolding(crate::specs::CommandReading::lines_of))]
+pub(crate) fn read_lines(bytes: &[u8]) -> Option<Lines>
+    ensures { FindsLines result (lines_of bytes.now) }
+{
+    let mut lines = Lines::new();
+    let mut rest = bytes;
+    while let [number, text @ ..] = rest {
+        if lines.is_full() || *number != 0xF1 + lines.len() as u8 {
+            return None;
+        }
+        let (line, behind) = read_line(text)?;
+        lines.push(line);
+        rest = behind;
+    }
+    Some(lines)
+}
+
+/// The line at the front, by its length, and what follows it.
+fn read_line(bytes: &[u8]) -> Option<(Line, &[u8])>
+    ensures line { FindsLine result (line_of bytes.now) }
+    ensures shorter { IfSome result (λ found. length found.1.now ≤ length bytes.now) }
+{
+    let [tens, units, rest @ ..] = bytes else {
+        return None;
+    };
+    let length = 10 * digit(*tens)? + digit(*units)?;
+    if length > 40 || rest.len() < length {
+        return None;
+    }
+    let (text, rest) = rest.split_at(length);
+    let mut line = Line::new();
+    line.try_extend_from_slice(text).unwrap();
+    Some((line, rest))
+}
+
+/// The digit of a byte `F0` to `F9`.
+fn digit(byte: u8) -> Option<usize>
+    ensures digit { result ≡ digit_of byte }
+    ensures bound { IfSome result (λ digit. digit < 10) }
+{
+    match byte {
+        0xF0..=0xF9 => Some(usize::from(byte - 0xF0)),
+        _ => None,
+    }
+}

@@ -1,0 +1,62 @@
+ghost use Rattle.std.specs.Prelude.{◌≡◌, ◌+◌, ◌≤◌, ◌++◌, length};
+ghost use Rattle.arrayvec.specs.ArrayVec.{array_vec_len};
+ghost use Rattle.zvt_bmp.specs.Writing.{HasDigits};
+ghost use Rattle.zvt_msg.specs.Message.{MessageValue, value_of};
+ghost use Rattle.zvt_msg.specs.MessageWriting.{HasForm, written};
+
+use crate::block::CONTAINER;
+use crate::message::PtMessage;
+use arrayvec::ArrayVec;
+use zvt_apdu::write_apdu;
+use zvt_bmp::{Fields, write_fields};
+use zvt_tlv::write_object;
+
+/// Appends the one APDU of a message: a line with the attribute 0, a block with the shortest length, a status with its
+/// known fields alone.
+pub fn write_pt(message: &PtMessage<'_>, out: &mut ArrayVec<u8, 512>)
+    requires form { HasForm (value_of message.now) }
+    requires fits { array_vec_len out.old + length (written (value_of message.now)) ≤ 512 }
+    ensures { out.new.items ≡ out.old.items ++ written (value_of message.now) }
+{
+    match message {
+        PtMessage::Ack => write_apdu(0x80, 0x00, &[], out),
+        PtMessage::Nack(code) => write_apdu(0x84, *code, &[], out),
+        PtMessage::Intermediate(code) => write_apdu(0x04, 0xFF, &[*code], out),
+        PtMessage::Line(text) => write_line(text, out),
+        PtMessage::Block(objects) => write_block(objects, out),
+        PtMessage::Status(fields) => write_status(fields, out),
+        PtMessage::Completion => write_apdu(0x06, 0x0F, &[], out),
+        PtMessage::Abort(None) => write_apdu(0x06, 0x1E, &[], out),
+        PtMessage::Abort(Some(code)) => write_apdu(0x06, 0x1E, &[*code], out),
+        PtMessage::Other => unreachable!(),
+    }
+}
+
+fn write_line(text: &[u8], out: &mut ArrayVec<u8, 512>)
+    requires { array_vec_len out.old + length (written (MessageValue.Line text.now)) ≤ 512 }
+    ensures { out.new.items ≡ out.old.items ++ written (MessageValue.Line text.now) }
+{
+    let mut body: ArrayVec<u8, 512> = ArrayVec::new();
+    body.push(0x00);
+    body.try_extend_from_slice(text).unwrap();
+    write_apdu(0x06, 0xD1, body.as_slice(), out);
+}
+
+fn write_block(objects: &[u8], out: &mut ArrayVec<u8, 512>)
+    requires { array_vec_len out.old + length (written (MessageValue.Block objects.now)) ≤ 512 }
+    ensures { out.new.items ≡ out.old.items ++ written (MessageValue.Block objects.now) }
+{
+    let mut body = ArrayVec::new();
+    write_object(CONTAINER, objects, &mut body);
+    write_apdu(0x06, 0xD3, body.as_slice(), out);
+}
+
+fn write_status(fields: &Fields, out: &mut ArrayVec<u8, 512>)
+    requires digits { HasDigits fields.now }
+    requires fits { array_vec_len out.old + length (written (MessageValue.Status fields.now)) ≤ 512 }
+    ensures { out.new.items ≡ out.old.items ++ written (MessageValue.Status fields.now) }
+{
+    let mut body = ArrayVec::new();
+    write_fields(fields, &mut body);
+    write_apdu(0x04, 0x0F, body.as_slice(), out);
+}
