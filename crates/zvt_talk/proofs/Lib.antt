@@ -1,0 +1,5 @@
+pub mod After
+pub mod Ends
+pub mod EndsLaws
+pub mod Last
+pub mod Stops

@@ -1,0 +1,10 @@
+use Rattle.std.proofs.Common.{refl}
+use Rattle.zvt_msg.specs.Message.{Ack, Nack}
+use Rattle.zvt_talk.proofs.Stops.{ack_same, nack_same, stray}
+use Rattle.zvt_talk.proofs.laws.law_answer_to_stop.Goals as goal
+
+pub returns-clause-ack : goal.returns-clause-ack
+returns-clause-ack c = λ dialogue came at is. (stray dialogue came Ack is refl, ack_same dialogue.kind came at is)
+
+pub returns-clause-nack : goal.returns-clause-nack
+returns-clause-nack c = λ dialogue came code at is. (stray dialogue came (Nack code) is refl, nack_same dialogue.kind came code at is)

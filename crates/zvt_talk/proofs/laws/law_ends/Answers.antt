@@ -1,0 +1,15 @@
+use Rattle.std.proofs.Common.{[]}
+use Rattle.zvt_talk.proofs.EndsLaws.{ended_is, end_by_message, goes_on_is, kind_from}
+use Rattle.zvt_talk.proofs.laws.law_ends.Goals as goal
+
+pub returns-clause-ended : goal.returns-clause-ended
+returns-clause-ended c = ended_is
+
+pub returns-clause-goes_on : goal.returns-clause-goes_on
+returns-clause-goes_on c = goes_on_is
+
+pub returns-clause-by_message : goal.returns-clause-by_message
+returns-clause-by_message c = end_by_message
+
+pub returns-clause-kinds : goal.returns-clause-kinds
+returns-clause-kinds c = λ dialogue came end is. kind_from dialogue (c.law_meanings.ensures dialogue) [] came end is

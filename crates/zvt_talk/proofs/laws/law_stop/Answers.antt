@@ -1,0 +1,11 @@
+use Rattle.zvt_talk.proofs.Stops.{message_stop, stopped_with, wish_stop}
+use Rattle.zvt_talk.proofs.laws.law_stop.Goals as goal
+
+pub returns-clause-message : goal.returns-clause-message
+returns-clause-message c = message_stop
+
+pub returns-clause-wish : goal.returns-clause-wish
+returns-clause-wish c = λ dialogue came. wish_stop dialogue.kind came
+
+pub returns-clause-stays : goal.returns-clause-stays
+returns-clause-stays c = λ dialogue came more is. stopped_with dialogue.kind came more is

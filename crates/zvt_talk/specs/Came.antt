@@ -1,0 +1,142 @@
+-- What came in a dialogue since its command was sent, and what it says.
+use Rattle.std.specs.Prelude.{ℕ, ℤ, pos, ◌+ℤ◌, Bool, true, false, not, ◌&&◌, ◌==◌, List, [], ◌∷◌, Option, None, Some, if◌then◌else◌}
+use Rattle.std.specs.List.{list_any, filter_map, last_or}
+use Rattle.zvt_bmp.specs.declared.fields.Fields.{Fields}
+use Rattle.zvt_msg.specs.Message.{MessageValue, Ack, Nack, Intermediate, Line, Block, Status, Completion, Abort, Other}
+use Rattle.zvt_talk.specs.declared.kind.Kind.{Kind}
+use Rattle.zvt_talk.specs.Dialogue.{Dialogue, is_display}
+
+-- what comes in a dialogue, one after another
+pub data Came : Type 0 where
+  -- a message of the terminal, at this moment
+  Message : (message : MessageValue) → (at : ℤ) → Came
+  -- a wish to abort what the dialogue serves
+  Wish : Came
+
+-- ---- messages
+
+-- a dialogue takes every message but those outside the table
+abbrev pub is_taken : MessageValue → Bool
+is_taken Ack = true
+is_taken (Nack code) = true
+is_taken (Intermediate code) = true
+is_taken (Line text) = true
+is_taken (Block objects) = true
+is_taken (Status fields) = true
+is_taken Completion = true
+is_taken (Abort code) = true
+is_taken Other = false
+
+-- an acknowledgement
+abbrev pub is_ack : MessageValue → Bool
+is_ack Ack = true
+is_ack (Nack code) = false
+is_ack (Intermediate code) = false
+is_ack (Line text) = false
+is_ack (Block objects) = false
+is_ack (Status fields) = false
+is_ack Completion = false
+is_ack (Abort code) = false
+is_ack Other = false
+
+-- a completion or an abort by the terminal: the first of these ends a dialogue that was begun
+abbrev pub is_last : MessageValue → Bool
+is_last Ack = false
+is_last (Nack code) = false
+is_last (Intermediate code) = false
+is_last (Line text) = false
+is_last (Block objects) = false
+is_last (Status fields) = false
+is_last Completion = true
+is_last (Abort code) = true
+is_last Other = false
+
+-- the fields of a status
+abbrev pub fields_of : MessageValue → Option Fields
+fields_of Ack = None
+fields_of (Nack code) = None
+fields_of (Intermediate code) = None
+fields_of (Line text) = None
+fields_of (Block objects) = None
+fields_of (Status fields) = Some fields
+fields_of Completion = None
+fields_of (Abort code) = None
+fields_of Other = None
+
+-- a message that is taken
+abbrev pub taken_message : Came → Option MessageValue
+taken_message (Message message at) = if is_taken message then Some message else None
+taken_message Wish = None
+
+-- the moment of a message that is taken
+abbrev pub taken_moment : Came → Option ℤ
+taken_moment (Message message at) = if is_taken message then Some at else None
+taken_moment Wish = None
+
+-- the messages that the dialogue took, the oldest first
+abbrev pub messages : List Came → List MessageValue
+messages came = filter_map taken_message came
+
+-- the moments of these messages
+abbrev pub moments : List Came → List ℤ
+moments came = filter_map taken_moment came
+
+-- ---- statuses
+
+-- the statuses heard, the oldest first
+abbrev pub statuses : List Came → List Fields
+statuses came = filter_map fields_of (messages came)
+
+-- the last status heard
+abbrev pub last_status : List Came → Option Fields
+last_status came = last_or None (statuses came)
+
+-- the status has this result code
+abbrev pub has_result : ℕ → Option ℕ → Bool
+has_result code None = false
+has_result code (Some result) = result == code
+
+-- one of the statuses had the result 00
+abbrev pub said_approved : List Came → Bool
+said_approved came = list_any (λ status. has_result 0 status.result) (statuses came)
+
+-- ---- how far the dialogue is
+
+-- no message was taken yet
+abbrev pub is_asked : List MessageValue → Bool
+is_asked [] = true
+is_asked (message ∷ more) = false
+
+-- the first message taken acknowledges the command, and more is to come, as in each dialogue but a display
+abbrev pub was_begun : Kind → List MessageValue → Bool
+was_begun kind [] = false
+was_begun kind (message ∷ more) = is_ack message && not (is_display kind)
+
+-- the dialogue was begun, and goes on
+abbrev pub is_begun : Kind → List MessageValue → Bool
+is_begun kind taken = was_begun kind taken && not (list_any is_last taken)
+
+-- it is neither asked nor begun
+abbrev pub has_ended : Kind → List MessageValue → Bool
+has_ended kind taken = not (is_asked taken) && not (is_begun kind taken)
+
+-- an abort was wished, and no completion or abort came before
+abbrev pub is_wished : List Came → Bool
+is_wished [] = false
+is_wished (Wish ∷ came) = true
+is_wished (Message message at ∷ came) = not (is_last message) && is_wished came
+
+-- `06 B0` was sent: an abort was wished in time, and the dialogue was begun
+abbrev pub is_stopped : Kind → List Came → Bool
+is_stopped kind came = was_begun kind (messages came) && is_wished came
+
+-- ---- the deadline
+
+-- so many seconds for the first answer, and then so many from the last message taken
+abbrev pub due : Dialogue → Option ℤ → ℤ
+due dialogue None = dialogue.sent +ℤ pos dialogue.answer
+due dialogue (Some at) = at +ℤ pos dialogue.pause
+
+-- the moment until which the terminal may be silent
+abbrev pub deadline : Dialogue → List Came → ℤ
+deadline dialogue came = due dialogue (last_or None (moments came))

@@ -1,0 +1,74 @@
+//! What the statuses of a dialogue have said.
+ghost use Rattle.std.specs.Prelude.{◌≡◌};
+ghost use Rattle.zvt_talk.specs.Table.{declined, declined_unless, full_figures};
+ghost use Rattle.zvt_talk.specs.Kept.{no_statuses, with_fields};
+
+use crate::Heard;
+use gw_base::Figures;
+use zvt_bmp::Fields;
+
+/// The statuses heard so far.
+#[derive(Clone, Copy, Debug, PartialEq, Eq)]
+pub(crate) struct Statuses {
+    pub(crate) last: Option<Fields>,
+    /// One of them had the result 00.
+    pub(crate) approved: bool,
+}
+
+impl Statuses {
+    pub(crate) fn none() -> Statuses
+        ensures { result ≡ no_statuses }
+    {
+        Statuses {
+            last: None,
+            approved: false,
+        }
+    }
+
+    pub(crate) fn with(self, status: Fields) -> Statuses
+        ensures { result ≡ with_fields self status }
+    {
+        Statuses {
+            last: Some(status),
+            approved: self.approved || status.result == Some(0),
+        }
+    }
+
+    /// Declined with this code, and with the trace number of the last status.
+    pub(crate) fn declined(self, code: u8) -> Heard
+        ensures { result ≡ declined self code }
+    {
+        Heard::Declined {
+            code,
+            number: self.last.and_then(|status| status.trace),
+        }
+    }
+
+    /// The same for a payment or a reversal: nothing is declined once a status said that it is approved.
+    pub(crate) fn declined_unless_approved(self, code: u8) -> Heard
+        ensures { result ≡ declined_unless self.approved self code }
+    {
+        if self.approved {
+            Heard::Unclear
+        } else {
+            self.declined(code)
+        }
+    }
+}
+
+/// A trace number of at least 1, a receipt number and an amount of at least 1, where the status has them.
+pub(crate) fn full_figures(status: &Fields) -> Option<Figures>
+    ensures { result ≡ full_figures status.now }
+{
+    let number = status.trace?;
+    let receipt = status.receipt?;
+    let amount = status.amount?;
+    if number == 0 || amount == 0 {
+        return None;
+    }
+    Some(Figures {
+        number,
+        receipt,
+        amount,
+    })
+}
