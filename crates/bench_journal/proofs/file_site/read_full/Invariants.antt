@@ -1,0 +1,5 @@
+use Rattle.std.proofs.Common.{◌≤◌, length}
+use Rattle.bench_journal.proofs.file_site.read_full.Given as goal
+
+abbrev pub invariant-loop : goal.invariant-loop
+invariant-loop l = l.at ≤ length l.buf

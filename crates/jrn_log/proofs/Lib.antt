@@ -1,0 +1,10 @@
+pub mod PartLemmas
+pub mod SlotLemmas
+pub mod LeaveLemmas
+pub mod FrontLemmas
+pub mod AppendLemmas
+pub mod GrowLemmas
+pub mod TurnLemmas
+pub mod ReadLemmas
+pub mod GrownLemmas
+pub mod OpenLemmas

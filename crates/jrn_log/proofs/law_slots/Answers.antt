@@ -1,0 +1,8 @@
+use Rattle.jrn_log.proofs.SlotLemmas.{one_slots, each_slots}
+use Rattle.jrn_log.proofs.law_slots.Goals as goal
+
+pub returns-clause-each : goal.returns-clause-each
+returns-clause-each c = each_slots
+
+pub returns-clause-one : goal.returns-clause-one
+returns-clause-one c = one_slots

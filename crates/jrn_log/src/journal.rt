@@ -1,0 +1,190 @@
+//! The journal over a site.
+ghost use Rattle.std.specs.Prelude.{◌≡◌, ◌+◌, ◌-◌, ◌*◌, ◌^◌, ◌<◌, ◌≤◌, [], ◌∷◌, ◌++◌, List, ℕ, length, false, Ok, Err, IfOk, OnOk, OnErr, IsTrue, ◌↔◌};
+ghost use Rattle.gw_site.specs.Causes.{HasCause, Rose};
+ghost use Rattle.gw_site.specs.Outside.{outside_of};
+ghost use Rattle.gw_site.specs.Seen.{Added, Grows, GrowsBy, Tells};
+ghost use Rattle.jrn_log.specs.Slots.{AreSlots};
+ghost use Rattle.jrn_log.specs.Stands.{AreKept, StandsFor};
+ghost use Rattle.jrn_log.specs.Calls.{AppendTurns, OpeningTurns};
+ghost use Rattle.jrn_log.specs.Opening.{OpensWith, IsExactlyTooLong, IsExactlyCut};
+ghost use Rattle.jrn_log.specs.Images.{AppendImages, OpeningImages};
+ghost use Rattle.jrn_log.specs.Reading.{Sized, SizedTurns, SyncedLengthTurns};
+
+use crate::fault::{AppendFault, OpenFault};
+use crate::read::read_bodies;
+use crate::write::{CLOSED, keep_body, write_synced};
+use gw_base::Bodies;
+use gw_site::{Failed, Site};
+use std::alloc::Global;
+use std::marker::Model;
+
+/// Syncs, and answers the file's length.
+fn synced_length<S: Site>(site: &mut S) -> Result<u64, Failed>
+    ensures size { Tells (S.seen site.old) (λ log. IfOk result (λ size. size ≡ length (outside_of log).file)) }
+    ensures turns { Grows (S.seen site.old) (S.seen site.new) (SyncedLengthTurns result) }
+    ensures cause { HasCause (S.seen site.old).faults (S.seen site.new).faults result }
+{
+    match site.sync() {
+        Ok(()) => site.length(),
+        Err(Failed) => Err(Failed),
+    }
+}
+
+/// Writes the first gate, closed, of a file that has no bodies.
+fn begin_file<S: Site>(alloc: Global, site: &mut S) -> Result<Bodies, OpenFault>
+    ensures none { IfOk result (λ bodies. bodies ≡ []) }
+    ensures turns { Grows (S.seen site.old) (S.seen site.new) (SizedTurns 0 result) }
+    ensures disk { OnErr result (result ≡ Err OpenFault.Disk) }
+    ensures cause { HasCause (S.seen site.old).faults (S.seen site.new).faults result }
+{
+    match write_synced(site, 0, &[CLOSED]) {
+        Ok(()) => Ok(Bodies::new(Vec::new(alloc))),
+        Err(Failed) => Err(OpenFault::Disk),
+    }
+}
+
+/// The bodies of the site's file, which has `size` bytes and was synced.
+fn sized_bodies<S: Site>(
+    alloc: Global,
+    site: &mut S,
+    slots: u32,
+    size: u64,
+) -> Result<Bodies, OpenFault>
+    ensures few { IfOk result (λ bodies. length bodies ≤ slots) }
+    ensures sized { Tells (S.seen site.old) (λ log. size ≡ length (outside_of log).file → Sized slots (outside_of log).file result) }
+    ensures turns { Grows (S.seen site.old) (S.seen site.new) (SizedTurns size result) }
+    ensures disk { result ≡ Err OpenFault.Disk → Rose (S.seen site.old).faults (S.seen site.new).faults }
+    ensures later { (S.seen site.old).faults ≤ (S.seen site.new).faults }
+{
+    if size > 256 * u64::from(slots) + 1 {
+        return Err(OpenFault::TooLong { length: size });
+    }
+    if size <= 1 {
+        return begin_file(alloc, site);
+    }
+    read_bodies(alloc, site, size)
+}
+
+/// A journal that was opened on a site.
+///
+/// Its file is slots of 256 bytes, each a gate and a body of 255. A slot is open where its gate is `A5` and every slot
+/// below is open. The bodies of the open slots are the journal's.
+#[derive(Debug, Drop)]
+pub struct Journal {
+    len: u32,
+    slots: u32,
+    opened: u64,
+}
+
+impl Model for Journal {
+    ghost use Rattle.std.specs.Prelude.{◌≤◌};
+    ghost use Rattle.jrn_log.specs.Stands.{Held};
+
+    ghost Value = { Held };
+
+    ghost view = { λ journal. record {
+      len = journal.len;
+      slots = journal.slots;
+      opened = journal.opened;
+    } };
+
+    ghost invariant = { λ journal. journal.len ≤ journal.slots };
+}
+
+impl Journal {
+    /// Opens the journal of a site's file, with at most so many slots, and gives its bodies.
+    ///
+    /// A file of at most one byte has no open slot and gets its first gate. A fault of the disk is told before one of
+    /// the file.
+    pub fn open<S: Site>(
+        alloc: Global,
+        site: &mut S,
+        slots: u32,
+    ) -> Result<(Journal, Bodies), OpenFault>
+        ensures bodies { Tells (S.seen site.old) (λ log. IfOk result (OpensWith slots (outside_of log).file)) }
+        ensures too_long { Tells (S.seen site.old) (λ log. IsExactlyTooLong slots (outside_of log).file result) }
+        ensures cut { Tells (S.seen site.old) (λ log. IsExactlyCut slots (outside_of log).file result) }
+        ensures disk { result ≡ Err OpenFault.Disk → Rose (S.seen site.old).faults (S.seen site.new).faults }
+        ensures later { (S.seen site.old).faults ≤ (S.seen site.new).faults }
+        ensures journal { IfOk result (λ opened. (opened.0.len ≡ length opened.1) × (opened.0.slots ≡ slots)) }
+
+        // What it adds to the log, what it leaves, and what a power failure in it leaves.
+        ensures turns { GrowsBy Added (S.seen site.old) (S.seen site.new) (λ before. OpeningTurns (outside_of before).file result) }
+        ensures stands { IfOk result (λ opened. StandsFor opened.0 (S.seen site.new)) }
+        ensures images { Tells (S.seen site.old) (λ before. Tells (S.seen site.new) (λ after. (bodies : List (List ℕ))
+            → AreSlots (outside_of before).file bodies → OpeningImages before after bodies)) }
+    {
+        match synced_length(site) {
+            Err(Failed) => Err(OpenFault::Disk),
+            Ok(size) => match sized_bodies(alloc, site, slots, size) {
+                Err(fault) => Err(fault),
+                Ok(bodies) => {
+                    let len = bodies.as_slice().len() as u32;
+                    let journal = Journal {
+                        len,
+                        slots,
+                        opened: size,
+                    };
+                    Ok((journal, bodies))
+                }
+            },
+        }
+    }
+
+    /// Keeps a body in the next slot, and gives the slot.
+    ///
+    /// After a fault the journal is as before, and is opened again before it is used.
+    pub fn append<S: Site>(&mut self, site: &mut S, body: &[u8; 255]) -> Result<u32, AppendFault>
+        requires room { self.old.len < self.old.slots }
+        requires stands { StandsFor self.old (S.seen site.old) }
+        ensures slot { IfOk result (λ slot. slot ≡ self.old.len) }
+        ensures ok { OnOk result (self.new ≡ record self.old { len = self.old.len + 1 }) }
+        ensures err { OnErr result (self.new ≡ self.old) }
+        ensures cause { HasCause (S.seen site.old).faults (S.seen site.new).faults result }
+
+        // What it adds to the log, what it leaves, and what a power failure in it leaves.
+        ensures turns { Grows (S.seen site.old) (S.seen site.new) (AppendTurns self.old.len body.now result) }
+        ensures stands { OnOk result (StandsFor self.new (S.seen site.new)) }
+        ensures kept { OnOk result ((S.seen site.new).dark ≡ false → Tells (S.seen site.old) (λ before. Tells (S.seen site.new) (λ after. (bodies : List (List ℕ))
+            → AreKept before bodies → AreKept after (bodies ++ body.now ∷ [])))) }
+        ensures images { (S.seen site.old).dark ≡ false → Tells (S.seen site.old) (λ before. Tells (S.seen site.new) (λ after. (bodies : List (List ℕ))
+            → AreKept before bodies → AppendImages before after bodies body.now)) }
+    {
+        match keep_body(site, self.len, body) {
+            Err(Failed) => Err(AppendFault::Disk),
+            Ok(()) => {
+                let slot = self.len;
+                self.len = slot + 1;
+                Ok(slot)
+            }
+        }
+    }
+
+    /// How many bodies the journal has.
+    pub fn len(&self) -> u32
+        ensures { result ≡ self.now.len }
+    {
+        self.len
+    }
+
+    /// Whether the journal has no bodies.
+    pub fn is_empty(&self) -> bool
+        ensures { IsTrue result ↔ (self.now.len ≡ 0) }
+    {
+        self.len == 0
+    }
+
+    /// How many more bodies it may have.
+    pub fn room(&self) -> u32
+        ensures { result ≡ self.now.slots - self.now.len }
+    {
+        self.slots - self.len
+    }
+
+    /// The length in bytes of the file as the journal was opened.
+    pub fn opened(&self) -> u64
+        ensures { result ≡ self.now.opened }
+    {
+        self.opened
+    }
+}

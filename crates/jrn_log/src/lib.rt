@@ -1,0 +1,25 @@
+//! The gated journal: bodies of 255 bytes in a file, of which a power failure leaves the old ones, or these and the new.
+#![tactic(auto)]
+
+ghost use Rattle.jrn_log.specs.Laws.{EachHasSlots, SlotsAreOne, AppendKeepsImages, AppendRests};
+
+mod fault;
+mod journal;
+mod read;
+mod write;
+
+pub use fault::{AppendFault, OpenFault};
+pub use journal::Journal;
+
+/// Each file has one list of the bodies of its open slots.
+pub fn law_slots()
+    ensures each { EachHasSlots }
+    ensures one { SlotsAreOne }
+{}
+
+/// An append to a log at rest: at each turn, whatever bytes a torn write leaves, a power failure leaves the old bodies,
+/// or the new ones once the gate was written. Behind its last turn the log is at rest with the new ones.
+pub fn law_append()
+    ensures images { AppendKeepsImages }
+    ensures rests { AppendRests }
+{}

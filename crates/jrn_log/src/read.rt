@@ -1,0 +1,121 @@
+//! The slots of a file, read in pieces.
+ghost use Rattle.std.specs.Prelude.{◌≡◌, ◌≢◌, ◌+◌, ◌*◌, ◌^◌, ◌<◌, ◌≤◌, List, ℕ, length, vec_len, Ok, Err, IfOk};
+ghost use Rattle.gw_site.specs.Causes.{Rose};
+ghost use Rattle.gw_site.specs.Outside.{outside_of, file_part};
+ghost use Rattle.gw_site.specs.Seen.{Grows, Tells};
+ghost use Rattle.jrn_log.specs.Reading.{Begins, Took, Found, Reads, LookTurns};
+
+use crate::fault::OpenFault;
+use crate::write::OPEN;
+use gw_base::Bodies;
+use gw_site::{Failed, Site};
+use std::alloc::Global;
+
+/// How a look at slots went on.
+#[derive(Clone, Copy)]
+pub(crate) enum Taken {
+    /// Each was open.
+    More,
+    /// One was closed.
+    End,
+}
+
+/// Takes the body of the next slot where the slot is open. The file has `size` bytes.
+fn take_slot(bodies: &mut Vec<[u8; 255]>, slot: &[u8], size: u64) -> Result<Taken, OpenFault>
+    requires slot { length slot.now ≡ 256 }
+    requires some { 1 < size }
+    requires small { size < 2 ^ 40 }
+    requires within { 256 * vec_len bodies.old < size }
+    ensures within { 256 * vec_len bodies.new < size }
+    ensures more { result ≡ Ok Taken.More → vec_len bodies.new ≡ vec_len bodies.old + 1 }
+    ensures looked { result ≢ Err OpenFault.Disk }
+    ensures took { (file : List ℕ) → size ≡ length file → slot.now ≡ file_part file (256 * length bodies.old.items) 256
+        → Begins file bodies.old.items → Took file bodies.new.items result }
+{
+    if slot[0] != OPEN {
+        return Ok(Taken::End);
+    }
+    let count = bodies.len();
+    if 256 * (count as u64 + 1) >= size {
+        return Err(OpenFault::Cut { slot: count as u32 });
+    }
+    let mut body = [0; 255];
+    body.copy_from_slice(&slot[1..]);
+    match bodies.push(body) {
+        Ok(()) => Ok(Taken::More),
+        Err(_) => Err(OpenFault::Memory),
+    }
+}
+
+/// Takes the bodies of the next 16 slots up to the first that is closed. The file has `size` bytes.
+fn take_slots(
+    bodies: &mut Vec<[u8; 255]>,
+    piece: &[u8; 4096],
+    size: u64,
+) -> Result<Taken, OpenFault>
+    requires some { 1 < size }
+    requires small { size < 2 ^ 40 }
+    requires within { 256 * vec_len bodies.old < size }
+    ensures within { 256 * vec_len bodies.new < size }
+    ensures more { result ≡ Ok Taken.More → vec_len bodies.new ≡ vec_len bodies.old + 16 }
+    ensures looked { result ≢ Err OpenFault.Disk }
+    ensures took { (file : List ℕ) → size ≡ length file → piece.now ≡ file_part file (256 * length bodies.old.items) 4096
+        → Begins file bodies.old.items → Took file bodies.new.items result }
+{
+    for at in 0..16usize {
+        match take_slot(bodies, &piece[256 * at..256 * at + 256], size) {
+            Ok(Taken::More) => {}
+            Ok(Taken::End) => return Ok(Taken::End),
+            Err(fault) => return Err(fault),
+        }
+    }
+    Ok(Taken::More)
+}
+
+/// Reads the next 16 slots of the site's file, which has `size` bytes.
+fn read_piece<S: Site>(
+    site: &mut S,
+    bodies: &mut Vec<[u8; 255]>,
+    size: u64,
+) -> Result<Taken, OpenFault>
+    requires some { 1 < size }
+    requires small { size < 2 ^ 40 }
+    requires within { 256 * vec_len bodies.old < size }
+    ensures within { 256 * vec_len bodies.new < size }
+    ensures more { result ≡ Ok Taken.More → vec_len bodies.new ≡ vec_len bodies.old + 16 }
+    ensures found { Tells (S.seen site.old) (λ log. size ≡ length (outside_of log).file
+        → Begins (outside_of log).file bodies.old.items → Found (outside_of log).file bodies.new.items result) }
+    ensures turns { Grows (S.seen site.old) (S.seen site.new) (LookTurns result) }
+    ensures disk { result ≡ Err OpenFault.Disk → Rose (S.seen site.old).faults (S.seen site.new).faults }
+    ensures later { (S.seen site.old).faults ≤ (S.seen site.new).faults }
+{
+    let mut piece = [0; 4096];
+    match site.read_at(256 * bodies.len() as u64, &mut piece) {
+        Ok(()) => take_slots(bodies, &piece, size),
+        Err(Failed) => Err(OpenFault::Disk),
+    }
+}
+
+/// Reads the bodies of the open slots of the site's file, which has `size` bytes.
+pub(crate) fn read_bodies<S: Site>(
+    alloc: Global,
+    site: &mut S,
+    size: u64,
+) -> Result<Bodies, OpenFault>
+    requires some { 1 < size }
+    requires small { size < 2 ^ 40 }
+    ensures within { IfOk result (λ bodies. 256 * length bodies < size) }
+    ensures reads { Tells (S.seen site.old) (λ log. size ≡ length (outside_of log).file → Reads (outside_of log).file result) }
+    ensures turns { Grows (S.seen site.old) (S.seen site.new) (LookTurns result) }
+    ensures disk { result ≡ Err OpenFault.Disk → Rose (S.seen site.old).faults (S.seen site.new).faults }
+    ensures later { (S.seen site.old).faults ≤ (S.seen site.new).faults }
+{
+    let mut bodies = Vec::new(alloc);
+    'pieces: loop {
+        match read_piece(site, &mut bodies, size) {
+            Ok(Taken::More) => {}
+            Ok(Taken::End) => return Ok(Bodies::new(bodies)),
+            Err(fault) => return Err(fault),
+        }
+    }
+}

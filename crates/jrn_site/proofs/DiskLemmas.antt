@@ -1,0 +1,45 @@
+-- How the log of the site in memory grows where it is dark, and what it then tells.
+use Rattle.std.proofs.Common.{◌≡◌, ℕ, List, [], ◌∷◌, ◌++◌, refl, sym, ◌∙◌, ap, append-nil}
+use Rattle.std.specs.Prelude.{Bool, true, false, Some}
+use Rattle.gw_site.specs.Seen.{Seen, Added, Grows}
+use Rattle.gw_site.specs.Outside.{overwrite, outside_after, outside_of}
+use Rattle.gw_site.specs.declared.turn.Turn.{Turn}
+use Rattle.gw_site.specs.declared.turn.Turn.TheVariants.{Wrote, Synced, Crash}
+use Rattle.gw_site.proofs.OutsideLemmas.{outside_of_more}
+
+nothing_added : (before after : Bool) (turns : List Turn) → after ≡ true → Added before after turns []
+nothing_added true true turns e = refl
+nothing_added false true turns e = (turns, refl)
+nothing_added before false turns e = absurd (let h : false ≡ true = e in cc)
+
+-- a call in a site that is dark after it, and adds nothing
+pub dark_grows : (old new : Seen) (Call : List Turn → Type 0) (turns : List Turn) → Call turns → new.dark ≡ true → new.log ≡ old.log → new.origin ≡ old.origin → Grows old new Call
+dark_grows old new Call turns call d l o = record {
+  told = λ before f. (turns, [], call, nothing_added old.dark new.dark turns d, (l ∙ f ∙ ap Some (sym (append-nil before))));
+  untold = λ f. l ∙ f;
+  stays = λ f. d;
+  origin = o;
+}
+
+-- the outside behind one more turn
+after : (log new : List Turn) (turn : Turn) → new ≡ log ++ turn ∷ [] → outside_of new ≡ outside_after (outside_of log) turn
+after log new turn e = ap (λ turns. outside_of turns) e ∙ outside_of_more log turn
+
+pub file_wrote : (log new : List Turn) (old file bytes copy : List ℕ) (at : ℕ) → new ≡ log ++ Wrote at copy ∷ [] → old ≡ (outside_of log).file → copy ≡ bytes → file ≡ overwrite old at bytes → file ≡ (outside_of new).file
+file_wrote log new old file bytes copy at e o c f =
+    f ∙ ap (λ before. overwrite before at bytes) o ∙ ap (λ bs. overwrite (outside_of log).file at bs) (sym c) ∙ sym (ap (λ outside. outside.file) (after log new (Wrote at copy) e))
+
+pub stable_wrote : (log new : List Turn) (stable copy : List ℕ) (at : ℕ) → new ≡ log ++ Wrote at copy ∷ [] → stable ≡ (outside_of log).stable → stable ≡ (outside_of new).stable
+stable_wrote log new stable copy at e s = s ∙ sym (ap (λ outside. outside.stable) (after log new (Wrote at copy) e))
+
+pub file_synced : (log new : List Turn) (file : List ℕ) → new ≡ log ++ Synced ∷ [] → file ≡ (outside_of log).file → file ≡ (outside_of new).file
+file_synced log new file e f = f ∙ sym (ap (λ outside. outside.file) (after log new Synced e))
+
+pub stable_synced : (log new : List Turn) (file : List ℕ) → new ≡ log ++ Synced ∷ [] → file ≡ (outside_of log).file → file ≡ (outside_of new).stable
+stable_synced log new file e f = f ∙ sym (ap (λ outside. outside.stable) (after log new Synced e))
+
+pub file_crashed : (log new : List Turn) (file crash : List ℕ) → new ≡ log ++ Crash crash ∷ [] → crash ≡ file → file ≡ (outside_of new).file
+file_crashed log new file crash e c = sym c ∙ sym (ap (λ outside. outside.file) (after log new (Crash crash) e))
+
+pub stable_crashed : (log new : List Turn) (file crash : List ℕ) → new ≡ log ++ Crash crash ∷ [] → crash ≡ file → file ≡ (outside_of new).stable
+stable_crashed log new file crash e c = sym c ∙ sym (ap (λ outside. outside.stable) (after log new (Crash crash) e))
