@@ -10,7 +10,8 @@ use Rattle.gw_site.specs.declared.site.What.TheVariants.{TillOpened, TillBytes, 
 use Rattle.gw_site.specs.Outside.{outside_of}
 use Rattle.gw_site.specs.Seen.{Seen, Grows, Tells}
 use Rattle.gw_site.specs.Turns.{SentTillTurns, IsTurn, PolledTurns, event_turns, IsPromised, IsWithinBuf, IsCount}
-use Rattle.gw_rules.specs.Scene.{Till, Call, Send, Cut, Item, Scene, View, IsRunning}
+use Rattle.gw_rules.specs.Reply.{Reply, told_bytes}
+use Rattle.gw_rules.specs.Scene.{Till, Call, Tell, Cut, Item, Scene, View, IsRunning}
 use Rattle.gw_rules.specs.View.{view_from, called}
 use Rattle.gw_rules.specs.Lawful.{IsCourse, IsQuiet}
 use Rattle.gw_rules.specs.Keeps.{Keeps, Owing, Sent, AtEvent}
@@ -22,10 +23,10 @@ module _ (scene : Scene) (calls : List Call) (items : List Item) (old new : Seen
       Keeps old new (Owing scene (Cut (Till till) ∷ calls) items) (Owing (called scene (CutTill till) false) calls items)
   cut-till-keeps till grows = call-keeps old new _ _ _ grows (λ before v e stands p. record { each = λ turns t. rw (p, t) (((calls, refl), tt), (refl, tt), refl) })
 
-  pub send-till-keeps : {E : Type 0} (till : ℕ) (bytes : List ℕ) (r : Result (Unit {0}) E) → Grows old new (SentTillTurns till bytes r) →
-      Keeps old new (Owing scene (Send (Till till) bytes ∷ calls) items) (Sent r scene till bytes calls items)
-  send-till-keeps till bytes (Ok u) grows = call-keeps old new _ _ _ grows (λ before v e stands p. record { each = λ turns t. rw (p, t) (((calls, refl), tt), (refl, tt), refl) })
-  send-till-keeps till bytes (Err f) grows = call-keeps old new _ _ _ grows (λ before v e stands p. record { each = λ turns t. rw (p, t.2) (((bytes, (calls, refl), t.1), tt), (refl, tt), (t.0, refl)) })
+  pub tell-keeps : {E : Type 0} (till : ℕ) (reply : Reply) (r : Result (Unit {0}) E) → Grows old new (SentTillTurns till (told_bytes reply) r) →
+      Keeps old new (Owing scene (Tell till reply ∷ calls) items) (Sent r scene till (told_bytes reply) calls items)
+  tell-keeps till reply (Ok u) grows = call-keeps old new _ _ _ grows (λ before v e stands p. record { each = λ turns t. rw (p, t) (((reply, (calls, refl), refl), tt), (refl, tt), refl) })
+  tell-keeps till reply (Err f) grows = call-keeps old new _ _ _ grows (λ before v e stands p. record { each = λ turns t. rw (p, t.2) (((reply, (calls, refl), t.1), tt), (refl, tt), (t.0, refl)) })
 
 taken_count : (count : ℕ) (buf : List ℕ) → length buf ≡ 4096 → IsCount count → IsCount (length (take count buf))
 taken_count count buf l c = rw length-take (omega arith, omega arith)

@@ -1,179 +1,284 @@
 -- The example logs.
-use Rattle.std.proofs.Common.{◌≡◌, ℕ, ◌+◌, Bool, true, false, List, [], ◌∷◌, ◌++◌, length, refl, sym, ◌∙◌, ap, subst, arith, inl, append-nil}
-use Rattle.std.proofs.lemmas.Bool.{and_parts, leb-true}
+use Rattle.std.proofs.Common.{◌≡◌, ℕ, suc, ◌+◌, ◌≤◌, Bool, true, false, List, [], ◌∷◌, ◌++◌, length, refl, sym, ◌∙◌, ap, subst, arith, inl, inr, append-nil}
+use Rattle.std.proofs.lemmas.Bool.{and_parts, ltb-true}
 use Rattle.std.proofs.lemmas.List.Elements.{All-from_recursion}
 use Rattle.std.proofs.lemmas.Slice.Eq.{bytes_eq-Decides}
-use Rattle.std.specs.Prelude.{ℤ, pos, nat_le, ◌==◌, ◌&&◌, not, bytes_eq, codes, Ok}
+use Rattle.std.proofs.lemmas.Str.{IsUtf8-from_is_utf8}
+use Rattle.std.specs.Prelude.{ℤ, pos, nat_lt, ◌&&◌, not, bytes_eq, codes, All, Some, None, Ok}
 use Rattle.std.specs.Str.{is_utf8, chars}
 use Rattle.std.specs.Fmt.{digits}
 use lib.Utf8.{encode}
-use Rattle.gw_base.specs.Ident.{IsPrintable}
+use Rattle.gw_base.specs.Ident.{IsIdent, IsPrintable}
 use Rattle.gw_base.specs.Setup.{IsPt, IsSetup}
-use Rattle.status_form.specs.Json.{Tree, string, object, Members, no_members, member, text, IsPlainByte, IsPlain, HasPlainStrings, HavePlainStrings, LacksName, HasDistinctNames, HaveDistinctNames, IsFormed}
-use Rattle.status_form.specs.StatusRequest.{Header, IsStatusRequest}
-use Rattle.status_form.specs.Answer.{field, only, not_found_message}
-use Rattle.sale_frame.specs.Frame.{frame, IsMessage}
+use Rattle.json_text.specs.Tree.{Tree, null, boolean, number, string, array, object, Members, no_members, member, names}
+use Rattle.json_text.specs.Spelling.{Spells, IsNew, AreDistinct}
+use Rattle.json_text.specs.Spellable.{IsSpellableAt, HaveSpellable}
+use Rattle.json_text.specs.Canonical.{canonical}
+use Rattle.json_text.proofs.Written.{spellable_written}
+use Rattle.sale_values.specs.declared.header.Header.{Header}
+use Rattle.sale_values.specs.declared.names.Class.TheVariants.{Service}
+use Rattle.sale_values.specs.declared.names.Kind.TheVariants.{Request}
+use Rattle.sale_values.specs.declared.request.Incoming.TheVariants as incoming
+use Rattle.sale_values.specs.declared.request.Reference.{Reference}
+use Rattle.sale_values.specs.declared.request.SaleRequest.TheVariants as requests
+use Rattle.sale_msg.specs.declared.category.Category.TheVariants as categories
+use Rattle.sale_msg.specs.Form.{IsLetter}
+use Rattle.sale_msg.specs.Path.{value_at}
+use Rattle.sale_msg.specs.Table.{rows_of, part_rows}
+use Rattle.sale_msg.specs.Flaw.{IsMet, AreMet}
+use Rattle.sale_msg.specs.Message.{IsMessage, TellsHeader, Asks, parts_of}
+use Rattle.sale_reply.specs.Members.{text_member, only}
+use Rattle.sale_reply.specs.Reply.{message, header_tree, result_tree}
+use Rattle.sale_frame.specs.Frame.{frame, IsMessage as IsFrameMessage}
 use Rattle.sale_frame.specs.Reading.{reading_of}
 use Rattle.sale_frame.proofs.FrameLemmas.{length-frame}
 use Rattle.gw_site.specs.Outside.{is_open}
 use Rattle.gw_site.specs.declared.turn.Turn.{Turn}
 use Rattle.gw_site.specs.declared.turn.Turn.TheVariants.{Start, Polled, Opened, HeardTill, SentTill, Stopped}
-use Rattle.gw_rules.specs.Scene.{Call, Till, Send, Message, View}
-use Rattle.gw_rules.specs.Owes.{Owes, MessageOwes, reading_items}
+use Rattle.gw_rules.specs.Reply.{Reply, tree}
+use Rattle.gw_rules.specs.Scene.{Call, Tell, Message, View}
+use Rattle.gw_rules.specs.Answers.{Answers}
+use Rattle.gw_rules.specs.Owes.{Owes, MessageOwes, told, reading_items}
 use Rattle.gw_rules.specs.View.{Move, Begin, Take, after, after_turn, view_from, at_first, items_behind}
 use Rattle.gw_rules.specs.Lawful.{AllowedTurn, IsCourse, turns_of, IsLawful}
-use Rattle.gw_rules.specs.Script.{Open, Say, script_of, script_setup}
-use Rattle.gw_rules.specs.Plays.{PlaysLines, PlaysRead}
-use Rattle.gw_rules.specs.Example.{request, reply, status_log, status_course, status_script, opened_log, asked_log, StatusIsLawful, StatusIsOfScript, StatusHasText, UnaskedReply, PollBeforeReply}
+use Rattle.gw_rules.specs.Script.{Open, Say, Poll, Script, script_of, script_setup}
+use Rattle.gw_rules.specs.Plays.{PlaysLines, PlaysRead, IsRunRead}
+use Rattle.gw_rules.specs.Example.{request, reply, not_found, status_log, status_course, status_script, opened_log, asked_log, StatusIsLawful, StatusIsOfScript, StatusHasText, UnaskedReply, PollBeforeReply}
 use Rattle.gw_rules.proofs.CourseLemmas.{takes, turns_of-takes, course-append}
 use Rattle.gw_rules.proofs.ReadingLemmas.{items-message}
+use Rattle.gw_rules.proofs.AnswerLemmas.{answers-one}
 use Rattle.gw_rules.proofs.FrontLemmas.{Along, resting-clear, front-lawful}
 
--- ---- a tree is tested by computing
+-- ---- a tree of objects and texts is tested by computing
 
-abbrev is_plain_byte : ℕ → Bool
-is_plain_byte byte = nat_le 32 byte && (nat_le byte 126 && (not (byte == 34) && not (byte == 92)))
+abbrev lacks_name : List ℕ → List (List ℕ) → Bool
+lacks_name name [] = true
+lacks_name name (other ∷ names) = not (bytes_eq name other) && lacks_name name names
 
-abbrev is_plain : List ℕ → Bool
-is_plain [] = true
-is_plain (byte ∷ bytes) = is_plain_byte byte && is_plain bytes
-
-abbrev lacks_name : List ℕ → Members → Bool
-lacks_name name no_members = true
-lacks_name name (member other value more) = not (bytes_eq name other) && lacks_name name more
+abbrev are_distinct : List (List ℕ) → Bool
+are_distinct [] = true
+are_distinct (name ∷ names) = lacks_name name names && are_distinct names
 
 abbrev mutual
-  is_plain_tree : Tree → Bool
-  is_plain_tree (string bytes) = is_plain bytes
-  is_plain_tree (object inside) = are_plain inside
+  is_spellable : ℕ → Tree → Bool
+  is_spellable d null = false
+  is_spellable d (boolean b) = false
+  is_spellable d (number text) = false
+  is_spellable d (string text) = is_utf8 text
+  is_spellable d (array xs) = false
+  is_spellable d (object members) = nat_lt d 32 && (are_distinct (names members) && have_spellable (suc d) members)
 
-  are_plain : Members → Bool
-  are_plain no_members = true
-  are_plain (member name value more) = is_plain name && (is_plain_tree value && are_plain more)
-
-abbrev mutual
-  is_distinct : Tree → Bool
-  is_distinct (string bytes) = true
-  is_distinct (object inside) = are_distinct inside
-
-  are_distinct : Members → Bool
-  are_distinct no_members = true
-  are_distinct (member name value more) = lacks_name name more && (is_distinct value && are_distinct more)
-
-other_byte : (byte other : ℕ) → not (byte == other) ≡ true → not (other == other) ≡ false → byte ≡ other → ⊥
-other_byte byte other h same e = let k : true ≡ false = sym (subst (λ b. not (b == other) ≡ true) e h) ∙ same in cc
-
-plain-byte : (byte : ℕ) → is_plain_byte byte ≡ true → IsPlainByte byte
-plain-byte byte e =
-    let p = and_parts (nat_le 32 byte) _ e in
-    let q = and_parts (nat_le byte 126) _ p.1 in
-    let r = and_parts (not (byte == 34)) (not (byte == 92)) q.1 in
-    record { printable = leb-true 32 byte p.0; ascii = leb-true byte 126 q.0; no_quote = other_byte byte 34 r.0 refl; no_backslash = other_byte byte 92 r.1 refl }
-
-plain-bytes : (bytes : List ℕ) → is_plain bytes ≡ true → IsPlain bytes
-plain-bytes [] e = tt
-plain-bytes (byte ∷ bytes) e = let p = and_parts (is_plain_byte byte) (is_plain bytes) e in (plain-byte byte p.0, plain-bytes bytes p.1)
+  have_spellable : ℕ → Members → Bool
+  have_spellable d no_members = true
+  have_spellable d (member name value more) = is_utf8 name && (is_spellable d value && have_spellable d more)
 
 other-name : (name other : List ℕ) → not (bytes_eq name other) ≡ true → name ≡ other → ⊥
 other-name name other h e = let k : false ≡ true = subst (λ b. not b ≡ true) ((bytes_eq-Decides name other).1 e) h in cc
 
-lacks-name : (name : List ℕ) (members : Members) → lacks_name name members ≡ true → LacksName name members
-lacks-name name no_members e = tt
-lacks-name name (member other value more) e = let p = and_parts (not (bytes_eq name other)) (lacks_name name more) e in (other-name name other p.0, lacks-name name more p.1)
+lacks-name : (name : List ℕ) (others : List (List ℕ)) → lacks_name name others ≡ true → IsNew name others
+lacks-name name [] e = tt
+lacks-name name (other ∷ others) e = let p = and_parts (not (bytes_eq name other)) (lacks_name name others) e in (other-name name other p.0, lacks-name name others p.1)
+
+are-distinct : (list : List (List ℕ)) → are_distinct list ≡ true → AreDistinct list
+are-distinct [] e = tt
+are-distinct (name ∷ list) e = let p = and_parts (lacks_name name list) (are_distinct list) e in (lacks-name name list p.0, are-distinct list p.1)
+
+no-true : false ≡ true → ⊥
+no-true e = cc
 
 mutual
-  plain-tree : (tree : Tree) → is_plain_tree tree ≡ true → HasPlainStrings tree
-  plain-tree (string bytes) e = plain-bytes bytes e
-  plain-tree (object inside) e = plain-members inside e
+  spellable-tree : (d : ℕ) (tree : Tree) → is_spellable d tree ≡ true → IsSpellableAt d tree
+  spellable-tree d null e = tt
+  spellable-tree d (boolean b) e = tt
+  spellable-tree d (number text) e = absurd (no-true e)
+  spellable-tree d (string text) e = IsUtf8-from_is_utf8 text e
+  spellable-tree d (array xs) e = absurd (no-true e)
+  spellable-tree d (object members) e =
+      let p = and_parts (nat_lt d 32) _ e in
+      let q = and_parts (are_distinct (names members)) (have_spellable (suc d) members) p.1 in
+      (ltb-true d 32 p.0, are-distinct (names members) q.0, spellable-members (suc d) members q.1)
 
-  plain-members : (members : Members) → are_plain members ≡ true → HavePlainStrings members
-  plain-members no_members e = tt
-  plain-members (member name value more) e =
-      let p = and_parts (is_plain name) _ e in
-      let q = and_parts (is_plain_tree value) (are_plain more) p.1 in
-      (plain-bytes name p.0, plain-tree value q.0, plain-members more q.1)
-
-mutual
-  distinct-tree : (tree : Tree) → is_distinct tree ≡ true → HasDistinctNames tree
-  distinct-tree (string bytes) e = tt
-  distinct-tree (object inside) e = distinct-members inside e
-
-  distinct-members : (members : Members) → are_distinct members ≡ true → HaveDistinctNames members
-  distinct-members no_members e = tt
-  distinct-members (member name value more) e =
-      let p = and_parts (lacks_name name more) _ e in
-      let q = and_parts (is_distinct value) (are_distinct more) p.1 in
-      (lacks-name name more p.0, distinct-tree value q.0, distinct-members more q.1)
+  spellable-members : (d : ℕ) (members : Members) → have_spellable d members ≡ true → HaveSpellable d members
+  spellable-members d no_members e = tt
+  spellable-members d (member name value more) e =
+      let p = and_parts (is_utf8 name) _ e in
+      let q = and_parts (is_spellable d value) (have_spellable d more) p.1 in
+      (IsUtf8-from_is_utf8 name p.0, spellable-tree d value q.0, spellable-members d more q.1)
 
 -- ---- the request and its reply
 
-asked : Header
-asked = record { service = codes "1"; sale = codes "S1"; poi = codes "T1" }
+abbrev asked_header : Tree
+asked_header = object
+    (text_member (codes "ProtocolVersion") (codes "3.0")
+    (text_member (codes "MessageClass") (codes "Service")
+    (text_member (codes "MessageCategory") (codes "TransactionStatus")
+    (text_member (codes "MessageType") (codes "Request")
+    (text_member (codes "ServiceID") (codes "1")
+    (text_member (codes "SaleID") (codes "S1")
+    (text_member (codes "POIID") (codes "T1") no_members)))))))
 
-abbrev asked_fields : Members
-asked_fields =
-    field (codes "ProtocolVersion") (codes "3.0")
-    (field (codes "MessageClass") (codes "Service")
-    (field (codes "MessageCategory") (codes "TransactionStatus")
-    (field (codes "MessageType") (codes "Request")
-    (field (codes "ServiceID") (codes "1")
-    (field (codes "SaleID") (codes "S1")
-    (field (codes "POIID") (codes "T1") no_members))))))
+abbrev asked_reference : Tree
+asked_reference = object (text_member (codes "ServiceID") (codes "9") no_members)
 
-abbrev asked_body : Members
-asked_body = member (codes "MessageHeader") (object asked_fields) (only (codes "TransactionStatusRequest") (only (codes "MessageReference") (field (codes "ServiceID") (codes "9") no_members)))
+abbrev asked_body : Tree
+asked_body = object
+    (member (codes "MessageHeader") asked_header
+    (member (codes "TransactionStatusRequest") (only (codes "MessageReference") asked_reference) no_members))
 
-abbrev asked_envelope : Members
-asked_envelope = only (codes "SaleToPOIRequest") asked_body
+abbrev asked_tree : Tree
+asked_tree = only (codes "SaleToPOIRequest") asked_body
 
-request-spelled : request ≡ text (object asked_envelope)
+request-canonical : request ≡ canonical asked_tree
 unfolding request
-request-spelled = refl
+request-canonical = refl
 
-request-formed : IsFormed 32 (object asked_envelope)
-request-formed = record { strings = plain-tree (object asked_envelope) refl; names = distinct-tree (object asked_envelope) refl; nesting = omega arith }
+request-spellable : is_spellable 0 asked_tree ≡ true
+unfolding is_utf8 chars encode
+request-spellable = refl
 
-request-asks : IsStatusRequest request asked
-unfolding asked
-request-asks = (
-  asked_envelope,
+request-spelled : Spells asked_tree request
+request-spelled = subst (Spells asked_tree) (sym request-canonical) (spellable_written asked_tree (spellable-tree 0 asked_tree request-spellable))
+
+abbrev asked : Header
+asked = record { class = Service; category = codes "TransactionStatus"; kind = Request; service = Some (codes "1"); device = None; sale = codes "S1"; poi = codes "T1" }
+
+abbrev asked_for : Reference
+asked_for = record { service = codes "9"; sale = None; poi = None }
+
+one-digit : (byte : ℕ) → 0x30 ≤ byte → byte ≤ 0x39 → IsIdent 10 (byte ∷ [])
+one-digit byte low high = (omega arith, omega arith, All-from_recursion IsPrintable (byte ∷ []) ((omega arith, omega arith), tt))
+
+two-letters : (one other : ℕ) → 0x30 ≤ one → one ≤ 0x5A → 0x30 ≤ other → other ≤ 0x5A → IsIdent 40 (one ∷ other ∷ [])
+two-letters one other a b c d = (omega arith, omega arith, All-from_recursion IsPrintable (one ∷ other ∷ []) ((omega arith, omega arith), ((omega arith, omega arith), tt)))
+
+upper : (byte : ℕ) → 0x41 ≤ byte → byte ≤ 0x5A → IsLetter byte
+upper byte low high = inl (low, high)
+
+lower : (byte : ℕ) → 0x61 ≤ byte → byte ≤ 0x7A → IsLetter byte
+lower byte low high = inr (low, high)
+
+category-letters : All IsLetter (codes "TransactionStatus")
+category-letters = All-from_recursion IsLetter (codes "TransactionStatus") (
+  upper 84 (omega arith) (omega arith),
+  (
+    lower 114 (omega arith) (omega arith),
+    (
+      lower 97 (omega arith) (omega arith),
+      (
+        lower 110 (omega arith) (omega arith),
+        (
+          lower 115 (omega arith) (omega arith),
+          (
+            lower 97 (omega arith) (omega arith),
+            (
+              lower 99 (omega arith) (omega arith),
+              (
+                lower 116 (omega arith) (omega arith),
+                (
+                  lower 105 (omega arith) (omega arith),
+                  (
+                    lower 111 (omega arith) (omega arith),
+                    (
+                      lower 110 (omega arith) (omega arith),
+                      (
+                        upper 83 (omega arith) (omega arith),
+                        (
+                          lower 116 (omega arith) (omega arith),
+                          (
+                            lower 97 (omega arith) (omega arith),
+                            (
+                              lower 116 (omega arith) (omega arith),
+                              (lower 117 (omega arith) (omega arith), (lower 115 (omega arith) (omega arith), tt)),
+                            ),
+                          ),
+                        ),
+                      ),
+                    ),
+                  ),
+                ),
+              ),
+            ),
+          ),
+        ),
+      ),
+    ),
+  ),
+)
+
+header-told : TellsHeader asked_body asked
+unfolding value_at
+header-told = record { class = refl; category = refl; kind = refl; service = refl; device = refl; sale = refl; poi = refl }
+
+body-met : AreMet (rows_of categories.TransactionStatus) asked_body
+unfolding IsMet value_at
+body-met = (one-digit 49 (omega arith) (omega arith), (refl, (refl, tt)))
+
+part-met : All (AreMet (part_rows categories.TransactionStatus)) (parts_of categories.TransactionStatus asked_body)
+unfolding IsMet value_at
+part-met = All-from_recursion (AreMet (part_rows categories.TransactionStatus)) (asked_reference ∷ []) ((one-digit 57 (omega arith) (omega arith), (tt, (tt, tt))), tt)
+
+asks-for : Asks asked_body (requests.Status (Some asked_for))
+unfolding value_at
+asks-for = (asked_reference, refl, record { service = refl; sale = refl; poi = refl })
+
+request-read : IsMessage asked_tree (incoming.Request asked (requests.Status (Some asked_for)))
+unfolding IsMet value_at
+request-read = (
   asked_body,
-  asked_fields,
   record {
-    spelled = request-spelled;
-    formed = request-formed;
-    body_is = refl;
-    fields_are = refl;
-    header_is = record {
-      asks = record { version = (codes "0", refl); message_class = inl refl; category = refl; message_type = refl; device = tt };
-      service = (refl, (omega arith, omega arith));
-      sale = (refl, (omega arith, omega arith));
-      poi = (refl, (omega arith, omega arith));
+    request_of = record {
+      stands = refl;
+      header_is = record {
+        members = (
+          refl,
+          (
+            (codes "0", refl),
+            (
+              (Service, refl),
+              (
+                (omega arith, omega arith, category-letters),
+                (
+                  inl refl,
+                  (one-digit 49 (omega arith) (omega arith), (tt, (two-letters 83 49 (omega arith) (omega arith) (omega arith) (omega arith), (two-letters 84 49 (omega arith) (omega arith) (omega arith) (omega arith), tt)))),
+                ),
+              ),
+            ),
+          ),
+        );
+        told = header-told;
+      };
+      kind = refl;
     };
+    category = refl;
+    members = record { members = body-met; parts = part-met };
+    asks = asks-for;
   },
 )
 
-reply-is : reply ≡ not_found_message asked
-unfolding reply not_found_message asked
+request-answered : (name : List ℕ) (moment : ℕ) → Answers name moment request (Some not_found)
+request-answered name moment = inl (record { tree = asked_tree; spelled = request-spelled; is = inl (record { incoming = incoming.Request asked (requests.Status (Some asked_for)); read = request-read; is = refl }) })
+
+reply-is : reply ≡ canonical (tree not_found)
+unfolding reply message header_tree result_tree
 reply-is = refl
 
 request-length : length request ≡ 260
 unfolding request
 request-length = refl
 
-request-message : IsMessage request
+request-message : IsFrameMessage request
 request-message = rw request-length (omega arith, omega arith)
 
 frame-length : (message : List ℕ) → length (frame message) ≡ 4 + length message
 frame-length message = let k = length-frame message [] in let z : length (frame message ++ []) ≡ length (frame message) = ap length (append-nil (frame message)) in omega arith
 
 -- one whole frame brings its message
-items-frame : (till : ℕ) (message : List ℕ) → IsMessage message → reading_items till (reading_of (frame message)) ≡ Message till message ∷ []
+items-frame : (till : ℕ) (message : List ℕ) → IsFrameMessage message → reading_items till (reading_of (frame message)) ≡ Message till message ∷ []
 items-frame till message h = ap (λ b. reading_items till (reading_of b)) (sym (append-nil (frame message))) ∙ items-message till message [] h
 
 -- ---- the setup of scripts
 
-script-formed : IsSetup script_setup
+script-formed : IsSetup (script_setup None)
 script-formed = record {
   name = (omega arith, omega arith, All-from_recursion IsPrintable (codes "GATEWAY") ((omega arith, omega arith), ((omega arith, omega arith), ((omega arith, omega arith), ((omega arith, omega arith), ((omega arith, omega arith), ((omega arith, omega arith), ((omega arith, omega arith), tt))))))));
   line = omega arith;
@@ -203,12 +308,14 @@ take-next v turn turns none x = by_moves x.moves x.turns_are x.lawful
 along : (log : List Turn) → IsLawful log → Along at_first log
 along log (v, s) = record { moves = s.course; turns_are = s.log_is; lawful = s.lawful }
 
--- while the message of a till that is there waits, no poll comes
-message-first : (v : View) (till : ℕ) (message : List ℕ) (now : ℤ) → is_open v.scene.outside.tills till ≡ true → v.items ≡ Message till message ∷ [] → Along v (Polled now ∷ []) → ⊥
-message-first v till message now there waits x = by_moves x.moves x.turns_are x.lawful
+-- while a message of a till that is there waits for its answer, no poll comes
+message-first : (v : View) (till : ℕ) (message : List ℕ) (reply : Reply) (now : ℤ) → ((name : List ℕ) (moment : ℕ) → Answers name moment message (Some reply)) → is_open v.scene.outside.tills till ≡ true → v.items ≡ Message till message ∷ [] → Along v (Polled now ∷ []) → ⊥
+message-first v till message reply now answered there waits x = by_moves x.moves x.turns_are x.lawful
   where
     owes_one : (calls : List Call) → MessageOwes true v.scene till message calls → calls ≡ [] → ⊥
-    owes_one calls (answer, is, e) f = let n : Send (Till till) (frame answer) ∷ [] ≡ [] = sym e ∙ f in cc
+    owes_one calls x f =
+        let same : x.answer ≡ Some reply = answers-one x.setup.name v.scene.outside.moment message x.answer (Some reply) x.answers (answered x.setup.name v.scene.outside.moment) in
+        let n : Tell till reply ∷ [] ≡ [] = sym (x.is ∙ ap (told till) same) ∙ f in cc
 
     by_moves : (moves : List Move) → turns_of moves ≡ Polled now ∷ [] → IsCourse v moves → ⊥
     by_moves [] e h = (let n : [] ≡ Polled now ∷ [] = e in cc)
@@ -255,30 +362,34 @@ asked-lawful : IsLawful asked_log
 asked-lawful = (asked_view, record { course = takes asked_log; log_is = turns_of-takes asked_log; lawful = asked-course; view_is = refl })
 
 abbrev replied_course : List Move
-replied_course = Begin (Send (Till 1) (frame reply) ∷ []) ∷ Take (SentTill 1 (frame reply) true) ∷ Take (Polled (pos 0)) ∷ Take Stopped ∷ []
+replied_course = Begin (Tell 1 not_found ∷ []) ∷ Take (SentTill 1 (frame reply) true) ∷ Take (Polled (pos 0)) ∷ Take Stopped ∷ []
 
 replied-lawful : IsCourse asked_view replied_course
 replied-lawful = (
-  (Message 1 request, [], record { running = tt; idle = refl; first = request-waits; owes = (reply, inl (asked, record { request = request-asks; is = reply-is }), refl) }),
-  (([], refl), (record { running = tt; calls = refl; items = ap items_behind request-waits }, (refl, tt))),
+  (Message 1 request, [], record { running = tt; idle = refl; first = request-waits; owes = record { setup = script_setup None; setup_is = refl; answer = Some not_found; answers = request-answered (script_setup None).name 0; is = refl } }),
+  ((not_found, ([], refl), ap frame reply-is), (record { running = tt; calls = refl; items = ap items_behind request-waits }, (refl, tt))),
 )
 
 pub status-lawful : StatusIsLawful
 status-lawful = record { takes = refl; lawful = course-append at_first (takes asked_log) replied_course asked-course replied-lawful }
 
-script-read : script_of status_script ≡ Ok (Open 1 ∷ Say 1 (frame request) ∷ [])
+-- the script that was read
+abbrev status_read : Script
+status_read = record { name = None; lines = Poll (Open 1) ∷ Poll (Say 1 (frame request)) ∷ [] }
+
+script-read : script_of status_script ≡ Ok status_read
 unfolding request is_utf8 chars encode
 script-read = refl
 
-status-plays : PlaysLines (Open 1 ∷ Say 1 (frame request) ∷ []) status_log
+status-plays : PlaysLines status_read.lines status_log
 status-plays = (refl, ((refl, refl), (refl, ((refl, refl), (refl, ((refl, refl), ((refl, refl), (refl, tt))))))))
 
 pub status-of-script : StatusIsOfScript
 status-of-script = record {
   lawful = (view_from at_first status_course, record { course = status_course; log_is = refl; lawful = status-lawful.lawful; view_is = refl });
   plays = subst (λ read. PlaysRead read status_log) (sym script-read) status-plays;
-  one_run = (_, refl, (refl, (refl, (refl, (refl, (refl, (refl, (refl, tt))))))));
-  stopped = (Start script_setup ∷ Polled (pos 0) ∷ Opened 1 ∷ Polled (pos 0) ∷ HeardTill 1 (frame request) ∷ SentTill 1 (frame reply) true ∷ Polled (pos 0) ∷ [], refl);
+  one_run = subst (λ read. IsRunRead read status_log) (sym script-read) (_, refl, (refl, (refl, (refl, (refl, (refl, (refl, (refl, tt))))))));
+  stopped = (Start (script_setup None) ∷ Polled (pos 0) ∷ Opened 1 ∷ Polled (pos 0) ∷ HeardTill 1 (frame request) ∷ SentTill 1 (frame reply) true ∷ Polled (pos 0) ∷ [], refl);
 }
 
 pub status-has-text : StatusHasText
@@ -289,24 +400,24 @@ pub unasked-reply : UnaskedReply
 unasked-reply = record {
   before = front-lawful opened_log asked_log (Polled (pos 0) ∷ HeardTill 1 (frame request) ∷ [], refl) asked-lawful;
   behind = λ lawful.
-      let a = take-next at_first (Start script_setup) _ refl (along _ lawful) in
+      let a = take-next at_first (Start (script_setup None)) _ refl (along _ lawful) in
       let b = take-next _ (Polled (pos 0)) _ refl a.1 in
       let c = take-next _ (Opened 1) _ refl b.1 in
       let d = take-next _ (SentTill 1 (frame reply) true) _ refl c.1 in
-      none_next d.0.0 d.0.1;
+      none_next d.0.0 d.0.1.0 d.0.1.1;
 }
   where
-    none_next : (calls : List Call) → [] ≡ Send (Till 1) (frame reply) ∷ calls → ⊥
-    none_next calls e = cc
+    none_next : (reply : Reply) (calls : List Call) → [] ≡ Tell 1 reply ∷ calls → ⊥
+    none_next reply calls e = cc
 
 pub poll-before-reply : PollBeforeReply
 poll-before-reply = record {
   before = asked-lawful;
   behind = λ lawful.
-      let a = take-next at_first (Start script_setup) _ refl (along _ lawful) in
+      let a = take-next at_first (Start (script_setup None)) _ refl (along _ lawful) in
       let b = take-next _ (Polled (pos 0)) _ refl a.1 in
       let c = take-next _ (Opened 1) _ refl b.1 in
       let d = take-next _ (Polled (pos 0)) _ refl c.1 in
       let e = take-next _ (HeardTill 1 (frame request)) _ refl d.1 in
-      message-first asked_view 1 request (pos 0) refl request-waits e.1;
+      message-first asked_view 1 request not_found (pos 0) request-answered refl request-waits e.1;
 }

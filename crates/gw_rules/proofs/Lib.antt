@@ -5,5 +5,10 @@ pub mod RunLemmas
 pub mod ReadingLemmas
 pub mod EndLemmas
 pub mod FrontLemmas
+pub mod AnswerLemmas
 pub mod OneLogLemmas
 pub mod ExampleLemmas
+pub mod NumberLemmas
+pub mod EntryLemmas
+pub mod EntryReadLemmas
+pub mod ScriptLemmas

@@ -1,37 +1,29 @@
 -- A script has one log at most: at each place of a course one move alone may come.
-use Rattle.std.proofs.Common.{◌≡◌, ℕ, List, [], ◌∷◌, ◌++◌, refl, sym, ◌∙◌, ap, subst, inl, inr, true, false}
-use Rattle.std.specs.Prelude.{Bool, pos, Some, Result, Ok, Err}
+use Rattle.std.proofs.Common.{◌≡◌, ℕ, List, [], ◌∷◌, ◌++◌, refl, sym, ◌∙◌, ap, subst, true, false}
+use Rattle.std.specs.Prelude.{Bool, ℤ, Some, Result, Ok, Err}
 use Rattle.gw_base.specs.declared.setup.Setup.{Setup}
-use Rattle.gw_base.specs.Moment.{stamp_of}
 use Rattle.gw_site.specs.Outside.{Outside, outside_after, nothing_yet, is_open}
 use Rattle.gw_site.specs.declared.turn.Turn.{Turn}
 use Rattle.gw_site.specs.declared.turn.Turn.TheVariants.{Start, OpenFailed, Polled, Opened, HeardTill, Closed, HeardPt, Lost, Stopped, Linked, LinkFailed, SentTill, SentPt, CutTill, CutPt, Wrote, Synced, DiskFailed, Crash}
-use Rattle.sale_frame.specs.Frame.{frame}
-use Rattle.status_form.specs.Answer.{not_found_message, unread_message}
-use Rattle.status_form.proofs.Trees.{one_header}
-use Rattle.gw_rules.specs.Scene.{Till, Pt, Call, Send, Cut, Link, Write, Sync, Item, Crowded, Message, Unframed, Standing, Resting, Opening, Refusing, AtPoll, Serving, Over, Broken, Scene, View, IsRunning, busy}
-use Rattle.gw_rules.specs.Owes.{Owes, Answers, MessageOwes, UnframedOwes}
+use Rattle.gw_rules.specs.Reply.{told_bytes}
+use Rattle.gw_rules.specs.Scene.{Till, Pt, Call, Tell, Order, Cut, Link, Write, Sync, Item, Crowded, Message, Unframed, Standing, Resting, Opening, Refusing, AtPoll, Serving, Over, Broken, Scene, View, IsRunning, busy}
+use Rattle.gw_rules.specs.Answers.{Answers}
+use Rattle.gw_rules.specs.Owes.{Owes, told, MessageOwes, UnframedOwes}
 use Rattle.gw_rules.specs.View.{Move, Begin, Take, after, after_turn, view_from, at_first}
 use Rattle.gw_rules.specs.Lawful.{AllowedTurn, Allowed, IsCourse, turns_of, IsLawful, IsNext, is_between, IsQuiet}
-use Rattle.gw_rules.specs.Script.{Line, script_of, script_setup}
-use Rattle.gw_rules.specs.Plays.{Play, Fits, PlaysFrom, play_after, rests, PlaysLines, PlaysRead, IsStopped, IsOneRun}
+use Rattle.gw_rules.specs.Script.{Line, Script, script_of, script_setup}
+use Rattle.gw_rules.specs.Plays.{Play, Fits, PlaysFrom, play_after, polled, begins, PlaysLines, PlaysRead, IsStopped, IsRunWith, IsRunRead}
 use Rattle.gw_rules.specs.Laws.{OneLog}
+use Rattle.gw_rules.proofs.AnswerLemmas.{answers-one}
 use Rattle.gw_rules.proofs.EndLemmas.{OverCalm, over-turn, over-begin}
-
--- a message has one answer
-
-answers-one : (scene : Scene) (message answer other : List ℕ) → Answers scene message answer → Answers scene message other → answer ≡ other
-answers-one scene message answer other (inl (h, x)) (inl (k, y)) = x.is ∙ ap not_found_message (one_header message h k x.request y.request) ∙ sym y.is
-answers-one scene message answer other (inl (h, x)) (inr (t, y)) = absurd (y.none h x.request)
-answers-one scene message answer other (inr (s, x)) (inl (k, y)) = absurd (x.none k y.request)
-answers-one scene message answer other (inr (s, x)) (inr (t, y)) =
-    let same : s ≡ t = (let e : Some s ≡ Some t = sym x.setup_is ∙ y.setup_is in cc) in
-    x.is ∙ ap (λ (s : Setup). unread_message s.name (stamp_of (pos scene.outside.moment))) same ∙ sym y.is
 
 -- an item owes one list of calls
 
 message-one : (open_line : Bool) (scene : Scene) (till : ℕ) (message : List ℕ) (calls other : List Call) → MessageOwes open_line scene till message calls → MessageOwes open_line scene till message other → calls ≡ other
-message-one true scene till message calls other (answer, is, e) (second, also, f) = e ∙ ap (λ a. Send (Till till) (frame a) ∷ []) (answers-one scene message answer second is also) ∙ sym f
+message-one true scene till message calls other x y =
+    let same : y.setup ≡ x.setup = (let e : Some y.setup ≡ Some x.setup = sym y.setup_is ∙ x.setup_is in cc) in
+    let answers = subst (λ (s : Setup). Answers s.name scene.outside.moment message y.answer) same y.answers in
+    x.is ∙ ap (told till) (answers-one x.setup.name scene.outside.moment message x.answer y.answer x.answers answers) ∙ sym y.is
 message-one false scene till message calls other e f = e ∙ sym f
 
 unframed-one : (open_line : Bool) (till : ℕ) (calls other : List Call) → UnframedOwes open_line till calls → UnframedOwes open_line till other → calls ≡ other
@@ -50,8 +42,8 @@ begins-one v calls other (item, items, x) (second, items2, y) =
 
 -- the turn of a call that succeeds
 abbrev outcome : Call → Turn
-outcome (Send (Till till) bytes) = SentTill till bytes true
-outcome (Send (Pt pt) bytes) = SentPt pt bytes true
+outcome (Tell till reply) = SentTill till (told_bytes reply) true
+outcome (Order pt bytes) = SentPt pt bytes true
 outcome (Cut (Till till)) = CutTill till
 outcome (Cut (Pt pt)) = CutPt pt
 outcome (Link pt) = Linked pt
@@ -59,33 +51,33 @@ outcome (Write at bytes) = Wrote at bytes
 outcome Sync = Synced
 
 -- the one turn that may come: the event that is due, else the outcome of the first call that is owed, else a poll
-abbrev expected : List Turn → List Call → Turn
-expected (turn ∷ turns) calls = turn
-expected [] (call ∷ calls) = outcome call
-expected [] [] = Polled (pos 0)
+abbrev expected : ℤ → List Turn → List Call → Turn
+expected moment (turn ∷ turns) calls = turn
+expected moment [] (call ∷ calls) = outcome call
+expected moment [] [] = Polled moment
 
-is-expected : (v : View) (p : Play) (turn : Turn) → AllowedTurn v turn → is_between turn ≡ false → Fits p turn → turn ≡ expected p.due v.calls
-is-expected v p (Start setup) ok quiet fits = absurd (let h : true ≡ false = quiet in cc)
-is-expected v p OpenFailed ok quiet fits = absurd fits
-is-expected v p (Polled now) ok quiet fits = rw (fits.0, ok.calls, fits.1) refl
-is-expected v p (Opened till) ok quiet fits = rw fits refl
-is-expected v p (HeardTill till bytes) ok quiet fits = rw fits refl
-is-expected v p (Closed till) ok quiet fits = rw fits refl
-is-expected v p (HeardPt pt bytes) ok quiet fits = rw fits refl
-is-expected v p (Lost pt) ok quiet fits = rw fits refl
-is-expected v p Stopped ok quiet fits = rw fits refl
-is-expected v p (Linked pt) ok quiet fits = rw (fits, ok.1) refl
-is-expected v p (LinkFailed pt) ok quiet fits = absurd fits
-is-expected v p (SentTill till bytes true) ok quiet fits = rw (fits.0, ok.1) refl
-is-expected v p (SentTill till bytes false) ok quiet fits = absurd (let h : false ≡ true = fits.1 in cc)
-is-expected v p (SentPt pt bytes true) ok quiet fits = rw (fits.0, ok.1) refl
-is-expected v p (SentPt pt bytes false) ok quiet fits = absurd (let h : false ≡ true = fits.1 in cc)
-is-expected v p (CutTill till) ok quiet fits = rw (fits, ok.1) refl
-is-expected v p (CutPt pt) ok quiet fits = rw (fits, ok.1) refl
-is-expected v p (Wrote at bytes) ok quiet fits = rw (fits, ok.1) refl
-is-expected v p Synced ok quiet fits = rw (fits, ok.1) refl
-is-expected v p DiskFailed ok quiet fits = absurd fits
-is-expected v p (Crash file) ok quiet fits = absurd fits
+is-expected : (v : View) (o : Outside) (p : Play) (turn : Turn) → AllowedTurn v turn → is_between turn ≡ false → Fits o p turn → turn ≡ expected (polled o p).moment p.due v.calls
+is-expected v o p (Start setup) ok quiet fits = absurd (let h : true ≡ false = quiet in cc)
+is-expected v o p OpenFailed ok quiet fits = absurd fits
+is-expected v o p (Polled now) ok quiet fits = rw (fits.0, ok.calls, fits.1) refl
+is-expected v o p (Opened till) ok quiet fits = rw fits refl
+is-expected v o p (HeardTill till bytes) ok quiet fits = rw fits refl
+is-expected v o p (Closed till) ok quiet fits = rw fits refl
+is-expected v o p (HeardPt pt bytes) ok quiet fits = rw fits refl
+is-expected v o p (Lost pt) ok quiet fits = rw fits refl
+is-expected v o p Stopped ok quiet fits = rw fits refl
+is-expected v o p (Linked pt) ok quiet fits = rw (fits, ok.1) refl
+is-expected v o p (LinkFailed pt) ok quiet fits = absurd fits
+is-expected v o p (SentTill till bytes true) ok quiet fits = rw (fits.0, ok.1.1, ok.2) refl
+is-expected v o p (SentTill till bytes false) ok quiet fits = absurd (let h : false ≡ true = fits.1 in cc)
+is-expected v o p (SentPt pt bytes true) ok quiet fits = rw (fits.0, ok.1) refl
+is-expected v o p (SentPt pt bytes false) ok quiet fits = absurd (let h : false ≡ true = fits.1 in cc)
+is-expected v o p (CutTill till) ok quiet fits = rw (fits, ok.1) refl
+is-expected v o p (CutPt pt) ok quiet fits = rw (fits, ok.1) refl
+is-expected v o p (Wrote at bytes) ok quiet fits = rw (fits, ok.1) refl
+is-expected v o p Synced ok quiet fits = rw (fits, ok.1) refl
+is-expected v o p DiskFailed ok quiet fits = absurd fits
+is-expected v o p (Crash file) ok quiet fits = absurd fits
 
 -- right behind a poll nothing is owed, and where the run is over no call is
 record Calm (v : View) : Type 0 where
@@ -138,55 +130,55 @@ some-none : {A : Type 0} (first : A) (rest list : List A) → list ≡ first ∷
 some-none first rest list e f = let h : first ∷ rest ≡ [] = sym e ∙ f in cc
 
 -- where an item may begin, no turn may come
-item-first : (v : View) (p : Play) (calls : List Call) (turn : Turn) → Calm v → Allowed v (Begin calls) → AllowedTurn v turn → is_between turn ≡ false → Fits p turn → ⊥
-item-first v p calls (Start setup) calm (item, items, b) ok quiet fits = (let h : true ≡ false = quiet in cc)
-item-first v p calls OpenFailed calm (item, items, b) ok quiet fits = fits
-item-first v p calls (Polled now) calm (item, items, b) ok quiet fits = some-none item items v.items b.first ok.items
-item-first v p calls (Opened till) calm (item, items, b) ok quiet fits = some-none item items v.items b.first (calm.at_poll ok.0).1
-item-first v p calls (HeardTill till bytes) calm (item, items, b) ok quiet fits = some-none item items v.items b.first (calm.at_poll ok.0.polled).1
-item-first v p calls (Closed till) calm (item, items, b) ok quiet fits = some-none item items v.items b.first (calm.at_poll ok.polled).1
-item-first v p calls (HeardPt pt bytes) calm (item, items, b) ok quiet fits = some-none item items v.items b.first (calm.at_poll ok.0.polled).1
-item-first v p calls (Lost pt) calm (item, items, b) ok quiet fits = some-none item items v.items b.first (calm.at_poll ok.polled).1
-item-first v p calls Stopped calm (item, items, b) ok quiet fits = some-none item items v.items b.first (calm.at_poll ok).1
-item-first v p calls (Linked pt) calm (item, items, b) ok quiet fits = idle-next v _ b.idle ok
-item-first v p calls (LinkFailed pt) calm (item, items, b) ok quiet fits = fits
-item-first v p calls (SentTill till bytes true) calm (item, items, b) ok quiet fits = idle-next v _ b.idle ok
-item-first v p calls (SentTill till bytes false) calm (item, items, b) ok quiet fits = idle-next v _ b.idle ok.1
-item-first v p calls (SentPt pt bytes true) calm (item, items, b) ok quiet fits = idle-next v _ b.idle ok
-item-first v p calls (SentPt pt bytes false) calm (item, items, b) ok quiet fits = idle-next v _ b.idle ok.1
-item-first v p calls (CutTill till) calm (item, items, b) ok quiet fits = idle-next v _ b.idle ok
-item-first v p calls (CutPt pt) calm (item, items, b) ok quiet fits = idle-next v _ b.idle ok
-item-first v p calls (Wrote at bytes) calm (item, items, b) ok quiet fits = idle-next v _ b.idle ok
-item-first v p calls Synced calm (item, items, b) ok quiet fits = idle-next v _ b.idle ok
-item-first v p calls DiskFailed calm (item, items, b) ok quiet fits = fits
-item-first v p calls (Crash file) calm (item, items, b) ok quiet fits = fits
+item-first : (v : View) (o : Outside) (p : Play) (calls : List Call) (turn : Turn) → Calm v → Allowed v (Begin calls) → AllowedTurn v turn → is_between turn ≡ false → Fits o p turn → ⊥
+item-first v o p calls (Start setup) calm (item, items, b) ok quiet fits = (let h : true ≡ false = quiet in cc)
+item-first v o p calls OpenFailed calm (item, items, b) ok quiet fits = fits
+item-first v o p calls (Polled now) calm (item, items, b) ok quiet fits = some-none item items v.items b.first ok.items
+item-first v o p calls (Opened till) calm (item, items, b) ok quiet fits = some-none item items v.items b.first (calm.at_poll ok.0).1
+item-first v o p calls (HeardTill till bytes) calm (item, items, b) ok quiet fits = some-none item items v.items b.first (calm.at_poll ok.0.polled).1
+item-first v o p calls (Closed till) calm (item, items, b) ok quiet fits = some-none item items v.items b.first (calm.at_poll ok.polled).1
+item-first v o p calls (HeardPt pt bytes) calm (item, items, b) ok quiet fits = some-none item items v.items b.first (calm.at_poll ok.0.polled).1
+item-first v o p calls (Lost pt) calm (item, items, b) ok quiet fits = some-none item items v.items b.first (calm.at_poll ok.polled).1
+item-first v o p calls Stopped calm (item, items, b) ok quiet fits = some-none item items v.items b.first (calm.at_poll ok).1
+item-first v o p calls (Linked pt) calm (item, items, b) ok quiet fits = idle-next v _ b.idle ok
+item-first v o p calls (LinkFailed pt) calm (item, items, b) ok quiet fits = fits
+item-first v o p calls (SentTill till bytes true) calm (item, items, b) ok quiet fits = idle-next v _ b.idle ok.1
+item-first v o p calls (SentTill till bytes false) calm (item, items, b) ok quiet fits = idle-next v _ b.idle ok.1
+item-first v o p calls (SentPt pt bytes true) calm (item, items, b) ok quiet fits = idle-next v _ b.idle ok
+item-first v o p calls (SentPt pt bytes false) calm (item, items, b) ok quiet fits = idle-next v _ b.idle ok.1
+item-first v o p calls (CutTill till) calm (item, items, b) ok quiet fits = idle-next v _ b.idle ok
+item-first v o p calls (CutPt pt) calm (item, items, b) ok quiet fits = idle-next v _ b.idle ok
+item-first v o p calls (Wrote at bytes) calm (item, items, b) ok quiet fits = idle-next v _ b.idle ok
+item-first v o p calls Synced calm (item, items, b) ok quiet fits = idle-next v _ b.idle ok
+item-first v o p calls DiskFailed calm (item, items, b) ok quiet fits = fits
+item-first v o p calls (Crash file) calm (item, items, b) ok quiet fits = fits
 
 over-poll : (s : Standing) → s ≡ Over → s ≡ AtPoll → ⊥
 over-poll s e f = let h : Over ≡ AtPoll = sym e ∙ f in cc
 
 -- where the run is over, no turn of a run may come
-over-last : (v : View) (p : Play) (turn : Turn) → Calm v → v.scene.standing ≡ Over → AllowedTurn v turn → is_between turn ≡ false → Fits p turn → ⊥
-over-last v p (Start setup) calm over ok quiet fits = (let h : true ≡ false = quiet in cc)
-over-last v p OpenFailed calm over ok quiet fits = fits
-over-last v p (Polled now) calm over ok quiet fits = subst IsRunning over ok.running
-over-last v p (Opened till) calm over ok quiet fits = over-poll v.scene.standing over ok.0
-over-last v p (HeardTill till bytes) calm over ok quiet fits = over-poll v.scene.standing over ok.0.polled
-over-last v p (Closed till) calm over ok quiet fits = over-poll v.scene.standing over ok.polled
-over-last v p (HeardPt pt bytes) calm over ok quiet fits = over-poll v.scene.standing over ok.0.polled
-over-last v p (Lost pt) calm over ok quiet fits = over-poll v.scene.standing over ok.polled
-over-last v p Stopped calm over ok quiet fits = over-poll v.scene.standing over ok
-over-last v p (Linked pt) calm over ok quiet fits = idle-next v _ (calm.over over) ok
-over-last v p (LinkFailed pt) calm over ok quiet fits = fits
-over-last v p (SentTill till bytes true) calm over ok quiet fits = idle-next v _ (calm.over over) ok
-over-last v p (SentTill till bytes false) calm over ok quiet fits = idle-next v _ (calm.over over) ok.1
-over-last v p (SentPt pt bytes true) calm over ok quiet fits = idle-next v _ (calm.over over) ok
-over-last v p (SentPt pt bytes false) calm over ok quiet fits = idle-next v _ (calm.over over) ok.1
-over-last v p (CutTill till) calm over ok quiet fits = idle-next v _ (calm.over over) ok
-over-last v p (CutPt pt) calm over ok quiet fits = idle-next v _ (calm.over over) ok
-over-last v p (Wrote at bytes) calm over ok quiet fits = idle-next v _ (calm.over over) ok
-over-last v p Synced calm over ok quiet fits = idle-next v _ (calm.over over) ok
-over-last v p DiskFailed calm over ok quiet fits = fits
-over-last v p (Crash file) calm over ok quiet fits = fits
+over-last : (v : View) (o : Outside) (p : Play) (turn : Turn) → Calm v → v.scene.standing ≡ Over → AllowedTurn v turn → is_between turn ≡ false → Fits o p turn → ⊥
+over-last v o p (Start setup) calm over ok quiet fits = (let h : true ≡ false = quiet in cc)
+over-last v o p OpenFailed calm over ok quiet fits = fits
+over-last v o p (Polled now) calm over ok quiet fits = subst IsRunning over ok.running
+over-last v o p (Opened till) calm over ok quiet fits = over-poll v.scene.standing over ok.0
+over-last v o p (HeardTill till bytes) calm over ok quiet fits = over-poll v.scene.standing over ok.0.polled
+over-last v o p (Closed till) calm over ok quiet fits = over-poll v.scene.standing over ok.polled
+over-last v o p (HeardPt pt bytes) calm over ok quiet fits = over-poll v.scene.standing over ok.0.polled
+over-last v o p (Lost pt) calm over ok quiet fits = over-poll v.scene.standing over ok.polled
+over-last v o p Stopped calm over ok quiet fits = over-poll v.scene.standing over ok
+over-last v o p (Linked pt) calm over ok quiet fits = idle-next v _ (calm.over over) ok
+over-last v o p (LinkFailed pt) calm over ok quiet fits = fits
+over-last v o p (SentTill till bytes true) calm over ok quiet fits = idle-next v _ (calm.over over) ok.1
+over-last v o p (SentTill till bytes false) calm over ok quiet fits = idle-next v _ (calm.over over) ok.1
+over-last v o p (SentPt pt bytes true) calm over ok quiet fits = idle-next v _ (calm.over over) ok
+over-last v o p (SentPt pt bytes false) calm over ok quiet fits = idle-next v _ (calm.over over) ok.1
+over-last v o p (CutTill till) calm over ok quiet fits = idle-next v _ (calm.over over) ok
+over-last v o p (CutPt pt) calm over ok quiet fits = idle-next v _ (calm.over over) ok
+over-last v o p (Wrote at bytes) calm over ok quiet fits = idle-next v _ (calm.over over) ok
+over-last v o p Synced calm over ok quiet fits = idle-next v _ (calm.over over) ok
+over-last v o p DiskFailed calm over ok quiet fits = fits
+over-last v o p (Crash file) calm over ok quiet fits = fits
 
 -- a course of one run that plays on and ends where the run is over
 record Rest (v : View) (o : Outside) (p : Play) (moves : List Move) : Type 0 where
@@ -205,7 +197,7 @@ rest-begin v o p calls moves r = record { lawful = r.lawful.1; quiet = r.quiet; 
 over-rest : (v : View) (o : Outside) (p : Play) (moves : List Move) → Calm v → v.scene.standing ≡ Over → Rest v o p moves → [] ≡ turns_of moves
 over-rest v o p [] calm over r = refl
 over-rest v o p (Begin calls ∷ moves) calm over r = absurd (subst IsRunning over r.lawful.0.2.running)
-over-rest v o p (Take turn ∷ moves) calm over r = absurd (over-last v p turn calm over r.lawful.0 r.quiet.0 r.plays.0)
+over-rest v o p (Take turn ∷ moves) calm over r = absurd (over-last v o p turn calm over r.lawful.0 r.quiet.0 r.plays.0)
 
 -- two such courses take the same turns
 same-turns : (v : View) (o : Outside) (p : Play) (xs ys : List Move) → Calm v → Rest v o p xs → Rest v o p ys → turns_of xs ≡ turns_of ys
@@ -214,11 +206,11 @@ same-turns v o p (Begin calls ∷ xs) [] calm x y = sym (over-rest v o p (Begin 
 same-turns v o p (Begin calls ∷ xs) (Begin other ∷ ys) calm x y =
     let same : other ≡ calls = sym (begins-one v calls other x.lawful.0 y.lawful.0) in
     same-turns (after v (Begin calls)) o p xs ys (calm-begin v calls x.lawful.0) (rest-begin v o p calls xs x) (rest-begin v o p calls ys (subst (λ c. Rest v o p (Begin c ∷ ys)) same y))
-same-turns v o p (Begin calls ∷ xs) (Take turn ∷ ys) calm x y = absurd (item-first v p calls turn calm x.lawful.0 y.lawful.0 y.quiet.0 y.plays.0)
+same-turns v o p (Begin calls ∷ xs) (Take turn ∷ ys) calm x y = absurd (item-first v o p calls turn calm x.lawful.0 y.lawful.0 y.quiet.0 y.plays.0)
 same-turns v o p (Take turn ∷ xs) [] calm x y = sym (over-rest v o p (Take turn ∷ xs) calm y.over x)
-same-turns v o p (Take turn ∷ xs) (Begin calls ∷ ys) calm x y = absurd (item-first v p calls turn calm y.lawful.0 x.lawful.0 x.quiet.0 x.plays.0)
+same-turns v o p (Take turn ∷ xs) (Begin calls ∷ ys) calm x y = absurd (item-first v o p calls turn calm y.lawful.0 x.lawful.0 x.quiet.0 x.plays.0)
 same-turns v o p (Take turn ∷ xs) (Take other ∷ ys) calm x y =
-    let same : other ≡ turn = is-expected v p other y.lawful.0 y.quiet.0 y.plays.0 ∙ sym (is-expected v p turn x.lawful.0 x.quiet.0 x.plays.0) in
+    let same : other ≡ turn = is-expected v o p other y.lawful.0 y.quiet.0 y.plays.0 ∙ sym (is-expected v o p turn x.lawful.0 x.quiet.0 x.plays.0) in
     let later = same-turns (after_turn v turn) (outside_after o turn) (play_after o p turn) xs ys (calm-turn v turn calm x.lawful.0) (rest-take v o p turn xs x) (rest-take v o p turn ys (subst (λ t. Rest v o p (Take t ∷ ys)) same y)) in
     rw (same, later) refl
 
@@ -242,19 +234,19 @@ stopped-over v (Take turn ∷ moves) (first ∷ front) e h =
     stopped-over (after_turn v turn) moves front tails h.1
 
 -- the run of the script's log, behind its start
-record RunOf (lines : List Line) (log : List Turn) : Type 0 where
+record RunOf (setup : Setup) (lines : List Line) (log : List Turn) : Type 0 where
   moves : List Move
-  log_is : log ≡ Start script_setup ∷ turns_of moves
-  rest : Rest (after_turn at_first (Start script_setup)) (outside_after nothing_yet (Start script_setup)) (rests lines) moves
+  log_is : log ≡ Start setup ∷ turns_of moves
+  rest : Rest (after_turn at_first (Start setup)) (outside_after nothing_yet (Start setup)) (begins lines) moves
 
-run-from : (lines : List Line) (course : List Move) (run log : List Turn) → turns_of course ≡ log → log ≡ Start script_setup ∷ run → IsCourse at_first course → IsQuiet run → PlaysLines lines log → (view_from at_first course).scene.standing ≡ Over → RunOf lines log
-run-from lines [] run log e f h q p over = absurd (let n : [] ≡ Start script_setup ∷ run = e ∙ f in cc)
-run-from lines (Begin calls ∷ moves) run log e f h q p over = absurd h.0.2.running
-run-from lines (Take turn ∷ moves) run log e f h q p over =
-    let n : turn ∷ turns_of moves ≡ Start script_setup ∷ run = e ∙ f in
-    let heads : turn ≡ Start script_setup = cc in
+run-from : (setup : Setup) (lines : List Line) (course : List Move) (run log : List Turn) → turns_of course ≡ log → log ≡ Start setup ∷ run → IsCourse at_first course → IsQuiet run → PlaysLines lines log → (view_from at_first course).scene.standing ≡ Over → RunOf setup lines log
+run-from setup lines [] run log e f h q p over = absurd (let n : [] ≡ Start setup ∷ run = e ∙ f in cc)
+run-from setup lines (Begin calls ∷ moves) run log e f h q p over = absurd h.0.2.running
+run-from setup lines (Take turn ∷ moves) run log e f h q p over =
+    let n : turn ∷ turns_of moves ≡ Start setup ∷ run = e ∙ f in
+    let heads : turn ≡ Start setup = cc in
     let tails : run ≡ turns_of moves = cc in
-    let log_is : log ≡ Start script_setup ∷ turns_of moves = f ∙ ap (λ r. Start script_setup ∷ r) tails in
+    let log_is : log ≡ Start setup ∷ turns_of moves = f ∙ ap (λ r. Start setup ∷ r) tails in
     record {
       moves = moves;
       log_is = log_is;
@@ -266,18 +258,19 @@ run-from lines (Take turn ∷ moves) run log e f h q p over =
       };
     }
 
-run-of : (lines : List Line) (log : List Turn) → IsLawful log → PlaysLines lines log → IsOneRun log → IsStopped log → RunOf lines log
-run-of lines log (v, s) plays one stopped = run-from lines s.course one.0 log s.log_is one.1 s.lawful one.2 plays (stopped-over at_first s.course stopped.0 (s.log_is ∙ stopped.1) s.lawful)
+run-of : (setup : Setup) (lines : List Line) (log : List Turn) → IsLawful log → PlaysLines lines log → IsRunWith setup log → IsStopped log → RunOf setup lines log
+run-of setup lines log (v, s) plays one stopped = run-from setup lines s.course one.0 log s.log_is one.1 s.lawful one.2 plays (stopped-over at_first s.course stopped.0 (s.log_is ∙ stopped.1) s.lawful)
 
-start-calm : Calm (after_turn at_first (Start script_setup))
-start-calm = record { over = λ e. refl; at_poll = λ e. (refl, refl) }
+start-calm : (setup : Setup) → Calm (after_turn at_first (Start setup))
+start-calm setup = record { over = λ e. refl; at_poll = λ e. (refl, refl) }
 
-one-by : (read : Result (List Line) ℕ) (log other : List Turn) → PlaysRead read log → PlaysRead read other → IsLawful log → IsLawful other → IsOneRun log → IsOneRun other → IsStopped log → IsStopped other → log ≡ other
-one-by (Ok lines) log other p q lawful lawful2 one one2 stopped stopped2 =
-    let x = run-of lines log lawful p one stopped in
-    let y = run-of lines other lawful2 q one2 stopped2 in
-    x.log_is ∙ ap (λ run. Start script_setup ∷ run) (same-turns _ _ _ x.moves y.moves start-calm x.rest y.rest) ∙ sym y.log_is
+one-by : (read : Result Script ℕ) (log other : List Turn) → PlaysRead read log → PlaysRead read other → IsLawful log → IsLawful other → IsRunRead read log → IsRunRead read other → IsStopped log → IsStopped other → log ≡ other
+one-by (Ok script) log other p q lawful lawful2 one one2 stopped stopped2 =
+    let setup = script_setup script.name in
+    let x = run-of setup script.lines log lawful p one stopped in
+    let y = run-of setup script.lines other lawful2 q one2 stopped2 in
+    x.log_is ∙ ap (λ run. Start setup ∷ run) (same-turns _ _ _ x.moves y.moves (start-calm setup) x.rest y.rest) ∙ sym y.log_is
 one-by (Err number) log other p q lawful lawful2 one one2 stopped stopped2 = absurd p
 
 pub one-log : OneLog
-one-log script log other x y = one-by (script_of script) log other x.plays y.plays x.lawful y.lawful x.one_run y.one_run x.stopped y.stopped
+one-log text log other x y = one-by (script_of text) log other x.plays y.plays x.lawful y.lawful x.one_run y.one_run x.stopped y.stopped

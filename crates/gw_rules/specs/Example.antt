@@ -1,9 +1,14 @@
 -- Example logs: the log of a script in which a till asks for a status, and two that one turn makes unlawful.
-use Rattle.std.specs.Prelude.{◌≡◌, ℕ, pos, true, List, [], ◌∷◌, ◌++◌, codes}
+use Rattle.std.specs.Prelude.{◌≡◌, ℕ, pos, true, List, [], ◌∷◌, ◌++◌, Some, None, codes}
 use Rattle.sale_frame.specs.Frame.{frame}
 use Rattle.gw_site.specs.declared.turn.Turn.{Turn}
 use Rattle.gw_site.specs.declared.turn.Turn.TheVariants.{Start, Polled, Opened, HeardTill, SentTill, Stopped}
-use Rattle.gw_rules.specs.Scene.{Till, Send}
+use Rattle.gw_base.specs.declared.condition.Condition.TheVariants.{NotFound}
+use Rattle.sale_values.specs.declared.names.Class.TheVariants.{Service}
+use Rattle.sale_values.specs.declared.names.Kind.TheVariants.{Response}
+use Rattle.gw_rules.specs.Reply.{Reply, Plain}
+use Rattle.gw_rules.specs.Scene.{Tell}
+use Rattle.gw_rules.specs.Answers.{refusal}
 use Rattle.gw_rules.specs.View.{Move, Begin, Take, at_first}
 use Rattle.gw_rules.specs.Lawful.{IsCourse, turns_of, IsLawful}
 use Rattle.gw_rules.specs.Script.{script_setup}
@@ -18,6 +23,10 @@ request = codes "{\"SaleToPOIRequest\":{\"MessageHeader\":{\"ProtocolVersion\":\
 unfoldable pub reply : List ℕ
 reply = codes "{\"SaleToPOIResponse\":{\"MessageHeader\":{\"ProtocolVersion\":\"3.0\",\"MessageClass\":\"Service\",\"MessageCategory\":\"TransactionStatus\",\"MessageType\":\"Response\",\"ServiceID\":\"1\",\"SaleID\":\"S1\",\"POIID\":\"T1\"},\"TransactionStatusResponse\":{\"Response\":{\"Result\":\"Failure\",\"ErrorCondition\":\"NotFound\"}}}}"
 
+-- the same as plain data
+abbrev pub not_found : Reply
+not_found = Plain (record { class = Service; category = codes "TransactionStatus"; kind = Response; service = Some (codes "1"); device = None; sale = codes "S1"; poi = codes "T1" }) (refusal NotFound)
+
 -- these lines, each with its end
 abbrev pub lines_text : List (List ℕ) → List ℕ
 lines_text [] = []
@@ -29,7 +38,7 @@ status_script = lines_text (codes "open 1" ∷ (codes "say 1 " ++ request) ∷ [
 
 -- its log: the till opens, says the request and gets the reply
 abbrev pub status_log : List Turn
-status_log = Start script_setup ∷ Polled (pos 0) ∷ Opened 1 ∷ Polled (pos 0) ∷ HeardTill 1 (frame request) ∷ SentTill 1 (frame reply) true ∷ Polled (pos 0) ∷ Stopped ∷ []
+status_log = Start (script_setup None) ∷ Polled (pos 0) ∷ Opened 1 ∷ Polled (pos 0) ∷ HeardTill 1 (frame request) ∷ SentTill 1 (frame reply) true ∷ Polled (pos 0) ∷ Stopped ∷ []
 
 -- the text of the log
 abbrev pub status_text : List ℕ
@@ -38,8 +47,8 @@ status_text = lines_text (codes "start" ∷ codes "at 0" ∷ codes "open 1" ∷ 
 -- the moves of the log: the request begins once it was heard, and owes the reply
 abbrev pub status_course : List Move
 status_course =
-    Take (Start script_setup) ∷ Take (Polled (pos 0)) ∷ Take (Opened 1) ∷ Take (Polled (pos 0)) ∷ Take (HeardTill 1 (frame request))
-    ∷ Begin (Send (Till 1) (frame reply) ∷ []) ∷ Take (SentTill 1 (frame reply) true) ∷ Take (Polled (pos 0)) ∷ Take Stopped ∷ []
+    Take (Start (script_setup None)) ∷ Take (Polled (pos 0)) ∷ Take (Opened 1) ∷ Take (Polled (pos 0)) ∷ Take (HeardTill 1 (frame request))
+    ∷ Begin (Tell 1 not_found ∷ []) ∷ Take (SentTill 1 (frame reply) true) ∷ Take (Polled (pos 0)) ∷ Take Stopped ∷ []
 
 -- the course is lawful, and takes the turns of the log
 pub record IsCourseAlong (log : List Turn) (course : List Move) : Type 0 where
@@ -53,11 +62,11 @@ pub record IsUnlawfulBehind (log : List Turn) (turn : Turn) : Type 0 where
 
 -- the till has opened, and said nothing
 abbrev pub opened_log : List Turn
-opened_log = Start script_setup ∷ Polled (pos 0) ∷ Opened 1 ∷ []
+opened_log = Start (script_setup None) ∷ Polled (pos 0) ∷ Opened 1 ∷ []
 
 -- the till has said the request
 abbrev pub asked_log : List Turn
-asked_log = Start script_setup ∷ Polled (pos 0) ∷ Opened 1 ∷ Polled (pos 0) ∷ HeardTill 1 (frame request) ∷ []
+asked_log = Start (script_setup None) ∷ Polled (pos 0) ∷ Opened 1 ∷ Polled (pos 0) ∷ HeardTill 1 (frame request) ∷ []
 
 -- the request is answered with the reply
 abbrev pub StatusIsLawful : Type 0

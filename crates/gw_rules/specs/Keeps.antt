@@ -1,5 +1,5 @@
 -- What whatever drives a site keeps: a triple over the view, from before the calls to behind them.
-use Rattle.std.specs.Prelude.{◌≡◌, ◌⊎◌, ℕ, ℤ, map, Result, Ok, Err, true, false, List, [], ◌∷◌, ◌++◌, Some, None}
+use Rattle.std.specs.Prelude.{◌≡◌, ◌⊎◌, ℕ, ℤ, map, filter, not, Result, Ok, Err, true, false, List, [], ◌∷◌, ◌++◌, Some, None}
 use Rattle.gw_base.specs.declared.setup.Setup.{Setup}
 use Rattle.gw_site.specs.Seen.{Seen}
 use Rattle.gw_site.specs.declared.turn.Turn.{Turn}
@@ -7,7 +7,7 @@ use Rattle.gw_site.specs.declared.turn.Turn.TheVariants.{Start, OpenFailed, Poll
 use Rattle.gw_site.specs.Turns.{event_turns, IsPromised}
 use Rattle.gw_site.specs.declared.site.What.{What}
 use Rattle.gw_rules.specs.Scene.{Till, Call, Cut, Item, Opening, Scene, View}
-use Rattle.gw_rules.specs.View.{Move, Take, view_from, called}
+use Rattle.gw_rules.specs.View.{Move, Take, view_from, called, sends_on}
 use Rattle.gw_rules.specs.Lawful.{IsCourse, turns_of, Stands, IsClear, IsQuiet}
 
 -- the log goes on from this view by allowed moves, none of which begins a run or fails the power; where the site isn't dark then, Q holds of the view
@@ -30,10 +30,10 @@ pub record Keeps (old new : Seen) (P Q : View → Type 0) : Type 0 where
 abbrev pub Owing : Scene → List Call → List Item → View → Type 0
 Owing scene calls items v = v ≡ record { scene = scene; calls = calls; items = items }
 
--- after a send to a till: the calls behind it are owed, or where it failed and took these bytes, the cut of the line alone
+-- after a reply was sent to a till: the calls behind it are owed, or where the send failed and took these bytes, the cut of the line and then those of them that don't send on it
 abbrev pub Sent : {E : Type 0} → Result (Unit {0}) E → Scene → ℕ → List ℕ → List Call → List Item → View → Type 0
 Sent (Ok done) scene till bytes calls items v = Owing (called scene (SentTill till bytes true) false) calls items v
-Sent (Err failed) scene till bytes calls items v = (taken : List ℕ) × Owing (called scene (SentTill till taken false) false) (Cut (Till till) ∷ []) items v
+Sent (Err failed) scene till bytes calls items v = (taken : List ℕ) × Owing (called scene (SentTill till taken false) false) (Cut (Till till) ∷ filter (λ call. not (sends_on (Till till) call)) calls) items v
 
 -- the view after a poll and its event
 abbrev pub event_view : Scene → ℤ → What → List ℕ → View

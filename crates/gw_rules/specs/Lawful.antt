@@ -7,7 +7,8 @@ use Rattle.gw_site.specs.Seen.{IsFront}
 use Rattle.gw_site.specs.Turns.{IsCount}
 use Rattle.gw_site.specs.declared.turn.Turn.{Turn}
 use Rattle.gw_site.specs.declared.turn.Turn.TheVariants.{Start, OpenFailed, Polled, Opened, HeardTill, Closed, HeardPt, Lost, Stopped, Linked, LinkFailed, SentTill, SentPt, CutTill, CutPt, Wrote, Synced, DiskFailed, Crash}
-use Rattle.gw_rules.specs.Scene.{Till, Pt, Call, Send, Cut, Link, Write, Sync, Item, Opening, AtPoll, Broken, View, IsRunning}
+use Rattle.gw_rules.specs.Reply.{Reply, told_bytes}
+use Rattle.gw_rules.specs.Scene.{Till, Pt, Call, Tell, Order, Cut, Link, Write, Sync, Item, Opening, AtPoll, Broken, View, IsRunning}
 use Rattle.gw_rules.specs.Owes.{Owes}
 use Rattle.gw_rules.specs.View.{Move, Begin, Take, after, view_from, at_first}
 
@@ -43,10 +44,10 @@ AllowedTurn v (Lost pt) = ComesOf v (is_open v.scene.outside.links pt)
 AllowedTurn v Stopped = v.scene.standing ≡ AtPoll
 AllowedTurn v (Linked pt) = IsNext v (Link pt)
 AllowedTurn v (LinkFailed pt) = IsNext v (Link pt)
-AllowedTurn v (SentTill till bytes true) = IsNext v (Send (Till till) bytes)
-AllowedTurn v (SentTill till bytes false) = (whole : List ℕ) × IsNext v (Send (Till till) whole) × IsFront bytes whole
-AllowedTurn v (SentPt pt bytes true) = IsNext v (Send (Pt pt) bytes)
-AllowedTurn v (SentPt pt bytes false) = (whole : List ℕ) × IsNext v (Send (Pt pt) whole) × IsFront bytes whole
+AllowedTurn v (SentTill till bytes true) = (reply : Reply) × IsNext v (Tell till reply) × (bytes ≡ told_bytes reply)
+AllowedTurn v (SentTill till bytes false) = (reply : Reply) × IsNext v (Tell till reply) × IsFront bytes (told_bytes reply)
+AllowedTurn v (SentPt pt bytes true) = IsNext v (Order pt bytes)
+AllowedTurn v (SentPt pt bytes false) = (whole : List ℕ) × IsNext v (Order pt whole) × IsFront bytes whole
 AllowedTurn v (CutTill till) = IsNext v (Cut (Till till))
 AllowedTurn v (CutPt pt) = IsNext v (Cut (Pt pt))
 AllowedTurn v (Wrote at bytes) = IsNext v (Write at bytes)

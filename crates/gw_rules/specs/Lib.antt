@@ -1,9 +1,12 @@
+pub mod Reply
 pub mod Scene
+pub mod Answers
 pub mod Owes
 pub mod View
 pub mod Lawful
 pub mod Keeps
 pub mod Script
+pub mod Grammar
 pub mod Plays
 pub mod LogText
 pub mod Laws

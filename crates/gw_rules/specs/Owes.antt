@@ -1,32 +1,28 @@
 -- What each item owes: one row for each kind of item.
-use Rattle.std.specs.Prelude.{◌≡◌, ◌⊎◌, ℕ, Bool, true, false, nat_le, nat_lt, ◌&&◌, not, if◌then◌else◌, List, [], ◌∷◌, ◌++◌, length, map, Some, pos}
+use Rattle.std.specs.Prelude.{◌≡◌, ℕ, Bool, true, false, nat_le, nat_lt, ◌&&◌, not, if◌then◌else◌, List, [], ◌∷◌, ◌++◌, length, map, Option, Some, None}
 use Rattle.gw_base.specs.declared.setup.Setup.{Setup}
-use Rattle.gw_base.specs.Moment.{stamp_of}
 use Rattle.gw_site.specs.Outside.{Line, is_open}
-use Rattle.sale_frame.specs.Frame.{frame}
 use Rattle.sale_frame.specs.Reading.{Reading, spelled_length, completed, reading_of}
-use Rattle.status_form.specs.StatusRequest.{Header, IsStatusRequest, IsNoStatusRequest}
-use Rattle.status_form.specs.Answer.{not_found_message, unread_message}
-use Rattle.gw_rules.specs.Scene.{Till, Call, Send, Cut, Item, Crowded, Message, Unframed, Scene}
+use Rattle.gw_rules.specs.Reply.{Reply}
+use Rattle.gw_rules.specs.Scene.{Till, Call, Tell, Cut, Item, Crowded, Message, Unframed, Scene}
+use Rattle.gw_rules.specs.Answers.{Answers}
 
--- a status request, with this header, is answered with NotFound: no payment is known
-pub record AnswersStatus (message : List ℕ) (header : Header) (answer : List ℕ) : Type 0 where
-  pub request : IsStatusRequest message header
-  pub is : answer ≡ not_found_message header
+-- what is sent to the till where there is an answer
+abbrev pub told : ℕ → Option Reply → List Call
+told till None = []
+told till (Some reply) = Tell till reply ∷ []
 
--- every other message is answered by the event that it wasn't read, under the gateway's name, at the moment of the poll
-pub record AnswersUnread (scene : Scene) (message : List ℕ) (setup : Setup) (answer : List ℕ) : Type 0 where
-  pub none : IsNoStatusRequest message
+-- a message of a till that is there owes its answer, by the gateway of this run's name at the moment of the poll
+pub record OwesAnswer (scene : Scene) (till : ℕ) (message : List ℕ) (calls : List Call) : Type 0 where
+  pub setup : Setup
   pub setup_is : scene.setup ≡ Some setup
-  pub is : answer ≡ unread_message setup.name (stamp_of (pos scene.outside.moment))
+  pub answer : Option Reply
+  pub answers : Answers setup.name scene.outside.moment message answer
+  pub is : calls ≡ told till answer
 
--- the answer to a till's message
-abbrev pub Answers : Scene → List ℕ → List ℕ → Type 0
-Answers scene message answer = ((header : Header) × AnswersStatus message header answer) ⊎ ((setup : Setup) × AnswersUnread scene message setup answer)
-
--- a message of a till that is there owes the frame of its answer, and one of a till that is gone owes nothing
+-- a message of a till that is gone owes nothing
 abbrev pub MessageOwes : Bool → Scene → ℕ → List ℕ → List Call → Type 0
-MessageOwes true scene till message calls = (answer : List ℕ) × Answers scene message answer × (calls ≡ Send (Till till) (frame answer) ∷ [])
+MessageOwes true scene till message calls = OwesAnswer scene till message calls
 MessageOwes false scene till message calls = calls ≡ []
 
 -- a till that is there is cut where its bytes begin no frame

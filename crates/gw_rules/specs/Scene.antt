@@ -2,16 +2,19 @@
 use Rattle.std.specs.Prelude.{ℕ, Bool, List, Option}
 use Rattle.gw_base.specs.declared.setup.Setup.{Setup}
 use Rattle.gw_site.specs.Outside.{Outside}
+use Rattle.gw_rules.specs.Reply.{Reply}
 
 -- who is at the other end of a line: a till or a terminal, by its number
 pub data Peer : Type 0 where
   Till : ℕ → Peer
   Pt : ℕ → Peer
 
--- a call of the site that is owed
+-- a call of the site that is owed, by what it says and not by its bytes
 pub data Call : Type 0 where
-  -- send these bytes
-  Send : Peer → List ℕ → Call
+  -- tell the till this
+  Tell : ℕ → Reply → Call
+  -- send these bytes to the terminal
+  Order : ℕ → List ℕ → Call
   -- cut the line
   Cut : Peer → Call
   -- connect the terminal

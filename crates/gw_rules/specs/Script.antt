@@ -1,37 +1,60 @@
--- The grammar of scripts, as a function from a text to its lines or the number of the first line of another form.
-use Rattle.std.specs.Prelude.{ℕ, ◌+◌, ◌-◌, ◌*◌, ◌^◌, Bool, true, false, nat_lt, nat_le, ◌==◌, ◌&&◌, ◌||◌, not, if◌then◌else◌, List, [], ◌∷◌, Option, Some, None, Result, Ok, Err, codes, length, drop}
+-- The grammar of scripts, as a function from a text to the script or the number of the first line of another form; `Grammar` says the same by a row for each form.
+use Rattle.std.specs.Prelude.{ℕ, ℤ, pos, ◌+◌, ◌-◌, ◌*◌, ◌^◌, Bool, true, false, nat_lt, nat_le, ◌==◌, ◌&&◌, ◌||◌, not, if◌then◌else◌, List, [], ◌∷◌, ◌++◌, Option, Some, None, is_some, unwrap_or, option_map, option_and_then, Result, Ok, Err, codes, bytes_eq, length}
+use Rattle.std.specs.List.{list_all}
 use Rattle.std.specs.Str.{is_utf8}
+use Rattle.hex.specs.declared.error.FromHexError.{FromHexError}
+use Rattle.hex.specs.Hex.{decode_of}
+use Rattle.gw_base.specs.Moment.{last_moment}
 use Rattle.gw_base.specs.declared.setup.Setup.{Setup}
 use Rattle.sale_frame.specs.Frame.{frame}
 
--- a line of a script
-pub data Line : Type 0 where
+-- what a poll brings
+pub data Event : Type 0 where
   -- the till of this number opens
-  Open : ℕ → Line
-  -- the till of this number says these bytes
-  Say : ℕ → List ℕ → Line
+  Open : ℕ → Event
+  -- the till of this number closes
+  Close : ℕ → Event
+  -- these bytes of the till of this number come
+  Say : ℕ → List ℕ → Event
+  -- nothing
+  Tick : Event
+
+-- a line that is played
+pub data Line : Type 0 where
+  -- the moment of later polls, in seconds; no poll
+  At : ℤ → Line
+  -- a poll that brings this
+  Poll : Event → Line
+
+-- a script: the gateway's name, where the script gives it, and the lines that are played
+pub record Script : Type 0 where
+  pub name : Option (List ℕ)
+  pub lines : List Line
+
+-- what one line of the text is
+pub data Entry : Type 0 where
+  -- a line that says nothing
+  Blank : Entry
+  -- the setup line that gives the gateway's name
+  Naming : List ℕ → Entry
+  -- a line that is played
+  Playing : Line → Entry
 
 -- the most bytes that a script may have
 abbrev pub script_limit : ℕ
 script_limit = 4194304
 
--- the setup with which a script's runs start: the default one, without terminals
-abbrev pub script_setup : Setup
-script_setup = record { name = codes "GATEWAY"; listen = []; journal = []; line = 0; wait = 60; slots = 1000000; terminals = [] }
+-- the gateway's name where no line gives it
+abbrev pub default_name : List ℕ
+default_name = codes "GATEWAY"
 
-abbrev pub is_empty : List ℕ → Bool
+-- the setup with which a script's runs start: the default one but for the name, without terminals
+abbrev pub script_setup : Option (List ℕ) → Setup
+script_setup name = record { name = unwrap_or name default_name; listen = []; journal = []; line = 0; wait = 60; slots = 1000000; terminals = [] }
+
+abbrev pub is_empty : {A : Type 0} → List A → Bool
 is_empty [] = true
-is_empty (byte ∷ bytes) = false
-
--- the text begins with the word
-abbrev pub begins : List ℕ → List ℕ → Bool
-begins [] text = true
-begins (w ∷ word) [] = false
-begins (w ∷ word) (x ∷ text) = (w == x) && begins word text
-
--- the rest of the text behind the word, where it begins with the word
-abbrev pub behind : List ℕ → List ℕ → Option (List ℕ)
-behind word text = if begins word text then Some (drop (length word) text) else None
+is_empty (first ∷ rest) = false
 
 abbrev pub is_digit : ℕ → Bool
 is_digit byte = nat_le 48 byte && nat_le byte 57
@@ -60,35 +83,71 @@ abbrev pub split_at_space : List ℕ → Option Split
 split_at_space [] = None
 split_at_space (byte ∷ text) = if byte == 32 then Some (record { word = []; rest = text }) else with_first byte (split_at_space text)
 
--- an open line with this number
-abbrev pub opens : Option ℕ → Option Line
-opens None = None
-opens (Some till) = Some (Open till)
+-- printable ASCII but the space
+abbrev pub is_visible : ℕ → Bool
+is_visible byte = nat_le 33 byte && nat_le byte 126
 
--- a say line with this number and this text, which is framed; it has 1 to 4,092 bytes
-abbrev pub says : Option ℕ → List ℕ → Option Line
-says None text = None
-says (Some till) text = if nat_lt 0 (length text) && nat_le (length text) 4092 then Some (Say till (frame text)) else None
+-- a name is one word of 1 to 40 bytes of printable ASCII
+abbrev pub is_name : List ℕ → Bool
+is_name word = nat_le 1 (length word) && nat_le (length word) 40 && list_all is_visible word
 
-abbrev pub open_line : Option (List ℕ) → Option Line
-open_line None = None
-open_line (Some rest) = opens (number rest)
+abbrev pub name_line : List ℕ → Option Entry
+name_line word = if is_name word then Some (Naming word) else None
 
-abbrev pub say_parts : Option Split → Option Line
-say_parts None = None
-say_parts (Some split) = says (number split.word) split.rest
+-- a moment is at most 9999-01-01T00:00:00Z
+abbrev pub at_line : Option ℕ → Option Entry
+at_line None = None
+at_line (Some moment) = if nat_le moment last_moment then Some (Playing (At (pos moment))) else None
 
-abbrev pub say_line : Option (List ℕ) → Option Line
-say_line None = None
-say_line (Some rest) = say_parts (split_at_space rest)
+-- a line that polls
+abbrev pub poll_line : Option Event → Option Entry
+poll_line event = option_map (λ event. Playing (Poll event)) event
 
-abbrev pub or_else : Option Line → Option Line → Option Line
-or_else None other = other
-or_else (Some line) other = Some line
+-- the till sends these bytes, 1 to so many
+abbrev pub piece : ℕ → ℕ → List ℕ → List ℕ → Option Event
+piece till most sent bytes = if nat_le 1 (length sent) && nat_le (length sent) most then Some (Say till bytes) else None
 
--- the line that a text spells: `open T` or `say T TEXT`, in UTF-8
-abbrev pub line_of : List ℕ → Option Line
-line_of text = if is_utf8 text then or_else (open_line (behind (codes "open ") text)) (say_line (behind (codes "say ") text)) else None
+-- 1 to 4,096 bytes in hexadecimal
+abbrev pub hex_piece : ℕ → Result (List ℕ) FromHexError → Option Event
+hex_piece till (Ok bytes) = piece till 4096 bytes bytes
+hex_piece till (Err fault) = None
+
+-- a text of 1 to 4,092 bytes, which is framed
+abbrev pub said_piece : ℕ → List ℕ → Option Event
+said_piece till text = piece till 4092 text (frame text)
+
+-- a till's number, and what stands behind the space that ends it
+abbrev pub numbered : (ℕ → List ℕ → Option Event) → Option Split → Option Event
+numbered sends None = None
+numbered sends (Some split) = option_and_then (λ till. sends till split.rest) (number split.word)
+
+-- the line of a first word and of what stands behind its space
+abbrev pub worded : List ℕ → List ℕ → Option Entry
+worded word rest =
+    if bytes_eq word (codes "name") then name_line rest
+    else if bytes_eq word (codes "at") then at_line (number rest)
+    else if bytes_eq word (codes "open") then poll_line (option_map Open (number rest))
+    else if bytes_eq word (codes "close") then poll_line (option_map Close (number rest))
+    else if bytes_eq word (codes "till") then poll_line (numbered (λ till hex. hex_piece till (decode_of hex)) (split_at_space rest))
+    else if bytes_eq word (codes "say") then poll_line (numbered said_piece (split_at_space rest))
+    else None
+
+abbrev pub parts_line : Option Split → Option Entry
+parts_line None = None
+parts_line (Some split) = worded split.word split.rest
+
+-- an empty line, or a comment
+abbrev pub is_blank : List ℕ → Bool
+is_blank [] = true
+is_blank (byte ∷ bytes) = byte == 35
+
+-- the line that a text spells
+abbrev pub spelled : List ℕ → Option Entry
+spelled text = if is_blank text then Some Blank else if bytes_eq text (codes "tick") then Some (Playing (Poll Tick)) else parts_line (split_at_space text)
+
+-- the line that a text in UTF-8 spells
+abbrev pub entry_of : List ℕ → Option Entry
+entry_of text = if is_utf8 text then spelled text else None
 
 abbrev pub with_front : ℕ → List (List ℕ) → List (List ℕ)
 with_front byte [] = (byte ∷ []) ∷ []
@@ -99,28 +158,25 @@ abbrev pub split_lines : List ℕ → List (List ℕ)
 split_lines [] = []
 split_lines (byte ∷ bytes) = if byte == 10 then [] ∷ split_lines bytes else with_front byte (split_lines bytes)
 
-abbrev pub opens_till : Line → Bool
-opens_till (Open till) = true
-opens_till (Say till bytes) = false
+-- before the first line
+abbrev pub no_lines : Script
+no_lines = record { name = None; lines = [] }
 
-abbrev pub also : Line → Result (List Line) ℕ → Result (List Line) ℕ
-also line (Ok lines) = Ok (line ∷ lines)
-also line (Err number) = Err number
+-- the script with one line more, where that may stand there: a name only once, and before the lines that are played
+abbrev pub with_entry : Script → Entry → Option Script
+with_entry script Blank = Some script
+with_entry script (Naming name) = if is_some script.name || not (is_empty script.lines) then None else Some (record script { name = Some name })
+with_entry script (Playing line) = Some (record script { lines = script.lines ++ line ∷ [] })
 
--- one till opens at most, so a second open line is refused
-abbrev pub takes_line : Bool → ℕ → Option Line → Result (List Line) ℕ → Result (List Line) ℕ
-takes_line opened number None rest = Err number
-takes_line opened number (Some line) rest = if opened && opens_till line then Err number else also line rest
+abbrev pub goes_on : Option Script → ℕ → (Script → Result Script ℕ) → Result Script ℕ
+goes_on None number next = Err number
+goes_on (Some script) number next = next script
 
-abbrev pub is_opened : Bool → Option Line → Bool
-is_opened opened None = opened
-is_opened opened (Some line) = opened || opens_till line
+-- the script with the lines of these texts behind its own, of which the first has this number
+abbrev pub script_from : Script → ℕ → List (List ℕ) → Result Script ℕ
+script_from script number [] = Ok script
+script_from script number (text ∷ texts) = goes_on (option_and_then (with_entry script) (entry_of text)) number (λ more. script_from more (number + 1) texts)
 
--- the lines of these texts, of which the first has this number; whether a till has opened already
-abbrev pub script_from : Bool → ℕ → List (List ℕ) → Result (List Line) ℕ
-script_from opened number [] = Ok []
-script_from opened number (text ∷ texts) = takes_line opened number (line_of text) (script_from (is_opened opened (line_of text)) (number + 1) texts)
-
--- the script's lines, or the number of the first line of another form, counted from 1
-abbrev pub script_of : List ℕ → Result (List Line) ℕ
-script_of bytes = script_from false 1 (split_lines bytes)
+-- the script of a text, or the number of the first line of another form, counted from 1 over all lines
+abbrev pub script_of : List ℕ → Result Script ℕ
+script_of text = script_from no_lines 1 (split_lines text)

@@ -1,10 +1,10 @@
 -- What is owed after each turn.
-use Rattle.std.specs.Prelude.{◌+◌, ℕ, Bool, true, false, List, [], ◌∷◌, ◌++◌, Option, Some, None}
+use Rattle.std.specs.Prelude.{◌+◌, ℕ, ◌==◌, Bool, true, false, not, List, [], ◌∷◌, ◌++◌, filter, Option, Some, None}
 use Rattle.gw_base.specs.declared.setup.Setup.{Setup}
 use Rattle.gw_site.specs.Outside.{outside_after, nothing_yet, heard_on}
 use Rattle.gw_site.specs.declared.turn.Turn.{Turn}
 use Rattle.gw_site.specs.declared.turn.Turn.TheVariants.{Start, OpenFailed, Polled, Opened, HeardTill, Closed, HeardPt, Lost, Stopped, Linked, LinkFailed, SentTill, SentPt, CutTill, CutPt, Wrote, Synced, DiskFailed, Crash}
-use Rattle.gw_rules.specs.Scene.{Peer, Till, Pt, Call, Cut, Item, Standing, Resting, Opening, Refusing, AtPoll, Serving, Over, Broken, Scene, View, busy}
+use Rattle.gw_rules.specs.Scene.{Peer, Till, Pt, Call, Tell, Order, Cut, Link, Write, Sync, Item, Standing, Resting, Opening, Refusing, AtPoll, Serving, Over, Broken, Scene, View, busy}
 use Rattle.gw_rules.specs.Owes.{opened_items, heard_items, due_items}
 
 -- the calls with which a run opens the journal, and whether it is refused then
@@ -53,9 +53,24 @@ handling scene items = record { scene = scene; calls = []; items = items ++ due_
 abbrev pub made : View → Turn → View
 made v turn = record v { scene = called v.scene turn false; calls = later v.calls }
 
--- a send has failed: the cut of its line is owed, and nothing else of the item
+-- the call sends on this line
+abbrev pub sends_on : Peer → Call → Bool
+sends_on (Till till) (Tell other reply) = till == other
+sends_on (Till till) (Order pt bytes) = false
+sends_on (Till till) (Cut peer) = false
+sends_on (Till till) (Link pt) = false
+sends_on (Till till) (Write at bytes) = false
+sends_on (Till till) Sync = false
+sends_on (Pt pt) (Tell till reply) = false
+sends_on (Pt pt) (Order other bytes) = pt == other
+sends_on (Pt pt) (Cut peer) = false
+sends_on (Pt pt) (Link other) = false
+sends_on (Pt pt) (Write at bytes) = false
+sends_on (Pt pt) Sync = false
+
+-- a send has failed: the cut of its line is owed at once, and no further send on it
 abbrev pub unsent : View → Turn → Peer → View
-unsent v turn peer = record v { scene = called v.scene turn false; calls = Cut peer ∷ [] }
+unsent v turn peer = record v { scene = called v.scene turn false; calls = Cut peer ∷ filter (λ call. not (sends_on peer call)) (later v.calls) }
 
 -- the view after one more turn, by the view before it; where the turn isn't allowed this says nothing
 abbrev pub after_turn : View → Turn → View

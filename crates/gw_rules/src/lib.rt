@@ -2,6 +2,7 @@
 #![tactic(auto)]
 
 ghost use Rattle.gw_rules.specs.Example.{PollBeforeReply, StatusHasText, StatusIsLawful, StatusIsOfScript, UnaskedReply};
+ghost use Rattle.gw_rules.specs.Grammar.{ReadsScripts};
 ghost use Rattle.gw_rules.specs.Laws.{FrontIsLawful, OneLog, RestartIsLawful};
 
 /// A lawful log, then a power failure that leaves one of the files that it may leave, then a start, is lawful.
@@ -17,6 +18,11 @@ pub fn law_front()
 /// At most one lawful log plays a script in one run to its end.
 pub fn law_one_log()
     ensures one { OneLog }
+{}
+
+/// A text is read as the script that its lines make, and exactly where they make none the first wrong line is told.
+pub fn law_scripts()
+    ensures reads { ReadsScripts }
 {}
 
 /// A script in which a till asks for the status of a payment that nobody knows has this lawful log, with this text; a

@@ -1,25 +1,29 @@
 -- What is owed as the engine goes through a turn.
-use Rattle.std.proofs.Common.{◌≡◌, ℕ, ◌+◌, ◌<◌, List, [], ◌∷◌, ◌++◌, length, refl, sym, ◌∙◌, ap, arith, length-append, inl, inr}
-use Rattle.std.specs.Prelude.{ℤ, pos, map, ◌==◌, if◌then◌else◌, Bool, true, false}
-use Rattle.gw_base.specs.Moment.{moment_of, stamp_of}
-use Rattle.status_form.specs.Answer.{unread_message}
+use Rattle.std.proofs.Common.{◌≡◌, ℕ, ◌+◌, ◌<◌, List, [], ◌∷◌, ◌++◌, length, refl, sym, ◌∙◌, ap, arith, length-append, subst}
+use Rattle.std.specs.Prelude.{ℤ, map, Option, Some, None, ◌==◌, if◌then◌else◌, Bool, true, false}
+use Rattle.gw_base.specs.Moment.{moment_of}
 use Rattle.gw_base.specs.declared.setup.Setup.{Setup}
 use Rattle.gw_site.specs.Outside.{Outside, Line, outside_after, is_open, without}
 use Rattle.gw_site.specs.declared.turn.Turn.{Turn}
 use Rattle.gw_site.specs.declared.turn.Turn.TheVariants.{SentTill, CutTill}
 use Rattle.gw_site.specs.Seen.{Seen, Grows}
 use Rattle.gw_site.specs.Turns.{IsTurn}
-use Rattle.sale_frame.specs.Frame.{frame, IsUnfinished, IsBad}
+use Rattle.sale_frame.specs.Frame.{frame, IsMessage, IsUnfinished, IsBad}
 use Rattle.sale_frame.specs.Reading.{reading_of, Reading}
-use Rattle.gw_rules.specs.Scene.{Till as ATill, Call, Send, Cut, Item, Message, Unframed, Scene, View, Standing, Resting, Opening, Refusing, AtPoll, Serving, Over, Broken, IsRunning, busy}
-use Rattle.gw_rules.specs.Owes.{reading_items, is_unframed, Owes, MessageOwes, Answers}
+use Rattle.gw_rules.specs.Scene.{Till as ATill, Call, Tell, Cut, Item, Message, Unframed, Scene, View, Standing, Resting, Opening, Refusing, AtPoll, Serving, Over, Broken, IsRunning, busy}
+use Rattle.sale_reply.specs.declared.reply.SaleReply.{SaleReply}
+use Rattle.sale_reply.specs.Reply.{tree_of}
+use Rattle.gw_rules.specs.Reply.{Reply, tree, told_bytes}
+use Rattle.gw_rules.specs.Answers.{Answers}
+use Rattle.gw_rules.specs.Owes.{reading_items, is_unframed, Owes, MessageOwes, told}
 use Rattle.gw_rules.specs.View.{called, begun, at_first}
 use Rattle.gw_rules.specs.Lawful.{Begins}
 use Rattle.gw_rules.specs.Keeps.{Keeps, Owing}
 use Rattle.gw_rules.proofs.KeepsLemmas.{keeps-refl, keeps-then, keeps-weaker, keeps-after, keeps-before, keeps-frame, keeps-some, begin-keeps}
 use Rattle.gw_rules.proofs.CallLemmas.{cut-till-keeps}
 use Rattle.gw_rules.proofs.ReadingLemmas.{items-waiting, items-unframed, items-message, reading-message, reading-waiting, unfinished-waits}
-use Rattle.gw_run.specs.Answered.{IsAnswer, IsFramedAnswer, TakesMessage}
+use Rattle.gw_core.specs.Told.{Says}
+use Rattle.gw_run.specs.Answered.{TakesMessage}
 use Rattle.gw_run.specs.Turns.{IsIn, InRun, BeforeTill, Delivered}
 
 running-busy : (s : Standing) → IsRunning s → IsRunning (busy s)
@@ -132,59 +136,79 @@ open-owes : (test : Bool) → test ≡ true → (scene : Scene) (till : ℕ) (me
 open-owes true e scene till message calls h = h
 open-owes false e scene till message calls h = absurd (let f : false ≡ true = e in cc)
 
-answered : (setup : Setup) (polls : ℕ) (o : Outside) (now : ℤ) (till : ℕ) (name message bytes : List ℕ) → setup.name ≡ name → IsFramedAnswer name (moment_of now) message bytes → IsHere o now till →
-    (scene : Scene) → IsIn setup polls o scene → Owes scene (Message till message) (Send (ATill till) bytes ∷ [])
-answered setup polls o now till name message bytes named (answer, is_answer, framed) here scene f =
-    open-owes (is_open scene.outside.tills till) (ap (λ (p : Outside). is_open p.tills till) f.outside_is ∙ here.0) scene till message (Send (ATill till) bytes ∷ []) (answer, answers is_answer, ap (λ b. Send (ATill till) b ∷ []) framed)
-  where
-    answers : IsAnswer name (moment_of now) message answer → Answers scene message answer
-    answers (inl status) = inl status
-    answers (inr (none, unread)) = inr (setup, record { none = none; setup_is = f.setup_is; is = unread ∙ ap (λ n. unread_message n (stamp_of (pos (moment_of now)))) (sym named) ∙ ap (λ m. unread_message setup.name (stamp_of (pos m))) (sym here.1 ∙ sym (ap (λ (p : Outside). p.moment) f.outside_is)) })
+answered : (setup : Setup) (polls : ℕ) (o : Outside) (now : ℤ) (till : ℕ) (name message : List ℕ) (answer : Option Reply) → setup.name ≡ name → Answers name (moment_of now) message answer → IsHere o now till →
+    (scene : Scene) → IsIn setup polls o scene → Owes scene (Message till message) (told till answer)
+answered setup polls o now till name message answer named answers here scene f =
+    let moment : moment_of now ≡ scene.outside.moment = sym here.1 ∙ sym (ap (λ (p : Outside). p.moment) f.outside_is) in
+    let at : Answers setup.name scene.outside.moment message answer = subst (λ m. Answers setup.name m message answer) moment (subst (λ n. Answers n (moment_of now) message answer) (sym named) answers) in
+    open-owes (is_open scene.outside.tills till) (ap (λ (p : Outside). is_open p.tills till) f.outside_is ∙ here.0) scene till message (told till answer)
+    (record { setup = setup; setup_is = f.setup_is; answer = answer; answers = at; is = refl })
 
 -- a message has begun, and its answer is owed
-begin-message : (s : Seen) (setup : Setup) (polls : ℕ) (o : Outside) (now : ℤ) (till : ℕ) (name bytes old new : List ℕ) → setup.name ≡ name → TakesMessage name (moment_of now) bytes old new →
-    Keeps s s (BeforeTill setup polls o now till old) (λ v. Pending setup polls o (Send (ATill till) bytes ∷ []) (reading_items till (reading_of new)) v × IsHere o now till)
-begin-message s setup polls o now till name bytes old new named t =
-    keeps-before s s (BeforeTill setup polls o now till old) (λ v. InRun setup polls o (Message till t.message ∷ reading_items till (reading_of new)) v × IsHere o now till) _
-    (λ v p. ((rw (t.taken, items-message till t.message new t.lawful) at p.0), (p.1, p.2)))
-    (begin-first s setup polls o (Message till t.message) (reading_items till (reading_of new)) (Send (ATill till) bytes ∷ []) (IsHere o now till)
-    (λ here scene f. answered setup polls o now till name t.message bytes named t.answers here scene f))
+begin-message : (s : Seen) (setup : Setup) (polls : ℕ) (o : Outside) (now : ℤ) (till : ℕ) (name old new message : List ℕ) (answer : Option Reply) → setup.name ≡ name → IsMessage message → old ≡ frame message ++ new → Answers name (moment_of now) message answer →
+    Keeps s s (BeforeTill setup polls o now till old) (λ v. Pending setup polls o (told till answer) (reading_items till (reading_of new)) v × IsHere o now till)
+begin-message s setup polls o now till name old new message answer named lawful taken answers =
+    keeps-before s s (BeforeTill setup polls o now till old) (λ v. InRun setup polls o (Message till message ∷ reading_items till (reading_of new)) v × IsHere o now till) _
+    (λ v p. ((rw (taken, items-message till message new lawful) at p.0), (p.1, p.2)))
+    (begin-first s setup polls o (Message till message) (reading_items till (reading_of new)) (told till answer) (IsHere o now till)
+    (λ here scene f. answered setup polls o now till name message answer named answers here scene f))
+
+-- a message to which nothing is told
+pub serve-silent : (s : Seen) (setup : Setup) (polls : ℕ) (o : Outside) (now : ℤ) (till : ℕ) (name old new : List ℕ) → setup.name ≡ name → TakesMessage name (moment_of now) None old new →
+    Keeps s s (BeforeTill setup polls o now till old) (BeforeTill setup polls o now till new)
+serve-silent s setup polls o now till name old new named t = by_answer t.answers.0 t.answers.1 t.answers.2
+  where
+    by_answer : (answer : Option Reply) → Answers name (moment_of now) t.message answer → Says None answer → Keeps s s (BeforeTill setup polls o now till old) (BeforeTill setup polls o now till new)
+    by_answer None answers says = keeps-after s s _ _ _ (begin-message s setup polls o now till name old new t.message None named t.lawful t.taken answers) (λ v q. (q.0, q.1.0, q.1.1))
+    by_answer (Some reply) answers says = absurd says
 
 -- a message was answered
-pub serve-answered : (a b : Seen) (setup : Setup) (polls : ℕ) (o : Outside) (now : ℤ) (till : ℕ) (name bytes old new : List ℕ) → setup.name ≡ name → TakesMessage name (moment_of now) bytes old new →
-    ((scene : Scene) (items : List Item) → Keeps a b (Owing scene (Send (ATill till) bytes ∷ []) items) (Delivered true scene till bytes items)) →
+pub serve-answered : (a b : Seen) (setup : Setup) (polls : ℕ) (o : Outside) (now : ℤ) (till : ℕ) (name : List ℕ) (reply : SaleReply) (old new : List ℕ) → setup.name ≡ name → TakesMessage name (moment_of now) (Some reply) old new →
+    ((answer : Reply) → tree_of reply ≡ tree answer → (scene : Scene) (items : List Item) → Keeps a b (Owing scene (Tell till answer ∷ []) items) (Delivered true scene till (told_bytes answer) items)) →
     Keeps a b (BeforeTill setup polls o now till old) (BeforeTill setup polls o now till new)
-serve-answered a b setup polls o now till name bytes old new named t sends =
-    let items = reading_items till (reading_of new) in
-    keeps-then a a b _ _ _ (begin-message a setup polls o now till name bytes old new named t)
-    (keeps-after a b _ _ _
-    (keeps-frame a b _ _ (IsHere o now till) (pending-keeps a b setup polls o (Send (ATill till) bytes ∷ []) items _ (λ scene. sends scene items)))
-    (λ v (q : ((scene : Scene) × Delivered true scene till bytes items v × IsIn setup polls o scene) × IsHere o now till).
-    ((called q.0.0 (SentTill till bytes true) false, q.0.1, called-in setup polls o q.0.0 (SentTill till bytes true) q.0.2), q.1.0, q.1.1)))
+serve-answered a b setup polls o now till name reply old new named t tells = by_answer t.answers.0 t.answers.1 t.answers.2
+  where
+    items : List Item
+    items = reading_items till (reading_of new)
+
+    by_answer : (answer : Option Reply) → Answers name (moment_of now) t.message answer → Says (Some reply) answer → Keeps a b (BeforeTill setup polls o now till old) (BeforeTill setup polls o now till new)
+    by_answer None answers says = absurd says
+    by_answer (Some answer) answers says =
+        keeps-then a a b _ _ _ (begin-message a setup polls o now till name old new t.message (Some answer) named t.lawful t.taken answers)
+        (keeps-after a b _ _ _
+        (keeps-frame a b _ _ (IsHere o now till) (pending-keeps a b setup polls o (Tell till answer ∷ []) items _ (λ scene. tells answer says.0 scene items)))
+        (λ v (q : ((scene : Scene) × Delivered true scene till (told_bytes answer) items v × IsIn setup polls o scene) × IsHere o now till).
+        ((called q.0.0 (SentTill till (told_bytes answer) true) false, q.0.1, called-in setup polls o q.0.0 (SentTill till (told_bytes answer) true) q.0.2), q.1.0, q.1.1)))
 
 cut-closed : (o : Outside) (till : ℕ) → is_open (outside_after o (CutTill till)).tills till ≡ false
 cut-closed o till = without-closed o.tills till
 
--- a message wasn't taken, and the till was cut
-pub serve-unsent : (a b : Seen) (setup : Setup) (polls : ℕ) (o : Outside) (now : ℤ) (till : ℕ) (name bytes old new : List ℕ) → setup.name ≡ name → TakesMessage name (moment_of now) bytes old new →
-    ((scene : Scene) (items : List Item) → Keeps a b (Owing scene (Send (ATill till) bytes ∷ []) items) (Delivered false scene till bytes items)) →
+-- an answer wasn't taken, and the till was cut
+pub serve-unsent : (a b : Seen) (setup : Setup) (polls : ℕ) (o : Outside) (now : ℤ) (till : ℕ) (name : List ℕ) (reply : SaleReply) (old new : List ℕ) → setup.name ≡ name → TakesMessage name (moment_of now) (Some reply) old new →
+    ((answer : Reply) → tree_of reply ≡ tree answer → (scene : Scene) (items : List Item) → Keeps a b (Owing scene (Tell till answer ∷ []) items) (Delivered false scene till (told_bytes answer) items)) →
     Keeps a b (BeforeTill setup polls o now till old) (InRun setup polls (outside_after o (CutTill till)) [])
-serve-unsent a b setup polls o now till name bytes old new named t sends =
-    let items = reading_items till (reading_of new) in
-    keeps-then a b b _ _ _
-    (keeps-then a a b _ _ _ (begin-message a setup polls o now till name bytes old new named t)
-    (keeps-weaker a b _ _ _ _ (λ v p. p.0)
-    (λ v (q : (scene : Scene) × Delivered false scene till bytes items v × IsIn setup polls o scene). (
-      called (called q.0 (SentTill till q.1.0 false) false) (CutTill till) false,
-      q.1.1,
-      called-in setup polls o (called q.0 (SentTill till q.1.0 false) false) (CutTill till) (called-in setup polls o q.0 (SentTill till q.1.0 false) q.2),
-    ))
-    (pending-keeps a b setup polls o (Send (ATill till) bytes ∷ []) items _ (λ scene. sends scene items))))
-    (pass-all setup polls (outside_after o (CutTill till)) till (cut-closed o till) b (reading_of new))
+serve-unsent a b setup polls o now till name reply old new named t tells = by_answer t.answers.0 t.answers.1 t.answers.2
+  where
+    items : List Item
+    items = reading_items till (reading_of new)
+
+    by_answer : (answer : Option Reply) → Answers name (moment_of now) t.message answer → Says (Some reply) answer → Keeps a b (BeforeTill setup polls o now till old) (InRun setup polls (outside_after o (CutTill till)) [])
+    by_answer None answers says = absurd says
+    by_answer (Some answer) answers says =
+        keeps-then a b b _ _ _
+        (keeps-then a a b _ _ _ (begin-message a setup polls o now till name old new t.message (Some answer) named t.lawful t.taken answers)
+        (keeps-weaker a b _ _ _ _ (λ v p. p.0)
+        (λ v (q : (scene : Scene) × Delivered false scene till (told_bytes answer) items v × IsIn setup polls o scene). (
+          called (called q.0 (SentTill till q.1.0 false) false) (CutTill till) false,
+          q.1.1,
+          called-in setup polls o (called q.0 (SentTill till q.1.0 false) false) (CutTill till) (called-in setup polls o q.0 (SentTill till q.1.0 false) q.2),
+        ))
+        (pending-keeps a b setup polls o (Tell till answer ∷ []) items _ (λ scene. tells answer says.0 scene items))))
+        (pass-all setup polls (outside_after o (CutTill till)) till (cut-closed o till) b (reading_of new))
 
 -- what the reader holds is less then, and ends in the same rest
-pub takes-less : (name bytes old new : List ℕ) (moment : ℕ) → TakesMessage name moment bytes old new → (length new < length old) × ((reading_of new).rest ≡ (reading_of old).rest)
-takes-less name bytes old new moment t =
+pub takes-less : (name : List ℕ) (told : Option SaleReply) (old new : List ℕ) (moment : ℕ) → TakesMessage name moment told old new → (length new < length old) × ((reading_of new).rest ≡ (reading_of old).rest)
+takes-less name told old new moment t =
     let l : length old ≡ length (frame t.message) + length new = ap length t.taken ∙ length-append (frame t.message) new in
     let m : length (frame t.message) ≡ 4 + length t.message = omega arith in
     (omega (arith, t.lawful), sym (ap (λ b. (reading_of b).rest) t.taken ∙ ap (λ (r : Reading). r.rest) (reading-message t.message new t.lawful)))

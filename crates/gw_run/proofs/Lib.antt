@@ -1,5 +1,4 @@
 pub mod TillLemmas
-pub mod AnswerLemmas
 pub mod EngineLemmas
 pub mod SendLemmas
 pub mod TurnLemmas
@@ -14,4 +13,3 @@ pub mod TopLemmas
 pub mod PlayLemmas
 pub mod PlayerTillLemmas
 pub mod PlayerLemmas
-pub mod SaidLemmas

@@ -1,14 +1,12 @@
 -- The lines of a script, as the code takes them apart.
-use Rattle.std.proofs.Common.{◌≡◌, ℕ, ◌+◌, ◌<◌, ◌≤◌, List, [], ◌∷◌, ◌++◌, length, take, drop, refl, sym, ◌∙◌, ap, arith, inl, inr, true, false}
-use Rattle.std.proofs.Math.Seq.{drop-append_seam}
+use Rattle.std.proofs.Common.{◌≡◌, ℕ, ◌+◌, ◌<◌, ◌≤◌, List, [], ◌∷◌, length, take, drop, refl, ap, arith, inl, inr, true, false}
 use Rattle.std.proofs.lemmas.Bool.Decides.{eqb_tells}
 use Rattle.std.proofs.lemmas.Str.{IsUtf8-from_is_utf8}
 use Rattle.std.proofs.lemmas.Str.Pattern.{IsSplitOnceResult, split_once_first}
 use Rattle.std.specs.Borrow.{Bor}
-use Rattle.std.specs.Prelude.{Bool, ◌≢◌, codes, Option, Some, None, MatchOption}
+use Rattle.std.specs.Prelude.{Bool, Option, Some, None, MatchOption}
 use Rattle.std.specs.Str.{IsUtf8, is_utf8}
-use Rattle.std.specs.Str.Pattern.{FindsTextPrefix, LacksTextAt, StripsPrefix}
-use Rattle.gw_rules.specs.Script.{Line, Split, or_else, split_at_space, with_first, begins, behind}
+use Rattle.gw_rules.specs.Script.{Split, split_at_space, with_first}
 use Rattle.gw_run.proofs.CutLemmas.{place_of, place_here, place_later, take_later, drop_later}
 
 -- the two parts of a text at this place
@@ -46,42 +44,3 @@ not_utf8 bytes other = by_test (is_utf8 bytes) (IsUtf8-from_is_utf8 bytes)
     by_test : (b : Bool) → (b ≡ true → IsUtf8 bytes) → b ≡ false
     by_test true is = absurd (other (is refl))
     by_test false is = refl
-
-begins_front : (word rest : List ℕ) → begins word (word ++ rest) ≡ true
-begins_front [] rest = refl
-begins_front (w ∷ word) rest = elim (eqb_tells w w) [ inl e ↦ rw e.0 (begins_front word rest) | inr e ↦ absurd (e.1 refl) ]
-
--- the rest behind a word that the text begins with
-pub behind_front : (word text rest : List ℕ) → text ≡ word ++ rest → behind word text ≡ Some rest
-behind_front word text rest e = rw (e, begins_front word rest, drop-append_seam word rest) refl
-
-front_of : (word text : List ℕ) → begins word text ≡ true → text ≡ word ++ drop (length word) text
-front_of [] text e = refl
-front_of (w ∷ word) [] e = cc
-front_of (w ∷ word) (x ∷ text) e = elim (eqb_tells w x) [
-  | inl same ↦ (let rest : begins word text ≡ true = rw same.0 at e in rw (← same.1) (ap (λ xs. w ∷ xs) (front_of word text rest)))
-  | inr differs ↦ absurd (let no_front = rw differs.0 at e in cc)
-]
-
--- nothing is behind a word that the text does not begin with
-pub behind_none : (word text : List ℕ) → ((rest : List ℕ) → text ≢ word ++ rest) → behind word text ≡ None
-behind_none word text lacks = by_test (begins word text) refl
-  where
-    by_test : (b : Bool) → begins word text ≡ b → behind word text ≡ None
-    by_test true e = absurd (lacks (drop (length word) text) (front_of word text e))
-    by_test false e = rw e refl
-
--- the clause of `strip_prefix` at a text, where it strips and where it doesn't
-pub stripped : (word text rest : List ℕ) → StripsPrefix (FindsTextPrefix word) text rest → behind word text ≡ Some rest
-stripped word text rest h = behind_front word text rest (h.1.1 ∙ ap (λ xs. word ++ xs) (sym h.2))
-
-pub not_stripped : (word text : List ℕ) → LacksTextAt word text 0 → behind word text ≡ None
-not_stripped word text lacks = behind_none word text lacks
-
--- what begins with one word does not begin with the other
-pub open_alone : (text rest : List ℕ) → StripsPrefix (FindsTextPrefix (codes "open ")) text rest → behind (codes "say ") text ≡ None
-open_alone text rest h = rw h.1.1 refl
-
-pub or_else_none : (line : Option Line) → or_else line None ≡ line
-or_else_none None = refl
-or_else_none (Some line) = refl

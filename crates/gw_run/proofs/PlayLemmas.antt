@@ -1,16 +1,13 @@
 -- Playing the lines of a script, one turn after the other.
-use Rattle.std.proofs.Common.{◌≡◌, ℕ, ◌+◌, ◌<◌, ◌≤◌, List, [], ◌∷◌, ◌++◌, refl, sym, ◌∙◌, ap, arith, length, drop, get_or, length-drop, append_assoc, pos}
-use Rattle.std.proofs.lemmas.List.{drop_more, drop_all, length-map}
-use Rattle.std.specs.Prelude.{Bool, true, false, if◌then◌else◌, ◌||◌, ◌==◌, map, Option, Some}
+use Rattle.std.proofs.Common.{◌≡◌, ℕ, List, [], ◌∷◌, ◌++◌, refl, sym, ◌∙◌, ap, append_assoc, subst}
+use Rattle.std.specs.Prelude.{ℤ, Bool, true, false, if◌then◌else◌, ◌||◌, ◌==◌, map, Option, Some, None}
 use Rattle.gw_site.specs.Outside.{Outside, Line as OpenedLine, is_open, new_line, outside_after, outside_from, outside_of, nothing_yet}
 use Rattle.gw_site.specs.declared.turn.Turn.{Turn}
-use Rattle.gw_site.specs.declared.turn.Turn.TheVariants.{Polled, Stopped}
-use Rattle.gw_rules.specs.Plays.{Play, Fits, PlaysFrom, PlaysLines, applies, event_of, met, play_after, play_from, play_of, rests, seek}
-use Rattle.gw_rules.specs.Script.{Line, Open, Say}
+use Rattle.gw_site.specs.declared.turn.Turn.TheVariants.{Polled}
+use Rattle.gw_rules.specs.Plays.{Play, Fits, PlaysFrom, PlaysLines, applies, begins, brings, met, play_after, play_from, play_of, rests}
+use Rattle.gw_rules.specs.Script.{Event, Open, Close, Say, Tick, Line, At, Poll}
+use Rattle.gw_run.specs.PlayerMet.{MayCome}
 use Rattle.gw_run.specs.PlayerTills.{next_after, numbers_of, outside_with}
-use Rattle.gw_run.specs.ScriptRead.{line_seen}
-use Rattle.gw_run.specs.declared.script.ScriptLine.{ScriptLine}
-use Rattle.gw_run.specs.declared.script.ScriptLine.TheVariants.{Open as OpenLine}
 
 play_from-append : (o : Outside) (p : Play) (xs ys : List Turn) → play_from o p (xs ++ ys) ≡ play_from (outside_from o xs) (play_from o p xs) ys
 play_from-append o p [] ys = refl
@@ -21,102 +18,87 @@ plays_from-append o p [] ys h k = k
 plays_from-append o p (x ∷ xs) ys h k = (h.0, plays_from-append (outside_after o x) (play_after o p x) xs ys h.1 k)
 
 play_of_more : (lines : List Line) (log : List Turn) (turn : Turn) → play_of lines (log ++ turn ∷ []) ≡ play_after (outside_of log) (play_of lines log) turn
-play_of_more lines log turn = play_from-append nothing_yet (rests lines) log (turn ∷ [])
+play_of_more lines log turn = play_from-append nothing_yet (begins lines) log (turn ∷ [])
 
-plays_more : (lines : List Line) (log : List Turn) (turn : Turn) → PlaysLines lines log → Fits (play_of lines log) turn → PlaysLines lines (log ++ turn ∷ [])
-plays_more lines log turn h f = plays_from-append nothing_yet (rests lines) log (turn ∷ []) h (f, tt)
+plays_more : (lines : List Line) (log : List Turn) (turn : Turn) → PlaysLines lines log → Fits (outside_of log) (play_of lines log) turn → PlaysLines lines (log ++ turn ∷ [])
+plays_more lines log turn h f = plays_from-append nothing_yet (begins lines) log (turn ∷ []) h (f, tt)
 
 -- a log goes on by one turn that fits
-pub turn_played : (lines : List Line) (log new : List Turn) (turn : Turn) (p q : Play) → PlaysLines lines log → play_of lines log ≡ p → Fits p turn → play_after (outside_of log) p turn ≡ q → new ≡ log ++ turn ∷ [] →
+pub turn_played : (lines : List Line) (log new : List Turn) (turn : Turn) (p q : Play) → PlaysLines lines log → play_of lines log ≡ p → Fits (outside_of log) p turn → play_after (outside_of log) p turn ≡ q → new ≡ log ++ turn ∷ [] →
     PlaysLines lines new × (play_of lines new ≡ q)
 turn_played lines log new turn p q plays stands fits after is =
     (rw is (plays_more lines log turn plays (rw stands fits)), rw is (play_of_more lines log turn ∙ ap (λ p. play_after (outside_of log) p turn) stands ∙ after))
 
--- the event is the one that a poll has met
+-- the turn is that of an event: it comes where it is due, and then nothing is due
 abbrev pub IsEvent : Turn → Type 0
-IsEvent event = (o : Outside) (p : Play) → p.due ≡ event ∷ [] → Fits p event × (play_after o p event ≡ record p { due = [] })
+IsEvent turn = (o : Outside) (p : Play) → p.due ≡ turn ∷ [] → Fits o p turn × (play_after o p turn ≡ record p { due = [] })
 
--- a log goes on by a poll and the event that it has met
-pub event_played : (lines from rest : List Line) (log new : List Turn) (event : Turn) → PlaysLines lines log → play_of lines log ≡ rests from →
-    play_after (outside_of log) (rests from) (Polled (pos 0)) ≡ record { lines = rest; due = event ∷ [] } → IsEvent event → new ≡ log ++ Polled (pos 0) ∷ event ∷ [] →
-    PlaysLines lines new × (play_of lines new ≡ rests rest)
-event_played lines from rest log new event plays stands meets fits is =
-    let m : Play = record { lines = rest; due = event ∷ [] } in
-    let polled : List Turn = log ++ Polled (pos 0) ∷ [] in
-    let x = turn_played lines log polled (Polled (pos 0)) (rests from) m plays stands (refl, refl) meets refl in
-    let e = fits (outside_of polled) m refl in
-    turn_played lines polled new event m (rests rest) x.0 x.1 e.0 e.1 (is ∙ sym (append_assoc log (Polled (pos 0) ∷ []) (event ∷ [])))
+-- at most one turn, which is that of an event
+abbrev pub AreEvent : List Turn → Type 0
+AreEvent [] = Unit {0}
+AreEvent (turn ∷ turns) = IsEvent turn × (turns ≡ [])
 
--- the first line of some place on
-pub line_at : (lines : List ScriptLine) (at : ℕ) (line : ScriptLine) → at < length lines → line ≡ get_or lines at line → map line_seen (drop at lines) ≡ line_seen line ∷ map line_seen (drop (at + 1) lines)
-line_at lines at line lt is = ap (map line_seen) (drop_more lines at line lt ∙ ap (λ first. first ∷ drop (at + 1) lines) (sym is))
+brings_event : (event : Event) → AreEvent (brings event)
+brings_event (Open till) = (λ o p due. (due, refl), refl)
+brings_event (Close till) = (λ o p due. (due, refl), refl)
+brings_event (Say till bytes) = (λ o p due. (due, refl), refl)
+brings_event Tick = tt
 
--- a line that doesn't apply is skipped
-pub seek_skips : (o : Outside) (lines : List ScriptLine) (at : ℕ) (line : ScriptLine) → at < length lines → line ≡ get_or lines at line → applies o (line_seen line) ≡ false →
-    seek o (map line_seen (drop at lines)) ≡ seek o (map line_seen (drop (at + 1) lines))
-seek_skips o lines at line lt is skips = rw (line_at lines at line lt is) (rw skips refl)
+met_event : (o : Outside) (moment : ℤ) (lines : List Line) → AreEvent (met o moment lines).due
+met_event o moment [] = (λ o p due. (due, refl), refl)
+met_event o moment (At now ∷ lines) = met_event o now lines
+met_event o moment (Poll event ∷ lines) = by_test (applies o event) (met_event o moment lines)
+  where
+    by_test : (test : Bool) → AreEvent (met o moment lines).due → AreEvent (if test then record { lines = lines; moment = moment; due = brings event } else met o moment lines).due
+    by_test true later = brings_event event
+    by_test false later = later
 
--- a line that applies is found
-pub seek_finds : (o : Outside) (lines : List ScriptLine) (at : ℕ) (line : ScriptLine) → at < length lines → line ≡ get_or lines at line → applies o (line_seen line) ≡ true →
-    seek o (map line_seen (drop at lines)) ≡ map line_seen (drop at lines)
-seek_finds o lines at line lt is finds = rw (line_at lines at line lt is) (rw finds refl)
+-- a log goes on by a poll and what it has met
+module _ (lines from rest : List Line) (moment now : ℤ) (log new : List Turn) (plays : PlaysLines lines log) (stands : play_of lines log ≡ rests moment from) where
+  abbrev Met : List Turn → Type 0
+  Met due = met (outside_of log) moment from ≡ record { lines = rest; moment = now; due = due }
 
--- behind the last line none is found
-pub seek_ends : (o : Outside) (lines : List ScriptLine) (at : ℕ) → length lines ≤ at → seek o (map line_seen (drop at lines)) ≡ map line_seen (drop at lines)
-seek_ends o lines at le = rw (drop_all at lines le) refl
+  by_due : (due : List Turn) → AreEvent due → Met due → new ≡ log ++ Polled now ∷ due → PlaysLines lines new × (play_of lines new ≡ rests now rest)
+  by_due [] h meets is = turn_played lines log new (Polled now) (rests moment from) (rests now rest) plays stands (refl, sym (ap (λ (p : Play). p.moment) meets)) meets is
+  by_due (event ∷ more) h meets is =
+      let m : Play = record { lines = rest; moment = now; due = event ∷ [] } in
+      let same : Met (event ∷ []) = subst (λ turns. Met (event ∷ turns)) h.1 meets in
+      let after_poll : List Turn = log ++ Polled now ∷ [] in
+      let x = turn_played lines log after_poll (Polled now) (rests moment from) m plays stands (refl, sym (ap (λ (p : Play). p.moment) same)) same refl in
+      let e = h.0 (outside_of after_poll) m refl in
+      let added : new ≡ log ++ Polled now ∷ event ∷ [] = subst (λ turns. new ≡ log ++ Polled now ∷ event ∷ turns) h.1 is in
+      turn_played lines after_poll new event m (rests now rest) x.0 x.1 e.0 e.1 (added ∙ sym (append_assoc log (Polled now ∷ []) (event ∷ [])))
 
-pub there_by_number : (lines : List OpenedLine) (till : ℕ) → is_open lines till ≡ is_open (map new_line (numbers_of lines)) till
+  pub poll_played : (due : List Turn) → Met due → new ≡ log ++ Polled now ∷ due → PlaysLines lines new × (play_of lines new ≡ rests now rest)
+  poll_played due meets is = by_due due (subst AreEvent (ap (λ (p : Play). p.due) meets) (met_event (outside_of log) moment from)) meets is
+
+there_by_number : (lines : List OpenedLine) (till : ℕ) → is_open lines till ≡ is_open (map new_line (numbers_of lines)) till
 there_by_number [] till = refl
 there_by_number (line ∷ lines) till = ap (λ rest. (line.number == till) || rest) (there_by_number lines till)
 
-applies_with : (o : Outside) (tills : List ℕ) (opened : Option ℕ) → numbers_of o.tills ≡ tills → o.next_till ≡ next_after opened → (line : Line) → applies o line ≡ applies (outside_with tills opened) line
-applies_with o tills opened t n (Open till) = rw n refl
-applies_with o tills opened t n (Say till bytes) = rw (← t) (there_by_number o.tills till)
-
-chosen_alike : (a b : Bool) (x : List Line) (y z : List Line) → a ≡ b → y ≡ z → (if a then x else y) ≡ (if b then x else z)
+chosen_alike : (a b : Bool) (x y z : Play) → a ≡ b → y ≡ z → (if a then x else y) ≡ (if b then x else z)
 chosen_alike a b x y z e f = rw (e, f) refl
 
--- what is sought depends only on the tills that are there and the one that opened last
-seek_with : (o : Outside) (tills : List ℕ) (opened : Option ℕ) → numbers_of o.tills ≡ tills → o.next_till ≡ next_after opened → (lines : List Line) → seek o lines ≡ seek (outside_with tills opened) lines
-seek_with o tills opened t n [] = refl
-seek_with o tills opened t n (line ∷ lines) = chosen_alike (applies o line) (applies (outside_with tills opened) line) (line ∷ lines) (seek o lines) (seek (outside_with tills opened) lines) (applies_with o tills opened t n line) (seek_with o tills opened t n lines)
+-- what applies depends only on the tills that are there and the one that opened last
+module _ (o : Outside) (tills : List ℕ) (opened : Option ℕ) (t : numbers_of o.tills ≡ tills) (n : o.next_till ≡ next_after opened) where
+  abbrev held : Outside
+  held = outside_with tills opened
 
-stops_by : (o : Outside) (first line : Line) (lines rest : List Line) → (seek o lines ≡ line ∷ rest → applies o line ≡ true) → (b : Bool) → applies o first ≡ b → (if b then first ∷ lines else seek o lines) ≡ line ∷ rest → applies o line ≡ true
-stops_by o first line lines rest later true t e = let g : first ∷ lines ≡ line ∷ rest = e in let k : first ≡ line = cc in rw (← k) t
-stops_by o first line lines rest later false t e = later e
+  pub applies_with : (event : Event) → applies o event ≡ applies held event
+  applies_with (Open till) = rw n refl
+  applies_with (Close till) = rw (← t) (there_by_number o.tills till)
+  applies_with (Say till bytes) = rw (← t) (there_by_number o.tills till)
+  applies_with Tick = refl
 
--- the line that is found applies
-seek_stops : (o : Outside) (lines : List Line) (line : Line) (rest : List Line) → seek o lines ≡ line ∷ rest → applies o line ≡ true
-seek_stops o [] line rest e = absurd (let g : [] ≡ line ∷ rest = e in cc)
-seek_stops o (first ∷ lines) line rest e = stops_by o first line lines rest (seek_stops o lines line rest) (applies o first) refl e
+  pub met_with : (moment : ℤ) (lines : List Line) → met o moment lines ≡ met held moment lines
+  met_with moment [] = refl
+  met_with moment (At now ∷ lines) = met_with now lines
+  met_with moment (Poll event ∷ lines) = chosen_alike (applies o event) (applies held event) (record { lines = lines; moment = moment; due = brings event }) (met o moment lines) (met held moment lines) (applies_with event) (met_with moment lines)
 
-pub rest_is : (lines : List ScriptLine) (at : ℕ) (line : Line) (rest : List Line) → map line_seen (drop at lines) ≡ line ∷ rest → (at < length lines) × (rest ≡ map line_seen (drop (at + 1) lines))
-rest_is lines at line rest e =
-    let n : length (map line_seen (drop at lines)) ≡ length (line ∷ rest) = ap length e in
-    let lt : at < length lines = omega (arith, length-map (drop at lines) line_seen, length-drop at lines) in
-    let m = ap (map line_seen) (drop_more lines at (OpenLine 0) lt) in
-    (lt, (let g : line ∷ rest ≡ line_seen (get_or lines at (OpenLine 0)) ∷ map line_seen (drop (at + 1) lines) = sym e ∙ m in cc))
-
-met_end : (lines : List Line) → lines ≡ [] → met lines ≡ record { lines = lines; due = Stopped ∷ [] }
-met_end lines e = rw e refl
-
--- what a poll meets, where the line that is found stands at this place
-module _ (o : Outside) (tills : List ℕ) (opened : Option ℕ) (t : numbers_of o.tills ≡ tills) (n : o.next_till ≡ next_after opened) (lines : List ScriptLine) (from at : ℕ)
-    (s : seek (outside_with tills opened) (map line_seen (drop from lines)) ≡ map line_seen (drop at lines)) where
-  found : seek o (map line_seen (drop from lines)) ≡ map line_seen (drop at lines)
-  found = seek_with o tills opened t n (map line_seen (drop from lines)) ∙ s
-
-  meets : play_after o (rests (map line_seen (drop from lines))) (Polled (pos 0)) ≡ met (map line_seen (drop at lines))
-  meets = ap met found
-
-  pub meets_end : map line_seen (drop at lines) ≡ [] → play_after o (rests (map line_seen (drop from lines))) (Polled (pos 0)) ≡ record { lines = map line_seen (drop at lines); due = Stopped ∷ [] }
-  meets_end e = meets ∙ met_end (map line_seen (drop at lines)) e
-
-  pub meets_line : (line : Line) (rest : List Line) → map line_seen (drop at lines) ≡ line ∷ rest → play_after o (rests (map line_seen (drop from lines))) (Polled (pos 0)) ≡ record { lines = map line_seen (drop (at + 1) lines); due = event_of line ∷ [] }
-  meets_line line rest e = meets ∙ ap met (e ∙ ap (λ more. line ∷ more) (rest_is lines at line rest e).1)
-
-  pub applies_there : (line : Line) (rest : List Line) → map line_seen (drop at lines) ≡ line ∷ rest → applies o line ≡ true
-  applies_there line rest e = seek_stops o (map line_seen (drop from lines)) line rest (found ∙ e)
+-- what may come by them may come
+pub may_come_with : (o : Outside) (tills : List ℕ) (opened : Option ℕ) → numbers_of o.tills ≡ tills → o.next_till ≡ next_after opened → (event : Option Event) → MayCome (outside_with tills opened) event → MayCome o event
+may_come_with o tills opened t n None may = tt
+may_come_with o tills opened t n (Some event) may = applies_with o tills opened t n event ∙ may
 
 pub told_same : {log other : List Turn} → Some log ≡ Some other → log ≡ other
 told_same e = cc

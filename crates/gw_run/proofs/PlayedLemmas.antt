@@ -1,6 +1,7 @@
 -- What a play of a script has written.
 use Rattle.std.proofs.Common.{◌≡◌, ℕ, ◌<◌, List, [], ◌∷◌, ◌++◌, length, refl, sym, ◌∙◌, ap, subst, arith, append_assoc, inl, inr, true, false}
 use Rattle.std.specs.Prelude.{◌⊎◌, Bool, not, Option, Some, Result, Ok, Err}
+use Rattle.gw_base.specs.declared.setup.Setup.{Setup}
 use Rattle.gw_site.specs.Seen.{Seen, IsFront}
 use Rattle.gw_site.specs.Outside.{Outside, outside_after, nothing_yet}
 use Rattle.gw_site.specs.declared.turn.Turn.{Turn}
@@ -10,36 +11,39 @@ use Rattle.gw_rules.specs.Lawful.{IsClear, IsQuiet, Stands}
 use Rattle.gw_rules.specs.View.{at_first}
 use Rattle.gw_rules.specs.Keeps.{IsRun, Runs, Ran}
 use Rattle.gw_rules.specs.LogText.{log_text}
-use Rattle.gw_rules.specs.Plays.{Play, Plays, PlaysFrom, PlaysRead, PlaysLines, play_after, rests, IsOneRun, IsStopped}
-use Rattle.gw_rules.specs.Script.{Line, script_of, script_setup}
+use Rattle.gw_rules.specs.Plays.{Play, Plays, PlaysFrom, PlaysRead, PlaysLines, play_after, begins, IsOneRun, IsRunRead, IsRunWith, IsStopped}
+use Rattle.gw_rules.specs.Script.{Line, Script, script_of, script_setup}
 use Rattle.gw_rules.proofs.EndLemmas.{over-ends, polls-most}
 use Rattle.gw_rules.proofs.FrontLemmas.{front-lawful}
-use Rattle.gw_run.specs.Top.{IsAccepted, IsAtMostOneRun, IsInput, IsFresh, IsPlayOf, IsTold, IsToldEnd, IsPlayEnd, NamesLine, PlayWritten, Writes, Written, tail_of}
+use Rattle.gw_run.specs.Top.{GivesName, IsAccepted, IsAtMostOneRun, IsInput, IsFresh, IsPlayOf, IsTold, IsToldEnd, IsPlayEnd, NamesLine, PlayWritten, Writes, Written, tail_of}
 use Rattle.gw_run.specs.Turns.{EndedBy}
 use Rattle.gw_run.specs.declared.engine.Ended.TheVariants.{Done}
 use Rattle.gw_run.specs.declared.ending.Ending.{Ending}
 use Rattle.gw_run.specs.declared.ending.Ending.TheVariants.{Played, Words, Long, Line as AtLine, Input, Memory, Cut}
 
 -- what one run of the engine adds, where it plays a script, is one run or nothing
-run-lines : (lines : List Line) (log : List Turn) → PlaysLines lines log → IsRun script_setup log → IsAtMostOneRun log
-run-lines lines log plays (inl none) = inl none
-run-lines lines log plays (inr (inl failed)) = absurd ((subst (λ l. PlaysLines lines l) failed plays).0)
-run-lines lines log plays (inr (inr (run, quiet, inl start))) = inr (run, start, quiet)
-run-lines lines log plays (inr (inr (run, quiet, inr (file, crash)))) = absurd ((subst (λ l. PlaysLines lines l) crash plays).0)
+run-lines : (setup : Setup) (lines : List Line) (log : List Turn) → PlaysLines lines log → IsRun setup log → (log ≡ []) ⊎ IsRunWith setup log
+run-lines setup lines log plays (inl none) = inl none
+run-lines setup lines log plays (inr (inl failed)) = absurd ((subst (λ l. PlaysLines lines l) failed plays).0)
+run-lines setup lines log plays (inr (inr (run, quiet, inl start))) = inr (run, start, quiet)
+run-lines setup lines log plays (inr (inr (run, quiet, inr (file, crash)))) = absurd ((subst (λ l. PlaysLines lines l) crash plays).0)
 
-run-read : (read : Result (List Line) ℕ) (log : List Turn) → PlaysRead read log → IsRun script_setup log → IsAtMostOneRun log
-run-read (Ok lines) log plays run = run-lines lines log plays run
-run-read (Err number) log plays run = absurd plays
+run-read : (read : Result Script ℕ) (script : Script) (log : List Turn) → read ≡ Ok script → PlaysRead read log → IsRun (script_setup script.name) log → (log ≡ []) ⊎ IsRunRead read log
+run-read read script log e plays run = by_run (run-lines (script_setup script.name) script.lines log (subst (λ r. PlaysRead r log) e plays) run)
+  where
+    by_run : (log ≡ []) ⊎ IsRunWith (script_setup script.name) log → (log ≡ []) ⊎ IsRunRead read log
+    by_run (inl none) = inl none
+    by_run (inr one) = inr (subst (λ r. IsRunRead r log) (sym e) one)
 
-pub run-once : (script : List ℕ) (log : List Turn) → Plays script log → IsRun script_setup log → IsAtMostOneRun log
-run-once script log plays run = run-read (script_of script) log plays run
+pub run-once : (text : List ℕ) (name : Option (List ℕ)) (log : List Turn) → GivesName text name → Plays text log → IsRun (script_setup name) log → IsAtMostOneRun text log
+run-once text name log gives plays run = run-read (script_of text) (record { name = name; lines = gives.0 }) log gives.1 plays run
 
 front-from : (o : Outside) (p : Play) (front rest : List Turn) → PlaysFrom o p (front ++ rest) → PlaysFrom o p front
 front-from o p [] rest h = tt
 front-from o p (turn ∷ front) rest h = (h.0, front-from (outside_after o turn) (play_after o p turn) front rest h.1)
 
-front-read : (read : Result (List Line) ℕ) (front rest : List Turn) → PlaysRead read (front ++ rest) → PlaysRead read front
-front-read (Ok lines) front rest h = front-from nothing_yet (rests lines) front rest h
+front-read : (read : Result Script ℕ) (front rest : List Turn) → PlaysRead read (front ++ rest) → PlaysRead read front
+front-read (Ok script) front rest h = front-from nothing_yet (begins script.lines) front rest h
 front-read (Err number) front rest h = h
 
 -- a front of a play is a play
@@ -50,21 +54,28 @@ quiet-front : (front rest : List Turn) → IsQuiet (front ++ rest) → IsQuiet f
 quiet-front [] rest h = tt
 quiet-front (turn ∷ front) rest h = (h.0, quiet-front front rest h.1)
 
-one-front : (front rest log : List Turn) → log ≡ front ++ rest → IsAtMostOneRun log → IsAtMostOneRun front
-one-front [] rest log e h = inl refl
-one-front (turn ∷ front) rest log e (inl none) = absurd (let n : [] ≡ turn ∷ (front ++ rest) = sym none ∙ e in cc)
-one-front (turn ∷ front) rest log e (inr (run, start, quiet)) =
-    let n : turn ∷ (front ++ rest) ≡ Start script_setup ∷ run = sym e ∙ start in
-    let heads : turn ≡ Start script_setup = cc in
+run-front : (setup : Setup) (turn : Turn) (front rest log : List Turn) → log ≡ turn ∷ (front ++ rest) → IsRunWith setup log → IsRunWith setup (turn ∷ front)
+run-front setup turn front rest log e (run, start, quiet) =
+    let n : turn ∷ (front ++ rest) ≡ Start setup ∷ run = sym e ∙ start in
+    let heads : turn ≡ Start setup = cc in
     let tails : front ++ rest ≡ run = cc in
-    inr (front, ap (λ t. t ∷ front) heads, quiet-front front rest (subst IsQuiet (sym tails) quiet))
+    (front, ap (λ t. t ∷ front) heads, quiet-front front rest (subst IsQuiet (sym tails) quiet))
+
+read-front : (read : Result Script ℕ) (turn : Turn) (front rest log : List Turn) → log ≡ turn ∷ (front ++ rest) → IsRunRead read log → IsRunRead read (turn ∷ front)
+read-front (Ok script) turn front rest log e one = run-front (script_setup script.name) turn front rest log e one
+read-front (Err number) turn front rest log e one = one
+
+one-front : (text : List ℕ) (front rest log : List Turn) → log ≡ front ++ rest → IsAtMostOneRun text log → IsAtMostOneRun text front
+one-front text [] rest log e h = inl refl
+one-front text (turn ∷ front) rest log e (inl none) = absurd (let n : [] ≡ turn ∷ (front ++ rest) = sym none ∙ e in cc)
+one-front text (turn ∷ front) rest log e (inr one) = inr (read-front (script_of text) turn front rest log e one)
 
 -- a front of what was played is played in part
 pub part-front : (script : List ℕ) (whole : Bool) (front log : List Turn) → IsFront front log → IsPlayOf script whole log → IsPlayOf script false front
 part-front script whole front log f p = record {
   lawful = front-lawful front log f p.lawful;
   plays = plays-front script front log f p.plays;
-  one_run = one-front front f.0 log f.1 p.one_run;
+  one_run = one-front script front f.0 log f.1 p.one_run;
   stopped = λ e. absurd (let n : false ≡ true = e in cc);
 }
 
@@ -82,12 +93,12 @@ written-of Input words input text h = h
 written-of Memory words input text h = h
 written-of Cut words input text h = absurd h
 
-one-run-of : (log : List Turn) → IsAtMostOneRun log → IsStopped log → IsOneRun log
-one-run-of log (inl none) (front, e) = absurd (none-stops front (sym none ∙ e)) where
+one-run-of : (text : List ℕ) (log : List Turn) → IsAtMostOneRun text log → IsStopped log → IsOneRun text log
+one-run-of text log (inl none) (front, e) = absurd (none-stops front (sym none ∙ e)) where
   none-stops : (front : List Turn) → [] ≡ front ++ Stopped ∷ [] → ⊥
   none-stops [] h = cc
   none-stops (turn ∷ front) h = cc
-one-run-of log (inr one) s = one
+one-run-of text log (inr one) s = one
 
 -- what is written of a log that was played whole
 pub whole-text : (script : List ℕ) (input : Option (List ℕ)) (log : List Turn) → IsInput input script → IsPlayOf script true log → Writes Played input (log_text log ++ tail_of Played)
@@ -95,7 +106,7 @@ whole-text script input log i p = record {
   script = script;
   log = log;
   input_is = i;
-  log_is = record { lawful = p.lawful; plays = p.plays; one_run = one-run-of log p.one_run (p.stopped refl); stopped = p.stopped refl };
+  log_is = record { lawful = p.lawful; plays = p.plays; one_run = one-run-of script log p.one_run (p.stopped refl); stopped = p.stopped refl };
   is = refl;
 }
 
@@ -159,19 +170,8 @@ first-stands = record { course = []; log_is = refl; lawful = tt; view_is = refl 
 some-log : {xs ys : List Turn} → Some xs ≡ Some ys → xs ≡ ys
 some-log e = cc
 
--- where nothing was played yet, nothing stands in the log
-pub fresh-play : (seen : Seen) (script : List ℕ) (log : List Turn) → IsFresh seen script → seen.log ≡ Some log → Plays seen.origin log → IsPlayOf script false log
-fresh-play seen script log fresh e plays =
-    let none : log ≡ [] = some-log (sym e ∙ ap (λ (s : Seen). s.log) fresh) in
-    record {
-      lawful = rw none (at_first, first-stands);
-      plays = subst (λ origin. Plays origin log) (ap (λ (s : Seen). s.origin) fresh) plays;
-      one_run = inl none;
-      stopped = λ h. absurd (let n : false ≡ true = h in cc);
-    }
-
-module _ (old new : Seen) (script : List ℕ) (log : List Turn) (Q : View → Type 0) (fresh : IsFresh old script) (runs : Runs old new (IsRun script_setup) Q) (e : new.log ≡ Some log) (plays : Plays new.origin log) where
-  ran : Ran [] new (IsRun script_setup) Q
+module _ (old new : Seen) (script : List ℕ) (name : Option (List ℕ)) (gives : GivesName script name) (log : List Turn) (Q : View → Type 0) (fresh : IsFresh old script) (runs : Runs old new (IsRun (script_setup name)) Q) (e : new.log ≡ Some log) (plays : Plays new.origin log) where
+  ran : Ran [] new (IsRun (script_setup name)) Q
   ran = runs.told [] at_first (ap (λ (s : Seen). s.log) fresh) first-stands first-clear
 
   added-is : ran.added ≡ log
@@ -188,19 +188,19 @@ module _ (old new : Seen) (script : List ℕ) (log : List Turn) (Q : View → Ty
   ran-play = record {
     lawful = (ran.view, stands);
     plays = here;
-    one_run = run-once script log here (subst (IsRun script_setup) added-is ran.shape);
+    one_run = run-once script name log gives here (subst (IsRun (script_setup name)) added-is ran.shape);
     stopped = λ h. absurd (let n : false ≡ true = h in cc);
   }
 
 -- after a run that came to its end
-pub ran-whole : (old new : Seen) (script : List ℕ) (log : List Turn) (most : ℕ) → IsFresh old script → Runs old new (IsRun script_setup) (EndedBy Done most) → new.log ≡ Some log → Plays new.origin log → length log < most → (short : Bool) → short ≡ new.dark → IsPlayOf script (not short) log
-ran-whole old new script log most fresh runs e plays few true s = ran-play old new script log (EndedBy Done most) fresh runs e plays
-ran-whole old new script log most fresh runs e plays few false s =
-    let r = ran old new script log (EndedBy Done most) fresh runs e plays in
-    let p = ran-play old new script log (EndedBy Done most) fresh runs e plays in
+pub ran-whole : (old new : Seen) (script : List ℕ) (name : Option (List ℕ)) → GivesName script name → (log : List Turn) (most : ℕ) → IsFresh old script → Runs old new (IsRun (script_setup name)) (EndedBy Done most) → new.log ≡ Some log → Plays new.origin log → length log < most → (short : Bool) → short ≡ new.dark → IsPlayOf script (not short) log
+ran-whole old new script name gives log most fresh runs e plays few true s = ran-play old new script name gives log (EndedBy Done most) fresh runs e plays
+ran-whole old new script name gives log most fresh runs e plays few false s =
+    let r = ran old new script name gives log (EndedBy Done most) fresh runs e plays in
+    let p = ran-play old new script name gives log (EndedBy Done most) fresh runs e plays in
     record {
       lawful = p.lawful;
       plays = p.plays;
       one_run = p.one_run;
-      stopped = λ h. done-stops log most r.view (stands old new script log (EndedBy Done most) fresh runs e plays) few (r.owed (sym s));
+      stopped = λ h. done-stops log most r.view (stands old new script name gives log (EndedBy Done most) fresh runs e plays) few (r.owed (sym s));
     }

@@ -1,13 +1,16 @@
 -- The tills that a player holds by their numbers.
-use Rattle.std.proofs.Common.{◌≡◌, ℕ, ◌+◌, pos, List, [], ◌∷◌, ◌++◌, refl, sym, ◌∙◌, ap}
-use Rattle.std.specs.Prelude.{Bool, true, false, ◌||◌, ◌==◌, not, map, filter}
+use Rattle.std.proofs.Common.{◌≡◌, ℕ, List, [], ◌∷◌, ◌++◌, refl, sym, ◌∙◌, ap, take}
+use Rattle.std.specs.Prelude.{ℤ, Bool, true, false, ◌||◌, ◌==◌, not, map, filter, Option}
 use Rattle.std.specs.List.{list_any}
-use Rattle.gw_site.specs.Outside.{Line, Outside, hears, is_open, new_line, outside_after, outside_of, without}
+use Rattle.gw_site.specs.Outside.{Line, Outside, hears, is_open, new_line, outside_after, outside_from, outside_of, without}
+use Rattle.gw_site.specs.Turns.{event_turns}
+use Rattle.gw_site.specs.declared.site.What.{What}
+use Rattle.gw_site.specs.declared.site.What.TheVariants.{TillOpened, TillBytes, TillClosed, PtBytes, PtClosed, Nothing, Stopped as Stop}
 use Rattle.gw_site.specs.declared.turn.Turn.{Turn}
-use Rattle.gw_site.specs.declared.turn.Turn.TheVariants.{Start, Polled, Opened, HeardTill, Stopped, CutTill}
+use Rattle.gw_site.specs.declared.turn.Turn.TheVariants.{Start, Polled, CutTill}
 use Rattle.gw_site.proofs.OutsideLemmas.{outside_of-append, outside_of_more}
 use Rattle.gw_base.specs.declared.setup.Setup.{Setup}
-use Rattle.gw_run.specs.PlayerTills.{numbers_of}
+use Rattle.gw_run.specs.PlayerTills.{numbers_of, next_after, tills_after, opened_after}
 
 -- a till is there where its number is held
 pub open_there : (tills : List ℕ) (till : ℕ) → is_open (map new_line tills) till ≡ list_any (λ other. other == till) tills
@@ -62,26 +65,33 @@ cut_tills log new till is =
     let e : outside_of new ≡ outside_after (outside_of log) (CutTill till) = ap outside_of is ∙ outside_of_more log (CutTill till) in
     (ap (λ (o : Outside). numbers_of o.tills) e ∙ numbers_without (outside_of log).tills till, ap (λ (o : Outside). o.next_till) e)
 
--- a poll, and a till that opens
-pub opened_tills : (log new : List Turn) (till : ℕ) → new ≡ log ++ Polled (pos 0) ∷ Opened till ∷ [] →
-    (numbers_of (outside_of new).tills ≡ numbers_of (outside_of log).tills ++ till ∷ []) × ((outside_of new).next_till ≡ till + 1)
-opened_tills log new till is =
-    let polled = outside_after (outside_of log) (Polled (pos 0)) in
-    let e : outside_of new ≡ outside_after polled (Opened till) = ap outside_of is ∙ outside_of-append log (Polled (pos 0) ∷ Opened till ∷ []) in
-    (ap (λ (o : Outside). numbers_of o.tills) e ∙ numbers_more (outside_of log).tills till, ap (λ (o : Outside). o.next_till) e)
+-- the tills that are there once an event has come
+tills_then : (o : Outside) (what : What) (buf : List ℕ) → numbers_of (outside_from o (event_turns what buf)).tills ≡ tills_after what (numbers_of o.tills)
+tills_then o (TillOpened till) buf = numbers_more o.tills till
+tills_then o (TillBytes till count) buf = numbers_hears o.tills till (take count buf)
+tills_then o (TillClosed till) buf = numbers_without o.tills till
+tills_then o (PtBytes pt count) buf = refl
+tills_then o (PtClosed pt) buf = refl
+tills_then o Nothing buf = refl
+tills_then o Stop buf = refl
 
--- a poll, and bytes of a till
-pub heard_tills : (log new : List Turn) (till : ℕ) (bytes : List ℕ) → new ≡ log ++ Polled (pos 0) ∷ HeardTill till bytes ∷ [] →
-    (numbers_of (outside_of new).tills ≡ numbers_of (outside_of log).tills) × ((outside_of new).next_till ≡ (outside_of log).next_till)
-heard_tills log new till bytes is =
-    let polled = outside_after (outside_of log) (Polled (pos 0)) in
-    let e : outside_of new ≡ outside_after polled (HeardTill till bytes) = ap outside_of is ∙ outside_of-append log (Polled (pos 0) ∷ HeardTill till bytes ∷ []) in
-    (ap (λ (o : Outside). numbers_of o.tills) e ∙ numbers_hears (outside_of log).tills till bytes, ap (λ (o : Outside). o.next_till) e)
+-- and the least number with which one may open
+next_then : (o : Outside) (what : What) (buf : List ℕ) (opened : Option ℕ) → o.next_till ≡ next_after opened → (outside_from o (event_turns what buf)).next_till ≡ next_after (opened_after what opened)
+next_then o (TillOpened till) buf opened e = refl
+next_then o (TillBytes till count) buf opened e = e
+next_then o (TillClosed till) buf opened e = e
+next_then o (PtBytes pt count) buf opened e = e
+next_then o (PtClosed pt) buf opened e = e
+next_then o Nothing buf opened e = e
+next_then o Stop buf opened e = e
 
--- a poll behind the last line
-pub stopped_tills : (log new : List Turn) → new ≡ log ++ Polled (pos 0) ∷ Stopped ∷ [] →
-    (numbers_of (outside_of new).tills ≡ numbers_of (outside_of log).tills) × ((outside_of new).next_till ≡ (outside_of log).next_till)
-stopped_tills log new is =
-    let polled = outside_after (outside_of log) (Polled (pos 0)) in
-    let e : outside_of new ≡ outside_after polled Stopped = ap outside_of is ∙ outside_of-append log (Polled (pos 0) ∷ Stopped ∷ []) in
-    (ap (λ (o : Outside). numbers_of o.tills) e, ap (λ (o : Outside). o.next_till) e)
+-- a poll, and what it brings
+module _ (log new : List Turn) (now : ℤ) (what : What) (buf : List ℕ) (turns : List Turn) (brought : event_turns what buf ≡ turns) (is : new ≡ log ++ Polled now ∷ turns) where
+  afterwards : outside_of new ≡ outside_from (outside_after (outside_of log) (Polled now)) (event_turns what buf)
+  afterwards = ap outside_of is ∙ outside_of-append log (Polled now ∷ turns) ∙ ap (outside_from (outside_after (outside_of log) (Polled now))) (sym brought)
+
+  pub poll_tills : numbers_of (outside_of new).tills ≡ tills_after what (numbers_of (outside_of log).tills)
+  poll_tills = ap (λ (o : Outside). numbers_of o.tills) afterwards ∙ tills_then (outside_after (outside_of log) (Polled now)) what buf
+
+  pub poll_next : (opened : Option ℕ) → (outside_of log).next_till ≡ next_after opened → (outside_of new).next_till ≡ next_after (opened_after what opened)
+  poll_next opened e = ap (λ (o : Outside). o.next_till) afterwards ∙ next_then (outside_after (outside_of log) (Polled now)) what buf opened e

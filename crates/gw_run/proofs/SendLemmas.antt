@@ -1,23 +1,24 @@
 -- A send that may be followed by the cut of its line.
-use Rattle.std.proofs.Common.{List, [], ◌∷◌, ℕ}
+use Rattle.std.proofs.Common.{◌≡◌, List, [], ◌∷◌, ℕ, subst}
 use Rattle.std.specs.Prelude.{Ok, Err, true, false}
 use Rattle.gw_site.specs.declared.turn.Turn.TheVariants.{SentTill, CutTill}
 use Rattle.gw_site.specs.Seen.{Seen, Grows}
 use Rattle.gw_site.specs.Turns.{IsTurn, SentTillTurns}
-use Rattle.gw_rules.specs.Scene.{Till as ATill, Send, Cut, Item, Scene}
+use Rattle.gw_rules.specs.Reply.{Reply, told_bytes}
+use Rattle.gw_rules.specs.Scene.{Till as ATill, Tell, Cut, Item, Scene}
 use Rattle.gw_rules.specs.View.{called}
 use Rattle.gw_rules.specs.Keeps.{Keeps, Owing}
 use Rattle.gw_rules.proofs.KeepsLemmas.{keeps-then, keeps-after, keeps-some}
-use Rattle.gw_rules.proofs.CallLemmas.{cut-till-keeps, send-till-keeps}
+use Rattle.gw_rules.proofs.CallLemmas.{cut-till-keeps, tell-keeps}
 use Rattle.gw_run.specs.Turns.{Delivered}
 
-pub delivered : (E : Type 0) (a b : Seen) (done : Unit {0}) (till : ℕ) (bytes : List ℕ) → Grows a b (SentTillTurns {E = E} till bytes (Ok done)) → (scene : Scene) (items : List Item) →
-    Keeps a b (Owing scene (Send (ATill till) bytes ∷ []) items) (Delivered true scene till bytes items)
-delivered E a b done till bytes grows scene items = send-till-keeps scene [] items a b {E = E} till bytes (Ok done) grows
+pub delivered : (E : Type 0) (a b : Seen) (done : Unit {0}) (till : ℕ) (bytes : List ℕ) (reply : Reply) → bytes ≡ told_bytes reply → Grows a b (SentTillTurns {E = E} till bytes (Ok done)) → (scene : Scene) (items : List Item) →
+    Keeps a b (Owing scene (Tell till reply ∷ []) items) (Delivered true scene till (told_bytes reply) items)
+delivered E a b done till bytes reply is grows scene items = tell-keeps scene [] items a b {E = E} till reply (Ok done) (subst (λ bytes. Grows a b (SentTillTurns {E = E} till bytes (Ok done))) is grows)
 
-pub undelivered : {E : Type 0} (a b c : Seen) (failed : E) (till : ℕ) (bytes : List ℕ) → Grows a b (SentTillTurns till bytes (Err failed)) → Grows b c (IsTurn (CutTill till)) → (scene : Scene) (items : List Item) →
-    Keeps a c (Owing scene (Send (ATill till) bytes ∷ []) items) (Delivered false scene till bytes items)
-undelivered a b c failed till bytes sent cut scene items =
-    keeps-then a b c _ _ _ (send-till-keeps scene [] items a b till bytes (Err failed) sent)
+pub undelivered : {E : Type 0} (a b c : Seen) (failed : E) (till : ℕ) (bytes : List ℕ) (reply : Reply) → bytes ≡ told_bytes reply → Grows a b (SentTillTurns till bytes (Err failed)) → Grows b c (IsTurn (CutTill till)) → (scene : Scene) (items : List Item) →
+    Keeps a c (Owing scene (Tell till reply ∷ []) items) (Delivered false scene till (told_bytes reply) items)
+undelivered a b c failed till bytes reply is sent cut scene items =
+    keeps-then a b c _ _ _ (tell-keeps scene [] items a b till reply (Err failed) (subst (λ bytes. Grows a b (SentTillTurns till bytes (Err failed))) is sent))
     (keeps-some b c (λ (taken : List ℕ) v. Owing (called scene (SentTill till taken false) false) (Cut (ATill till) ∷ []) items v) _ []
     (λ taken. keeps-after b c _ _ _ (cut-till-keeps (called scene (SentTill till taken false) false) [] items b c till cut) (λ v q. (taken, q))))

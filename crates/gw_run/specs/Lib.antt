@@ -6,5 +6,5 @@ pub mod LogWritten
 pub mod Top
 pub mod PlaysProp
 pub mod PlayerTills
-pub mod PlayerNext
+pub mod PlayerMet
 pub mod Player

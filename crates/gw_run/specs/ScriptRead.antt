@@ -1,23 +1,45 @@
 -- What the reader of scripts answers.
-use Rattle.std.specs.Prelude.{◌≡◌, ℕ, ◌<◌, ◌≤◌, Bool, ◌&&◌, if◌then◌else◌, List, Option, Some, None, Err, length}
-use Rattle.gw_rules.specs.Script.{Line, Open, Say, opens_till, script_limit, script_of}
-use Rattle.gw_run.specs.declared.script.ScriptLine.{ScriptLine}
-use Rattle.gw_run.specs.declared.script.ScriptLine.TheVariants.{Open as OpenLine, Say as SayLine}
+use Rattle.std.specs.Prelude.{◌≡◌, ℕ, ◌<◌, ◌≤◌, Bool, true, false, List, map, Option, Some, None, Err, length}
+use Rattle.gw_rules.specs.Script.{Event, Open, Close, Say, Tick, Line, At, Poll, Script, Entry, Blank, Naming, Playing, script_limit, script_of}
+use Rattle.gw_run.specs.declared.line.Script.{Script as ReadScript}
+use Rattle.gw_run.specs.declared.line.ScriptLine.{ScriptLine}
+use Rattle.gw_run.specs.declared.line.ScriptLine.TheVariants.{At as AtLine, Poll as PollLine}
+use Rattle.gw_run.specs.declared.line.ScriptEvent.{ScriptEvent}
+use Rattle.gw_run.specs.declared.line.ScriptEvent.TheVariants.{Open as OpenEvent, Close as CloseEvent, Say as SayEvent, Tick as TickEvent}
+use Rattle.gw_run.specs.declared.script.ReadEntry.{ReadEntry}
+use Rattle.gw_run.specs.declared.script.ReadEntry.TheVariants.{Blank as BlankEntry, Naming as NamingEntry, Playing as PlayingEntry}
 use Rattle.gw_run.specs.declared.script.ScriptFault.{ScriptFault}
-use Rattle.gw_run.specs.declared.script.ScriptFault.TheVariants.{Long, Line as AtLine, Memory}
+use Rattle.gw_run.specs.declared.script.ScriptFault.TheVariants.{Long, Line as AtNumber, Memory}
+
+-- what a poll brings, as the grammar sees it
+abbrev pub event_seen : ScriptEvent → Event
+event_seen (OpenEvent till) = Open till
+event_seen (CloseEvent till) = Close till
+event_seen (SayEvent till piece) = Say till piece.bytes
+event_seen TickEvent = Tick
 
 -- a line, as the grammar sees it
 abbrev pub line_seen : ScriptLine → Line
-line_seen (OpenLine till) = Open till
-line_seen (SayLine till bytes) = Say till bytes
+line_seen (AtLine moment) = At moment
+line_seen (PollLine event) = Poll (event_seen event)
 
--- a line that may follow, where a till has opened already or none has: one till opens at most
-abbrev pub allowed : Bool → Option Line → Option Line
-allowed opened None = None
-allowed opened (Some line) = if opened && opens_till line then None else Some line
+-- a script, as the grammar sees it
+abbrev pub script_seen : ReadScript → Script
+script_seen script = record { name = script.name; lines = map line_seen script.lines.items }
+
+-- what one line of the text is, as the grammar sees it
+abbrev pub entry_seen : ReadEntry → Entry
+entry_seen BlankEntry = Blank
+entry_seen (NamingEntry name) = Naming name
+entry_seen (PlayingEntry line) = Playing (line_seen line)
+
+-- where a line was added the script has become this one, and where none may stand there, there is none
+abbrev pub IsAdded : Bool → Option Script → Script → Type 0
+IsAdded true next new = next ≡ Some new
+IsAdded false next new = next ≡ None
 
 -- what a fault tells of the script; want of memory tells nothing
 abbrev pub IsFaultOf : List ℕ → ScriptFault → Type 0
 IsFaultOf bytes Long = script_limit < length bytes
-IsFaultOf bytes (AtLine line) = (length bytes ≤ script_limit) × (script_of bytes ≡ Err line)
+IsFaultOf bytes (AtNumber line) = (length bytes ≤ script_limit) × (script_of bytes ≡ Err line)
 IsFaultOf bytes Memory = Unit {0}

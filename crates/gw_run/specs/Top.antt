@@ -5,7 +5,7 @@ use Rattle.std.specs.Global.{Vec}
 use Rattle.gw_site.specs.Seen.{Seen, IsFront}
 use Rattle.gw_site.specs.declared.turn.Turn.{Turn}
 use Rattle.gw_rules.specs.Lawful.{IsLawful}
-use Rattle.gw_rules.specs.Script.{Line, script_of, script_limit}
+use Rattle.gw_rules.specs.Script.{Line, Script, script_of, script_limit}
 use Rattle.gw_rules.specs.Plays.{Plays, IsLogOf, IsOneRun, IsStopped}
 use Rattle.gw_rules.specs.LogText.{log_text}
 use Rattle.gw_run.specs.declared.ending.Ending.{Ending}
@@ -66,8 +66,8 @@ pub record IsPlayed (input : Option (List ℕ)) (text : List ℕ) : Type 0 where
   pub is : text ≡ log_text log ++ tail_of Played
 
 -- a log with one run with the script's setup, or none
-abbrev pub IsAtMostOneRun : List Turn → Type 0
-IsAtMostOneRun log = (log ≡ []) ⊎ IsOneRun log
+abbrev pub IsAtMostOneRun : List ℕ → List Turn → Type 0
+IsAtMostOneRun script log = (log ≡ []) ⊎ IsOneRun script log
 
 -- the text of a lawful log that plays a front of the script that was read, before memory was wanting
 pub record IsCutShort (input : Option (List ℕ)) (text : List ℕ) : Type 0 where
@@ -76,7 +76,7 @@ pub record IsCutShort (input : Option (List ℕ)) (text : List ℕ) : Type 0 whe
   pub input_is : IsInput input script
   pub lawful : IsLawful log
   pub plays : Plays script log
-  pub one_run : IsAtMostOneRun log
+  pub one_run : IsAtMostOneRun script log
   pub is : text ≡ log_text log ++ tail_of Memory
 
 -- what is written by the end of the call, if no write fails
@@ -115,7 +115,7 @@ pub record IsEnded (status : ℕ) (words : List (List ℕ)) (input left before a
 
 -- a script of the grammar
 abbrev pub IsScript : List ℕ → Type 0
-IsScript script = (length script ≤ script_limit) × ((lines : List Line) × (script_of script ≡ Ok lines))
+IsScript text = (length text ≤ script_limit) × ((script : Script) × (script_of text ≡ Ok script))
 
 -- the source tells what is left in it, and that is a script
 abbrev pub IsScriptLeft : Option (List ℕ) → Type 0
@@ -134,6 +134,10 @@ ReplayCause ending input left input_rose out_rose = (words : List (List ℕ)) �
 abbrev pub PlayWritten : List ℕ → Ending → List ℕ → Type 0
 PlayWritten script ending text = (input : Option (List ℕ)) → IsInput input script → ReplayWritten input ending text
 
+-- the text is a script that gives this name, or none
+abbrev pub GivesName : List ℕ → Option (List ℕ) → Type 0
+GivesName text name = (lines : List Line) × (script_of text ≡ Ok (record { name = name; lines = lines }))
+
 -- nothing was played of the script, and no call has failed
 abbrev pub IsFresh : Seen → List ℕ → Type 0
 IsFresh seen script = seen ≡ record { log = Some []; faults = 0; dark = false; origin = script }
@@ -142,7 +146,7 @@ IsFresh seen script = seen ≡ record { log = Some []; faults = 0; dark = false;
 pub record IsPlayOf (script : List ℕ) (whole : Bool) (log : List Turn) : Type 0 where
   pub lawful : IsLawful log
   pub plays : Plays script log
-  pub one_run : IsAtMostOneRun log
+  pub one_run : IsAtMostOneRun script log
   pub stopped : whole ≡ true → IsStopped log
 
 -- an end whose fault line names a line of the script

@@ -4,7 +4,7 @@ ghost use Rattle.gw_run.specs.Top.{status_of};
 
 /// How the top call ends: its status and the line before the status line.
 #[derive(Clone, Copy, Debug, PartialEq, Eq)]
-pub(crate) enum Ending {
+pub enum Ending {
     /// The script was played to its end: 0.
     Played,
     /// The words aren't accepted: 64.

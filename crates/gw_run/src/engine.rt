@@ -6,17 +6,20 @@ ghost use Rattle.gw_base.specs.declared.setup.Setup.{Setup};
 ghost use Rattle.gw_site.specs.Causes.{Rose};
 ghost use Rattle.gw_site.specs.Outside.{Outside};
 ghost use Rattle.gw_site.specs.Turns.{IsWithinBuf};
-ghost use Rattle.sale_frame.specs.Frame.{IsMessage, frame};
-ghost use Rattle.gw_rules.specs.Scene.{Scene, Item, Send, Till as ATill};
+ghost use Rattle.json_text.specs.Canonical.{canonical};
+ghost use Rattle.sale_reply.specs.Reply.{tree_of};
+ghost use Rattle.gw_rules.specs.Reply.{Reply, tree, told_bytes};
+ghost use Rattle.gw_rules.specs.Scene.{Scene, Item, Tell};
 ghost use Rattle.gw_rules.specs.Keeps.{Keeps, Runs, IsRun, Owing, JustBegun};
-ghost use Rattle.gw_run.specs.Answered.{IsAnswer, IsNextOf};
+ghost use Rattle.gw_run.specs.Answered.{IsNextOf};
 ghost use Rattle.gw_run.specs.Turns.{BeforeTill, AfterTill, ReadsOn, Delivered, BeforePiece, BeforeOpen, IsAtRest, IsPolled, AfterTurn, EndedBy};
 
 use crate::tills::{Till, drop_till, open_till, place_of};
-use gw_base::{Ident, Setup, stamp};
+use gw_base::{Ident, Setup};
+use gw_core::answer;
 use gw_site::{Failed, Polled, Site, What};
-use sale_frame::{FrameReader, frame_length};
-use status_form::{read_status, write_not_found, write_unread};
+use sale_frame::FrameReader;
+use sale_reply::{Out, SaleReply, write_reply};
 use std::alloc::{AllocError, Global};
 
 /// The most tills that may be there at once.
@@ -27,8 +30,8 @@ const MOST_TILLS: usize = 64;
 pub(crate) enum Next {
     /// Less than a frame.
     Waiting,
-    /// A message, which has this answer in its frame.
-    Answer(Vec<u8>),
+    /// A message, of which this is told.
+    Message(Option<SaleReply<'static>>),
     /// Bytes that begin no frame.
     Unframed,
 }
@@ -36,7 +39,7 @@ pub(crate) enum Next {
 /// How far a till's bytes were served.
 #[derive(Clone, Copy)]
 pub(crate) enum Served {
-    /// A message was answered, and more may be held.
+    /// A message was served, and more may be held.
     More,
     /// Less than a frame waits.
     Waiting,
@@ -61,29 +64,8 @@ pub(crate) enum Ended {
     NoMemory,
 }
 
-/// A message behind its length.
-fn framed(alloc: Global, message: &[u8]) -> Result<Vec<u8>, AllocError>
-    requires { IsMessage message.now }
-    ensures { IfOk result (λ bytes. bytes.items ≡ frame message.now) }
-{
-    let mut bytes = Vec::from_slice(alloc, &frame_length(message.len()))?;
-    bytes.extend_from_slice(message)?;
-    Ok(bytes)
-}
-
-/// The answer to a message of a till, of a gateway with this name.
-fn answer(alloc: Global, name: &Ident<40>, now: i64, message: &[u8]) -> Result<Vec<u8>, AllocError>
-    ensures answer { IfOk result (λ answer. IsAnswer name.now (moment_of now) message.now answer.items) }
-    ensures size { IfOk result (λ answer. IsMessage answer.items) }
-{
-    match read_status(alloc, message)? {
-        Some(header) => Ok(write_not_found(alloc, &header)?),
-        None => Ok(write_unread(alloc, name.as_bytes(), &stamp(now))?),
-    }
-}
-
-/// What the bytes in front of a reader are, and its answer where they are a message.
-fn next_answer(
+/// What the bytes in front of a reader are, and what is told of them where they are a message.
+fn next_message(
     alloc: Global,
     name: &Ident<40>,
     now: i64,
@@ -94,21 +76,20 @@ fn next_answer(
     match reader.next() {
         Err(_) => Ok(Next::Unframed),
         Ok(None) => Ok(Next::Waiting),
-        Ok(Some(message)) => {
-            let answer = answer(alloc, name, now, message)?;
-            Ok(Next::Answer(framed(alloc, &answer)?))
-        }
+        Ok(Some(message)) => Ok(Next::Message(answer(alloc, name, now, message)?)),
     }
 }
 
-/// Sends to a till, and cuts its line where that fails. True where it was sent.
-fn send<S: Site>(site: &mut S, till: u64, bytes: &[u8]) -> bool
-    ensures keeps { (scene : Scene) (items : List Item) → Keeps (S.seen site.old) (S.seen site.new)
-        (Owing scene (Send (ATill till) bytes.now ∷ []) items)
-        (Delivered result scene till bytes.now items) }
+/// Tells a till, and cuts its line where that fails. True where it was told.
+fn tell<S: Site>(site: &mut S, till: u64, reply: &SaleReply<'_>, out: &mut Out) -> bool
+    requires { length (canonical (tree_of reply.now)) ≤ 65536 }
+    ensures keeps { (answer : Reply) → tree_of reply.now ≡ tree answer → (scene : Scene) (items : List Item) → Keeps (S.seen site.old) (S.seen site.new)
+        (Owing scene (Tell till answer ∷ []) items)
+        (Delivered result scene till (told_bytes answer) items) }
     ensures later { (S.seen site.old).faults ≤ (S.seen site.new).faults }
 {
-    match site.send_till(till, bytes) {
+    write_reply(reply, out);
+    match site.send_till(till, out.as_bytes()) {
         Ok(()) => true,
         Err(Failed) => {
             site.cut_till(till);
@@ -124,6 +105,7 @@ fn serve_next<S: Site>(
     now: i64,
     till: u64,
     reader: &mut FrameReader,
+    out: &mut Out,
     site: &mut S,
 ) -> Result<Served, AllocError>
     ensures keeps { (setup : Setup) (polls : ℕ) (o : Outside) → setup.name ≡ name.now → Keeps (S.seen site.old) (S.seen site.new)
@@ -132,14 +114,15 @@ fn serve_next<S: Site>(
     ensures reader { IfOk result (λ served. ReadsOn served reader.old reader.new) }
     ensures later { (S.seen site.old).faults ≤ (S.seen site.new).faults }
 {
-    match next_answer(alloc, name, now, reader)? {
+    match next_message(alloc, name, now, reader)? {
         Next::Waiting => Ok(Served::Waiting),
         Next::Unframed => {
             site.cut_till(till);
             Ok(Served::Gone)
         }
-        Next::Answer(bytes) => {
-            if send(site, till, &bytes) {
+        Next::Message(None) => Ok(Served::More),
+        Next::Message(Some(reply)) => {
+            if tell(site, till, &reply, out) {
                 Ok(Served::More)
             } else {
                 Ok(Served::Gone)
@@ -155,6 +138,7 @@ fn serve<S: Site>(
     now: i64,
     till: u64,
     reader: &mut FrameReader,
+    out: &mut Out,
     site: &mut S,
 ) -> Result<Served, AllocError>
     ensures keeps { (setup : Setup) (polls : ℕ) (o : Outside) → setup.name ≡ name.now → Keeps (S.seen site.old) (S.seen site.new)
@@ -165,7 +149,7 @@ fn serve<S: Site>(
     ensures later { (S.seen site.old).faults ≤ (S.seen site.new).faults }
 {
     loop {
-        match serve_next(alloc, name, now, till, reader, site) {
+        match serve_next(alloc, name, now, till, reader, out, site) {
             Ok(Served::More) => {}
             Ok(Served::Waiting) => return Ok(Served::Waiting),
             Ok(Served::Gone) => return Ok(Served::Gone),
@@ -180,6 +164,7 @@ fn read_piece<S: Site>(
     name: &Ident<40>,
     now: i64,
     till: &mut Till,
+    out: &mut Out,
     site: &mut S,
     bytes: &[u8],
 ) -> Result<Served, AllocError>
@@ -194,7 +179,7 @@ fn read_piece<S: Site>(
 {
     let number = till.number;
     match till.reader.feed(alloc, bytes) {
-        Ok(()) => serve(alloc, name, now, number, &mut till.reader, site),
+        Ok(()) => serve(alloc, name, now, number, &mut till.reader, out, site),
         Err(AllocError) => Err(AllocError),
     }
 }
@@ -205,6 +190,7 @@ fn on_bytes<S: Site>(
     name: &Ident<40>,
     now: i64,
     tills: &mut Vec<Till>,
+    out: &mut Out,
     site: &mut S,
     number: u64,
     bytes: &[u8],
@@ -220,7 +206,7 @@ fn on_bytes<S: Site>(
         Some(at) => at,
         None => return Ok(Turned::Went),
     };
-    match read_piece(alloc, name, now, &mut tills[at], site, bytes) {
+    match read_piece(alloc, name, now, &mut tills[at], out, site, bytes) {
         Ok(Served::Gone) => {
             drop_till(tills, number);
             Ok(Turned::Went)
@@ -266,6 +252,7 @@ fn on_event<S: Site>(
     what: What,
     buf: &[u8; 4096],
     tills: &mut Vec<Till>,
+    out: &mut Out,
     site: &mut S,
 ) -> Result<Turned, AllocError>
     requires { IsWithinBuf what }
@@ -278,7 +265,7 @@ fn on_event<S: Site>(
         What::Stopped => Ok(Turned::Stopped),
         What::TillOpened(number) => on_open(alloc, tills, site, number),
         What::TillBytes(number, count) => {
-            on_bytes(alloc, name, now, tills, site, number, &buf[..count])
+            on_bytes(alloc, name, now, tills, out, site, number, &buf[..count])
         }
         What::TillClosed(number) => {
             drop_till(tills, number);
@@ -295,6 +282,7 @@ fn turn<S: Site>(
     alloc: Global,
     name: &Ident<40>,
     tills: &mut Vec<Till>,
+    out: &mut Out,
     site: &mut S,
 ) -> Result<Turned, AllocError>
     ensures keeps { (setup : Setup) (polls : ℕ) → setup.name ≡ name.now → Keeps (S.seen site.old) (S.seen site.new)
@@ -304,7 +292,7 @@ fn turn<S: Site>(
 {
     let mut buf = [0; 4096];
     let Polled { now, what } = site.poll(&mut buf);
-    on_event(alloc, name, now, what, &buf, tills, site)
+    on_event(alloc, name, now, what, &buf, tills, out, site)
 }
 
 /// The turns of a run, at most so many.
@@ -313,9 +301,13 @@ fn turns<S: Site>(alloc: Global, name: &Ident<40>, site: &mut S, most: u64) -> E
     ensures opened { result ≢ Ended.NotOpened }
     ensures later { (S.seen site.old).faults ≤ (S.seen site.new).faults }
 {
+    let mut out = match Out::new(alloc) {
+        Ok(out) => out,
+        Err(AllocError) => return Ended::NoMemory,
+    };
     let mut tills = Vec::new(alloc);
     for made in 0..most {
-        match turn(alloc, name, &mut tills, site) {
+        match turn(alloc, name, &mut tills, &mut out, site) {
             Ok(Turned::Went) => {}
             Ok(Turned::Stopped) => return Ended::Done,
             Err(AllocError) => return Ended::NoMemory,

@@ -3,6 +3,7 @@
 
 mod ending;
 mod engine;
+mod line;
 mod player;
 mod replay;
 mod script;
@@ -11,9 +12,15 @@ mod text;
 mod tills;
 mod top_call;
 
-pub use script::{ScriptFault, ScriptLine, read_script};
+pub use ending::Ending;
+pub use line::{Piece, Script, ScriptEvent, ScriptLine};
+pub use script::{ScriptFault, read_script};
 pub use text::{Unwritten, write_log};
 pub use top_call::top;
 
+#[cfg(test)]
+mod message_tests;
+#[cfg(test)]
+mod script_tests;
 #[cfg(test)]
 mod tests;

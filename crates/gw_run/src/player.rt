@@ -1,29 +1,29 @@
 //! A site in memory, which plays a script.
-ghost use Rattle.std.specs.Prelude.{◌≡◌, ◌≤◌, ◌∷◌, ◌++◌, [], List, Ok, Some, true, false, not, ◌==◌, filter, map, pos, IfOk, OnOk, OnErr};
+ghost use Rattle.std.specs.Prelude.{◌≡◌, ◌≤◌, ◌∷◌, ◌++◌, [], ℤ, List, Ok, Some, true, false, not, ◌==◌, filter, IfOk, OnOk, OnErr};
 ghost use Rattle.gw_site.specs.Causes.{HasCause, Rose};
 ghost use Rattle.gw_site.specs.Outside.{Outside, outside_of, outside_after};
 ghost use Rattle.gw_site.specs.declared.turn.Turn.{Turn as ATurn};
 ghost use Rattle.gw_rules.specs.Plays.{Play, Fits, Plays, play_after, rests};
 ghost use Rattle.gw_rules.specs.Script.{Line, script_of};
-ghost use Rattle.gw_run.specs.ScriptRead.{line_seen};
-ghost use Rattle.gw_run.specs.PlayerTills.{numbers_of, next_after};
+ghost use Rattle.gw_run.specs.ScriptRead.{script_seen};
+ghost use Rattle.gw_run.specs.PlayerTills.{numbers_of, next_after, tills_after, opened_after};
 
-mod next;
+mod met;
 mod played;
 
-use crate::script::ScriptLine;
+use crate::line::Script;
 use gw_base::{Bytes, Setup};
 use gw_site::{Failed, Polled, Site, Turn, What};
-use next::Next;
+use met::bring;
 use played::Played;
 use std::alloc::{AllocError, Global};
 
-/// A site in memory. Its events are those of a script, its moments are 0, and none of its calls fails while there is
-/// memory for its log.
+/// A site in memory. Its events and moments are those of a script, and none of its calls fails while there is memory for
+/// its log.
 ///
-/// A poll meets the first line that applies: a till opens with a number above all of its run, and says something while it
-/// is there. It skips the lines in front of it. Behind the last line it stops. Where memory is refused the player is dark,
-/// and its log ends there.
+/// A poll meets the first line that polls and applies: a till opens with a number above all of its run, and closes or
+/// says something while it is there. It passes the lines in front of it, and has the moment of the last `at` line among
+/// all lines passed. Behind the last line it stops. Where memory is refused the player is dark, and its log ends there.
 ///
 /// It keeps no journal, and has no disk: a call on the disk fails, and the player is dark.
 #[derive(Drop)]
@@ -61,25 +61,42 @@ fn drop_till(tills: &mut Vec<u64>, till: u64)
     tills.retain(|other| *other != till);
 }
 
-/// What a poll brings, at the one moment of a script.
-fn brings(what: What) -> Polled
-    ensures what { result.what ≡ what }
-    ensures now { result.now ≡ pos 0 }
+/// Changes the tills that are there, and the one that opened last, by what a poll brings. False where memory is refused,
+/// and nothing is changed.
+fn follow(tills: &mut Vec<u64>, opened: &mut Option<u64>, what: What) -> bool
+    ensures tills { result ≡ true → tills.new.items ≡ tills_after what tills.old.items }
+    ensures opened { result ≡ true → opened.new ≡ opened_after what opened.old }
+    ensures same_tills { result ≡ false → tills.new.items ≡ tills.old.items }
+    ensures same_opened { result ≡ false → opened.new ≡ opened.old }
 {
-    Polled { now: 0, what }
+    match what {
+        What::TillOpened(till) => {
+            if tills.push(till).is_err() {
+                return false;
+            }
+            *opened = Some(till);
+        }
+        What::TillClosed(till) => drop_till(tills, till),
+        What::TillBytes(_, _)
+        | What::PtBytes(_, _)
+        | What::PtClosed(_)
+        | What::Nothing
+        | What::Stopped => {}
+    }
+    true
 }
 
 impl<'a> Player<'a> {
     ghost use Rattle.gw_run.specs.Player.{seen_of};
 
-    /// A player of these lines, which the script was read as.
-    pub(crate) fn new(alloc: Global, script: &'a [u8], lines: Vec<ScriptLine>) -> Player<'a>
-        requires { script_of script.now ≡ Ok (map line_seen lines.items) }
+    /// A player of this script, which the text was read as.
+    pub(crate) fn new(alloc: Global, script: &'a [u8], read: Script) -> Player<'a>
+        requires { script_of script.now ≡ Ok (script_seen read) }
         ensures { seen_of result ≡ record { log = Some []; faults = 0; dark = false; origin = script.now } }
     {
         Player {
             alloc,
-            play: Played::new(alloc, script, lines),
+            play: Played::new(alloc, script, read),
             tills: Vec::new(alloc),
             opened: None,
             faults: 0,
@@ -132,19 +149,28 @@ impl<'a> Player<'a> {
     /// A poll fails, and the player is dark from now on.
     fn stop(&mut self) -> Polled
         ensures what { result.what ≡ What.Stopped }
-        ensures now { result.now ≡ pos 0 }
         ensures later { self.old.faults ≤ self.new.faults }
         ensures short { self.new.play.short ≡ true }
         ensures log { self.new.play.log.items ≡ self.old.play.log.items }
         ensures script { self.new.play.script.now ≡ self.old.play.script.now }
     {
         self.fail();
-        brings(What::Stopped)
+        self.stopped()
+    }
+
+    /// The stop, of a dark player.
+    fn stopped(&self) -> Polled
+        ensures { result.what ≡ What.Stopped }
+    {
+        Polled {
+            now: self.play.moment,
+            what: What::Stopped,
+        }
     }
 
     /// Adds the turn of a call, by which no till opens or goes.
     fn call(&mut self, turn: Turn) -> Result<(), Failed>
-        requires fits { (lines : List Line) → Fits (rests lines) turn }
+        requires fits { (o : Outside) (moment : ℤ) (lines : List Line) → Fits o (rests moment lines) turn }
         requires stays { (o : Outside) (p : Play) → play_after o p turn ≡ p }
         requires tills { (o : Outside) → ((outside_after o turn).tills ≡ o.tills) × ((outside_after o turn).next_till ≡ o.next_till) }
         ensures ok { OnOk result ((self.old.play.short ≡ false) × (self.new.play.short ≡ false) × (self.new.play.log.items ≡ self.old.play.log.items ++ turn ∷ [])) }
@@ -183,33 +209,23 @@ impl Site for Player<'_> {
 
     fn poll(&mut self, buf: &mut [u8; 4096]) -> Polled {
         if self.play.short {
-            return brings(What::Stopped);
+            return self.stopped();
         }
-        let at = self.play.place(&self.tills, self.opened);
-        match self.play.next(self.alloc, at, buf) {
-            Next::Short => self.stop(),
-            Next::Stop => {
-                if !self.play.add_event(Turn::Stopped, at) {
-                    return self.stop();
-                }
-                brings(What::Stopped)
-            }
-            Next::Open(till) => {
-                if self.tills.push(till).is_err() {
-                    return self.stop();
-                }
-                if !self.play.add_event(Turn::Opened { till }, at + 1) {
-                    return self.stop();
-                }
-                self.opened = Some(till);
-                brings(What::TillOpened(till))
-            }
-            Next::Say(till, count, bytes) => {
-                if !self.play.add_event(Turn::HeardTill { till, bytes }, at + 1) {
-                    return self.stop();
-                }
-                brings(What::TillBytes(till, count))
-            }
+        let found = self.play.found(&self.tills, self.opened);
+        let at = found.behind;
+        let now = found.now;
+        let Ok(brought) = bring(self.alloc, found.event, buf) else {
+            return self.stop();
+        };
+        if !follow(&mut self.tills, &mut self.opened, brought.what) {
+            return self.stop();
+        }
+        if !self.play.add_poll(now, brought.turn, at) {
+            return self.stop();
+        }
+        Polled {
+            now,
+            what: brought.what,
         }
     }
 

@@ -1,47 +1,50 @@
 //! The play of a script, and what it writes.
-ghost use Rattle.std.specs.Prelude.{◌≡◌, ◌≢◌, ◌⊎◌, ◌≤◌, true, List, ℕ, Some, Ok, IsTrue, map};
+ghost use Rattle.std.specs.Prelude.{◌≡◌, ◌≢◌, ◌⊎◌, ◌≤◌, true, List, ℕ, Ok, IsTrue};
 ghost use Rattle.gw_site.specs.Causes.{Rose};
 ghost use Rattle.gw_site.specs.Seen.{Tells};
-ghost use Rattle.gw_rules.specs.Script.{script_of, script_setup};
+ghost use Rattle.gw_rules.specs.Script.{default_name, script_of, script_setup};
 ghost use Rattle.gw_run.specs.LogWritten.{Adds};
 ghost use Rattle.gw_run.specs.Player.{seen_of};
-ghost use Rattle.gw_run.specs.ScriptRead.{line_seen};
-ghost use Rattle.gw_run.specs.Top.{IsFresh, IsPlayEnd, IsPlayOf, PlayWritten};
+ghost use Rattle.gw_run.specs.ScriptRead.{script_seen};
+ghost use Rattle.gw_run.specs.Top.{GivesName, IsFresh, IsPlayEnd, IsPlayOf, PlayWritten};
 
 use crate::ending::Ending;
 use crate::engine::{Ended, run_once};
+use crate::line::Script;
 use crate::player::Player;
-use crate::script::ScriptLine;
 use crate::tail::tell;
 use crate::text::{Unwritten, write_log};
 use gw_base::{Ident, Pts, Setup, Text};
 use gw_site::{Sink, Turn};
 use std::alloc::Global;
 
-/// The setup with which scripts are played: the default one, without terminals.
-fn script_setup(alloc: Global) -> Option<Setup>
-    ensures setup { (setup : _) → result ≡ Some setup → setup ≡ script_setup }
+/// The gateway's name where a script doesn't give it.
+fn default_name() -> Ident<40>
+    ensures { result ≡ default_name }
 {
-    let name = Ident::of(b"GATEWAY")?;
-    Some(Setup {
-        name,
+    Ident::of(b"GATEWAY").unwrap()
+}
+
+/// The setup with which a script is played that gives this name: the default one but for the name, without terminals.
+fn script_setup(alloc: Global, name: Option<Ident<40>>) -> Setup
+    ensures { result ≡ script_setup name }
+{
+    Setup {
+        name: name.unwrap_or(default_name()),
         listen: Text::new(String::new(alloc)),
         journal: Text::new(String::new(alloc)),
         line: 0,
         wait: 60,
         slots: 1_000_000,
         terminals: Pts::new(Vec::new(alloc)),
-    })
+    }
 }
 
-/// Plays a script from its first line. False where memory was wanting.
-fn run_script(alloc: Global, player: &mut Player) -> bool
-    ensures log { (script : List ℕ) → IsFresh (seen_of player.old) script → Tells (seen_of player.new) (IsPlayOf script result) }
+/// Plays a script that gives this name from its first line. False where memory was wanting.
+fn run_script(alloc: Global, name: Option<Ident<40>>, player: &mut Player) -> bool
+    ensures log { (script : List ℕ) → GivesName script name → IsFresh (seen_of player.old) script → Tells (seen_of player.new) (IsPlayOf script result) }
 {
-    let Some(setup) = script_setup(alloc) else {
-        player.played();
-        return false;
-    };
+    let setup = script_setup(alloc, name);
     let ended = run_once(alloc, &setup, player, u64::MAX);
     player.played();
     match ended {
@@ -78,20 +81,16 @@ fn write_play<O: Sink>(alloc: Global, log: &[Turn], whole: bool, out: &mut O) ->
     }
 }
 
-/// Plays the lines of a script, and writes its log.
-pub(crate) fn play<O: Sink>(
-    alloc: Global,
-    script: &[u8],
-    lines: Vec<ScriptLine>,
-    out: &mut O,
-) -> Ending
-    requires { script_of script.now ≡ Ok (map line_seen lines.items) }
-    ensures written { Adds (O.written out.old) (O.written out.new) (PlayWritten script.now result) }
+/// Plays a script, which the text was read as, and writes its log.
+pub(crate) fn play<O: Sink>(alloc: Global, text: &[u8], script: Script, out: &mut O) -> Ending
+    requires { script_of text.now ≡ Ok (script_seen script) }
+    ensures written { Adds (O.written out.old) (O.written out.new) (PlayWritten text.now result) }
     ensures end { IsPlayEnd result }
     ensures cut { result ≡ Ending.Cut → Rose (O.faults out.old) (O.faults out.new) }
     ensures later { O.faults out.old ≤ O.faults out.new }
 {
-    let mut player = Player::new(alloc, script, lines);
-    let whole = run_script(alloc, &mut player);
+    let name = script.name;
+    let mut player = Player::new(alloc, text, script);
+    let whole = run_script(alloc, name, &mut player);
     write_play(alloc, player.log(), whole, out)
 }

@@ -1,11 +1,15 @@
 //! Reading a script.
-ghost use Rattle.std.specs.Prelude.{◌≡◌, ◌<◌, ◌≤◌, ◌↔◌, ◌==◌, ◌∷◌, ◌⊎◌, ℕ, length, map, position, IfOk, IfErr, OnOk, IsErrOf};
-ghost use Rattle.std.specs.Option.{option_map};
+ghost use Rattle.std.specs.Prelude.{◌≡◌, ◌<◌, ◌≤◌, ◌↔◌, ◌==◌, ◌∷◌, ◌⊎◌, ℕ, length, position, option_map, option_and_then, IfOk, IfErr, OnOk, IsErrOf};
+ghost use Rattle.std.specs.List.{list_all};
+ghost use Rattle.std.specs.Result.{result_ok};
+ghost use Rattle.hex.specs.Hex.{decode_of};
 ghost use Rattle.sale_frame.specs.Frame.{IsMessageLength, frame};
-ghost use Rattle.gw_rules.specs.Script.{script_limit, script_of, line_of, number, open_line, opens_till, say_line, says, split_lines};
-ghost use Rattle.gw_run.specs.ScriptRead.{line_seen, allowed, IsFaultOf};
+ghost use Rattle.gw_rules.specs.Script.{script_limit, script_of, split_lines, entry_of, spelled, is_blank, worded, poll_line, numbered, said_piece, hex_piece, split_at_space, at_line, name_line, is_visible, number, with_entry, Naming, Playing};
+ghost use Rattle.gw_run.specs.ScriptRead.{entry_seen, event_seen, line_seen, script_seen, IsAdded, IsFaultOf};
 
-use gw_base::Bytes;
+use crate::line::{Piece, Script, ScriptEvent, ScriptLine};
+use gw_base::{Bytes, Ident};
+use hex::FromHexError;
 use sale_frame::frame_length;
 use std::alloc::{AllocError, AllocFailed, Global};
 use std::str;
@@ -16,21 +20,21 @@ const SCRIPT_LIMIT: usize = 4_194_304;
 /// The most bytes of a said text.
 const SAID_LIMIT: usize = 4_092;
 
-/// A line of a script.
-#[derive(Debug, Drop)]
-pub enum ScriptLine {
-    /// The till of this number opens its line.
-    Open(u64),
-    /// The till of this number sends these bytes, a message in its frame.
-    Say(u64, Bytes),
-}
+/// The most bytes that a till sends at once.
+const PIECE_LIMIT: usize = 4_096;
 
-impl ScriptLine {
-    fn opens_till(&self) -> bool
-        ensures { result ≡ opens_till (line_seen self.now) }
-    {
-        matches!(self, ScriptLine::Open(_))
-    }
+/// The last moment, 9999-01-01T00:00:00Z.
+const LAST_MOMENT: u64 = 253_370_764_800;
+
+/// What one line of the text is.
+#[derive(Drop)]
+enum ReadEntry {
+    /// An empty line or a comment.
+    Blank,
+    /// The setup line that gives the gateway's name.
+    Naming(Ident<40>),
+    /// A line that is played.
+    Playing(ScriptLine),
 }
 
 /// Why a script was not read.
@@ -73,6 +77,41 @@ fn number(word: &str) -> Option<u64>
     word.parse().ok()
 }
 
+/// Whether a byte is printable ASCII and no space.
+fn is_visible(byte: u8) -> bool
+    ensures { result ≡ is_visible byte }
+{
+    (0x21..=0x7E).contains(&byte)
+}
+
+/// Whether each byte is printable ASCII and no space.
+fn are_visible(bytes: &[u8]) -> bool
+    ensures { result ≡ list_all is_visible bytes.now }
+{
+    bytes.iter().all(|byte| is_visible(*byte))
+}
+
+/// The line that `name` and this rest spell.
+fn name_line(word: &str) -> Option<ReadEntry>
+    ensures { option_map entry_seen result ≡ name_line word.now }
+{
+    if !are_visible(word.as_bytes()) {
+        return None;
+    }
+    Ident::of(word.as_bytes()).map(ReadEntry::Naming)
+}
+
+/// The line that `at` and this rest spell.
+fn at_line(rest: &str) -> Option<ReadEntry>
+    ensures { option_map entry_seen result ≡ at_line (number rest.now) }
+{
+    let moment = number(rest)?;
+    if moment > LAST_MOMENT {
+        return None;
+    }
+    Some(ReadEntry::Playing(ScriptLine::At(moment as i64)))
+}
+
 /// A message in its frame.
 fn framed(alloc: Global, message: &[u8]) -> Result<Bytes, AllocError>
     requires { IsMessageLength (length message.now) }
@@ -85,27 +124,56 @@ fn framed(alloc: Global, message: &[u8]) -> Result<Bytes, AllocError>
     Ok(Bytes::new(bytes))
 }
 
-/// The line in which a till says a text, where the text has a length that may be said.
-fn said(alloc: Global, till: u64, text: &str) -> Result<Option<ScriptLine>, AllocError>
-    ensures { IfOk result (λ line. option_map line_seen line ≡ says (Some till) text.now) }
+/// What a till says, where the text has a length that may be said.
+fn said(alloc: Global, till: u64, text: &str) -> Result<Option<ScriptEvent>, AllocError>
+    ensures { IfOk result (λ event. option_map event_seen event ≡ said_piece till text.now) }
 {
     if text.is_empty() || text.len() > SAID_LIMIT {
         return Ok(None);
     }
     let bytes = framed(alloc, text.as_bytes())?;
-    Ok(Some(ScriptLine::Say(till, bytes)))
+    Ok(Some(ScriptEvent::Say(till, Piece::new(bytes))))
 }
 
-/// The line that `open ` and this rest spell.
-fn open_line(rest: &str) -> Option<ScriptLine>
-    ensures { option_map line_seen result ≡ open_line (Some rest.now) }
+/// The bytes of a hexadecimal text.
+fn decoded(alloc: Global, text: &str) -> Result<Option<Bytes>, AllocError>
+    ensures { IfOk result (λ bytes. bytes ≡ result_ok (decode_of text.now)) }
 {
-    number(rest).map(ScriptLine::Open)
+    match hex::decode(alloc, text) {
+        Ok(bytes) => Ok(Some(Bytes::new(bytes))),
+        Err(FromHexError::OutOfMemory) => Err(AllocError),
+        Err(_) => Ok(None),
+    }
 }
 
-/// The line that `say ` and this rest spell.
-fn say_line(alloc: Global, rest: &str) -> Result<Option<ScriptLine>, AllocError>
-    ensures { IfOk result (λ line. option_map line_seen line ≡ say_line (Some rest.now)) }
+/// The bytes that a till sends, where they may be sent at once.
+fn sent(alloc: Global, till: u64, text: &str) -> Result<Option<ScriptEvent>, AllocError>
+    ensures { IfOk result (λ event. option_map event_seen event ≡ hex_piece till (decode_of text.now)) }
+{
+    match decoded(alloc, text)? {
+        Some(bytes) if (1..=PIECE_LIMIT).contains(&bytes.as_slice().len()) => {
+            Ok(Some(ScriptEvent::Say(till, Piece::new(bytes))))
+        }
+        _ => Ok(None),
+    }
+}
+
+/// The event that `till` and this rest spell.
+fn till_event(alloc: Global, rest: &str) -> Result<Option<ScriptEvent>, AllocError>
+    ensures { IfOk result (λ event. option_map event_seen event ≡ numbered (λ till hex. hex_piece till (decode_of hex)) (split_at_space rest.now)) }
+{
+    let Some((word, hex)) = rest.split_once(' ') else {
+        return Ok(None);
+    };
+    match number(word) {
+        Some(till) => sent(alloc, till, hex),
+        None => Ok(None),
+    }
+}
+
+/// The event that `say` and this rest spell.
+fn say_event(alloc: Global, rest: &str) -> Result<Option<ScriptEvent>, AllocError>
+    ensures { IfOk result (λ event. option_map event_seen event ≡ numbered said_piece (split_at_space rest.now)) }
 {
     let Some((word, text)) = rest.split_once(' ') else {
         return Ok(None);
@@ -116,29 +184,110 @@ fn say_line(alloc: Global, rest: &str) -> Result<Option<ScriptLine>, AllocError>
     }
 }
 
-/// The line that a text spells.
-fn line_of(alloc: Global, text: &[u8]) -> Result<Option<ScriptLine>, AllocError>
-    ensures { IfOk result (λ line. option_map line_seen line ≡ line_of text.now) }
+/// The line of a poll that brings this.
+fn poll_line(event: Option<ScriptEvent>) -> Option<ReadEntry>
+    ensures { option_map entry_seen result ≡ poll_line (option_map event_seen event) }
 {
-    let Ok(text) = str::from_utf8(text) else {
-        return Ok(None);
-    };
-    if let Some(rest) = text.strip_prefix("open ") {
-        return Ok(open_line(rest));
+    Some(ReadEntry::Playing(ScriptLine::Poll(event?)))
+}
+
+/// The line of a first word and of what stands behind its space.
+fn worded(alloc: Global, word: &str, rest: &str) -> Result<Option<ReadEntry>, AllocError>
+    ensures { IfOk result (λ entry. option_map entry_seen entry ≡ worded word.now rest.now) }
+{
+    if word == "name" {
+        Ok(name_line(rest))
+    } else if word == "at" {
+        Ok(at_line(rest))
+    } else if word == "open" {
+        Ok(poll_line(number(rest).map(ScriptEvent::Open)))
+    } else if word == "close" {
+        Ok(poll_line(number(rest).map(ScriptEvent::Close)))
+    } else if word == "till" {
+        Ok(poll_line(till_event(alloc, rest)?))
+    } else if word == "say" {
+        Ok(poll_line(say_event(alloc, rest)?))
+    } else {
+        Ok(None)
     }
-    match text.strip_prefix("say ") {
-        Some(rest) => say_line(alloc, rest),
+}
+
+/// Whether a line is empty or a comment.
+fn is_blank(text: &[u8]) -> bool
+    ensures { result ≡ is_blank text.now }
+{
+    match text {
+        [] => true,
+        [first, ..] => *first == b'#',
+    }
+}
+
+/// The line that a text spells.
+fn spelled(alloc: Global, text: &str) -> Result<Option<ReadEntry>, AllocError>
+    ensures { IfOk result (λ entry. option_map entry_seen entry ≡ spelled text.now) }
+{
+    if is_blank(text.as_bytes()) {
+        return Ok(Some(ReadEntry::Blank));
+    }
+    if text == "tick" {
+        return Ok(poll_line(Some(ScriptEvent::Tick)));
+    }
+    match text.split_once(' ') {
+        Some((word, rest)) => worded(alloc, word, rest),
         None => Ok(None),
     }
 }
 
-/// The line that a text spells, unless it opens a second till.
-fn next_line(alloc: Global, text: &[u8], opened: bool) -> Result<Option<ScriptLine>, AllocError>
-    ensures { IfOk result (λ line. option_map line_seen line ≡ allowed opened (line_of text.now)) }
+/// The line that these bytes spell.
+fn entry_of(alloc: Global, text: &[u8]) -> Result<Option<ReadEntry>, AllocError>
+    ensures { IfOk result (λ entry. option_map entry_seen entry ≡ entry_of text.now) }
 {
-    match line_of(alloc, text)? {
-        Some(line) if opened && line.opens_till() => Ok(None),
-        line => Ok(line),
+    match str::from_utf8(text) {
+        Ok(text) => spelled(alloc, text),
+        Err(_) => Ok(None),
+    }
+}
+
+/// Gives the script its name. False where it has one, or lines that are played.
+fn add_name(script: &mut Script, name: Ident<40>) -> bool
+    ensures { IsAdded result (with_entry (script_seen script.old) (Naming name)) (script_seen script.new) }
+{
+    if script.name.is_some() || !script.lines.is_empty() {
+        return false;
+    }
+    script.name = Some(name);
+    true
+}
+
+/// Adds a line that is played to the script.
+fn add_line(script: &mut Script, line: ScriptLine) -> Result<(), AllocError>
+    ensures { OnOk result (with_entry (script_seen script.old) (Playing (line_seen line)) ≡ Some (script_seen script.new)) }
+{
+    script.lines.push(line)?;
+    Ok(())
+}
+
+/// Adds a line to the script. False where it may not stand there.
+fn add_entry(script: &mut Script, entry: ReadEntry) -> Result<bool, AllocError>
+    ensures { IfOk result (λ added. IsAdded added (with_entry (script_seen script.old) (entry_seen entry)) (script_seen script.new)) }
+{
+    match entry {
+        ReadEntry::Blank => Ok(true),
+        ReadEntry::Naming(name) => Ok(add_name(script, name)),
+        ReadEntry::Playing(line) => {
+            add_line(script, line)?;
+            Ok(true)
+        }
+    }
+}
+
+/// Adds the line that these bytes spell to the script. False where they spell none that may stand there.
+fn add_text(alloc: Global, script: &mut Script, text: &[u8]) -> Result<bool, AllocError>
+    ensures { IfOk result (λ added. IsAdded added (option_and_then (with_entry (script_seen script.old)) (entry_of text.now)) (script_seen script.new)) }
+{
+    match entry_of(alloc, text)? {
+        Some(entry) => add_entry(script, entry),
+        None => Ok(false),
     }
 }
 
@@ -163,11 +312,13 @@ fn first_text(bytes: &[u8]) -> (&[u8], &[u8])
 
 /// Reads a script whole.
 ///
-/// It is text in UTF-8, of lines that end with LF; the last LF may be absent. A line is `open T` or `say T TEXT`, and at
-/// most one line opens a till. T is a decimal number below 2^64 without sign or leading zeros, and TEXT the rest of the
-/// line, of 1 to 4,092 bytes, which the till sends in a frame.
-pub fn read_script(alloc: Global, bytes: &[u8]) -> Result<Vec<ScriptLine>, ScriptFault>
-    ensures ok { IfOk result (λ lines. script_of bytes.now ≡ Ok (map line_seen lines.items)) }
+/// It is text in UTF-8, of lines that end with LF; the last LF may be absent. Empty lines and lines that begin with `#`
+/// say nothing. The others are words divided by one space: `name NAME`, at most once and before all others; `at N`;
+/// `open T`, `close T`, `till T HEX`, `say T TEXT`; `tick`. Numbers are decimal, below 2^64, without sign or leading
+/// zeros; N is a moment of at most 253,370,764,800. NAME is one word of 1 to 40 bytes of printable ASCII. HEX has 1 to
+/// 4,096 bytes in hexadecimal. TEXT is the rest of the line, of 1 to 4,092 bytes, which the till sends in a frame.
+pub fn read_script(alloc: Global, bytes: &[u8]) -> Result<Script, ScriptFault>
+    ensures ok { IfOk result (λ script. script_of bytes.now ≡ Ok (script_seen script)) }
     ensures within { OnOk result (length bytes.now ≤ script_limit) }
     ensures fault { IfErr result (IsFaultOf bytes.now) }
 
@@ -179,19 +330,19 @@ pub fn read_script(alloc: Global, bytes: &[u8]) -> Result<Vec<ScriptLine>, Scrip
     if bytes.len() > SCRIPT_LIMIT {
         return Err(ScriptFault::Long);
     }
-    let mut lines = Vec::new(alloc);
+    let mut script = Script {
+        name: None,
+        lines: Vec::new(alloc),
+    };
     let mut rest = bytes;
     let mut number = 1;
-    let mut opened = false;
     while !rest.is_empty() {
         let (text, behind) = first_text(rest);
-        let Some(line) = next_line(alloc, text, opened)? else {
+        if !add_text(alloc, &mut script, text)? {
             return Err(ScriptFault::Line { line: number });
-        };
-        opened |= line.opens_till();
-        lines.push(line)?;
+        }
         rest = behind;
         number += 1;
     }
-    Ok(lines)
+    Ok(script)
 }

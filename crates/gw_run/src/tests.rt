@@ -22,7 +22,7 @@ const STATUS_OUTPUT: &str = "start\nat 0\nopen 1\nat 0\n\
 const REJECT_OUTPUT: &str = "start\nat 0\nopen 1\nat 0\ntill 1 in '{}\n\
     till 1 out '{\"SaleToPOIRequest\":{\"MessageHeader\":{\"ProtocolVersion\":\"3.0\",\"MessageClass\":\"Event\",\
     \"MessageCategory\":\"Event\",\"MessageType\":\"Notification\",\"SaleID\":\"0\",\"POIID\":\"GATEWAY\"},\
-    \"EventNotification\":{\"TimeStamp\":\"1970-01-01T00:00:00Z\",\"EventToNotify\":\"Reject\",\"EventDetails\":\"unread\"}}}\n\
+    \"EventNotification\":{\"TimeStamp\":\"1970-01-01T00:00:00Z\",\"EventToNotify\":\"Reject\",\"EventDetails\":\"header SaleToPOIRequest\"}}}\n\
     at 0\nstop\nstatus 0\n";
 
 /// The words of a line.
@@ -85,7 +85,7 @@ fn the_longest_script(rt: HostRuntime) -> Result<(), Fail> {
         (4_194_305, b"script long\nstatus 65\n".as_slice()),
     ];
     for (length, output) in rows {
-        let script = Bytes::new(vec![in rt.alloc(); b'\n'; length]?);
+        let script = Bytes::new(vec![in rt.alloc(); b'x'; length]?);
         let mut input = MemSource::new(script, None);
         let (ended, written) = ended(rt.alloc(), "replay", &mut input)?;
         assert_eq!(rt; written.as_slice(), output, "of {length} bytes");

@@ -57,8 +57,8 @@ fn replay<I: Source, O: Sink>(alloc: Global, input: &mut I, out: &mut O) -> Endi
     ensures out_later { O.faults out.old ≤ O.faults out.new }
 {
     match read_input(alloc, input) {
-        Ok(script) => match read_script(alloc, &script) {
-            Ok(lines) => play(alloc, &script, lines, out),
+        Ok(text) => match read_script(alloc, &text) {
+            Ok(script) => play(alloc, &text, script, out),
             Err(ScriptFault::Long) => tell(alloc, Ending::Long, out),
             Err(ScriptFault::Line { line }) => tell(alloc, Ending::Line(line), out),
             Err(ScriptFault::Memory) => tell(alloc, Ending::Memory, out),

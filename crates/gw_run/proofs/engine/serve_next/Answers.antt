@@ -1,42 +1,55 @@
 use Rattle.std.proofs.Common.{◌∙◌}
+use Rattle.std.specs.Prelude.{Some, None}
 use Rattle.std.proofs.lemmas.Int.{to_z-of_z}
 use Rattle.gw_base.specs.Moment.{moment_of}
-use Rattle.gw_run.specs.Answered.{IsNextOf, TakesMessage}
-use Rattle.gw_run.specs.declared.engine.Next.TheVariants.{Waiting, Unframed}
-use Rattle.gw_run.proofs.EngineLemmas.{serve-waiting, waiting-rest, serve-unframed, serve-answered, serve-unsent, takes-less}
+use Rattle.gw_run.specs.Answered.{IsNextOf}
+use Rattle.gw_run.specs.declared.engine.Next.TheVariants.{Waiting, Message, Unframed}
+use Rattle.gw_run.proofs.EngineLemmas.{serve-waiting, waiting-rest, serve-unframed, serve-silent, serve-answered, serve-unsent, takes-less}
 use Rattle.gw_run.proofs.engine.serve_next.Goals as goal
 
 pub returns-in-Waiting-clause-keeps : goal.returns-in-Waiting-clause-keeps
 returns-in-Waiting-clause-keeps g c = λ setup polls o named.
-    let next : IsNextOf c.args.name.now c.args.now Waiting c.args.reader.now c.next_answer.new.reader = rw c.in-Waiting.is at c.in_ok-next_answer.ensures in
+    let next : IsNextOf c.args.name.now c.args.now Waiting c.args.reader.now c.next_message.new.reader = rw c.in-Waiting.is at c.in_ok-next_message.ensures in
     serve-waiting _ setup polls o c.args.now c.args.till c.args.reader.now next.0
 
 pub returns-in-Waiting-clause-reader : goal.returns-in-Waiting-clause-reader
 returns-in-Waiting-clause-reader g c =
-    let next : IsNextOf c.args.name.now c.args.now Waiting c.args.reader.now c.next_answer.new.reader = rw c.in-Waiting.is at c.in_ok-next_answer.ensures in
+    let next : IsNextOf c.args.name.now c.args.now Waiting c.args.reader.now c.next_message.new.reader = rw c.in-Waiting.is at c.in_ok-next_message.ensures in
     next.1 ∙ waiting-rest c.args.reader.now next.0
 
 pub returns-in-Unframed-clause-keeps : goal.returns-in-Unframed-clause-keeps
 returns-in-Unframed-clause-keeps g c = λ setup polls o named.
-    let next : IsNextOf c.args.name.now c.args.now Unframed c.args.reader.now c.next_answer.new.reader = rw c.in-Unframed.is at c.in_ok-next_answer.ensures in
+    let next : IsNextOf c.args.name.now c.args.now Unframed c.args.reader.now c.next_message.new.reader = rw c.in-Unframed.is at c.in_ok-next_message.ensures in
     serve-unframed _ _ setup polls o c.args.now c.args.till c.args.reader.now next c.cut_till.ensures.turns
 
-pub returns-then-send-clause-keeps : goal.returns-then-send-clause-keeps
-returns-then-send-clause-keeps g c = λ setup polls o named.
-    let next : TakesMessage c.args.name.now (moment_of c.args.now) c.in-Answer.bytes.items c.args.reader.now c.next_answer.new.reader =
-    simp (to_z-of_z, c.ranges.now) at (rw c.in-Answer.is at c.in_ok-next_answer.ensures) in
-    serve-answered _ _ setup polls o c.args.now c.args.till c.args.name.now c.in-Answer.bytes.items c.args.reader.now c.next_answer.new.reader named next
-    (λ scene items. rw c.deref.ensures.value at (c.if-send.ensures.keeps scene items))
+pub returns-in-Message-None-clause-keeps : goal.returns-in-Message-None-clause-keeps
+returns-in-Message-None-clause-keeps g c = λ setup polls o named.
+    let next : IsNextOf c.args.name.now c.args.now (Message None) c.args.reader.now c.next_message.new.reader =
+    simp (to_z-of_z, c.ranges.now) at (rw (c.in-Message-None.is, c.in-Message-None.field-0-is) at c.in_ok-next_message.ensures) in
+    serve-silent _ setup polls o c.args.now c.args.till c.args.name.now c.args.reader.now c.next_message.new.reader named next.0
 
-pub returns-then-send-clause-reader : goal.returns-then-send-clause-reader
-returns-then-send-clause-reader g c =
-    let next : TakesMessage c.args.name.now (moment_of c.args.now) c.in-Answer.bytes.items c.args.reader.now c.next_answer.new.reader =
-    simp (to_z-of_z, c.ranges.now) at (rw c.in-Answer.is at c.in_ok-next_answer.ensures) in
-    takes-less c.args.name.now c.in-Answer.bytes.items c.args.reader.now c.next_answer.new.reader (moment_of c.args.now) next
+pub returns-in-Message-None-clause-reader : goal.returns-in-Message-None-clause-reader
+returns-in-Message-None-clause-reader g c =
+    let next : IsNextOf c.args.name.now c.args.now (Message None) c.args.reader.now c.next_message.new.reader =
+    simp (to_z-of_z, c.ranges.now) at (rw (c.in-Message-None.is, c.in-Message-None.field-0-is) at c.in_ok-next_message.ensures) in
+    takes-less c.args.name.now None c.args.reader.now c.next_message.new.reader (moment_of c.args.now) next.0
 
-pub returns-clause-keeps : goal.returns-clause-keeps
-returns-clause-keeps g c = λ setup polls o named.
-    let next : TakesMessage c.args.name.now (moment_of c.args.now) c.in-Answer.bytes.items c.args.reader.now c.next_answer.new.reader =
-    simp (to_z-of_z, c.ranges.now) at (rw c.in-Answer.is at c.in_ok-next_answer.ensures) in
-    serve-unsent _ _ setup polls o c.args.now c.args.till c.args.name.now c.in-Answer.bytes.items c.args.reader.now c.next_answer.new.reader named next
-    (λ scene items. rw c.deref.ensures.value at (c.if-send.ensures.keeps scene items))
+pub returns-then-tell-clause-keeps : goal.returns-then-tell-clause-keeps
+returns-then-tell-clause-keeps g c = λ setup polls o named.
+    let next : IsNextOf c.args.name.now c.args.now (Message (Some c.in-Message-Some.reply)) c.args.reader.now c.next_message.new.reader =
+    simp (to_z-of_z, c.ranges.now) at (rw (c.in-Message-Some.is, c.in-Message-Some.field-0-is) at c.in_ok-next_message.ensures) in
+    serve-answered _ _ setup polls o c.args.now c.args.till c.args.name.now c.in-Message-Some.reply c.args.reader.now c.next_message.new.reader named next.0
+    c.if-tell.ensures.keeps
+
+pub returns-then-tell-clause-reader : goal.returns-then-tell-clause-reader
+returns-then-tell-clause-reader g c =
+    let next : IsNextOf c.args.name.now c.args.now (Message (Some c.in-Message-Some.reply)) c.args.reader.now c.next_message.new.reader =
+    simp (to_z-of_z, c.ranges.now) at (rw (c.in-Message-Some.is, c.in-Message-Some.field-0-is) at c.in_ok-next_message.ensures) in
+    takes-less c.args.name.now (Some c.in-Message-Some.reply) c.args.reader.now c.next_message.new.reader (moment_of c.args.now) next.0
+
+pub returns-else-tell-clause-keeps : goal.returns-else-tell-clause-keeps
+returns-else-tell-clause-keeps g c = λ setup polls o named.
+    let next : IsNextOf c.args.name.now c.args.now (Message (Some c.in-Message-Some.reply)) c.args.reader.now c.next_message.new.reader =
+    simp (to_z-of_z, c.ranges.now) at (rw (c.in-Message-Some.is, c.in-Message-Some.field-0-is) at c.in_ok-next_message.ensures) in
+    serve-unsent _ _ setup polls o c.args.now c.args.till c.args.name.now c.in-Message-Some.reply c.args.reader.now c.next_message.new.reader named next.0
+    c.if-tell.ensures.keeps

@@ -1,6 +1,6 @@
 use Rattle.std.proofs.Common.{arith, inl}
 use Rattle.gw_rules.proofs.KeepsLemmas.{keeps-refl, keeps-then, keeps-after}
-use Rattle.gw_run.proofs.TurnLemmas.{begun-rest, all-polled}
+use Rattle.gw_run.proofs.TurnLemmas.{no-memory, begun-rest, all-polled}
 use Rattle.gw_run.proofs.engine.turns.Goals as goal
 
 pub loop-made-init : goal.loop-made-init
@@ -14,7 +14,10 @@ returns-in-Ok-Stopped-clause-keeps g c = λ setup named. keeps-then _ _ _ _ _ _ 
     (keeps-after _ _ _ _ _ (rw c.in-Ok-Stopped.field-0-is at (c.in-Ok-Stopped.ensures.keeps setup c.loop-made.made named)) (λ v q. inl q))
 
 pub returns-in-Err-clause-keeps : goal.returns-in-Err-clause-keeps
-returns-in-Err-clause-keeps g c = λ setup named. keeps-then _ _ _ _ _ _ (c.loop-made.invariant.kept setup named) (c.in-Err.ensures.keeps setup c.loop-made.made named)
+returns-in-Err-clause-keeps g c = λ setup named. no-memory _ _
+
+pub returns-in-Err-turn-clause-keeps : goal.returns-in-Err-turn-clause-keeps
+returns-in-Err-turn-clause-keeps g c = λ setup named. keeps-then _ _ _ _ _ _ (c.loop-made.invariant.kept setup named) (c.in-Err-turn.ensures.keeps setup c.loop-made.made named)
 
 pub loop-made-preserved : goal.loop-made-preserved
 loop-made-preserved g c = record {

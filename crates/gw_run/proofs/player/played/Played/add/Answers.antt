@@ -9,6 +9,7 @@ use Rattle.gw_run.proofs.player.played.Played.add.Goals as goal
 pub invariant_of-self : goal.invariant_of-self
 invariant_of-self c =
     let s = c.args.self.now in
-    let left = map line_seen (drop s.at s.lines.items) in
-    let x = turn_played _ _ _ _ _ _ s.plays (s.stands c.if-self.false) (c.requires.fits left) (c.requires.stays (outside_of s.log.items) (rests left)) (c.grown.ensures.grown c.if-grown.true) in
-    record { read = s.read; plays = x.0; stands = λ lit. x.1; within = s.within }
+    let left = map line_seen (drop s.at s.read.lines.items) in
+    let o = outside_of s.log.items in
+    let x = turn_played _ _ _ _ _ _ s.plays (s.stands c.if-self.false) (c.requires.fits o s.moment left) (c.requires.stays o (rests s.moment left)) (c.grown.ensures.grown c.if-grown.true) in
+    record { read_is = s.read_is; plays = x.0; stands = λ lit. x.1; within = s.within }

@@ -1,4 +1,0 @@
-pub mod Json
-pub mod StatusRequest
-pub mod Answer
-pub mod Reading
