@@ -27,7 +27,7 @@ use Rattle.sale_msg.specs.Path.{value_at}
 use Rattle.sale_msg.specs.Table.{rows_of, part_rows}
 use Rattle.sale_msg.specs.Flaw.{IsMet, AreMet}
 use Rattle.sale_msg.specs.Message.{IsMessage, TellsHeader, Asks, parts_of}
-use Rattle.sale_reply.specs.Members.{text_member, only}
+use Rattle.sale_values.specs.Members.{text_member, only}
 use Rattle.sale_reply.specs.Reply.{message, header_tree, result_tree}
 use Rattle.sale_frame.specs.Frame.{frame, IsMessage as IsFrameMessage}
 use Rattle.sale_frame.specs.Reading.{reading_of}

@@ -24,7 +24,8 @@ use Rattle.sale_msg.specs.Flaw.{AreMet, IsMet, MayBeAbsent}
 use Rattle.sale_msg.specs.Path.{amount_at, text_at, value_at}
 use Rattle.sale_msg.specs.Table.{abort_rows, output_rows, payment_rows, reversal_rows, rows_of, service_row, status_reference_rows}
 use Rattle.sale_msg.specs.Message.{Asks, HasBody, IsMessage, IsOutput, IsPayment, IsReference, IsReferenceAt, IsReversal, TellsHeader, listed, outputs_in, parts_of, texts_of}
-use Rattle.sale_msg.specs.Written.{body_object, output_items, output_tree, reference_members, request_tree, text_items, text_member}
+use Rattle.sale_msg.specs.Written.{body_object, output_items, output_tree, reference_members, request_tree, text_items}
+use Rattle.sale_values.specs.Members.{text_member}
 use Rattle.sale_msg.specs.declared.category.Category.TheVariants as categories
 use Rattle.sale_msg.specs.declared.table.Form.TheVariants as forms
 use Rattle.sale_msg.specs.declared.table.Presence.TheVariants.{Required, Optional}

@@ -11,7 +11,7 @@ use Rattle.gw_base.specs.Amount.{decimal_value, fraction_of, is_empty, is_amount
 use Rattle.gw_base.specs.Digits.{digits}
 use Rattle.gw_base.specs.Limits.{IsAmount}
 use Rattle.gw_base.proofs.AmountLemmas.{decimal_value-snoc, minor_units-meaning}
-use Rattle.sale_msg.specs.Written.{money_text}
+use Rattle.sale_values.specs.Money.{money_text}
 
 -- a digit
 digit_is : (d : ℕ) → d < 10 → is_ascii_digit (48 + d) ≡ true

@@ -27,7 +27,7 @@ use Rattle.sale_msg.specs.Form.{HasForm}
 use Rattle.sale_msg.specs.Flaw.{AreMet, IsFirstAmong, IsFirstFlaw, IsFlaw, IsMet, MayBeAbsent}
 use Rattle.sale_msg.specs.Path.{value_at}
 use Rattle.sale_msg.specs.Table.{Row, header_rows, part_rows, rows_of}
-use Rattle.sale_msg.specs.Message.{Asks, Refuses, HasBody, HasNoHeader, IsBodyFlaw, IsFault, IsFlawed, IsHeader, IsMessage, IsOutput, IsPayment, IsReference, IsReferenceAt, IsRequest, IsRequestOf, IsReversal, IsSilent, LacksEnvelope, StandsIn, TellsHeader, parts_of, path_of}
+use Rattle.sale_msg.specs.Message.{Asks, Refuses, HasBody, HasNoHeader, IsBodyFlaw, IsFault, IsFlawed, IsHeaded, IsHeader, IsMessage, IsOutput, IsPayment, IsReference, IsReferenceAt, IsRequest, IsRequestOf, IsReversal, IsSilent, LacksEnvelope, LacksHeader, StandsIn, TellsHeader, parts_of, path_of}
 use Rattle.sale_msg.specs.declared.error.MessageError.{MessageError}
 use Rattle.sale_msg.specs.declared.error.MessageError.TheVariants as errors
 use Rattle.sale_msg.specs.declared.category.Category.{Category}
@@ -301,22 +301,26 @@ header_path_one message b c e d p q f g h k =
     let same_flaw = rows_one (header_rows d) c f g (subst P s.body (subst Q s.envelope h.first)) k.first in
     h.path_is ∙ ap path_of same_flaw ∙ sym k.path_is
 
--- no header is read
-abbrev pub IsNoHeader : Tree → List ℕ → Type 0
-IsNoHeader message path = IsFault message (faults.NoHeader path)
+-- a tree has one header, in one object
+pub header_place_one : (message : Tree) (d e : Envelope) (b c : Tree) (g h : Header) → IsHeaded message d b g → IsHeaded message e c h
+    → (b ≡ c) × (g ≡ h)
+header_place_one message d e b c g h p q =
+    let same_body = (stands_one d e message b c p.0 q.0).body in
+    let P : Tree → Type 0 = λ t. TellsHeader t g in
+    (same_body, header_one c g h (subst P same_body p.1.told) q.1.told)
 
-no_header_one : (message : Tree) (p q : List ℕ) → IsNoHeader message p → IsNoHeader message q → p ≡ q
+pub no_header_one : (message : Tree) (p q : List ℕ) → LacksHeader message p → LacksHeader message q → p ≡ q
 no_header_one message p q (inl h) (inl k) = h.1 ∙ sym k.1
 no_header_one message p q (inl h) (inr k) = absurd (lacks_none k.0 message k.1 h.0 k.3.stands)
 no_header_one message p q (inr h) (inl k) = absurd (lacks_none h.0 message h.1 k.0 h.3.stands)
 no_header_one message p q (inr h) (inr k) = header_path_one message h.1 k.1 h.0 k.0 p q h.2 k.2 h.3 k.3
 
-no_header_heard : (message : Tree) (p : List ℕ) (d : Envelope) (c : Tree) (h : Header) → IsNoHeader message p
+pub no_header_heard : (message : Tree) (p : List ℕ) (d : Envelope) (c : Tree) (h : Header) → LacksHeader message p
     → StandsIn d message c → IsHeader d c h → ⊥
 no_header_heard message p d c h (inl n) s k = lacks_none d message c n.0 s
 no_header_heard message p d c h (inr n) s k = header_no_both message n.1 c n.0 d p n.2 h n.3 s k
 
-no_header_request : (message : Tree) (p : List ℕ) (c : Tree) (h : Header) → IsNoHeader message p → IsRequestOf message c h → ⊥
+no_header_request : (message : Tree) (p : List ℕ) (c : Tree) (h : Header) → LacksHeader message p → IsRequestOf message c h → ⊥
 no_header_request message p c h n r = no_header_heard message p envelopes.Request c h n r.stands r.header_is
 
 -- two flaws of a request are one, of one header

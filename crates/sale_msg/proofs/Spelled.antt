@@ -4,7 +4,9 @@ use Rattle.std.specs.Result.{is_ok}
 use Rattle.json_text.specs.Canonical.{canonical, canonical_first, written_text}
 use Rattle.json_text.specs.Tree.{boolean, array, object, Items, Members, no_members, member, number}
 use Rattle.sale_msg.specs.Pieces.{money_piece, optional_piece, texts_piece}
-use Rattle.sale_msg.specs.Written.{object_member, optional_text, text_member, money_text, payment_data, reversed_amount, texts_members}
+use Rattle.sale_values.specs.Members.{object_member, optional_member, text_member}
+use Rattle.sale_values.specs.Money.{money_text}
+use Rattle.sale_msg.specs.Written.{payment_data, reversed_amount, texts_members}
 
 -- the last piece
 pub last : {T E : Type 0} (r : Result T E) (new prev old q piece total : List ℕ) → new ≡ cond (is_ok r) (prev ++ piece) prev
@@ -47,7 +49,7 @@ pub header_spelled : (class category kind : List ℕ) (service device : Option (
     → header_front class category kind service device sale poi ++ codes "}"
     ≡ canonical (object (text_member (codes "ProtocolVersion") (codes "3.0")
     (text_member (codes "MessageClass") class (text_member (codes "MessageCategory") category (text_member (codes "MessageType") kind
-    (optional_text (codes "ServiceID") service (optional_text (codes "DeviceID") device
+    (optional_member (codes "ServiceID") service (optional_member (codes "DeviceID") device
     (text_member (codes "SaleID") sale (text_member (codes "POIID") poi no_members)))))))))
 header_spelled class category kind None None sale poi = simp append_assoc
 header_spelled class category kind None (Some d) sale poi = simp append_assoc
@@ -61,7 +63,7 @@ referring_front service sale poi =
 
 pub referring_spelled : (service : List ℕ) (sale poi : Option (List ℕ)) → referring_front service sale poi ++ codes "}}"
     ≡ canonical (object (object_member (codes "MessageReference")
-    (text_member (codes "ServiceID") service (optional_text (codes "SaleID") sale (optional_text (codes "POIID") poi no_members))) no_members))
+    (text_member (codes "ServiceID") service (optional_member (codes "SaleID") sale (optional_member (codes "POIID") poi no_members))) no_members))
 referring_spelled service None None = simp append_assoc
 referring_spelled service None (Some p) = simp append_assoc
 referring_spelled service (Some s) None = simp append_assoc

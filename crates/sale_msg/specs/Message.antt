@@ -18,7 +18,7 @@ use Rattle.sale_values.specs.declared.fault.SaleFault.{SaleFault}
 use Rattle.sale_values.specs.declared.fault.SaleFault.TheVariants as faults
 use Rattle.sale_msg.specs.Category.{category_name, category_of}
 use Rattle.sale_msg.specs.Path.{amount_at, flag_at, text_at, value_at}
-use Rattle.sale_msg.specs.Table.{Row, header_rows, part_rows, rows_of}
+use Rattle.sale_msg.specs.Table.{header_rows, part_rows, rows_of}
 use Rattle.sale_msg.specs.Flaw.{AreMet, IsFirstAmong, IsFirstFlaw}
 use Rattle.sale_msg.specs.declared.category.Category.{Category}
 use Rattle.sale_msg.specs.declared.category.Category.TheVariants as categories
@@ -54,6 +54,10 @@ pub record TellsHeader (body : Tree) (header : Header) : Type 0 where
 pub record IsHeader (envelope : Envelope) (body : Tree) (header : Header) : Type 0 where
   pub members : AreMet (header_rows envelope) body
   pub told : TellsHeader body header
+
+-- the body object stands in this envelope of the message, and has this header
+abbrev pub IsHeaded : Tree → Envelope → Tree → Header → Type 0
+IsHeaded message envelope body header = StandsIn envelope message body × IsHeader envelope body header
 
 -- what a Payment asks
 pub record IsPayment (body : Tree) (ask : PaymentAsk) : Type 0 where
@@ -186,19 +190,23 @@ pub record HasBodyFlaw (message : Tree) (header : Header) (flaw : Flaw) (body : 
 abbrev pub IsFlawed : Tree → Header → Flaw → Type 0
 IsFlawed message header flaw = (body : Tree) × (category : Category) × HasBodyFlaw message header flaw body category
 
--- the tree is no message, and this is its first fault
-abbrev pub IsFault : Tree → SaleFault → Type 0
-IsFault message (faults.NoHeader path) =
+-- no header can be read of the message, which is told with this path
+abbrev pub LacksHeader : Tree → List ℕ → Type 0
+LacksHeader message path =
     (LacksEnvelope message × (path ≡ codes "SaleToPOIRequest"))
     ⊎ ((envelope : Envelope) × (body : Tree) × (flaw : Flaw) × HasNoHeader message path envelope body flaw)
+
+-- no header can be read of the message, and this is the fault
+abbrev pub IsHeadless : Tree → SaleFault → Type 0
+IsHeadless message fault = (path : List ℕ) × LacksHeader message path × (fault ≡ faults.NoHeader path)
+
+-- the tree is no message, and this is its first fault
+abbrev pub IsFault : Tree → SaleFault → Type 0
+IsFault message (faults.NoHeader path) = LacksHeader message path
 IsFault message (faults.Missing header path) = IsFlawed message header (flaws.Missing path)
 IsFault message (faults.Wrong header path) = IsFlawed message header (flaws.Wrong path)
 IsFault message (faults.Unserved header) =
     (body : Tree) × IsRequestOf message body header × ((category : Category) → category_name category ≢ header.category)
-
--- no header was read of the body object, for its first flaw
-abbrev pub RefusesHeader : List Row → Tree → SaleFault → Type 0
-RefusesHeader rows body fault = (flaw : Flaw) × IsFirstFlaw rows body flaw × (fault ≡ faults.NoHeader (path_of flaw))
 
 -- why the tree was refused; for want of memory anything may be
 abbrev pub Refuses : Tree → MessageError → Type 0

@@ -2,7 +2,8 @@
 use Rattle.std.specs.Prelude.{ℕ, List, [], ◌++◌, Option, Some, None}
 use Rattle.json_text.specs.Canonical.{canonical, written_text}
 use Rattle.json_text.specs.Tree.{array}
-use Rattle.sale_msg.specs.Written.{money_text, text_items}
+use Rattle.sale_values.specs.Money.{money_text}
+use Rattle.sale_msg.specs.Written.{text_items}
 
 -- a text behind what stands in front of it, where there is one
 abbrev pub optional_piece : List ℕ → Option (List ℕ) → List ℕ

@@ -1,8 +1,10 @@
 -- The tree of a request that is written: the members of the tables in their order, none for what is absent.
-use Rattle.std.specs.Prelude.{ℕ, ◌/◌, ◌%◌, List, [], ◌∷◌, ◌++◌, Option, Some, None, codes, decimal}
-use Rattle.gw_base.specs.Digits.{digits}
-use Rattle.json_text.specs.Tree.{Tree, boolean, number, string, array, object, Items, no_items, item, Members, no_members, member}
-use Rattle.sale_values.specs.Names.{class_name, kind_name, period_name}
+use Rattle.std.specs.Prelude.{ℕ, List, [], ◌∷◌, Option, Some, None, codes}
+use Rattle.json_text.specs.Tree.{Tree, boolean, array, object, Items, no_items, item, Members, no_members, member}
+use Rattle.sale_values.specs.Header.{header_members}
+use Rattle.sale_values.specs.Members.{text_member, optional_member, number_member, object_member, only}
+use Rattle.sale_values.specs.Money.{money_text}
+use Rattle.sale_values.specs.Names.{period_name}
 use Rattle.sale_values.specs.declared.header.Header.{Header}
 use Rattle.sale_values.specs.declared.request.Output.{Output}
 use Rattle.sale_values.specs.declared.request.PaymentAsk.{PaymentAsk}
@@ -10,35 +12,6 @@ use Rattle.sale_values.specs.declared.request.Reference.{Reference}
 use Rattle.sale_values.specs.declared.request.ReversalAsk.{ReversalAsk}
 use Rattle.sale_values.specs.declared.request.SaleRequest.{SaleRequest}
 use Rattle.sale_values.specs.declared.request.SaleRequest.TheVariants as requests
-
--- a member that is a text
-abbrev pub text_member : List ℕ → List ℕ → Members → Members
-text_member name text more = member name (string text) more
-
--- a member that is a text, where there is one
-abbrev pub optional_text : List ℕ → Option (List ℕ) → Members → Members
-optional_text name None more = more
-optional_text name (Some text) more = text_member name text more
-
--- a member that is an object
-abbrev pub object_member : List ℕ → Members → Members → Members
-object_member name inside more = member name (object inside) more
-
--- minor units of a currency with two decimals: whole units, a point and two digits
-unfoldable pub money_text : ℕ → List ℕ
-money_text minor = decimal (minor / 100) ++ 0x2E ∷ digits 2 (minor % 100)
-
--- the header
-abbrev pub header_members : Header → Members
-header_members header =
-    text_member (codes "ProtocolVersion") (codes "3.0")
-    (text_member (codes "MessageClass") (class_name header.class)
-    (text_member (codes "MessageCategory") header.category
-    (text_member (codes "MessageType") (kind_name header.kind)
-    (optional_text (codes "ServiceID") header.service
-    (optional_text (codes "DeviceID") header.device
-    (text_member (codes "SaleID") header.sale
-    (text_member (codes "POIID") header.poi no_members)))))))
 
 -- the type of a Payment, where it is told
 abbrev pub payment_data : Option (List ℕ) → Members
@@ -53,14 +26,14 @@ payment_members ask =
     no_members)
     (object_member (codes "PaymentTransaction")
     (object_member (codes "AmountsReq")
-    (text_member (codes "Currency") ask.currency (member (codes "RequestedAmount") (number (money_text ask.amount)) no_members))
+    (text_member (codes "Currency") ask.currency (number_member (codes "RequestedAmount") (money_text ask.amount) no_members))
     no_members)
     (payment_data ask.kind))
 
 -- the amount of a Reversal, where it is told
 abbrev pub reversed_amount : Option ℕ → Members
 reversed_amount None = no_members
-reversed_amount (Some minor) = member (codes "ReversedAmount") (number (money_text minor)) no_members
+reversed_amount (Some minor) = number_member (codes "ReversedAmount") (money_text minor) no_members
 
 abbrev pub reversal_members : ReversalAsk → Members
 reversal_members ask =
@@ -72,7 +45,7 @@ reversal_members ask =
 abbrev pub reference_members : Reference → Members
 reference_members reference =
     text_member (codes "ServiceID") reference.service
-    (optional_text (codes "SaleID") reference.sale (optional_text (codes "POIID") reference.poi no_members))
+    (optional_member (codes "SaleID") reference.sale (optional_member (codes "POIID") reference.poi no_members))
 
 -- a body that holds a reference alone
 abbrev pub referring_members : Reference → Members
@@ -143,4 +116,4 @@ body_object header request = object
 
 -- the message
 abbrev pub request_tree : Header → SaleRequest → Tree
-request_tree header request = object (member (codes "SaleToPOIRequest") (body_object header request) no_members)
+request_tree header request = only (codes "SaleToPOIRequest") (body_object header request)

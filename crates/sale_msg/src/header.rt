@@ -1,18 +1,60 @@
 //! The header of a message.
+ghost use Rattle.std.specs.Prelude.{◌≡◌, IfErr, IfOk, MatchResult};
+ghost use Rattle.json_text.specs.Tree.{Tree};
 ghost use Rattle.json_text.specs.View.{view};
 ghost use Rattle.sale_msg.specs.Flaw.{AreMet, IsMet};
-ghost use Rattle.sale_msg.specs.Message.{TellsHeader};
+ghost use Rattle.sale_msg.specs.Message.{IsHeaded, IsHeadless, StandsIn, TellsHeader};
 ghost use Rattle.sale_msg.specs.Table.{header_rows};
 
-use crate::table::Envelope;
+use crate::check::{check, told};
+use crate::table::{Envelope, header_table};
 use crate::values::{class, ident, ident_or_none, kind, letters};
 use json_text::Json;
-use sale_values::Header;
+use sale_values::{Header, SaleFault};
+
+/// A header, with the object in which it stands beside the body.
+#[derive(Clone, Copy)]
+pub struct Headed<'a> {
+    pub envelope: Envelope,
+    pub header: Header,
+    pub body: &'a Json,
+}
+
+/// Reads the header of a message, under either envelope; where there are both, that of requests counts.
+pub fn read_header(tree: &Json) -> Result<Headed<'_>, SaleFault>
+    ensures ok { IfOk result (λ headed. IsHeaded (view tree.now) headed.envelope (view headed.body.now) headed.header) }
+    ensures err { IfErr result (IsHeadless (view tree.now)) }
+{
+    match tree.get(b"SaleToPOIRequest") {
+        Some(body) => header_under(Envelope::Request, body),
+        None => match tree.get(b"SaleToPOIResponse") {
+            Some(body) => header_under(Envelope::Response, body),
+            None => Err(SaleFault::NoHeader {
+                path: told("SaleToPOIRequest"),
+            }),
+        },
+    }
+}
+
+/// The header in the object that stands in this envelope.
+fn header_under(envelope: Envelope, body: &Json) -> Result<Headed<'_>, SaleFault>
+    ensures { (message : Tree) → StandsIn envelope message (view body.now)
+        → MatchResult result (λ headed. IsHeaded message headed.envelope (view headed.body.now) headed.header) (IsHeadless message) }
+{
+    match check(body, header_table(envelope)) {
+        Ok(()) => Ok(Headed {
+            envelope,
+            header: header_of(body),
+            body,
+        }),
+        Err(flaw) => Err(SaleFault::NoHeader { path: flaw.path() }),
+    }
+}
 
 /// The header of a body object that meets the table of a response's header, as one that meets that of a request's
 /// header does too.
 #[tactic(auto, unfolding(crate::specs::Flaw::IsMet))]
-pub(crate) fn header_of(body: &Json) -> Header
+fn header_of(body: &Json) -> Header
     requires { AreMet (header_rows Envelope.Response) (view body.now) }
     ensures { TellsHeader (view body.now) result }
 {

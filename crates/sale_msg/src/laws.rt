@@ -1,18 +1,26 @@
 //! Laws of messages.
-ghost use Rattle.std.specs.Prelude.{◌≡◌};
+ghost use Rattle.std.specs.Prelude.{◌≡◌, List, ℕ};
 ghost use Rattle.json_text.specs.Tree.{Tree};
 ghost use Rattle.sale_values.specs.declared.fault.SaleFault.{SaleFault};
 ghost use Rattle.sale_values.specs.declared.header.Header.{Header};
 ghost use Rattle.sale_values.specs.declared.request.Incoming.{Incoming};
 ghost use Rattle.sale_values.specs.declared.request.SaleRequest.{SaleRequest};
 ghost use Rattle.sale_msg.specs.Written.{request_tree};
-ghost use Rattle.sale_msg.specs.Message.{IsFault, IsMessage};
+ghost use Rattle.sale_msg.specs.Message.{IsFault, IsHeaded, IsMessage, LacksHeader};
+ghost use Rattle.sale_msg.specs.declared.table.Envelope.{Envelope};
 
 /// A tree is one message at most, has one fault at most, and not both.
 pub fn law_one_reading()
     ensures message { (tree : Tree) (m n : Incoming) → IsMessage tree m → IsMessage tree n → m ≡ n }
     ensures fault { (tree : Tree) (f g : SaleFault) → IsFault tree f → IsFault tree g → f ≡ g }
     ensures not_both { (tree : Tree) (m : Incoming) (f : SaleFault) → IsMessage tree m → IsFault tree f → ⊥ }
+{}
+
+/// A tree has one header at most, one place where none was read at most, and not both.
+pub fn law_one_header()
+    ensures header { (tree : Tree) (d e : Envelope) (b c : Tree) (g h : Header) → IsHeaded tree d b g → IsHeaded tree e c h → (b ≡ c) × (g ≡ h) }
+    ensures path { (tree : Tree) (p q : List ℕ) → LacksHeader tree p → LacksHeader tree q → p ≡ q }
+    ensures not_both { (tree : Tree) (e : Envelope) (body : Tree) (header : Header) (path : List ℕ) → IsHeaded tree e body header → LacksHeader tree path → ⊥ }
 {}
 
 /// What is written of a request that some tree is, is this request again.

@@ -6,7 +6,7 @@ ghost use Rattle.sale_msg.specs.Path.{value_at};
 use json_text::Json;
 
 /// The value at a path of names, divided by points, of which each is a member of the object before.
-pub(crate) fn find<'a>(tree: &'a Json, path: &str) -> Option<&'a Json>
+pub fn find<'a>(tree: &'a Json, path: &str) -> Option<&'a Json>
     ensures { option_map (λ v. view v.now) result ≡ value_at path.now (view tree.now) }
 {
     match path.split_once('.') {

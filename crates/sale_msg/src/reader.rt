@@ -4,14 +4,12 @@ ghost use Rattle.json_text.specs.Tree.{Tree};
 ghost use Rattle.json_text.specs.View.{view};
 ghost use Rattle.sale_values.specs.declared.fault.SaleFault.{SaleFault};
 ghost use Rattle.sale_values.specs.declared.request.Incoming.{Incoming};
-ghost use Rattle.sale_msg.specs.Message.{IsFault, IsHeader, IsMessage, IsRequest, IsRequestOf, Refuses, RefusesHeader, StandsIn};
-ghost use Rattle.sale_msg.specs.Table.{header_rows};
+ghost use Rattle.sale_msg.specs.Message.{IsFault, IsHeaded, IsMessage, IsRequest, IsRequestOf, Refuses};
 
 use crate::body::request;
-use crate::check::{check, check_body, told};
-use crate::flaw::Flaw;
-use crate::header::header_of;
-use crate::table::{Envelope, header_table};
+use crate::check::check_body;
+use crate::header::{Headed, read_header};
+use crate::table::Envelope;
 use crate::{Category, MessageError};
 use json_text::Json;
 use sale_values::{Header, Incoming, Kind, SaleFault, SaleRequest};
@@ -30,54 +28,34 @@ pub fn read_message(alloc: Global, tree: &Json) -> Result<Incoming, MessageError
     ensures every { (m : Incoming) → IsMessage (view tree.now) m → (result ≡ Ok m) ⊎ (result ≡ Err MessageError.Memory) }
     ensures each { (f : SaleFault) → IsFault (view tree.now) f → (result ≡ Err (MessageError.Fault f)) ⊎ (result ≡ Err MessageError.Memory) }
 {
-    match tree.get(b"SaleToPOIRequest") {
-        Some(body) => read_under_request(alloc, body),
-        None => match tree.get(b"SaleToPOIResponse") {
-            Some(body) => read_under_response(body),
-            None => Err(MessageError::Fault(SaleFault::NoHeader {
-                path: told("SaleToPOIRequest"),
-            })),
-        },
-    }
-}
-
-/// The message of which this is the body object under `SaleToPOIResponse`.
-fn read_under_response(body: &Json) -> Result<Incoming, MessageError>
-    ensures { (message : Tree) → StandsIn Envelope.Response message (view body.now)
-        → MatchResult result (IsMessage message) (Refuses message) }
-{
-    match read_header(Envelope::Response, body) {
-        Ok(_) => Ok(Incoming::Silent),
+    match read_header(tree) {
+        Ok(headed) => read_headed(alloc, &headed),
         Err(fault) => Err(MessageError::Fault(fault)),
     }
 }
 
-/// The message of which this is the body object under `SaleToPOIRequest`.
-fn read_under_request(alloc: Global, body: &Json) -> Result<Incoming, MessageError>
-    ensures { (message : Tree) → StandsIn Envelope.Request message (view body.now)
+/// The message with this header.
+fn read_headed(alloc: Global, headed: &Headed<'_>) -> Result<Incoming, MessageError>
+    ensures { (message : Tree) → IsHeaded message headed.now.envelope (view headed.now.body.now) headed.now.header
         → MatchResult result (IsMessage message) (Refuses message) }
 {
-    let header = match read_header(Envelope::Request, body) {
-        Ok(header) => header,
-        Err(fault) => return Err(MessageError::Fault(fault)),
-    };
-    match header.kind {
-        Kind::Request => match read_body(alloc, &header, body) {
-            Ok(request) => Ok(Incoming::Request(header, request)),
-            Err(error) => Err(error),
-        },
-        _ => Ok(Incoming::Silent),
+    match headed.envelope {
+        Envelope::Request => read_under_request(alloc, &headed.header, headed.body),
+        Envelope::Response => Ok(Incoming::Silent),
     }
 }
 
-/// The header of the body object.
-fn read_header(envelope: Envelope, body: &Json) -> Result<Header, SaleFault>
-    ensures { MatchResult result (IsHeader envelope (view body.now))
-        (RefusesHeader (header_rows envelope) (view body.now)) }
+/// The message under `SaleToPOIRequest` with this header.
+fn read_under_request(alloc: Global, header: &Header, body: &Json) -> Result<Incoming, MessageError>
+    ensures { (message : Tree) → IsHeaded message Envelope.Request (view body.now) header.now
+        → MatchResult result (IsMessage message) (Refuses message) }
 {
-    match check(body, header_table(envelope)) {
-        Ok(()) => Ok(header_of(body)),
-        Err(flaw) => Err(SaleFault::NoHeader { path: flaw.path() }),
+    match header.kind {
+        Kind::Request => match read_body(alloc, header, body) {
+            Ok(request) => Ok(Incoming::Request(*header, request)),
+            Err(error) => Err(error),
+        },
+        _ => Ok(Incoming::Silent),
     }
 }
 

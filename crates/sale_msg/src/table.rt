@@ -40,9 +40,9 @@ pub(crate) enum Form {
     Texts,
 }
 
-/// In which member a message stands.
+/// In which member a message stands: `SaleToPOIRequest` or `SaleToPOIResponse`.
 #[derive(Clone, Copy, PartialEq, Eq, Debug)]
-pub(crate) enum Envelope {
+pub enum Envelope {
     Request,
     Response,
 }

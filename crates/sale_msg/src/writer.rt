@@ -3,7 +3,9 @@ ghost use Rattle.std.specs.Prelude.{◌≡◌, ◌++◌, codes, OnOk, OnErr};
 ghost use Rattle.json_text.specs.Canonical.{canonical, canonical_first, written_text};
 ghost use Rattle.json_text.specs.Tree.{boolean, object};
 ghost use Rattle.sale_msg.specs.Pieces.{money_piece, optional_piece, texts_piece};
-ghost use Rattle.sale_msg.specs.Written.{body_members, body_name, header_members, money_text, output_items, output_tree, payment_members, referring_members, request_tree, reversal_members, text_items};
+ghost use Rattle.sale_values.specs.Header.{header_members};
+ghost use Rattle.sale_values.specs.Money.{money_text};
+ghost use Rattle.sale_msg.specs.Written.{body_members, body_name, output_items, output_tree, payment_members, referring_members, request_tree, reversal_members, text_items};
 
 use gw_base::{Ident, Text};
 use itoa::Buffer;
@@ -252,7 +254,7 @@ fn write_texts(texts: &[Text], out: &mut Vec<u8>) -> Result<(), AllocError>
 }
 
 /// Minor units with two digits behind the point.
-#[tactic(auto, unfolding(crate::specs::Written::money_text))]
+#[tactic(auto, unfolding(sale_values::specs::Money::money_text))]
 fn write_money(minor: u64, out: &mut Vec<u8>) -> Result<(), AllocError>
     ensures { OnOk result (out.new.items ≡ out.old.items ++ money_text minor) }
 {

@@ -5,7 +5,8 @@ use Rattle.std.specs.Char.{digit_char}
 use Rattle.std.proofs.lemmas.Fmt.{length-decimal-le}
 use Rattle.json_text.specs.Canonical.{written_text, written_byte}
 use Rattle.gw_base.specs.Digits.{digits}
-use Rattle.sale_reply.specs.Texts.{money_text, transaction_text}
+use Rattle.sale_values.specs.Money.{money_text}
+use Rattle.sale_reply.specs.Texts.{transaction_text}
 use Rattle.sale_reply.specs.Pieces.{first_name, next_name, first_text, next_text, next_optional, next_number}
 
 -- the text has at most so many bytes

@@ -22,7 +22,8 @@ use Rattle.sale_reply.specs.declared.reply.Detail.{Detail}
 use Rattle.sale_reply.specs.declared.reply.ReplyResult.{ReplyResult}
 use Rattle.sale_reply.specs.declared.reply.Told.TheVariants.{PaymentApproved, PaymentDeclined, ReversalApproved, ReversalDeclined, Reconciled}
 use Rattle.sale_reply.specs.Names.{result_name, status_name, paid_result}
-use Rattle.sale_reply.specs.Texts.{money_text, transaction_text, status_text, detail_text}
+use Rattle.sale_values.specs.Money.{money_text}
+use Rattle.sale_reply.specs.Texts.{transaction_text, status_text, detail_text}
 use Rattle.sale_reply.specs.Pieces.{first_name, next_name, first_text, next_text, next_optional, next_number, message_front, content_front, outputs_text, lines_text}
 use Rattle.sale_reply.specs.Reply.{header_tree, message, result_tree, verdict_tree, success_tree, failure_tree, plain_body, sale_data, poi_data, approved_data, declined_data, payment_result, total, totals, approved_body, told_body, repeated_message, status_body, diagnosis_body, output_tree, print_body, text_tree, content, show_body, display_body, paper_body, event_header, event_body, event, tree_of}
 use Rattle.sale_reply.specs.declared.reply.SaleReply.{SaleReply}

@@ -1,4 +1,3 @@
-pub mod Members
 pub mod Names
 pub mod Texts
 pub mod Reply

@@ -10,7 +10,7 @@ use Rattle.gw_base.specs.Condition.{name_of}
 use Rattle.gw_base.specs.Currency.{code_of}
 use Rattle.gw_base.specs.Moment.{stamp_of}
 use Rattle.sale_values.specs.declared.header.Header.{Header}
-use Rattle.sale_values.specs.Names.{class_name, kind_name, period_name}
+use Rattle.sale_values.specs.Names.{period_name}
 use Rattle.sale_reply.specs.declared.reply.PoiMark.{PoiMark}
 use Rattle.sale_reply.specs.declared.reply.Verdict.{Verdict}
 use Rattle.sale_reply.specs.declared.reply.Shown.{Shown}
@@ -22,21 +22,15 @@ use Rattle.sale_reply.specs.declared.reply.Told.{Told}
 use Rattle.sale_reply.specs.declared.reply.Told.TheVariants.{PaymentApproved, PaymentDeclined, ReversalApproved, ReversalDeclined, Reconciled}
 use Rattle.sale_reply.specs.declared.reply.SaleReply.{SaleReply}
 use Rattle.sale_reply.specs.declared.reply.SaleReply.TheVariants as reply
-use Rattle.sale_reply.specs.Members.{text_member, optional_member, number_member, object_member, only}
+use Rattle.sale_values.specs.Header.{header_members}
+use Rattle.sale_values.specs.Money.{money_text}
+use Rattle.sale_values.specs.Members.{text_member, optional_member, number_member, object_member, only}
 use Rattle.sale_reply.specs.Names.{result_name, status_name, result_of, paid_result}
-use Rattle.sale_reply.specs.Texts.{money_text, transaction_text, status_text, line_text, detail_text}
+use Rattle.sale_reply.specs.Texts.{transaction_text, status_text, line_text, detail_text}
 
--- a message header; `ServiceID` and `DeviceID` stand where it has them
+-- a message header
 unfoldable pub header_tree : Header → Tree
-header_tree header = object
-    (text_member (codes "ProtocolVersion") (codes "3.0")
-    (text_member (codes "MessageClass") (class_name header.class)
-    (text_member (codes "MessageCategory") header.category
-    (text_member (codes "MessageType") (kind_name header.kind)
-    (optional_member (codes "ServiceID") header.service
-    (optional_member (codes "DeviceID") header.device
-    (text_member (codes "SaleID") header.sale
-    (text_member (codes "POIID") header.poi no_members))))))))
+header_tree header = object (header_members header)
 
 -- a message: its envelope, its header, and its body, named by the category and what it is
 unfoldable pub message : List ℕ → Header → List ℕ → Tree → Tree

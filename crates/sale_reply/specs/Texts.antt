@@ -7,10 +7,6 @@ use Rattle.sale_reply.specs.declared.reply.Detail.{Detail}
 use Rattle.sale_reply.specs.declared.reply.Detail.TheVariants.{Json, Header, Body, Abort}
 use Rattle.sale_reply.specs.Names.{fault_name}
 
--- minor units of a currency with two decimals: whole units, a point and two digits
-unfoldable pub money_text : ℕ → List ℕ
-money_text minor = decimal (minor / 100) ++ 0x2E ∷ digits 2 (minor % 100)
-
 -- a POITransactionID: six digits of the trace number, four of the receipt number, and the slot
 unfoldable pub transaction_text : ℕ → ℕ → ℕ → List ℕ
 transaction_text number receipt slot = digits 6 number ++ (0x2D ∷ digits 4 receipt ++ 0x2D ∷ decimal slot)

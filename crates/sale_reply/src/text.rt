@@ -2,7 +2,8 @@
 ghost use Rattle.std.specs.Prelude.{◌≡◌, ◌≤◌, ◌<◌, ◌++◌, length};
 ghost use Rattle.gw_base.specs.Digits.{digits};
 ghost use Rattle.sale_reply.specs.Names.{fault_name};
-ghost use Rattle.sale_reply.specs.Texts.{money_text, transaction_text, upper_digit, status_text, detail_text};
+ghost use Rattle.sale_values.specs.Money.{money_text};
+ghost use Rattle.sale_reply.specs.Texts.{transaction_text, upper_digit, status_text, detail_text};
 
 use crate::reply::Detail;
 use arrayvec::ArrayVec;
@@ -11,7 +12,7 @@ use itoa::Buffer;
 use json_text::{FaultKind, JsonFault};
 
 /// An amount of minor units with two digits behind the point.
-#[tactic(auto, unfolding(crate::specs::Texts::money_text))]
+#[tactic(auto, unfolding(sale_values::specs::Money::money_text))]
 pub(crate) fn money(minor: u64) -> ArrayVec<u8, 24>
     ensures { result.items ≡ money_text minor }
 {

@@ -1,2 +1,5 @@
 pub mod Names
 pub mod Key
+pub mod Members
+pub mod Money
+pub mod Header

@@ -6,13 +6,13 @@ use Rattle.sale_msg.proofs.reader.read_under_request.Goals as goal
 
 pub returns-in_default : goal.returns-in_default
 returns-in_default c =
-    λ message stands. (
+    λ message headed. (
       envelopes.Request,
       view c.args.body.now,
-      c.in-Ok.header,
+      c.args.header.now,
       record {
-        stands = stands;
-        header_is = c.in-Ok.ensures;
-        silent = inr (kind_is_notification (view c.args.body.now) c.in-Ok.header c.in-Ok.ensures c.in_default.not-Request);
+        stands = headed.0;
+        header_is = headed.1;
+        silent = inr (kind_is_notification (view c.args.body.now) c.args.header.now headed.1 c.in_default.not-Request);
       },
     )

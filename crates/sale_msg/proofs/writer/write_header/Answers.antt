@@ -2,7 +2,7 @@ use Rattle.std.proofs.Common.{◌≡◌, ◌++◌, codes, append_assoc}
 use Rattle.json_text.specs.Canonical.{canonical}
 use Rattle.json_text.specs.Tree.{object}
 use Rattle.sale_values.specs.Names.{class_name, kind_name}
-use Rattle.sale_msg.specs.Written.{header_members}
+use Rattle.sale_values.specs.Header.{header_members}
 use Rattle.sale_msg.proofs.Spelled.{last, header_front, header_spelled}
 use Rattle.sale_msg.proofs.writer.write_header.Goals as goal
 

@@ -1,7 +1,8 @@
 use Rattle.std.proofs.Common.{codes}
 use Rattle.json_text.specs.Canonical.{canonical, written_text}
 use Rattle.json_text.specs.Tree.{object}
-use Rattle.sale_msg.specs.Written.{body_members, body_name, header_members, request_tree}
+use Rattle.sale_values.specs.Header.{header_members}
+use Rattle.sale_msg.specs.Written.{body_members, body_name, request_tree}
 use Rattle.sale_msg.proofs.Spelled.{grown, last, message_front, message_spelled}
 use Rattle.sale_msg.proofs.writer.write_message.Goals as goal
 

@@ -1,4 +1,4 @@
--- The shapes of which the messages are made: members in front of others.
+-- The shapes of which messages are made: members in front of others.
 use Rattle.std.specs.Prelude.{ℕ, List, Option, Some, None}
 use Rattle.json_text.specs.Tree.{Tree, number, string, object, Members, no_members, member}
 
@@ -9,7 +9,7 @@ text_member name text others = member name (string text) others
 -- a member that is a string, where there is one
 abbrev pub optional_member : List ℕ → Option (List ℕ) → Members → Members
 optional_member name None others = others
-optional_member name (Some text) others = member name (string text) others
+optional_member name (Some text) others = text_member name text others
 
 -- a member that is a number
 abbrev pub number_member : List ℕ → List ℕ → Members → Members

@@ -1,6 +1,6 @@
 use Rattle.json_text.specs.View.{view}
 use Rattle.sale_msg.proofs.Messages.{header_laxer}
-use Rattle.sale_msg.proofs.reader.read_header.Goals as goal
+use Rattle.sale_msg.proofs.header.header_under.Goals as goal
 
 pub header_of-requires : goal.header_of-requires
 header_of-requires c =
