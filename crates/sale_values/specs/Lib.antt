@@ -3,3 +3,4 @@ pub mod Key
 pub mod Members
 pub mod Money
 pub mod Header
+pub mod HeaderTexts

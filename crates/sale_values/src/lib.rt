@@ -3,12 +3,14 @@
 
 mod fault;
 mod header;
+mod laws;
 mod lists;
 mod names;
 mod request;
 
 pub use fault::SaleFault;
 pub use header::Header;
+pub use laws::{law_header, law_money, law_texts};
 pub use lists::{Outputs, Texts};
 pub use names::{Class, Kind, Period, law_names};
 pub use request::{Incoming, Output, PaymentAsk, Reference, ReversalAsk, SaleRequest};

@@ -1,0 +1,5 @@
+use Rattle.sale_values.proofs.Headers.{header_spellable}
+use Rattle.sale_values.proofs.laws.law_header.Goals as goal
+
+pub returns : goal.returns
+returns c = header_spellable

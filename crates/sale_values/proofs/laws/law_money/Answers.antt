@@ -1,0 +1,5 @@
+use Rattle.sale_values.proofs.Money.{money_number, money_again, money_one}
+use Rattle.sale_values.proofs.laws.law_money.Goals as goal
+
+pub returns : goal.returns
+returns c = record { number = money_number; minor = money_again; one = money_one }
