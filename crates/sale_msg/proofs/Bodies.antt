@@ -30,7 +30,8 @@ use Rattle.sale_msg.specs.declared.category.Category.TheVariants as categories
 use Rattle.sale_msg.specs.declared.table.Form.TheVariants as forms
 use Rattle.sale_msg.specs.declared.table.Presence.TheVariants.{Required, Optional}
 use Rattle.sale_msg.proofs.Again.{header_again, header_facts, ident_fact, parted, text_fact}
-use Rattle.sale_msg.proofs.Money.{money_again, money_is_amount, read_is_amount}
+use Rattle.sale_values.proofs.Money.{money_again}
+use Rattle.sale_msg.proofs.Money.{money_is_amount, read_is_amount}
 use Rattle.sale_msg.proofs.Paths.{value_at-within}
 use Rattle.sale_msg.proofs.Rows.{required_as, optional_as}
 
@@ -74,7 +75,7 @@ currency_fact : (tree : Tree) (path told text : List ℕ)
 unfolding IsMet
 currency_fact tree path told text h e = text_fact forms.Currency (value_at path tree) text (MayBeAbsent Required tree) h e
 
-amount_fact : (path : List ℕ) (tree : Tree) (n : ℕ) → amount_at path tree ≡ Some n → IsAmount n
+pub amount_fact : (path : List ℕ) (tree : Tree) (n : ℕ) → amount_at path tree ≡ Some n → IsAmount n
 amount_fact path tree n e = read_is_amount (option_and_then number_of (value_at path tree)) n e
 
 -- ---- Payment

@@ -7,3 +7,5 @@ pub mod Money
 pub mod Again
 pub mod Bodies
 pub mod Spelled
+pub mod Told
+pub mod Writable

@@ -1,5 +1,7 @@
 //! Laws of messages.
-ghost use Rattle.std.specs.Prelude.{◌≡◌, List, ℕ};
+ghost use Rattle.std.specs.Prelude.{◌≡◌, ℕ, List};
+ghost use Rattle.json_text.specs.Canonical.{canonical};
+ghost use Rattle.json_text.specs.Spelling.{Spells};
 ghost use Rattle.json_text.specs.Tree.{Tree};
 ghost use Rattle.sale_values.specs.declared.fault.SaleFault.{SaleFault};
 ghost use Rattle.sale_values.specs.declared.header.Header.{Header};
@@ -8,6 +10,8 @@ ghost use Rattle.sale_values.specs.declared.request.SaleRequest.{SaleRequest};
 ghost use Rattle.sale_msg.specs.Written.{request_tree};
 ghost use Rattle.sale_msg.specs.Message.{IsFault, IsHeaded, IsMessage, LacksHeader};
 ghost use Rattle.sale_msg.specs.declared.table.Envelope.{Envelope};
+
+use json_text::spellable_trees_have_texts;
 
 /// A tree is one message at most, has one fault at most, and not both.
 pub fn law_one_reading()
@@ -23,8 +27,14 @@ pub fn law_one_header()
     ensures not_both { (tree : Tree) (e : Envelope) (body : Tree) (header : Header) (path : List ℕ) → IsHeaded tree e body header → LacksHeader tree path → ⊥ }
 {}
 
-/// What is written of a request that some tree is, is this request again.
+/// What is written of a request that some tree is, is this request again; and where some text spells the tree, what is
+/// written is a text too, so that it is read again.
 pub fn law_written_again()
-    ensures { (tree : Tree) (header : Header) (request : SaleRequest) → IsMessage tree (Incoming.Request header request)
+    ensures text { (tree : Tree) (text : List ℕ) (header : Header) (request : SaleRequest) → Spells tree text
+        → IsMessage tree (Incoming.Request header request)
+        → Spells (request_tree header request) (canonical (request_tree header request)) }
+    ensures message { (tree : Tree) (header : Header) (request : SaleRequest) → IsMessage tree (Incoming.Request header request)
         → IsMessage (request_tree header request) (Incoming.Request header request) }
-{}
+{
+    spellable_trees_have_texts();
+}

@@ -17,8 +17,10 @@ use std::alloc::{AllocError, Global};
 /// what is absent.
 ///
 /// `ProtocolVersion` is written as `3.0`, `ReversalReason` as `MerchantCancel`, `OutputFormat` as `Text`, and
-/// `ResponseRequiredFlag` always. An amount has two digits behind the point. What [`read_message`](crate::read_message)
-/// gave is written so that it is read again.
+/// `ResponseRequiredFlag` always. An amount has two digits behind the point. It asks for nothing: a request that
+/// [`read_message`](crate::read_message) gave is written as JSON text (RFC 8259) that is read as this request again
+/// ([`law_written_again`](crate::law_written_again)), while the words of a `Header` or a `SaleRequest` that was put
+/// together otherwise are written as they are.
 pub fn write_request(
     alloc: Global,
     header: &Header,
