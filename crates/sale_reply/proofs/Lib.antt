@@ -5,3 +5,5 @@ pub mod LimitLemmas
 pub mod MessageSizes
 pub mod LineSizes
 pub mod ReplySizes
+pub mod TextLemmas
+pub mod ReplyTexts

@@ -50,6 +50,6 @@ reply_size stamps (reply.Status h repeated told) is =
 reply_size stamps (reply.Diagnosis h status) is = within 65536 (response_size h (diagnosis_body status) is (diagnosis_size status)) (lit≤ tt)
 reply_size stamps (reply.Display h outputs) is = within 65536 (response_size h (display_body outputs.items) is.0 (display_size outputs.items is.2 is.1)) (lit≤ tt)
 reply_size stamps (reply.Print h qualifier verdict) is = within 65536 (response_size h (print_body qualifier verdict) is.0 (print_size qualifier verdict is.1 is.2)) (lit≤ tt)
-reply_size stamps (reply.DisplayRequest h code) is = within 65536 (request_size h (show_body code) is (show_size code)) (lit≤ tt)
+reply_size stamps (reply.DisplayRequest h code) is = within 65536 (request_size h (show_body code) is.0 (show_size code)) (lit≤ tt)
 reply_size stamps (reply.PrintRequest h lines) is = within 65536 (request_size h (paper_body lines.items) is.0 (paper_size lines.items is.1 is.2)) (lit≤ tt)
 reply_size stamps (reply.Reject sale poi moment detail) is = within 65536 (event_size stamps sale poi moment detail is.0 is.1 is.2) (lit≤ tt)

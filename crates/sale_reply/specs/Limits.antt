@@ -50,7 +50,7 @@ IsDetail (detail.Header path) = IsIdent 100 path
 IsDetail (detail.Body path) = IsIdent 100 path
 IsDetail detail.Abort = Unit {0}
 
--- the texts are identifiers of their lengths, the numbers have 32 or 64 bits, and the lines of a print request have
+-- the texts are identifiers of their lengths, the numbers have 8, 32 or 64 bits, and the lines of a print request have
 -- together at most the bytes of one APDU
 abbrev pub IsWithinLimits : SaleReply → Type 0
 IsWithinLimits (reply.Plain header verdict) = IsHeader header × IsVerdict verdict
@@ -59,7 +59,7 @@ IsWithinLimits (reply.Status header repeated told) = IsHeader header × IsHeader
 IsWithinLimits (reply.Diagnosis header status) = IsHeader header
 IsWithinLimits (reply.Display header outputs) = IsHeader header × (length outputs.items ≤ 16) × All IsShown outputs.items
 IsWithinLimits (reply.Print header qualifier verdict) = IsHeader header × IsIdent 40 qualifier × IsVerdict verdict
-IsWithinLimits (reply.DisplayRequest header code) = IsHeader header
+IsWithinLimits (reply.DisplayRequest header code) = IsHeader header × (code < 2 ^ 8)
 IsWithinLimits (reply.PrintRequest header lines) =
     IsHeader header × (length lines.items ≤ 400) × (sum_by (λ line. length line.now) lines.items ≤ 12000)
 IsWithinLimits (reply.Reject sale poi moment detail) = IsIdent 40 sale × IsIdent 40 poi × IsDetail detail

@@ -12,6 +12,6 @@ mod text;
 mod write;
 
 pub use buffer::Out;
-pub use limits::{is_within_limits, law_size};
+pub use limits::{is_within_limits, law_size, law_text};
 pub use reply::{Detail, GlobalStatus, PoiMark, ReplyResult, SaleReply, Shown, Told, Verdict};
 pub use write::write_reply;

@@ -1,13 +1,15 @@
-//! The limits of the parts of a message, and that a message within them fits.
+//! The limits of the parts of a message, and that a message within them fits and is a text.
 ghost use Rattle.std.specs.Prelude.{◌^◌, ◌<◌, ◌≤◌, ◌↔◌, ◌⊎◌, All, IfSome, IsTrue, length, sum_by};
 ghost use Rattle.gw_base.specs.Ident.{IsIdent};
 ghost use Rattle.json_text.specs.Canonical.{canonical};
+ghost use Rattle.json_text.specs.Spelling.{Spells};
 ghost use Rattle.sale_reply.specs.declared.reply.SaleReply.{SaleReply};
 ghost use Rattle.sale_reply.specs.Limits.{IsDetail, IsHeader, IsShown, IsTold, IsPrintRequest, IsTotal, IsWithinLimits};
 ghost use Rattle.sale_reply.specs.Reply.{tree_of};
 
 use crate::reply::{Detail, SaleReply, Shown, Told};
 use gw_base::{Ident, law_stamp};
+use json_text::spellable_trees_have_texts;
 use sale_values::Header;
 
 /// The most bytes that the lines of a print request have together: those of one APDU of a terminal.
@@ -59,8 +61,13 @@ pub fn is_within_limits(reply: &SaleReply<'_>) -> bool
             law_optional(&verdict.path);
             true
         }
-        SaleReply::Diagnosis { header, .. } | SaleReply::DisplayRequest { header, .. } => {
+        SaleReply::Diagnosis { header, .. } => {
             law_header(header);
+            true
+        }
+        SaleReply::DisplayRequest { header, code } => {
+            law_header(header);
+            law_u8(*code);
             true
         }
         SaleReply::Reject {
@@ -95,6 +102,12 @@ fn are_within_limits(lines: &[&[u8]]) -> bool
 }
 
 // What follows holds by the types.
+
+fn law_u8(value: u8)
+    ensures { value < 2 ^ 8 }
+{
+    let _value = value;
+}
 
 fn law_u32(value: u32)
     ensures { value < 2 ^ 32 }
@@ -217,4 +230,12 @@ pub fn law_size()
     ensures { (reply : SaleReply) → IsWithinLimits reply → length (canonical (tree_of reply)) ≤ 65536 }
 {
     law_stamp();
+}
+
+/// A message whose parts lie within the limits is written as JSON text (RFC 8259), by which it can be read again.
+pub fn law_text()
+    ensures { (reply : SaleReply) → IsWithinLimits reply → Spells (tree_of reply) (canonical (tree_of reply)) }
+{
+    law_stamp();
+    spellable_trees_have_texts();
 }
