@@ -1,5 +1,5 @@
 -- What a stream in memory is: its bytes, and which call of it fails.
-use Rattle.std.specs.Prelude.{ℕ, List, Option}
+use Rattle.std.specs.Prelude.{◌≡◌, ◌⊎◌, ℕ, List, ◌++◌, take, Option, Some}
 
 -- a source: the bytes that are left, the calls so far, the number of the call that fails, and the faults so far
 pub record Giving : Type 0 where
@@ -15,3 +15,7 @@ pub record Taking : Type 0 where
   pub fails : Option ℕ
   pub taken : ℕ
   pub faults : ℕ
+
+-- a failed write took nothing, or it is the call that fails and took at most so many of the bytes
+abbrev pub IsCutWrite : Taking → List ℕ → List ℕ → Type 0
+IsCutWrite old written bytes = (written ≡ old.written) ⊎ ((old.fails ≡ Some old.calls) × (written ≡ old.written ++ take old.taken bytes))

@@ -1,7 +1,9 @@
 //! Streams in memory, which tell their bytes and fail where they are told to.
-ghost use Rattle.std.specs.Prelude.{◌≡◌, ◌≤◌, ◌+◌, ◌++◌, List, ℕ, [], length, take, drop, Some};
-ghost use Rattle.gw_site.specs.Causes.{Rose};
+ghost use Rattle.std.specs.Prelude.{◌≡◌, ◌≤◌, ◌↔◌, ◌⊎◌, ◌+◌, ◌++◌, IsErr, IfOk, OnErr, [], ◌-◌, length, take, drop, min, Some, List, ℕ};
+ghost use Rattle.gw_site.specs.Causes.{one_more, faults_after, HasCause};
+ghost use Rattle.gw_site.specs.Memory.{IsCutWrite};
 ghost use Rattle.gw_site.specs.Seen.{IsFront};
+ghost use Rattle.gw_site.specs.Streams.{TakesFrom, EndsAt, AddsTo};
 
 use crate::{Failed, Sink, Source};
 use gw_base::Bytes;
@@ -10,7 +12,7 @@ use std::marker::Model;
 
 /// One more fault; the count stays at its last value.
 fn risen(faults: u64) -> u64
-    ensures rose { Rose faults result }
+    ensures exact { result ≡ one_more faults }
     ensures later { faults ≤ result }
 {
     faults.saturating_add(1)
@@ -31,6 +33,7 @@ fn give(buf: &mut [u8; 4096], bytes: &[u8], at: usize) -> usize
     ensures front { drop at bytes.now ≡ take result buf.new ++ drop (at + result) bytes.now }
     ensures end { result ≡ 0 → drop at bytes.now ≡ [] }
     ensures within { at + result ≤ length bytes.now }
+    ensures full { result ≡ min (length bytes.now - at) 4096 }
     ensures bound { result ≤ 4096 }
     ensures buf { length buf.new ≡ 4096 }
 {
@@ -85,7 +88,18 @@ impl Source for MemSource {
 
     ghost faults = { λ source. source.faults };
 
-    fn read(&mut self, buf: &mut [u8; 4096]) -> Result<usize, Failed> {
+    fn read(&mut self, buf: &mut [u8; 4096]) -> Result<usize, Failed>
+        ensures bytes { TakesFrom (Some self.old.left) (Some self.new.left) buf.new result }
+        ensures end { EndsAt (Some self.old.left) result }
+        ensures bound { IfOk result (λ count. count ≤ 4096) }
+        ensures buf { length buf.new ≡ 4096 }
+        ensures cause { HasCause self.old.faults self.new.faults result }
+        ensures failed { IsErr result ↔ (self.old.fails ≡ Some self.old.calls) }
+        ensures full { IfOk result (λ count. count ≡ min (length self.old.left) 4096) }
+        ensures faults { self.new.faults ≡ faults_after self.old.faults result }
+        ensures calls { self.new.calls ≡ one_more self.old.calls }
+        ensures fails { self.new.fails ≡ self.old.fails }
+    {
         let call = self.calls;
         self.calls = self.calls.saturating_add(1);
         if self.fails == Some(call) {
@@ -100,7 +114,8 @@ impl Source for MemSource {
 
 /// Takes at most so many of the bytes; without memory none.
 fn take_part(held: &mut Bytes, bytes: &[u8], most: usize)
-    ensures { (part : List ℕ) × IsFront part bytes.now × (held.new ≡ held.old ++ part) }
+    ensures front { (part : List ℕ) × IsFront part bytes.now × (held.new ≡ held.old ++ part) }
+    ensures most { (held.new ≡ held.old ++ take most bytes.now) ⊎ (held.new ≡ held.old) }
 {
     let count = most.min(bytes.len());
     match held.extend(&bytes[..count]) {
@@ -161,7 +176,16 @@ impl Sink for MemSink {
     ghost faults = { λ sink. sink.faults };
 
     /// A write that finds no memory fails, and takes nothing.
-    fn write(&mut self, bytes: &[u8]) -> Result<(), Failed> {
+    fn write(&mut self, bytes: &[u8]) -> Result<(), Failed>
+        ensures bytes { AddsTo (Some self.old.written) (Some self.new.written) bytes.now result }
+        ensures cause { HasCause self.old.faults self.new.faults result }
+        ensures failed { self.old.fails ≡ Some self.old.calls → IsErr result }
+        ensures part { OnErr result (IsCutWrite self.old self.new.written bytes.now) }
+        ensures faults { self.new.faults ≡ faults_after self.old.faults result }
+        ensures calls { self.new.calls ≡ one_more self.old.calls }
+        ensures fails { self.new.fails ≡ self.old.fails }
+        ensures taken { self.new.taken ≡ self.old.taken }
+    {
         let call = self.calls;
         self.calls = self.calls.saturating_add(1);
         if self.fails == Some(call) {

@@ -1,5 +1,6 @@
 //! A program's standard streams.
 ghost use Rattle.std.specs.Prelude.{◌≡◌, ◌≤◌, None, IfOk, length};
+ghost use Rattle.gw_site.specs.Causes.{faults_after, HasCause};
 
 use crate::{Failed, Sink, Source};
 use std::io::{ErrorKind, Print, Read};
@@ -31,7 +32,9 @@ pub struct StdSource<R: Read + Drop> {
 
 impl<R: Read + Drop> StdSource<R> {
     /// A source of what the reader gives.
-    pub fn new(reader: R) -> StdSource<R> {
+    pub fn new(reader: R) -> StdSource<R>
+        ensures { result.faults ≡ 0 }
+    {
         StdSource { reader, faults: 0 }
     }
 }
@@ -41,7 +44,12 @@ impl<R: Read + Drop> Source for StdSource<R> {
 
     ghost faults = { λ source. source.faults };
 
-    fn read(&mut self, buf: &mut [u8; 4096]) -> Result<usize, Failed> {
+    fn read(&mut self, buf: &mut [u8; 4096]) -> Result<usize, Failed>
+        ensures bound { IfOk result (λ count. count ≤ 4096) }
+        ensures buf { length buf.new ≡ 4096 }
+        ensures cause { HasCause self.old.faults self.new.faults result }
+        ensures faults { self.new.faults ≡ faults_after self.old.faults result }
+    {
         match read_on(&mut self.reader, buf) {
             Ok(count) => Ok(count),
             Err(Failed) => {
@@ -61,7 +69,9 @@ pub struct StdSink<W: Print + Drop> {
 
 impl<W: Print + Drop> StdSink<W> {
     /// A sink that writes to the writer.
-    pub fn new(writer: W) -> StdSink<W> {
+    pub fn new(writer: W) -> StdSink<W>
+        ensures { result.faults ≡ 0 }
+    {
         StdSink { writer, faults: 0 }
     }
 }
@@ -71,7 +81,10 @@ impl<W: Print + Drop> Sink for StdSink<W> {
 
     ghost faults = { λ sink. sink.faults };
 
-    fn write(&mut self, bytes: &[u8]) -> Result<(), Failed> {
+    fn write(&mut self, bytes: &[u8]) -> Result<(), Failed>
+        ensures cause { HasCause self.old.faults self.new.faults result }
+        ensures faults { self.new.faults ≡ faults_after self.old.faults result }
+    {
         match self.writer.write_all(bytes) {
             Ok(()) => Ok(()),
             Err(_) => {
