@@ -1,5 +1,5 @@
 -- What a log tells of the outside: the moment, the lines and what was heard on them, and the file on the disk.
-use Rattle.std.specs.Prelude.{ℕ, ℤ, pos, negsuc, ◌+◌, ◌-◌, min, Bool, not, ◌==◌, if◌then◌else◌, List, [], ◌∷◌, ◌++◌, length, take, drop, replicate, map, filter}
+use Rattle.std.specs.Prelude.{ℕ, ◌+◌, ◌-◌, Bool, not, ◌==◌, if◌then◌else◌, List, [], ◌∷◌, ◌++◌, length, take, drop, replicate, filter}
 use Rattle.std.specs.List.{list_any}
 use Rattle.gw_base.specs.Moment.{moment_of}
 use Rattle.gw_site.specs.declared.turn.Turn.{Turn}
