@@ -17,3 +17,4 @@ pub mod End
 pub mod Runs
 pub mod Written
 pub mod Unique
+mod Fronts

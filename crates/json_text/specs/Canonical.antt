@@ -1,5 +1,5 @@
 -- The one text of a tree that is written.
-use Rattle.std.specs.Prelude.{ℕ, ◌/◌, ◌%◌, List, [], ◌∷◌, ◌++◌, Bool, true, false, flat_map, nat_lt, ◌==◌, ◌||◌, if◌then◌else◌}
+use Rattle.std.specs.Prelude.{◌≡◌, ℕ, ◌/◌, ◌%◌, List, [], ◌∷◌, ◌++◌, Bool, true, false, flat_map, nat_lt, ◌==◌, ◌||◌, if◌then◌else◌}
 use Rattle.std.specs.Char.{digit_char}
 use Rattle.json_text.specs.Tree.{Tree, null, boolean, number, string, array, object, Items, no_items, item, Members, no_members, member}
 use Rattle.json_text.specs.Spelling.{word_null, word_true, word_false}
@@ -55,3 +55,7 @@ canonical_items false xs = canonical_more xs
 abbrev pub canonical_members : Bool → Members → List ℕ
 canonical_members true ms = canonical_first_member ms
 canonical_members false ms = canonical_more_members ms
+
+-- a front of the piece was appended
+abbrev pub AppendsFront : List ℕ → List ℕ → List ℕ → Type 0
+AppendsFront piece old new = (part : List ℕ) × (rest : List ℕ) × (piece ≡ part ++ rest) × (new ≡ old ++ part)

@@ -4,7 +4,7 @@ ghost use Rattle.std.specs.Char.{digit_char};
 ghost use Rattle.json_text.specs.Tree.{Tree, no_items};
 ghost use Rattle.json_text.specs.View.{view, items_onto, members_view};
 ghost use Rattle.json_text.specs.Spelling.{Spells};
-ghost use Rattle.json_text.specs.Canonical.{canonical, canonical_first, canonical_first_member, written_text, written_byte};
+ghost use Rattle.json_text.specs.Canonical.{AppendsFront, canonical, canonical_first, canonical_first_member, written_text, written_byte};
 
 use crate::tree::{Chars, Json};
 use std::alloc::{AllocError, Global};
@@ -75,10 +75,10 @@ fn write_members(members: &[(Chars, Json)], out: &mut Vec<u8>) -> Result<(), All
     out.extend_from_slice(b"}")
 }
 
-/// Appends the written spelling of a string, with its quotation marks. Without memory a front of it
-/// may be there.
+/// Appends the written spelling of a string, with its quotation marks.
 pub fn write_text(text: &[u8], out: &mut Vec<u8>) -> Result<(), AllocError>
-    ensures { OnOk result (out.new.items ≡ out.old.items ++ written_text text.now) }
+    ensures ok { OnOk result (out.new.items ≡ out.old.items ++ written_text text.now) }
+    ensures err { OnErr result (AppendsFront (written_text text.now) out.old.items out.new.items) }
 {
     out.extend_from_slice(b"\"")?;
     for byte in text {
@@ -88,7 +88,8 @@ pub fn write_text(text: &[u8], out: &mut Vec<u8>) -> Result<(), AllocError>
 }
 
 fn write_byte(byte: u8, out: &mut Vec<u8>) -> Result<(), AllocError>
-    ensures { OnOk result (out.new.items ≡ out.old.items ++ written_byte byte) }
+    ensures ok { OnOk result (out.new.items ≡ out.old.items ++ written_byte byte) }
+    ensures err { OnErr result (out.new.items ≡ out.old.items) }
 {
     if byte == b'"' || byte == b'\\' {
         out.extend_from_slice(&[b'\\', byte])
