@@ -1,5 +1,5 @@
 //! What a text can be refused for.
-ghost use Rattle.std.specs.Prelude.{◌≡◌};
+ghost use Rattle.std.specs.Prelude.{◌≡◌, ◌≤◌, length};
 ghost use Rattle.json_text.specs.Stops.{stop_at};
 ghost use Rattle.json_text.specs.FaultText.{kind_text};
 
@@ -37,7 +37,8 @@ pub enum ReadError {
 impl FaultKind {
     /// The kind's name.
     pub fn as_str(self) -> &'static str
-        ensures { result.now ≡ kind_text self }
+        ensures text { result.now ≡ kind_text self }
+        ensures short { length result.now ≤ 8 }
     {
         match self {
             FaultKind::NotJson => "NotJson",

@@ -30,7 +30,7 @@ use Rattle.sale_msg.specs.declared.category.Category.TheVariants as categories
 use Rattle.sale_msg.specs.declared.table.Form.TheVariants as forms
 use Rattle.sale_msg.specs.declared.table.Presence.TheVariants.{Required, Optional}
 use Rattle.sale_msg.proofs.Again.{header_again, header_facts, ident_fact, parted, text_fact}
-use Rattle.sale_values.proofs.Money.{money_again}
+use Rattle.sale_values.proofs.MoneyLemmas.{money_again}
 use Rattle.sale_msg.proofs.Money.{money_is_amount, read_is_amount}
 use Rattle.sale_msg.proofs.Paths.{value_at-within}
 use Rattle.sale_msg.proofs.Rows.{required_as, optional_as}

@@ -5,7 +5,7 @@ use Rattle.gw_base.specs.Amount.{minor_units, IsAmountText}
 use Rattle.gw_base.specs.Limits.{IsAmount}
 use Rattle.gw_base.proofs.AmountLemmas.{minor_units-meaning}
 use Rattle.sale_values.specs.Money.{money_text}
-use Rattle.sale_values.proofs.Money.{money_again}
+use Rattle.sale_values.proofs.MoneyLemmas.{money_again}
 
 -- what is written is the text of an amount
 pub money_is_amount : (n : ℕ) → IsAmount n → (m : ℕ) × IsAmountText (money_text n) m

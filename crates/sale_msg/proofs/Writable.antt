@@ -22,7 +22,7 @@ use Rattle.sale_values.specs.declared.request.SaleRequest.{SaleRequest}
 use Rattle.sale_values.specs.declared.request.SaleRequest.TheVariants as requests
 use Rattle.sale_values.proofs.Headers.{header_spellable}
 use Rattle.sale_values.proofs.Objects.{object_at, only_at, optional_have}
-use Rattle.sale_values.proofs.Money.{money_number}
+use Rattle.sale_values.proofs.MoneyLemmas.{money_number}
 use Rattle.sale_values.proofs.Utf8.{ascii_utf8, period_utf8}
 use Rattle.sale_msg.specs.Message.{Asks, IsMessage, IsOutput, IsPayment, IsReference, IsReferenceAt, IsReversal, TellsHeader, parts_of}
 use Rattle.sale_msg.specs.Written.{body_members, body_name, body_object, output_items, output_tree, payment_members, payment_data, reference_members, referring_members, request_tree, reversal_members, reversed_amount, text_items, texts_members}

@@ -8,9 +8,8 @@ ghost use Rattle.sale_values.specs.Money.{money_text};
 ghost use Rattle.sale_msg.specs.Written.{body_members, body_name, output_items, output_tree, payment_members, referring_members, request_tree, reversal_members, text_items};
 
 use gw_base::{Ident, Text};
-use itoa::Buffer;
 use json_text::write_text;
-use sale_values::{Header, Output, PaymentAsk, Reference, ReversalAsk, SaleRequest, Texts};
+use sale_values::{Header, Output, PaymentAsk, Reference, ReversalAsk, SaleRequest, Texts, money};
 use std::alloc::{AllocError, Global};
 
 /// Appends the one written spelling of a request: no white space, the members of the tables in their order, none for
@@ -255,15 +254,10 @@ fn write_texts(texts: &[Text], out: &mut Vec<u8>) -> Result<(), AllocError>
     out.extend_from_slice(b"]")
 }
 
-/// Minor units with two digits behind the point.
-#[tactic(auto, unfolding(sale_values::specs::Money::money_text))]
 fn write_money(minor: u64, out: &mut Vec<u8>) -> Result<(), AllocError>
     ensures { OnOk result (out.new.items ≡ out.old.items ++ money_text minor) }
 {
-    let mut whole = Buffer::new();
-    out.extend_from_slice(whole.format(minor / 100).as_bytes())?;
-    let cents = (minor % 100) as u8;
-    out.extend_from_slice(&[b'.', b'0' + cents / 10, b'0' + cents % 10])
+    out.extend_from_slice(money(minor).as_slice())
 }
 
 /// Money behind what stands in front of it, where there is some.

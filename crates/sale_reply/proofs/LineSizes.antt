@@ -11,7 +11,7 @@ use Rattle.gw_base.specs.Text437.{is_printable, letters, scalar_in}
 use Rattle.gw_base.specs.Moment.{stamp_of}
 use Rattle.sale_reply.specs.declared.reply.Detail.{Detail}
 use Rattle.sale_reply.specs.declared.reply.Detail.TheVariants.{Json, Header, Body, Abort}
-use Rattle.sale_reply.specs.Names.{fault_name}
+use Rattle.json_text.specs.FaultText.{kind_text}
 use Rattle.sale_reply.specs.Texts.{line_text, status_text, detail_text}
 use Rattle.sale_reply.specs.Limits.{IsDetail}
 use Rattle.gw_base.specs.Ident.{IsIdent}
@@ -134,7 +134,7 @@ show_size code = within 2000 (same_size (show_parts code)
 
 detail_size : (detail : Detail) → IsDetail detail → IsAtMost (detail_text detail) 110
 unfolding detail_text
-detail_size (Json fault) is = within 110 (both (known (codes "json ")) (both (sized (fault_name fault.kind) 10 (fault_size fault.kind))
+detail_size (Json fault) is = within 110 (both (known (codes "json ")) (both (sized (kind_text fault.kind) 10 (fault_size fault.kind))
     (both (known (codes " ")) (decimal_size fault.at is)))) (lit≤ tt)
 detail_size (Header path) is = within 110 (both (known (codes "header ")) (ident_size path is)) (lit≤ tt)
 detail_size (Body path) is = within 110 (both (known (codes "body ")) (ident_size path is)) (lit≤ tt)

@@ -30,7 +30,8 @@ use Rattle.sale_reply.specs.declared.reply.Shown.{Shown}
 use Rattle.sale_reply.specs.declared.reply.Told.{Told}
 use Rattle.sale_reply.specs.declared.reply.Told.TheVariants.{PaymentApproved, PaymentDeclined, ReversalApproved, ReversalDeclined, Reconciled}
 use Rattle.gw_base.specs.declared.money.Money.{Money}
-use Rattle.sale_reply.specs.Names.{result_name, status_name, fault_name, result_of, paid_result}
+use Rattle.json_text.specs.FaultText.{kind_text}
+use Rattle.sale_reply.specs.Names.{result_name, status_name, result_of, paid_result}
 use Rattle.sale_reply.specs.Pieces.{more_outputs, outputs_text}
 use Rattle.sale_reply.specs.Limits.{IsHeader, IsVerdict, IsTotal, IsTold, IsShown}
 use Rattle.sale_reply.specs.Reply.{header_tree, result_tree, success_tree, verdict_tree, sale_data, poi_data, payment_result, total, totals, approved_body, told_body, diagnosis_body, print_body, plain_body, output_tree, display_body}
@@ -83,7 +84,7 @@ code_size currency.Nok = lit≤ tt
 code_size currency.Pln = lit≤ tt
 code_size currency.Czk = lit≤ tt
 
-pub fault_size : (k : FaultKind) → length (fault_name k) ≤ 10
+pub fault_size : (k : FaultKind) → length (kind_text k) ≤ 10
 fault_size fault.NotJson = lit≤ tt
 fault_size fault.TooDeep = lit≤ tt
 fault_size fault.Repeated = lit≤ tt

@@ -1,5 +1,5 @@
 -- Every reply within the limits has a text.
-use Rattle.std.proofs.Common.{◌≡◌, ◌≢◌, ℕ, suc, ◌+◌, ◌^◌, ◌<◌, List, [], ◌∷◌, ◌++◌, Option, Some, None, true, refl, arith, All, IfSome, codes, decimal, map, ℤ}
+use Rattle.std.proofs.Common.{◌≡◌, ◌≢◌, ℕ, suc, ◌^◌, ◌<◌, List, [], ◌∷◌, ◌++◌, Option, Some, None, true, refl, arith, All, IfSome, codes, decimal, map, ℤ}
 use Rattle.std.specs.Borrow.{Bor}
 use Rattle.std.specs.Prelude.{option_map, false}
 use Rattle.std.specs.Str.{IsUtf8}
@@ -13,7 +13,7 @@ use Rattle.gw_base.specs.declared.condition.Condition.{Condition}
 use Rattle.gw_base.specs.declared.currency.Currency.{Currency}
 use Rattle.gw_base.specs.declared.money.Money.{Money}
 use Rattle.json_text.specs.Names.{are_distinct}
-use Rattle.json_text.specs.Spellable.{IsSpellable, IsSpellableAt, AreSpellable, HaveSpellable}
+use Rattle.json_text.specs.Spellable.{IsSpellable, IsSpellableAt, AreSpellable}
 use Rattle.json_text.specs.Tree.{Tree, boolean, string, array, object, Items, no_items, item, Members, no_members, member, names}
 use Rattle.json_text.specs.View.{items_onto}
 use Rattle.sale_values.specs.HeaderTexts.{HasUtf8Texts}
@@ -23,7 +23,7 @@ use Rattle.sale_values.specs.Names.{period_name}
 use Rattle.sale_values.specs.declared.header.Header.{Header}
 use Rattle.sale_values.specs.declared.names.Period.{Period}
 use Rattle.sale_values.proofs.Headers.{header_spellable}
-use Rattle.sale_values.proofs.Money.{decimal_number, money_number}
+use Rattle.sale_values.proofs.MoneyLemmas.{decimal_number, money_number}
 use Rattle.sale_values.proofs.Objects.{object_at, only_at, optional_have}
 use Rattle.sale_values.proofs.Utf8.{ascii_utf8, ident_utf8, period_utf8}
 use Rattle.sale_reply.specs.declared.reply.Detail.{Detail}

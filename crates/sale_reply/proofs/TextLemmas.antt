@@ -26,7 +26,8 @@ use Rattle.sale_reply.specs.declared.reply.GlobalStatus.TheVariants as statuses
 use Rattle.sale_reply.specs.declared.reply.ReplyResult.{ReplyResult}
 use Rattle.sale_reply.specs.declared.reply.ReplyResult.TheVariants as results
 use Rattle.sale_reply.specs.Limits.{IsDetail}
-use Rattle.sale_reply.specs.Names.{fault_name, result_name, status_name}
+use Rattle.json_text.specs.FaultText.{kind_text}
+use Rattle.sale_reply.specs.Names.{result_name, status_name}
 use Rattle.sale_reply.specs.Texts.{detail_text, line_text, status_text, transaction_text, upper_digit}
 
 -- ---- closed lists
@@ -42,7 +43,7 @@ status_utf8 statuses.Busy = ascii_utf8 (codes "Busy") refl
 status_utf8 statuses.Maintenance = ascii_utf8 (codes "Maintenance") refl
 status_utf8 statuses.Unreachable = ascii_utf8 (codes "Unreachable") refl
 
-fault_utf8 : (kind : FaultKind) → IsUtf8 (fault_name kind)
+fault_utf8 : (kind : FaultKind) → IsUtf8 (kind_text kind)
 fault_utf8 faults.NotJson = ascii_utf8 (codes "NotJson") refl
 fault_utf8 faults.TooDeep = ascii_utf8 (codes "TooDeep") refl
 fault_utf8 faults.Repeated = ascii_utf8 (codes "Repeated") refl
@@ -131,8 +132,8 @@ status_text_utf8 code small =
 pub detail_utf8 : (detail : Detail) → IsDetail detail → IsUtf8 (detail_text detail)
 unfolding detail_text
 detail_utf8 (Json fault) is =
-    IsUtf8-append (codes "json ") (fault_name fault.kind ++ (codes " " ++ decimal fault.at)) (ascii_utf8 (codes "json ") refl)
-    (IsUtf8-append (fault_name fault.kind) (codes " " ++ decimal fault.at) (fault_utf8 fault.kind)
+    IsUtf8-append (codes "json ") (kind_text fault.kind ++ (codes " " ++ decimal fault.at)) (ascii_utf8 (codes "json ") refl)
+    (IsUtf8-append (kind_text fault.kind) (codes " " ++ decimal fault.at) (fault_utf8 fault.kind)
     (IsUtf8-append (codes " ") (decimal fault.at) (ascii_utf8 (codes " ") refl) (decimal_utf8 fault.at is)))
 detail_utf8 (Header path) is = IsUtf8-append (codes "header ") path (ascii_utf8 (codes "header ") refl) (ident_utf8 100 path is)
 detail_utf8 (Body path) is = IsUtf8-append (codes "body ") path (ascii_utf8 (codes "body ") refl) (ident_utf8 100 path is)

@@ -1,7 +1,5 @@
 -- The closed lists of names that replies choose from.
 use Rattle.std.specs.Prelude.{ℕ, List, codes, Option, Some, None, nat_le, if◌then◌else◌}
-use Rattle.json_text.specs.declared.fault.FaultKind.{FaultKind}
-use Rattle.json_text.specs.declared.fault.FaultKind.TheVariants.{NotJson, TooDeep, Repeated, BadUtf8}
 use Rattle.gw_base.specs.declared.condition.Condition.{Condition}
 use Rattle.sale_reply.specs.declared.reply.GlobalStatus.{GlobalStatus}
 use Rattle.sale_reply.specs.declared.reply.GlobalStatus.TheVariants.{Ready, Busy, Maintenance, Unreachable}
@@ -20,13 +18,6 @@ status_name Ready = codes "OK"
 status_name Busy = codes "Busy"
 status_name Maintenance = codes "Maintenance"
 status_name Unreachable = codes "Unreachable"
-
--- the text that names the kind of a fault of JSON
-abbrev pub fault_name : FaultKind → List ℕ
-fault_name NotJson = codes "NotJson"
-fault_name TooDeep = codes "TooDeep"
-fault_name Repeated = codes "Repeated"
-fault_name BadUtf8 = codes "BadUtf8"
 
 -- no condition is a success
 abbrev pub result_of : Option Condition → ReplyResult

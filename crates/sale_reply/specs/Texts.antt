@@ -3,9 +3,9 @@ use Rattle.std.specs.Prelude.{ℕ, ◌+◌, ◌/◌, ◌%◌, List, [], ◌∷�
 use Rattle.std.specs.Str.{encode_utf8_all}
 use Rattle.gw_base.specs.Digits.{digits}
 use Rattle.gw_base.specs.Text437.{char_of}
+use Rattle.json_text.specs.FaultText.{fault_text}
 use Rattle.sale_reply.specs.declared.reply.Detail.{Detail}
 use Rattle.sale_reply.specs.declared.reply.Detail.TheVariants.{Json, Header, Body, Abort}
-use Rattle.sale_reply.specs.Names.{fault_name}
 
 -- a POITransactionID: six digits of the trace number, four of the receipt number, and the slot
 unfoldable pub transaction_text : ℕ → ℕ → ℕ → List ℕ
@@ -25,7 +25,7 @@ line_text line = encode_utf8_all (map char_of line)
 
 -- the text that stands as `EventDetails`
 unfoldable pub detail_text : Detail → List ℕ
-detail_text (Json fault) = codes "json " ++ (fault_name fault.kind ++ (codes " " ++ decimal fault.at))
+detail_text (Json fault) = codes "json " ++ fault_text fault
 detail_text (Header path) = codes "header " ++ path
 detail_text (Body path) = codes "body " ++ path
 detail_text Abort = codes "abort"

@@ -9,10 +9,10 @@ ghost use Rattle.sale_reply.specs.Reply.{result_tree, verdict_tree, success_tree
 
 use crate::buffer::Out;
 use crate::reply::{Detail, GlobalStatus, PoiMark, ReplyResult, Told, Verdict};
-use crate::text::{details, money, transaction};
+use crate::text::{details, transaction};
 use gw_base::{Condition, Currency, Ident, Money, stamp};
 use itoa::Buffer;
-use sale_values::Period;
+use sale_values::{Period, money};
 
 fn result_name(outcome: ReplyResult) -> &'static str
     ensures { result.now ≡ result_name outcome }

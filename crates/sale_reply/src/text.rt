@@ -1,30 +1,13 @@
 //! The texts that a reply puts together.
 ghost use Rattle.std.specs.Prelude.{◌≡◌, ◌≤◌, ◌<◌, ◌++◌, length};
 ghost use Rattle.gw_base.specs.Digits.{digits};
-ghost use Rattle.sale_reply.specs.Names.{fault_name};
-ghost use Rattle.sale_values.specs.Money.{money_text};
 ghost use Rattle.sale_reply.specs.Texts.{transaction_text, upper_digit, status_text, detail_text};
 
 use crate::reply::Detail;
 use arrayvec::ArrayVec;
 use gw_base::Ident;
 use itoa::Buffer;
-use json_text::{FaultKind, JsonFault};
-
-/// An amount of minor units with two digits behind the point.
-#[tactic(auto, unfolding(sale_values::specs::Money::money_text))]
-pub(crate) fn money(minor: u64) -> ArrayVec<u8, 24>
-    ensures { result.items ≡ money_text minor }
-{
-    let mut text = ArrayVec::new();
-    let mut whole = Buffer::new();
-    text.try_extend_from_slice(whole.format(minor / 100).as_bytes())
-        .unwrap();
-    text.push(b'.');
-    text.try_extend_from_slice(&last_digits::<2>(minor % 100))
-        .unwrap();
-    text
-}
+use json_text::JsonFault;
 
 /// A POITransactionID's `TransactionID`.
 #[tactic(auto, unfolding(crate::specs::Texts::transaction_text))]
@@ -107,7 +90,7 @@ fn json_details(fault: &JsonFault) -> ArrayVec<u8, 128>
 {
     let mut text = ArrayVec::new();
     text.try_extend_from_slice(b"json ").unwrap();
-    text.try_extend_from_slice(fault_name(fault.kind).as_bytes())
+    text.try_extend_from_slice(fault.kind.as_str().as_bytes())
         .unwrap();
     text.try_extend_from_slice(b" ").unwrap();
     text.try_extend_from_slice(Buffer::new().format(fault.at).as_bytes())
@@ -123,18 +106,6 @@ fn path_details(front: &[u8], path: &Ident<100>) -> ArrayVec<u8, 128>
     text.try_extend_from_slice(front).unwrap();
     text.try_extend_from_slice(path.as_bytes()).unwrap();
     text
-}
-
-fn fault_name(kind: FaultKind) -> &'static str
-    ensures named { result.now ≡ fault_name kind }
-    ensures short { length result.now ≤ 8 }
-{
-    match kind {
-        FaultKind::NotJson => "NotJson",
-        FaultKind::TooDeep => "TooDeep",
-        FaultKind::Repeated => "Repeated",
-        FaultKind::BadUtf8 => "BadUtf8",
-    }
 }
 
 /// The name of a message's body: the category, and what the message is.

@@ -1,10 +1,9 @@
 -- Headers that are texts.
-use Rattle.std.proofs.Common.{◌≡◌, ℕ, suc, ◌<◌, List, Option, Some, None, true, refl, codes, IfSome}
-use Rattle.std.specs.Str.{IsUtf8}
-use Rattle.json_text.specs.Tree.{Members, no_members, object, names}
+use Rattle.std.proofs.Common.{◌≡◌, ℕ, suc, ◌<◌, List, Option, Some, None, true, refl, codes}
+use Rattle.json_text.specs.Tree.{no_members, object, names}
 use Rattle.json_text.specs.Names.{are_distinct}
 use Rattle.json_text.specs.Spellable.{IsSpellableAt, HaveSpellable}
-use Rattle.sale_values.specs.Members.{text_member, optional_member}
+use Rattle.sale_values.specs.Members.{text_member}
 use Rattle.sale_values.specs.Header.{header_members}
 use Rattle.sale_values.specs.declared.header.Header.{Header}
 use Rattle.sale_values.proofs.Objects.{object_at, optional_have}

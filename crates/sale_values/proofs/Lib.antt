@@ -1,4 +1,4 @@
 pub mod Utf8
-pub mod Money
+pub mod MoneyLemmas
 pub mod Objects
 pub mod Headers

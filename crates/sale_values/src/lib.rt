@@ -7,6 +7,7 @@ mod laws;
 mod lists;
 mod names;
 mod request;
+mod written;
 
 pub use fault::SaleFault;
 pub use header::Header;
@@ -14,6 +15,7 @@ pub use laws::{law_header, law_money, law_texts};
 pub use lists::{Outputs, Texts};
 pub use names::{Class, Kind, Period, law_names};
 pub use request::{Incoming, Output, PaymentAsk, Reference, ReversalAsk, SaleRequest};
+pub use written::money;
 
 #[cfg(test)]
 mod tests;

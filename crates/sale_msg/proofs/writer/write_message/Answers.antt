@@ -11,7 +11,7 @@ returns c =
     let header = header_members c.args.header.now in
     let name = body_name c.args.request.now in
     let body = body_members c.args.request.now in
-    let named = rw c.name_of_body.ensures at c.in_ok-write_text.ensures in
+    let named = rw c.name_of_body.ensures at c.in_ok-write_text.ensures.ok in
     let q =
     grown c.args.out.now.items (codes "{\"SaleToPOIRequest\":{\"MessageHeader\":") (canonical (object header)) (codes ",") (written_text name) (codes ":") (canonical (object body))
     c.extend_from_slice.new.self.items c.write_header.new.out.items c.extend_from_slice-2.new.self.items c.write_text.new.out.items c.extend_from_slice-3.new.self.items c.write_body.new.out.items

@@ -1,4 +1,4 @@
-use Rattle.sale_values.proofs.Money.{money_number, money_again, money_one}
+use Rattle.sale_values.proofs.MoneyLemmas.{money_number, money_again, money_one}
 use Rattle.sale_values.proofs.laws.law_money.Goals as goal
 
 pub returns : goal.returns
