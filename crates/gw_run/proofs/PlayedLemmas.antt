@@ -15,7 +15,7 @@ use Rattle.gw_rules.specs.Plays.{Play, Plays, PlaysFrom, PlaysRead, PlaysLines, 
 use Rattle.gw_rules.specs.Script.{Line, Script, script_of, script_setup}
 use Rattle.gw_rules.proofs.EndLemmas.{over-ends, polls-most}
 use Rattle.gw_rules.proofs.FrontLemmas.{front-lawful}
-use Rattle.gw_run.specs.Top.{GivesName, IsAccepted, IsAtMostOneRun, IsInput, IsFresh, IsPlayOf, IsTold, IsToldEnd, IsPlayEnd, NamesLine, PlayWritten, Writes, Written, tail_of}
+use Rattle.gw_run.specs.Top.{GivesName, IsAtMostOneRun, IsInput, IsFresh, IsPlayOf, IsTold, IsToldEnd, IsPlayEnd, NamesLine, PlayOut, PlayWritten, Writes, tail_of}
 use Rattle.gw_run.specs.Turns.{EndedBy}
 use Rattle.gw_run.specs.declared.engine.Ended.TheVariants.{Done}
 use Rattle.gw_run.specs.declared.ending.Ending.{Ending}
@@ -84,14 +84,14 @@ pub done-stops : (log : List Turn) (most : ℕ) (v : View) → Stands log v → 
 done-stops log most v s few (inl over) = over-ends log v s over
 done-stops log most v s few (inr all) = absurd (let h = polls-most log v s in let e = all.polls in omega arith)
 
-written-of : (ending : Ending) (words : List (List ℕ)) (input : Option (List ℕ)) (text : List ℕ) → Writes ending input text → Written ending words input text
-written-of Played words input text h = h
-written-of Words words input text h = h
-written-of Long words input text h = h
-written-of (AtLine line) words input text h = h
-written-of Input words input text h = h
-written-of Memory words input text h = h
-written-of Cut words input text h = absurd h
+written-of : (ending : Ending) (input : Option (List ℕ)) (text : List ℕ) → Writes ending input text → PlayOut ending input text
+written-of Played input text h = h
+written-of Words input text h = h
+written-of Long input text h = h
+written-of (AtLine line) input text h = h
+written-of Input input text h = h
+written-of Memory input text h = h
+written-of Cut input text h = absurd h
 
 one-run-of : (text : List ℕ) (log : List Turn) → IsAtMostOneRun text log → IsStopped log → IsOneRun text log
 one-run-of text log (inl none) (front, e) = absurd (none-stops front (sym none ∙ e)) where
@@ -118,18 +118,18 @@ front-front : (text added tail : List ℕ) → IsFront added tail → IsFront (t
 front-front text added tail (rest, e) = (rest, ap (λ t. text ++ t) e ∙ sym (append_assoc text added rest))
 
 -- the lines behind a text, told in full or in part
-pub told-behind : (ending result : Ending) (words : List (List ℕ)) (input : Option (List ℕ)) (text added : List ℕ)
-    → (NamesLine ending → ⊥) → IsAccepted words → Writes ending input (text ++ tail_of ending) → IsTold ending result added → Written result words input (text ++ added)
-told-behind ending result words input text added never acc w (inl (same, all)) = rw (same, all) (written-of ending words input (text ++ tail_of ending) w)
-told-behind ending result words input text added never acc w (inr (inl (m, names, a))) = absurd (never names)
-told-behind ending result words input text added never acc w (inr (inr (cut, (told, inl same, front)))) = rw cut (record {
+pub told-behind : (ending result : Ending) (input : Option (List ℕ)) (text added : List ℕ)
+    → (NamesLine ending → ⊥) → IsPlayEnd ending → Writes ending input (text ++ tail_of ending) → IsTold ending result added → PlayOut result input (text ++ added)
+told-behind ending result input text added never end w (inl (same, all)) = rw (same, all) (written-of ending input (text ++ tail_of ending) w)
+told-behind ending result input text added never end w (inr (inl (m, names, a))) = absurd (never names)
+told-behind ending result input text added never end w (inr (inr (cut, (told, inl same, front)))) = rw cut (record {
   ending = ending;
   whole = text ++ tail_of ending;
-  words_are = inl acc;
+  end = end;
   writes = w;
   front = front-front text added (tail_of ending) (rw same at front);
 })
-told-behind ending result words input text added never acc w (inr (inr (cut, (told, inr other, front)))) = absurd (never other.1)
+told-behind ending result input text added never end w (inr (inr (cut, (told, inr other, front)))) = absurd (never other.1)
 
 played-line : NamesLine Played → ⊥
 played-line (line, e) = cc
@@ -140,17 +140,17 @@ memory-line (line, e) = cc
 -- the log was written, and the lines behind it
 pub log-told : (script : List ℕ) (whole : Bool) (ending result : Ending) (log : List Turn) (first added : List ℕ)
     → ((whole ≡ true) × (ending ≡ Played)) ⊎ (ending ≡ Memory) → IsPlayOf script whole log → first ≡ log_text log → IsTold ending result added → PlayWritten script result (first ++ added)
-log-told script whole ending result log first added (inl (w, e)) p f t = λ input i words acc.
-    subst (λ l. Written result words input (l ++ added)) (sym f) (told-behind Played result words input (log_text log) added played-line acc (whole-text script input log i (rw w at p)) (rw e at t))
-log-told script whole ending result log first added (inr e) p f t = λ input i words acc.
-    subst (λ l. Written result words input (l ++ added)) (sym f) (told-behind Memory result words input (log_text log) added memory-line acc (part-text script input whole log i p) (rw e at t))
+log-told script whole ending result log first added (inl (w, e)) p f t = λ input i.
+    subst (λ l. PlayOut result input (l ++ added)) (sym f) (told-behind Played result input (log_text log) added played-line tt (whole-text script input log i (rw w at p)) (rw e at t))
+log-told script whole ending result log first added (inr e) p f t = λ input i.
+    subst (λ l. PlayOut result input (l ++ added)) (sym f) (told-behind Memory result input (log_text log) added memory-line tt (part-text script input whole log i p) (rw e at t))
 
 -- a front of the log's text was written, and then no more
 pub log-cut : (script : List ℕ) (whole : Bool) (log : List Turn) (added : List ℕ) → IsPlayOf script whole log → IsFront added (log_text log) → PlayWritten script Cut added
-log-cut script whole log added p (rest, e) = λ input i words acc. record {
+log-cut script whole log added p (rest, e) = λ input i. record {
   ending = Memory;
   whole = log_text log ++ tail_of Memory;
-  words_are = inl acc;
+  end = tt;
   writes = part-text script input whole log i p;
   front = (rest ++ tail_of Memory, ap (λ t. t ++ tail_of Memory) e ∙ append_assoc added rest (tail_of Memory));
 }

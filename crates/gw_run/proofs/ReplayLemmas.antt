@@ -3,7 +3,7 @@ use Rattle.std.proofs.Common.{◌≡◌, ℕ, ◌≤◌, List, [], length, refl,
 use Rattle.std.specs.Prelude.{◌⊎◌, Option, Some, None, Err}
 use Rattle.gw_site.specs.Seen.{IsFront}
 use Rattle.gw_rules.specs.Script.{script_limit}
-use Rattle.gw_run.specs.Top.{Cause, IfTold, IsAccepted, IsInputFault, IsInputRead, IsPlayEnd, IsScriptLeft, IsTold, IsToldEnd, NamesLine, WritesFront, Written, status_of, tail_of}
+use Rattle.gw_run.specs.Top.{Cause, IfTold, IsAccepted, IsInputFault, IsInputRead, IsPlayEnd, IsScriptLeft, IsTold, IsToldEnd, NamesLine, PlayOut, Writes, WritesFront, Written, status_of, tail_of}
 use Rattle.gw_run.specs.declared.ending.Ending.{Ending}
 use Rattle.gw_run.specs.declared.ending.Ending.TheVariants.{Played, Words, Long, Line as AtLine, Input, Memory, Cut}
 
@@ -17,40 +17,46 @@ IsFault Input = Unit {0}
 IsFault Memory = Unit {0}
 IsFault Cut = ⊥
 
-lines-written : (ending : Ending) (words : List (List ℕ)) (input : Option (List ℕ)) → IsFault ending → Written ending words input (tail_of ending)
-lines-written Words words input h = refl
-lines-written Long words input h = refl
-lines-written (AtLine line) words input h = refl
-lines-written Input words input h = refl
-lines-written Memory words input h = inl refl
-lines-written Played words input h = absurd h
-lines-written Cut words input h = absurd h
+lines-written : (ending : Ending) (words : List (List ℕ)) (input left : Option (List ℕ)) (input_rose out_rose : Type 0) → IsFault ending → Written ending words input left input_rose out_rose (tail_of ending)
+lines-written Words words input left input_rose out_rose h = refl
+lines-written Long words input left input_rose out_rose h = refl
+lines-written (AtLine line) words input left input_rose out_rose h = refl
+lines-written Input words input left input_rose out_rose h = refl
+lines-written Memory words input left input_rose out_rose h = inl refl
+lines-written Played words input left input_rose out_rose h = absurd h
+lines-written Cut words input left input_rose out_rose h = absurd h
 
-lines-front : (ending : Ending) (words : List (List ℕ)) (input : Option (List ℕ)) (added : List ℕ) → IsFault ending → IsAccepted words ⊎ (ending ≡ Words) → IsFront added (tail_of ending) → WritesFront words input added
-lines-front Words words input added h acc front = record { ending = Words; whole = tail_of Words; words_are = acc; writes = refl; front = front }
-lines-front Long words input added h acc front = record { ending = Long; whole = tail_of Long; words_are = acc; writes = refl; front = front }
-lines-front (AtLine line) words input added h acc front = record { ending = AtLine line; whole = tail_of (AtLine line); words_are = acc; writes = refl; front = front }
-lines-front Input words input added h acc front = record { ending = Input; whole = tail_of Input; words_are = acc; writes = refl; front = front }
-lines-front Memory words input added h acc front = record { ending = Memory; whole = tail_of Memory; words_are = acc; writes = inl refl; front = front }
-lines-front Played words input added h acc front = absurd h
-lines-front Cut words input added h acc front = absurd h
+lines-whole : (ending : Ending) (input : Option (List ℕ)) → IsFault ending → Writes ending input (tail_of ending)
+lines-whole Words input h = refl
+lines-whole Long input h = refl
+lines-whole (AtLine line) input h = refl
+lines-whole Input input h = refl
+lines-whole Memory input h = inl refl
+lines-whole Played input h = absurd h
+lines-whole Cut input h = absurd h
+
+lines-front : (ending : Ending) (words : List (List ℕ)) (input left : Option (List ℕ)) (input_rose out_rose : Type 0) (added : List ℕ)
+    → IsFault ending → Cause ending words input left input_rose out_rose → IsFront added (tail_of ending) → WritesFront words input left input_rose out_rose added
+lines-front ending words input left input_rose out_rose added h cause front = record { ending = ending; whole = tail_of ending; cause = cause; writes = lines-whole ending input h; front = front }
 
 words-line : NamesLine Words → ⊥
 words-line (line, e) = cc
 
 -- the lines of a fault that words accepted may meet, in full or in part
-pub fault-told : (ending result : Ending) (words : List (List ℕ)) (input : Option (List ℕ)) (added : List ℕ) → IsFault ending → IsAccepted words → IsTold ending result added → Written result words input added
-fault-told ending result words input added h acc (inl (same, all)) = rw (same, all) (lines-written ending words input h)
-fault-told ending result words input added h acc (inr (inl (m, names, a))) = rw m (inl a)
-fault-told ending result words input added h acc (inr (inr (cut, (told, inl same, front)))) = rw cut (lines-front ending words input added h (inl acc) (rw same at front))
-fault-told ending result words input added h acc (inr (inr (cut, (told, inr other, front)))) = rw cut (lines-front Memory words input added tt (inl acc) (rw other.0 at front))
+pub fault-told : (ending result : Ending) (words : List (List ℕ)) (input left : Option (List ℕ)) (input_rose out_rose : Type 0) (added : List ℕ)
+    → IsFault ending → IsAccepted words → Cause ending words input left input_rose out_rose → IsTold ending result added → Written result words input left input_rose out_rose added
+fault-told ending result words input left input_rose out_rose added h acc cause (inl (same, all)) = rw (same, all) (lines-written ending words input left input_rose out_rose h)
+fault-told ending result words input left input_rose out_rose added h acc cause (inr (inl (m, names, a))) = rw m (inl a)
+fault-told ending result words input left input_rose out_rose added h acc cause (inr (inr (cut, (told, inl same, front)))) = rw cut (lines-front ending words input left input_rose out_rose added h cause (rw same at front))
+fault-told ending result words input left input_rose out_rose added h acc cause (inr (inr (cut, (told, inr other, front)))) = rw cut (lines-front Memory words input left input_rose out_rose added tt acc (rw other.0 at front))
 
 -- the lines for refused words, in full or in part
-pub words-told : (result : Ending) (words : List (List ℕ)) (input : Option (List ℕ)) (added : List ℕ) → IsTold Words result added → Written result words input added
-words-told result words input added (inl (same, all)) = rw (same, all) refl
-words-told result words input added (inr (inl (m, names, a))) = absurd (words-line names)
-words-told result words input added (inr (inr (cut, (told, inl same, front)))) = rw cut (lines-front Words words input added tt (inr refl) (rw same at front))
-words-told result words input added (inr (inr (cut, (told, inr other, front)))) = absurd (words-line other.1)
+pub words-told : (result : Ending) (words : List (List ℕ)) (input left : Option (List ℕ)) (input_rose out_rose : Type 0) (added : List ℕ)
+    → (IsAccepted words → ⊥) → IsTold Words result added → Written result words input left input_rose out_rose added
+words-told result words input left input_rose out_rose added never (inl (same, all)) = rw (same, all) refl
+words-told result words input left input_rose out_rose added never (inr (inl (m, names, a))) = absurd (words-line names)
+words-told result words input left input_rose out_rose added never (inr (inr (cut, (told, inl same, front)))) = rw cut (lines-front Words words input left input_rose out_rose added tt never (rw same at front))
+words-told result words input left input_rose out_rose added never (inr (inr (cut, (told, inr other, front)))) = absurd (words-line other.1)
 
 -- the cause of the end that is told is that of the end, or the want of memory, or a failed write
 pub told-cause : (ending result : Ending) (words : List (List ℕ)) (input left : Option (List ℕ)) (input_rose out_rose : Type 0)
@@ -76,6 +82,33 @@ play-cause Words words input left input_rose out_rose acc read cut end = absurd 
 play-cause Long words input left input_rose out_rose acc read cut end = absurd end
 play-cause (AtLine line) words input left input_rose out_rose acc read cut end = absurd end
 play-cause Input words input left input_rose out_rose acc read cut end = absurd end
+
+front-cause : (ending : Ending) (words : List (List ℕ)) (input left : Option (List ℕ)) (input_rose out_rose : Type 0) (text : List ℕ)
+    → IsAccepted words → IfTold input (λ script. (left ≡ Some []) × (length script ≤ script_limit)) → IsPlayEnd ending → Writes ending input text → Cause ending words input left input_rose out_rose
+front-cause Played words input left input_rose out_rose text acc read end w = (acc, read)
+front-cause Memory words input left input_rose out_rose text acc read end w = acc
+front-cause Cut words input left input_rose out_rose text acc read end w = absurd w
+front-cause Words words input left input_rose out_rose text acc read end w = absurd end
+front-cause Long words input left input_rose out_rose text acc read end w = absurd end
+front-cause (AtLine line) words input left input_rose out_rose text acc read end w = absurd end
+front-cause Input words input left input_rose out_rose text acc read end w = absurd end
+
+-- what a replay writes in a play
+pub play-written : (result : Ending) (words : List (List ℕ)) (input left : Option (List ℕ)) (input_rose out_rose : Type 0) (text : List ℕ)
+    → IsAccepted words → IfTold input (λ script. (left ≡ Some []) × (length script ≤ script_limit)) → PlayOut result input text → Written result words input left input_rose out_rose text
+play-written Played words input left input_rose out_rose text acc read w = w
+play-written Words words input left input_rose out_rose text acc read w = w
+play-written Long words input left input_rose out_rose text acc read w = w
+play-written (AtLine line) words input left input_rose out_rose text acc read w = w
+play-written Input words input left input_rose out_rose text acc read w = w
+play-written Memory words input left input_rose out_rose text acc read w = w
+play-written Cut words input left input_rose out_rose text acc read w = record {
+  ending = w.ending;
+  whole = w.whole;
+  cause = front-cause w.ending words input left input_rose out_rose w.whole acc read w.end w.writes;
+  writes = w.writes;
+  front = w.front;
+}
 
 -- a fault of the reading has its lines alone
 pub input-fault : (fault : Ending) → IsInputFault fault → IsFault fault
@@ -107,7 +140,7 @@ play-end ending result h (inr (inr e)) = rw e tt
 pub input-complete : (fault result : Ending) (input left : Option (List ℕ)) (input_rose : Type 0)
     → IsInputFault fault → (fault ≡ Input → input_rose) → IfTold input (λ all. IsInputRead (Err fault) all left) → IsScriptLeft input → (input_rose → ⊥) → IsToldEnd fault result → IsPlayEnd result
 input-complete Long result None left input_rose h rose long script calm told = absurd script
-input-complete Long result (Some bytes) left input_rose h rose long script calm told = absurd (let a = long bytes refl in let b = script.0 in omega arith)
+input-complete Long result (Some bytes) left input_rose h rose long script calm told = absurd (let a = (long bytes refl).long in let b = script.0 in omega arith)
 input-complete Input result input left input_rose h rose long script calm told = absurd (calm (rose refl))
 input-complete Memory result input left input_rose h rose long script calm told = play-end Memory result tt told
 input-complete Played result input left input_rose h rose long script calm told = absurd h

@@ -1,5 +1,5 @@
 -- How the top call ends, and what it writes.
-use Rattle.std.specs.Prelude.{◌≡◌, ◌⊎◌, ℕ, ◌<◌, ◌≤◌, List, [], ◌∷◌, ◌++◌, Bool, true, false, Option, Some, None, Result, Ok, Err, codes, length}
+use Rattle.std.specs.Prelude.{◌≡◌, ◌⊎◌, ℕ, ◌+◌, ◌<◌, ◌≤◌, List, [], ◌∷◌, ◌++◌, Bool, true, false, Option, Some, None, Result, Ok, Err, codes, length}
 use Rattle.std.specs.Fmt.{decimal}
 use Rattle.std.specs.Global.{Vec}
 use Rattle.gw_site.specs.Seen.{Seen, IsFront}
@@ -43,11 +43,18 @@ IfTold told P = (bytes : List ℕ) → told ≡ Some bytes → P bytes
 abbrev pub IsWrongAt : ℕ → List ℕ → Type 0
 IsWrongAt line script = (length script ≤ script_limit) × (script_of script ≡ Err line)
 
+-- the text is above the limit, and was read no further than a piece beyond it
+pub record IsTooLong (script : List ℕ) (left : Option (List ℕ)) : Type 0 where
+  pub long : script_limit < length script
+  pub rest : List ℕ
+  pub left_is : left ≡ Some rest
+  pub no_further : length script ≤ script_limit + 4096 + length rest
+
 -- the cause of each end, by the words, the input before and after, and the counts of faults of input and output
 abbrev pub Cause : Ending → List (List ℕ) → Option (List ℕ) → Option (List ℕ) → Type 0 → Type 0 → Type 0
 Cause Played words input left input_rose out_rose = IsAccepted words × IfTold input (λ script. (left ≡ Some []) × (length script ≤ script_limit))
 Cause Words words input left input_rose out_rose = ¬ IsAccepted words
-Cause Long words input left input_rose out_rose = IsAccepted words × IfTold input (λ script. script_limit < length script)
+Cause Long words input left input_rose out_rose = IsAccepted words × IfTold input (λ script. IsTooLong script left)
 Cause (AtLine line) words input left input_rose out_rose = IsAccepted words × IfTold input (IsWrongAt line)
 Cause Input words input left input_rose out_rose = IsAccepted words × input_rose
 Cause Memory words input left input_rose out_rose = IsAccepted words
@@ -89,29 +96,30 @@ Writes Input input text = text ≡ tail_of Input
 Writes Memory input text = (text ≡ tail_of Memory) ⊎ IsCutShort input text
 Writes Cut input text = ⊥
 
--- what is written where a write has failed: a front of what another end of these words may write
-pub record WritesFront (words : List (List ℕ)) (input : Option (List ℕ)) (text : List ℕ) : Type 0 where
+-- what is written where a write has failed: a front of what another end writes whose cause holds
+pub record WritesFront (words : List (List ℕ)) (input left : Option (List ℕ)) (input_rose out_rose : Type 0) (text : List ℕ) : Type 0 where
   pub ending : Ending
   pub whole : List ℕ
-  pub words_are : IsAccepted words ⊎ (ending ≡ Words)
+  pub cause : Cause ending words input left input_rose out_rose
   pub writes : Writes ending input whole
   pub front : IsFront text whole
 
-abbrev pub Written : Ending → List (List ℕ) → Option (List ℕ) → List ℕ → Type 0
-Written Played words input text = Writes Played input text
-Written Words words input text = Writes Words input text
-Written Long words input text = Writes Long input text
-Written (AtLine line) words input text = Writes (AtLine line) input text
-Written Input words input text = Writes Input input text
-Written Memory words input text = Writes Memory input text
-Written Cut words input text = WritesFront words input text
+-- what is written by the end of the call
+abbrev pub Written : Ending → List (List ℕ) → Option (List ℕ) → Option (List ℕ) → Type 0 → Type 0 → List ℕ → Type 0
+Written Played words input left input_rose out_rose text = Writes Played input text
+Written Words words input left input_rose out_rose text = Writes Words input text
+Written Long words input left input_rose out_rose text = Writes Long input text
+Written (AtLine line) words input left input_rose out_rose text = Writes (AtLine line) input text
+Written Input words input left input_rose out_rose text = Writes Input input text
+Written Memory words input left input_rose out_rose text = Writes Memory input text
+Written Cut words input left input_rose out_rose text = WritesFront words input left input_rose out_rose text
 
 -- the call has ended so: its status, the cause, and what was written, where the sink tells it
 pub record IsEnded (status : ℕ) (words : List (List ℕ)) (input left before after : Option (List ℕ)) (input_rose out_rose : Type 0) : Type 0 where
   pub ending : Ending
   pub status_is : status ≡ status_of ending
   pub cause : Cause ending words input left input_rose out_rose
-  pub output : IfTold before (λ written. (text : List ℕ) × (after ≡ Some (written ++ text)) × Written ending words input text)
+  pub output : IfTold before (λ written. (text : List ℕ) × (after ≡ Some (written ++ text)) × Written ending words input left input_rose out_rose text)
 
 -- a script of the grammar
 abbrev pub IsScript : List ℕ → Type 0
@@ -123,16 +131,44 @@ IsScriptLeft None = ⊥
 IsScriptLeft (Some bytes) = IsScript bytes
 
 -- what is written of a replay by its end
-abbrev pub ReplayWritten : Option (List ℕ) → Ending → List ℕ → Type 0
-ReplayWritten input ending text = (words : List (List ℕ)) → IsAccepted words → Written ending words input text
+abbrev pub ReplayWritten : Option (List ℕ) → Option (List ℕ) → Type 0 → Type 0 → Ending → List ℕ → Type 0
+ReplayWritten input left input_rose out_rose ending text = (words : List (List ℕ)) → IsAccepted words → Written ending words input left input_rose out_rose text
 
 -- the cause of a replay's end
 abbrev pub ReplayCause : Ending → Option (List ℕ) → Option (List ℕ) → Type 0 → Type 0 → Type 0
 ReplayCause ending input left input_rose out_rose = (words : List (List ℕ)) → IsAccepted words → Cause ending words input left input_rose out_rose
 
+-- what a play of a script may end with
+abbrev pub IsPlayEnd : Ending → Type 0
+IsPlayEnd Played = Unit {0}
+IsPlayEnd Words = ⊥
+IsPlayEnd Long = ⊥
+IsPlayEnd (AtLine line) = ⊥
+IsPlayEnd Input = ⊥
+IsPlayEnd Memory = Unit {0}
+IsPlayEnd Cut = Unit {0}
+
+-- what is written of a play where a write has failed: a front of what another of its ends may write
+pub record PlayFront (input : Option (List ℕ)) (text : List ℕ) : Type 0 where
+  pub ending : Ending
+  pub whole : List ℕ
+  pub end : IsPlayEnd ending
+  pub writes : Writes ending input whole
+  pub front : IsFront text whole
+
+-- what is written by the end of a play
+abbrev pub PlayOut : Ending → Option (List ℕ) → List ℕ → Type 0
+PlayOut Played input text = Writes Played input text
+PlayOut Words input text = Writes Words input text
+PlayOut Long input text = Writes Long input text
+PlayOut (AtLine line) input text = Writes (AtLine line) input text
+PlayOut Input input text = Writes Input input text
+PlayOut Memory input text = Writes Memory input text
+PlayOut Cut input text = PlayFront input text
+
 -- what is written of a play of this script by its end
 abbrev pub PlayWritten : List ℕ → Ending → List ℕ → Type 0
-PlayWritten script ending text = (input : Option (List ℕ)) → IsInput input script → ReplayWritten input ending text
+PlayWritten script ending text = (input : Option (List ℕ)) → IsInput input script → PlayOut ending input text
 
 -- the text is a script that gives this name, or none
 abbrev pub GivesName : List ℕ → Option (List ℕ) → Type 0
@@ -167,7 +203,7 @@ IsToldEnd ending result = (result ≡ ending) ⊎ (((result ≡ Memory) × Names
 -- what the reading of the input gives: all of it, or its fault
 abbrev pub IsInputRead : Result (Vec ℕ) Ending → List ℕ → Option (List ℕ) → Type 0
 IsInputRead (Ok bytes) all left = (bytes.items ≡ all) × (left ≡ Some []) × (length all ≤ script_limit)
-IsInputRead (Err Long) all left = script_limit < length all
+IsInputRead (Err Long) all left = IsTooLong all left
 IsInputRead (Err ending) all left = Unit {0}
 
 -- the faults that the reading of the input may meet
@@ -179,13 +215,3 @@ IsInputFault (AtLine line) = ⊥
 IsInputFault Input = Unit {0}
 IsInputFault Memory = Unit {0}
 IsInputFault Cut = ⊥
-
--- what a play of a script may end with
-abbrev pub IsPlayEnd : Ending → Type 0
-IsPlayEnd Played = Unit {0}
-IsPlayEnd Words = ⊥
-IsPlayEnd Long = ⊥
-IsPlayEnd (AtLine line) = ⊥
-IsPlayEnd Input = ⊥
-IsPlayEnd Memory = Unit {0}
-IsPlayEnd Cut = Unit {0}

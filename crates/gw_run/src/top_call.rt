@@ -49,7 +49,7 @@ fn read_input<I: Source>(alloc: Global, input: &mut I) -> Result<Vec<u8>, Ending
 
 /// The mode `replay`.
 fn replay<I: Source, O: Sink>(alloc: Global, input: &mut I, out: &mut O) -> Ending
-    ensures written { Adds (O.written out.old) (O.written out.new) (ReplayWritten (I.left input.old) result) }
+    ensures written { Adds (O.written out.old) (O.written out.new) (ReplayWritten (I.left input.old) (I.left input.new) (Rose (I.faults input.old) (I.faults input.new)) (Rose (O.faults out.old) (O.faults out.new)) result) }
     ensures cause { ReplayCause result (I.left input.old) (I.left input.new) (Rose (I.faults input.old) (I.faults input.new)) (Rose (O.faults out.old) (O.faults out.new)) }
     ensures complete { IsScriptLeft (I.left input.old) → ¬ Rose (I.faults input.old) (I.faults input.new) → ¬ Rose (O.faults out.old) (O.faults out.new) → IsPlayEnd result }
     ensures cut { result ≡ Ending.Cut → Rose (O.faults out.old) (O.faults out.new) }
