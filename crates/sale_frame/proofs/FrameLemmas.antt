@@ -9,7 +9,7 @@ use Rattle.std.specs.Int.{w32, to_be_bytes, from_be_bytes}
 use Rattle.sale_frame.specs.Frame.{IsMessageLength, IsMessage, frame, BeginsWithLength, BeginsWithMessage, IsUnfinished, IsBad, IsRest}
 
 -- the length is the one that the bytes read as
-spelled : (bytes : List ℕ) (n : ℕ) → BeginsWithLength bytes n → from_be_bytes w32 (take 4 bytes) ≡ n
+pub spelled : (bytes : List ℕ) (n : ℕ) → BeginsWithLength bytes n → from_be_bytes w32 (take 4 bytes) ≡ n
 spelled bytes n h = ap (from_be_bytes w32) h.1 ∙ from_be_bytes-to_be_bytes_4 n h.0
 
 pub one_length : (bytes : List ℕ) (m n : ℕ) → BeginsWithLength bytes m → BeginsWithLength bytes n → m ≡ n

@@ -1,6 +1,7 @@
 -- The reading byte by byte is a reading by Frames.
 use Rattle.std.proofs.Common.{◌≡◌, ℕ, zero, suc, lit<, ◌+◌, ◌<◌, ◌≤◌, inl, inr, Bool, true, false, cond, List, [], ◌∷◌, ◌++◌, length, get_or, drop, refl, ap, sym, ◌∙◌, subst, arith, append_assoc, length-drop}
-use Rattle.std.proofs.lemmas.Bool.{cases_lt}
+use Rattle.std.proofs.lemmas.Bool.{cases_lt, and_from, lt-ltb, le-leb, eq-eqb}
+use Rattle.std.specs.Prelude.{◌↔◌}
 use Rattle.std.proofs.lemmas.Bool.Decides.{nat_tests}
 use Rattle.std.proofs.lemmas.Nat.{be_bytes_4}
 use Rattle.std.proofs.lemmas.Grind.{flat_map-append}
@@ -8,10 +9,10 @@ use Rattle.std.proofs.lemmas.List.{append-nil, take-append-drop, take-append-le,
 use Rattle.std.proofs.lemmas.List.Sums.{fold-append}
 use Rattle.std.specs.List.{AllByRecursion, fold}
 use Rattle.std.specs.Int.{w32, to_be_bytes, from_be_bytes}
-use Rattle.sale_frame.specs.Frame.{IsMessageLength, IsMessage, frame, frames, BeginsWithLength, IsUnfinished, IsRest, Frames}
+use Rattle.sale_frame.specs.Frame.{IsMessageLength, IsMessage, frame, IsFrame, frames, BeginsWithLength, IsUnfinished, IsRest, Frames}
 use Rattle.sale_frame.specs.Reading.{Reading, spelled_length, is_frame, with_byte, completed, reading_of, with_messages}
 use Rattle.sale_frame.proofs.StreamLemmas.{one_reading}
-use Rattle.sale_frame.proofs.FrameLemmas.{front_is_shorter, shorter_is_front, lengthened}
+use Rattle.sale_frame.proofs.FrameLemmas.{spelled, message_begins, length-frame, front_is_shorter, shorter_is_front, lengthened}
 
 -- numbers that fit a byte
 abbrev pub AreBytes : List ℕ → Type 0
@@ -31,7 +32,7 @@ each_small (byte ∷ bytes) small zero = small.0
 each_small (byte ∷ bytes) small (suc i) = each_small bytes small.1 i
 
 -- four bytes spell some length
-spells : (bytes : List ℕ) → AreBytes bytes → 4 ≤ length bytes → BeginsWithLength bytes (spelled_length bytes)
+pub spells : (bytes : List ℕ) → AreBytes bytes → 4 ≤ length bytes → BeginsWithLength bytes (spelled_length bytes)
 spells [] small fits = absurd (omega arith)
 spells (a ∷ []) small fits = absurd (omega arith)
 spells (a ∷ b ∷ []) small fits = absurd (omega arith)
@@ -82,6 +83,9 @@ longer_rest : (rest : List ℕ) (byte : ℕ) → AreBytes rest → byte < 256 �
 longer_rest rest byte small one (inl unfinished) test = longer_front rest byte small one unfinished test
 longer_rest rest byte small one (inr (n, begins, unlawful)) test = inr (n, lengthened rest (byte ∷ []) n begins, unlawful)
 
+frame_size : (message : List ℕ) → length (frame message) ≡ 4 + length message
+frame_size message = omega (arith, length-frame message [], ap length (append-nil (frame message)))
+
 -- a frame is that of the bytes behind its length
 is_framed : (bytes : List ℕ) → AreBytes bytes → is_frame bytes ≡ true → IsMessage (drop 4 bytes) × (bytes ≡ frame (drop 4 bytes))
 is_framed bytes small test =
@@ -91,6 +95,21 @@ is_framed bytes small test =
       subst IsMessageLength (sym size) tested.0,
       sym (take-append-drop 4 bytes) ∙ ap (λ head. head ++ drop 4 bytes) begins.1 ∙ ap (λ k. to_be_bytes w32 k ++ drop 4 bytes) (sym size),
     )
+
+-- and the frame of a message passes the test
+frame_passes : (message : List ℕ) → IsMessage message → is_frame (frame message) ≡ true
+frame_passes message lawful =
+    let begins : BeginsWithLength (frame message) (length message) = message_begins (frame message) message [] lawful (sym (append-nil (frame message))) in
+    let same : spelled_length (frame message) ≡ length message = spelled (frame message) (length message) begins in
+    let size : length (frame message) ≡ 4 + length message = frame_size message in
+    and_from _ _ (lt-ltb 0 _ (subst (λ n. 0 < n) (sym same) lawful.0))
+    (and_from _ _ (le-leb _ 65536 (subst (λ n. n ≤ 65536) (sym same) lawful.1)) (eq-eqb (length (frame message)) _ (size ∙ ap (λ n. 4 + n) (sym same))))
+
+pub frames_found : (bytes : List ℕ) → AreBytes bytes → is_frame bytes ≡ true ↔ IsFrame bytes
+frames_found bytes small = (
+  λ test. let framed = is_framed bytes small test in (drop 4 bytes, framed.0, framed.1),
+  λ found. subst (λ b. is_frame b ≡ true) (sym found.2) (frame_passes found.0 found.1),
+)
 
 frames-append : (messages : List (List ℕ)) (message : List ℕ) → frames (messages ++ message ∷ []) ≡ frames messages ++ frame message
 frames-append messages message = flat_map-append frame messages (message ∷ []) ∙ ap (λ s. frames messages ++ s) (append-nil (frame message))

@@ -15,6 +15,10 @@ IsMessage message = IsMessageLength (length message)
 abbrev pub frame : List ℕ → List ℕ
 frame message = to_be_bytes w32 (length message) ++ message
 
+-- the bytes are one whole frame of some message
+abbrev pub IsFrame : List ℕ → Type 0
+IsFrame bytes = (message : List ℕ) × IsMessage message × (bytes ≡ frame message)
+
 -- the messages' frames, one behind the other
 abbrev pub frames : List (List ℕ) → List ℕ
 frames messages = flat_map frame messages

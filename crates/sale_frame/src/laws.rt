@@ -1,9 +1,9 @@
 //! What holds of frames and of readers, in whatever pieces a stream comes.
 
-ghost use Rattle.std.specs.Prelude.{◌≡◌, ℕ, ◌<◌, List, [], ◌++◌};
+ghost use Rattle.std.specs.Prelude.{◌≡◌, ◌↔◌, ℕ, ◌<◌, true, List, [], ◌++◌};
 ghost use Rattle.std.specs.List.{AllByRecursion};
-ghost use Rattle.sale_frame.specs.Frame.{IsMessage, IsRest, frame, Frames};
-ghost use Rattle.sale_frame.specs.Reading.{reading_of, completed, with_messages};
+ghost use Rattle.sale_frame.specs.Frame.{IsMessage, IsFrame, IsRest, frame, Frames};
+ghost use Rattle.sale_frame.specs.Reading.{is_frame, reading_of, completed, with_messages};
 ghost use Rattle.sale_frame.specs.Call.{Call, IsFault, Run, fed, given, OnlyRefuses};
 ghost use Rattle.sale_frame.specs.declared.fault.FrameFault.{FrameFault};
 
@@ -11,6 +11,12 @@ ghost use Rattle.sale_frame.specs.declared.fault.FrameFault.{FrameFault};
 pub fn no_frame_begins_another()
     ensures { (a b x y : List ℕ) → IsMessage a → IsMessage b → frame a ++ x ≡ frame b ++ y
         → (a ≡ b) × (x ≡ y) }
+{}
+
+/// The test of a frame finds exactly the frames of messages.
+pub fn frame_found()
+    ensures { (bytes : List ℕ) → AllByRecursion (λ byte. byte < 256) bytes
+        → is_frame bytes ≡ true ↔ IsFrame bytes }
 {}
 
 /// A stream has one reading at most.

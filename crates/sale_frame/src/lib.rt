@@ -8,8 +8,8 @@ mod reader;
 
 pub use fault::FrameFault;
 pub use laws::{
-    any_pieces, no_frame_begins_another, one_reading, piece_completes, piece_more, reading,
-    refused_for_good,
+    any_pieces, frame_found, no_frame_begins_another, one_reading, piece_completes, piece_more,
+    reading, refused_for_good,
 };
 pub use reader::{FrameReader, frame_length};
 

@@ -1,0 +1,5 @@
+use Rattle.sale_frame.proofs.ReadingLemmas.{frames_found}
+use Rattle.sale_frame.proofs.laws.frame_found.Goals as goal
+
+pub returns : goal.returns
+returns c = frames_found
