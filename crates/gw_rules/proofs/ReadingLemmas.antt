@@ -1,19 +1,20 @@
 -- What a reader of frames that holds these bytes has before it.
 use Rattle.std.proofs.Common.{◌≡◌, ℕ, ◌+◌, ◌<◌, ◌≤◌, inl, inr, Bool, true, false, List, [], ◌∷◌, ◌++◌, length, take, drop, refl, ap, sym, ◌∙◌, subst, arith, append_assoc, length-append}
-use Rattle.std.proofs.lemmas.Bool.{cases_lt, false_from_ne_true, and_from, and_parts, and_left, and_right, lt-ltb, le-leb, lt-leb, ltb-true, leb-true, eq-eqb, not_from_true, not_from_false}
+use Rattle.std.proofs.lemmas.Bool.{cases_lt, false_from_ne_true, and_from, and_parts, and_left, and_right, lt-ltb, le-leb, lt-leb, ltb-true, leb-true, not_from_true, not_from_false}
 use Rattle.std.proofs.lemmas.List.Sums.{fold-append}
-use Rattle.std.proofs.lemmas.Nat.{from_be_bytes-to_be_bytes_4}
 use Rattle.std.proofs.lemmas.Bool.Decides.{nat_tests}
 use Rattle.std.proofs.lemmas.List.{append-nil, take-append-le, length_push}
-use Rattle.std.specs.Prelude.{nat_le, nat_lt, ◌&&◌}
+use Rattle.std.specs.Prelude.{nat_le, nat_lt, ◌&&◌, not, if◌then◌else◌}
 use Rattle.std.specs.List.{fold}
-use Rattle.std.specs.Int.{w32, to_be_bytes, from_be_bytes}
+use Rattle.std.specs.Int.{w32, to_be_bytes}
 use Rattle.sale_frame.specs.Frame.{IsMessageLength, IsMessage, frame, BeginsWithLength, IsUnfinished, IsBad}
 use Rattle.sale_frame.specs.Reading.{Reading, spelled_length, is_frame, with_byte, completed, reading_of, with_messages}
-use Rattle.sale_frame.proofs.ReadingLemmas.{pieces_add}
-use Rattle.sale_frame.proofs.FrameLemmas.{length_fits, length-frame, message_begins}
+use Rattle.sale_frame.proofs.ReadingLemmas.{pieces_add, frame_passes, spells, reads_all}
+use Rattle.sale_frame.proofs.StreamLemmas.{one_reading}
+use Rattle.sale_frame.proofs.FrameLemmas.{spelled, length_fits, lengthened, length-frame, message_begins}
 use Rattle.gw_rules.specs.Scene.{Message, Unframed}
 use Rattle.gw_rules.specs.Owes.{reading_items, is_unframed}
+use Rattle.gw_rules.specs.Laws.{AreBytes, FindsBad, HeardOwes}
 
 -- no front of these bytes is a frame
 pub record HasNoFrame (bytes : List ℕ) : Type 0 where
@@ -32,9 +33,6 @@ waiting-from messages rest (byte ∷ piece) h =
 
 pub reading-waiting : (bytes : List ℕ) → HasNoFrame bytes → reading_of bytes ≡ record { messages = []; rest = bytes }
 reading-waiting bytes h = waiting-from [] [] bytes h
-
-spells : (bytes : List ℕ) (n : ℕ) → BeginsWithLength bytes n → spelled_length bytes ≡ n
-spells bytes n h = ap (from_be_bytes w32) h.1 ∙ from_be_bytes-to_be_bytes_4 n h.0
 
 front-begins : (bytes front rest : List ℕ) (n : ℕ) → bytes ≡ front ++ rest → 4 ≤ length front → BeginsWithLength bytes n → BeginsWithLength front n
 front-begins bytes front rest n e fits h = (h.0, sym (take-append-le 4 front rest fits) ∙ ap (take 4) (sym e) ∙ h.1)
@@ -68,7 +66,7 @@ unfinished-waits bytes (inr (message, lawful, more, some, is)) = record { fronts
       | inl short ↦ no_frame front (λ l size. omega arith)
       | inr fits ↦
           let whole : frame message ≡ front ++ (rest ++ more) = is ∙ ap (λ b. b ++ more) e ∙ append_assoc front rest more in
-          let n : spelled_length front ≡ length message = spells front (length message) (front-begins (frame message) front (rest ++ more) (length message) whole fits begins) in
+          let n : spelled_length front ≡ length message = spelled front (length message) (front-begins (frame message) front (rest ++ more) (length message) whole fits begins) in
           let le : length front ≤ length bytes = short-front bytes front rest e in
           no_frame front (λ l size. omega (arith, shorter))
     ]
@@ -79,7 +77,7 @@ bad-waits bytes (n, begins, unlawful) = record {
   fronts = λ front rest e. elim (cases_lt (length front) 4) [
     | inl short ↦ no_frame front (λ l size. omega arith)
     | inr fits ↦
-        let same : spelled_length front ≡ n = spells front n (front-begins bytes front rest n e fits begins) in
+        let same : spelled_length front ≡ n = spelled front n (front-begins bytes front rest n e fits begins) in
         no_frame front (λ l size. unlawful (subst IsMessageLength same l))
   ];
 }
@@ -100,13 +98,13 @@ unfinished-framed bytes h = elim (cases_lt (length bytes) 4) [
     long_framed (inl short) fits = absurd (omega arith)
     long_framed (inr (message, lawful, more, some, is)) fits =
         let begins : BeginsWithLength (frame message) (length message) = message_begins (frame message) message [] lawful (sym (append-nil (frame message))) in
-        let n : spelled_length bytes ≡ length message = spells bytes (length message) (front-begins (frame message) bytes more (length message) is fits begins) in
+        let n : spelled_length bytes ≡ length message = spelled bytes (length message) (front-begins (frame message) bytes more (length message) is fits begins) in
         and_right (nat_le 4 (length bytes)) _ (not_from_true _ (lawful_tested (spelled_length bytes) (subst IsMessageLength (sym n) lawful)))
 
 bad-unframed : (bytes : List ℕ) → IsBad bytes → is_unframed bytes ≡ true
 bad-unframed bytes (n, begins, unlawful) =
     let fits : 4 ≤ length bytes = length_fits bytes n begins in
-    let same : spelled_length bytes ≡ n = spells bytes n begins in
+    let same : spelled_length bytes ≡ n = spelled bytes n begins in
     and_from (nat_le 4 (length bytes)) _ (le-leb 4 (length bytes) fits)
     (not_from_false _ (false_from_ne_true _ (λ e. unlawful (subst IsMessageLength same (tested_lawful (spelled_length bytes) e)))))
 
@@ -121,15 +119,6 @@ snoc_of (first ∷ more) h = snoc first more
 with_byte-true : (messages : List (List ℕ)) (rest : List ℕ) (byte : ℕ) → is_frame (rest ++ byte ∷ []) ≡ true → with_byte (record { messages = messages; rest = rest }) byte ≡ record { messages = messages ++ drop 4 (rest ++ byte ∷ []) ∷ []; rest = [] }
 with_byte-true messages rest byte e = rw e refl
 
-frame-is : (message : List ℕ) → IsMessage message → is_frame (frame message) ≡ true
-frame-is message lawful =
-    let begins : BeginsWithLength (frame message) (length message) = message_begins (frame message) message [] lawful (sym (append-nil (frame message))) in
-    let n : spelled_length (frame message) ≡ length message = spells (frame message) (length message) begins in
-    let l : length (frame message) ≡ 4 + length message = (let k = length-frame message [] in let z : length (frame message ++ []) ≡ length (frame message) = ap length (append-nil (frame message)) in omega arith) in
-    let t = lawful_tested (spelled_length (frame message)) (subst IsMessageLength (sym n) lawful) in
-    let p = and_parts _ _ t in
-    and_from _ _ p.0 (and_from _ _ p.1 (eq-eqb (length (frame message)) (4 + spelled_length (frame message)) (l ∙ ap (λ k. 4 + k) (sym n))))
-
 -- one frame is read as its message
 reading-frame : (message : List ℕ) → IsMessage message → reading_of (frame message) ≡ record { messages = message ∷ []; rest = [] }
 reading-frame message lawful =
@@ -139,7 +128,7 @@ reading-frame message lawful =
     let waits : HasNoFrame init = unfinished-waits init (inr (message, lawful, s.1 ∷ [], omega arith, whole)) in
     ap reading_of whole ∙ fold-append with_byte (record { messages = []; rest = [] }) init (s.1 ∷ [])
     ∙ ap (λ r. fold with_byte r (s.1 ∷ [])) (reading-waiting init waits)
-    ∙ with_byte-true [] init s.1 (ap is_frame (sym whole) ∙ frame-is message lawful)
+    ∙ with_byte-true [] init s.1 (ap is_frame (sym whole) ∙ frame_passes message lawful)
     ∙ ap (λ m. record { messages = m ∷ []; rest = [] }) (ap (drop 4) (sym whole))
 
 -- a message in front is read first
@@ -204,3 +193,43 @@ reading-piece heard piece =
 -- what is left once the piece was heard
 pub rest-piece : (heard piece : List ℕ) → (reading_of (heard ++ piece)).rest ≡ (reading_of ((reading_of heard).rest ++ piece)).rest
 rest-piece heard piece = ap (λ (r : Reading). r.rest) (pieces_add heard piece) ∙ ap (λ (r : Reading). r.rest) (sym (reading-piece heard piece))
+
+-- ---- what newly heard bytes owe
+
+unframed-bad : (bytes : List ℕ) → AreBytes bytes → is_unframed bytes ≡ true → IsBad bytes
+unframed-bad bytes small test =
+    let parts = and_parts (nat_le 4 (length bytes)) _ test in
+    (spelled_length bytes, spells bytes small (leb-true 4 _ parts.0), λ lawful. true_not _ (lawful_tested (spelled_length bytes) lawful) parts.1)
+  where
+    true_not : (b : Bool) → b ≡ true → not b ≡ true → ⊥
+    true_not true e h = let k : false ≡ true = h in cc
+    true_not false e h = let k : false ≡ true = e in cc
+
+pub finds-bad : FindsBad
+finds-bad rest small = (unframed-bad rest small, bad-unframed rest)
+
+-- bytes behind a bad rest complete nothing
+bad-completes : (rest piece : List ℕ) → IsBad rest → (completed rest piece).messages ≡ []
+bad-completes rest piece (n, begins, unlawful) =
+    ap (λ (r : Reading). r.messages) (waiting-from [] rest piece (bad-waits (rest ++ piece) (n, lengthened rest piece n begins, unlawful)))
+
+bytes-front : (front more : List ℕ) → AreBytes (front ++ more) → AreBytes front
+bytes-front [] more small = tt
+bytes-front (byte ∷ front) more small = (small.0, bytes-front front more small.1)
+
+pub heard-owes : HeardOwes
+heard-owes till heard piece before all rest left small old new =
+    let first = one_reading heard (reading_of heard).messages before (reading_of heard).rest rest (reads_all heard (bytes-front heard piece small)) old in
+    let second = one_reading (heard ++ piece) (reading_of (heard ++ piece)).messages all (reading_of (heard ++ piece)).rest left (reads_all (heard ++ piece) small) new in
+    let more = pieces_add heard piece in
+    let reading : Reading = completed (reading_of heard).rest piece in
+    let left_is : reading.rest ≡ left = sym (ap (λ (r : Reading). r.rest) more) ∙ second.1 in
+    record {
+      new = reading.messages;
+      last = if is_unframed reading.rest then Unframed till ∷ [] else [];
+      completed = sym second.0 ∙ ap (λ (r : Reading). r.messages) more ∙ ap (λ b. b ++ reading.messages) first.0;
+      items_are = refl;
+      bad = λ h. rw (left_is, bad-unframed left h) refl;
+      unfinished = λ h. rw (left_is, unfinished-framed left h) refl;
+      behind_bad = λ h. bad-completes (reading_of heard).rest piece (subst IsBad (sym first.1) h);
+    }

@@ -1,5 +1,7 @@
--- Laws of lawful logs and of the logs of scripts.
-use Rattle.std.specs.Prelude.{◌≡◌, ℕ, List, [], ◌∷◌, ◌++◌}
+-- Laws of what is owed, of lawful logs and of the logs of scripts.
+use Rattle.std.specs.Prelude.{◌≡◌, ◌↔◌, ◌<◌, ℕ, true, List, [], ◌∷◌, ◌++◌, map}
+use Rattle.std.specs.List.{AllByRecursion}
+use Rattle.sale_frame.specs.Frame.{IsUnfinished, IsBad, Frames}
 use Rattle.gw_base.specs.Setup.{IsSetup}
 use Rattle.gw_base.specs.declared.setup.Setup.{Setup}
 use Rattle.gw_site.specs.Outside.{outside_of}
@@ -7,8 +9,32 @@ use Rattle.gw_site.specs.Image.{Image}
 use Rattle.gw_site.specs.Seen.{IsFront}
 use Rattle.gw_site.specs.declared.turn.Turn.{Turn}
 use Rattle.gw_site.specs.declared.turn.Turn.TheVariants.{Start, Crash}
+use Rattle.gw_rules.specs.Scene.{Item, Message, Unframed}
+use Rattle.gw_rules.specs.Owes.{heard_items, is_unframed}
 use Rattle.gw_rules.specs.Lawful.{IsLawful}
 use Rattle.gw_rules.specs.Plays.{IsLogOf}
+
+-- these numbers are bytes
+abbrev pub AreBytes : List ℕ → Type 0
+AreBytes bytes = AllByRecursion (λ byte. byte < 256) bytes
+
+-- The test of a rest finds exactly the bad ones.
+abbrev pub FindsBad : Type 0
+FindsBad = (rest : List ℕ) → AreBytes rest → is_unframed rest ≡ true ↔ IsBad rest
+
+-- The items of a till's newly heard bytes: one for each message that they newly complete, in order, and then one more exactly where what is left is bad. Behind a bad rest no message is completed.
+pub record OwesNew (till : ℕ) (before all : List (List ℕ)) (rest left : List ℕ) (items : List Item) : Type 0 where
+  pub new : List (List ℕ)
+  pub last : List Item
+  pub completed : all ≡ before ++ new
+  pub items_are : items ≡ map (Message till) new ++ last
+  pub bad : IsBad left → last ≡ Unframed till ∷ []
+  pub unfinished : IsUnfinished left → last ≡ []
+  pub behind_bad : IsBad rest → new ≡ []
+
+-- What bytes owe is said by the frames of all bytes heard before them and of all bytes heard with them.
+abbrev pub HeardOwes : Type 0
+HeardOwes = (till : ℕ) (heard piece : List ℕ) (before all : List (List ℕ)) (rest left : List ℕ) → AreBytes (heard ++ piece) → Frames heard before rest → Frames (heard ++ piece) all left → OwesNew till before all rest left (heard_items till heard piece)
 
 -- behind a lawful log, a power failure that leaves one of its images, and a start with a setup within the limits, are lawful
 abbrev pub RestartIsLawful : Type 0

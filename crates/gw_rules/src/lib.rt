@@ -3,7 +3,14 @@
 
 ghost use Rattle.gw_rules.specs.Example.{PollBeforeReply, StatusHasText, StatusIsLawful, StatusIsOfScript, UnaskedReply};
 ghost use Rattle.gw_rules.specs.Grammar.{ReadsScripts};
-ghost use Rattle.gw_rules.specs.Laws.{FrontIsLawful, OneLog, RestartIsLawful};
+ghost use Rattle.gw_rules.specs.Laws.{FindsBad, FrontIsLawful, HeardOwes, OneLog, RestartIsLawful};
+
+/// What a till's newly heard bytes owe is, in order, an item for each message that they newly complete, by the frames of
+/// all bytes heard before and of all bytes heard with them, and then one more exactly where no frame can follow.
+pub fn law_items()
+    ensures heard { HeardOwes }
+    ensures bad { FindsBad }
+{}
 
 /// A lawful log, then a power failure that leaves one of the files that it may leave, then a start, is lawful.
 pub fn law_crash()

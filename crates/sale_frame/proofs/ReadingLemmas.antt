@@ -97,7 +97,7 @@ is_framed bytes small test =
     )
 
 -- and the frame of a message passes the test
-frame_passes : (message : List ℕ) → IsMessage message → is_frame (frame message) ≡ true
+pub frame_passes : (message : List ℕ) → IsMessage message → is_frame (frame message) ≡ true
 frame_passes message lawful =
     let begins : BeginsWithLength (frame message) (length message) = message_begins (frame message) message [] lawful (sym (append-nil (frame message))) in
     let same : spelled_length (frame message) ≡ length message = spelled (frame message) (length message) begins in
