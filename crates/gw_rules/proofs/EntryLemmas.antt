@@ -19,7 +19,7 @@ use Rattle.gw_base.specs.Moment.{last_moment}
 use Rattle.gw_site.specs.Turns.{IsCount}
 use Rattle.sale_frame.specs.Frame.{frame}
 use Rattle.gw_rules.specs.Script.{Event, Open, Close, Say, Tick, At, Poll, Entry, Blank, Naming, Playing, Split, at_line, entry_of, hex_piece, is_blank, is_name, is_visible, name_line, number, numbered, parts_line, poll_line, said_piece, spelled, split_at_space, with_first, worded}
-use Rattle.gw_rules.specs.Grammar.{IsEntry, IsOfTill, Spells, SpellsEvent}
+use Rattle.gw_rules.specs.Grammar.{IsEntry, IsOfTill, SpellsLine, SpellsEvent}
 use Rattle.gw_rules.proofs.NumberLemmas.{decimal_number}
 
 -- a choice by a test
@@ -71,7 +71,7 @@ split_decimal n rest small = split_digits (decimal n) rest (decimal_is_IsNumeral
 -- ---- from what is read to what is spelled
 
 abbrev IfSpells : List ℕ → List ℕ → Option Entry → Type 0
-IfSpells word rest entry = (e : Entry) → entry ≡ Some e → Spells e (word ++ 32 ∷ rest)
+IfSpells word rest entry = (e : Entry) → entry ≡ Some e → SpellsLine e (word ++ 32 ∷ rest)
 
 visible_printable : (byte : ℕ) → is_visible byte ≡ true → IsPrintable byte
 visible_printable byte e = grind (arith, nat_tests)
@@ -85,7 +85,7 @@ name_spells name entry e =
     let p = and_parts (nat_le 1 (length name) && nat_le (length name) 40) (list_all is_visible name) k.0 in
     let q = and_parts (nat_le 1 (length name)) (nat_le (length name) 40) p.0 in
     let all = AllPass-from_list_all is_visible name p.1 in
-    subst (λ e. Spells e (codes "name" ++ 32 ∷ name)) k.1 (
+    subst (λ e. SpellsLine e (codes "name" ++ 32 ∷ name)) k.1 (
       (leb-true 1 (length name) q.0, leb-true (length name) 40 q.1, λ i d lt. visible_printable (slice_index_or name i d) (all i d lt)),
       λ i d lt. visible_word (slice_index_or name i d) (all i d lt),
       refl,
@@ -95,7 +95,7 @@ at_spells : (rest : List ℕ) (moment : Option ℕ) → number rest ≡ moment �
 at_spells rest None read entry e = none_some entry e
 at_spells rest (Some n) read entry e =
     let k = kept (nat_le n last_moment) (Playing (At (pos n))) entry e in
-    subst (λ e. Spells e (codes "at" ++ 32 ∷ rest)) k.1 (n, refl, leb-true n last_moment k.0, ap (λ r. codes "at" ++ 32 ∷ r) (decimal_number rest n read).is)
+    subst (λ e. SpellsLine e (codes "at" ++ 32 ∷ rest)) k.1 (n, refl, leb-true n last_moment k.0, ap (λ r. codes "at" ++ 32 ∷ r) (decimal_number rest n read).is)
 
 -- an event that is read
 abbrev IfEvent : List ℕ → Option Event → Type 0
@@ -103,7 +103,7 @@ IfEvent text event = (e : Event) → event ≡ Some e → SpellsEvent e text
 
 poll_spells : (word rest : List ℕ) (event : Option Event) → IfEvent (word ++ 32 ∷ rest) event → IfSpells word rest (poll_line event)
 poll_spells word rest None h entry e = none_some entry e
-poll_spells word rest (Some event) h entry e = subst (λ e. Spells e (word ++ 32 ∷ rest)) (some_is (Playing (Poll event)) entry e) (h event refl)
+poll_spells word rest (Some event) h entry e = subst (λ e. SpellsLine e (word ++ 32 ∷ rest)) (some_is (Playing (Poll event)) entry e) (h event refl)
 
 open_spells : (rest : List ℕ) (till : Option ℕ) → number rest ≡ till → IfEvent (codes "open" ++ 32 ∷ rest) (option_map Open till)
 open_spells rest None read event e = none_some event e
@@ -153,8 +153,8 @@ say_spells rest None parts event e = none_some event e
 say_spells rest (Some split) parts event e = say_numbered rest split (number split.word) parts refl event e
 
 -- a line by its first word
-by_word : (word rest other : List ℕ) (entry : Option Entry) (e : Entry) → bytes_eq word other ≡ true → IfSpells other rest entry → entry ≡ Some e → Spells e (word ++ 32 ∷ rest)
-by_word word rest other entry e same spells is = subst (λ w. Spells e (w ++ 32 ∷ rest)) (sym (is_word word other same)) (spells e is)
+by_word : (word rest other : List ℕ) (entry : Option Entry) (e : Entry) → bytes_eq word other ≡ true → IfSpells other rest entry → entry ≡ Some e → SpellsLine e (word ++ 32 ∷ rest)
+by_word word rest other entry e same spells is = subst (λ w. SpellsLine e (w ++ 32 ∷ rest)) (sym (is_word word other same)) (spells e is)
 
 worded_spells : (word rest : List ℕ) → IfSpells word rest (worded word rest)
 worded_spells word rest entry e =
@@ -178,20 +178,20 @@ worded_spells word rest entry e =
       ]
     ]
 
-parts_spell : (text : List ℕ) (split : Option Split) (entry : Entry) → split_at_space text ≡ split → parts_line split ≡ Some entry → Spells entry text
+parts_spell : (text : List ℕ) (split : Option Split) (entry : Entry) → split_at_space text ≡ split → parts_line split ≡ Some entry → SpellsLine entry text
 parts_spell text None entry parts e = none_some entry e
-parts_spell text (Some split) entry parts e = subst (Spells entry) (sym (split_is text split parts)) (worded_spells split.word split.rest entry e)
+parts_spell text (Some split) entry parts e = subst (SpellsLine entry) (sym (split_is text split parts)) (worded_spells split.word split.rest entry e)
 
-blank_spells : (text : List ℕ) → is_blank text ≡ true → Spells Blank text
+blank_spells : (text : List ℕ) → is_blank text ≡ true → SpellsLine Blank text
 blank_spells [] e = inl refl
 blank_spells (byte ∷ text) e = elim (eqb_tells byte 35) [ inl x ↦ inr (text, ap (λ b. b ∷ text) x.1) | inr x ↦ absurd (let h : false ≡ true = sym x.0 ∙ e in cc) ]
 
-spelled_spells : (text : List ℕ) (entry : Entry) → spelled text ≡ Some entry → Spells entry text
+spelled_spells : (text : List ℕ) (entry : Entry) → spelled text ≡ Some entry → SpellsLine entry text
 spelled_spells text entry e =
     elim (chosen (is_blank text) _ _ entry e) [
-      | inl x ↦ subst (λ e. Spells e text) (some_is Blank entry x.1) (blank_spells text x.0)
+      | inl x ↦ subst (λ e. SpellsLine e text) (some_is Blank entry x.1) (blank_spells text x.0)
       | inr said ↦ elim (chosen (bytes_eq text (codes "tick")) _ _ entry said.1) [
-        | inl x ↦ subst (λ e. Spells e text) (some_is (Playing (Poll Tick)) entry x.1) (is_word text (codes "tick") x.0)
+        | inl x ↦ subst (λ e. SpellsLine e text) (some_is (Playing (Poll Tick)) entry x.1) (is_word text (codes "tick") x.0)
         | inr other ↦ parts_spell text (split_at_space text) entry refl other.1
       ]
     ]

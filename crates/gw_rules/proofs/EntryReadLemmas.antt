@@ -11,7 +11,7 @@ use Rattle.gw_base.specs.Moment.{last_moment}
 use Rattle.gw_site.specs.Turns.{IsCount}
 use Rattle.sale_frame.specs.Frame.{frame}
 use Rattle.gw_rules.specs.Script.{Event, Open, Close, Say, Tick, At, Poll, Entry, Blank, Naming, Playing, at_line, entry_of, is_visible, name_line, number, spelled}
-use Rattle.gw_rules.specs.Grammar.{IsEntry, Spells, SpellsEvent}
+use Rattle.gw_rules.specs.Grammar.{IsEntry, SpellsLine, SpellsEvent}
 use Rattle.gw_rules.proofs.EntryLemmas.{split_decimal}
 use Rattle.gw_rules.proofs.NumberLemmas.{number_decimal}
 
@@ -44,7 +44,7 @@ event_read (Say till bytes) text (inl (hex, of, decoded, count)) = rw of.1 (byte
 event_read (Say till bytes) text (inr (said, of, framed, some, few)) = rw (of.1, framed) (text_read till said of.0 some few)
 event_read Tick text is = rw is refl
 
-spelled_read : (entry : Entry) (text : List ℕ) → Spells entry text → spelled text ≡ Some entry
+spelled_read : (entry : Entry) (text : List ℕ) → SpellsLine entry text → spelled text ≡ Some entry
 spelled_read Blank text (inl none) = rw none refl
 spelled_read Blank text (inr (comment, is)) = rw is refl
 spelled_read (Naming name) text (ident, word, is) = rw is (name_read name ident word)

@@ -12,7 +12,7 @@ use Rattle.gw_rules.specs.Owes.{Owes, told, MessageOwes, UnframedOwes}
 use Rattle.gw_rules.specs.View.{Move, Begin, Take, after, after_turn, view_from, at_first}
 use Rattle.gw_rules.specs.Lawful.{AllowedTurn, Allowed, IsCourse, turns_of, IsLawful, IsNext, is_between, IsQuiet}
 use Rattle.gw_rules.specs.Script.{Line, Script, script_of, script_setup}
-use Rattle.gw_rules.specs.Plays.{Play, Fits, PlaysFrom, play_after, polled, begins, PlaysLines, PlaysRead, IsStopped, IsRunWith, IsRunRead}
+use Rattle.gw_rules.specs.Plays.{Play, Fits, PlaysFrom, play_after, after_poll, begins, PlaysLines, PlaysRead, IsStopped, IsRunWith, IsRunRead}
 use Rattle.gw_rules.specs.Laws.{OneLog}
 use Rattle.gw_rules.proofs.AnswerLemmas.{answers-one}
 use Rattle.gw_rules.proofs.EndLemmas.{OverCalm, over-turn, over-begin}
@@ -56,7 +56,7 @@ expected moment (turn ∷ turns) calls = turn
 expected moment [] (call ∷ calls) = outcome call
 expected moment [] [] = Polled moment
 
-is-expected : (v : View) (o : Outside) (p : Play) (turn : Turn) → AllowedTurn v turn → is_between turn ≡ false → Fits o p turn → turn ≡ expected (polled o p).moment p.due v.calls
+is-expected : (v : View) (o : Outside) (p : Play) (turn : Turn) → AllowedTurn v turn → is_between turn ≡ false → Fits o p turn → turn ≡ expected (after_poll o p).moment p.due v.calls
 is-expected v o p (Start setup) ok quiet fits = absurd (let h : true ≡ false = quiet in cc)
 is-expected v o p OpenFailed ok quiet fits = absurd fits
 is-expected v o p (Polled now) ok quiet fits = rw (fits.0, ok.calls, fits.1) refl

@@ -38,15 +38,15 @@ SpellsEvent (Say till bytes) text = SpellsBytes till bytes text ⊎ SpellsText t
 SpellsEvent Tick text = text ≡ codes "tick"
 
 -- what the text of a line is: one row for each form
-abbrev pub Spells : Entry → List ℕ → Type 0
-Spells Blank text = (text ≡ []) ⊎ ((comment : List ℕ) × (text ≡ 35 ∷ comment))
-Spells (Naming name) text = IsIdent 40 name × All (λ byte. byte ≢ 32) name × IsWorded (codes "name") name text
-Spells (Playing (At moment)) text = (n : ℕ) × (moment ≡ pos n) × (n ≤ last_moment) × IsWorded (codes "at") (decimal n) text
-Spells (Playing (Poll event)) text = SpellsEvent event text
+abbrev pub SpellsLine : Entry → List ℕ → Type 0
+SpellsLine Blank text = (text ≡ []) ⊎ ((comment : List ℕ) × (text ≡ 35 ∷ comment))
+SpellsLine (Naming name) text = IsIdent 40 name × All (λ byte. byte ≢ 32) name × IsWorded (codes "name") name text
+SpellsLine (Playing (At moment)) text = (n : ℕ) × (moment ≡ pos n) × (n ≤ last_moment) × IsWorded (codes "at") (decimal n) text
+SpellsLine (Playing (Poll event)) text = SpellsEvent event text
 
 -- the text of a line is in UTF-8, and is this
 abbrev pub IsEntry : Entry → List ℕ → Type 0
-IsEntry entry text = IsUtf8 text × Spells entry text
+IsEntry entry text = IsUtf8 text × SpellsLine entry text
 
 -- these texts are these lines, one by one
 abbrev pub AreEntries : List Entry → List (List ℕ) → Type 0

@@ -44,7 +44,7 @@ abbrev pub AtEvent : Scene → ℤ → What → List ℕ → View → Type 0
 AtEvent scene now what buf v = (v ≡ event_view scene now what buf) × IsPromised scene.outside what
 
 -- a run with this setup has just begun
-pub record IsFresh (setup : Setup) (scene : Scene) : Type 0 where
+pub record IsNewRun (setup : Setup) (scene : Scene) : Type 0 where
   pub setup_is : scene.setup ≡ Some setup
   pub standing : scene.standing ≡ Opening
   pub tills : scene.outside.tills ≡ []
@@ -52,7 +52,7 @@ pub record IsFresh (setup : Setup) (scene : Scene) : Type 0 where
 
 -- and nothing is owed yet
 abbrev pub JustBegun : Setup → View → Type 0
-JustBegun setup v = (scene : Scene) × Owing scene [] [] v × IsFresh setup scene
+JustBegun setup v = (scene : Scene) × Owing scene [] [] v × IsNewRun setup scene
 
 -- these turns are a start with this setup and then the turns of its run
 abbrev pub IsFromStart : Setup → List Turn → List Turn → Type 0

@@ -34,8 +34,8 @@ met o moment (At now ∷ lines) = met o now lines
 met o moment (Poll event ∷ lines) = if applies o event then record { lines = lines; moment = moment; due = brings event } else met o moment lines
 
 -- where the script stands once the site was polled
-abbrev pub polled : Outside → Play → Play
-polled o p = met o p.moment p.lines
+abbrev pub after_poll : Outside → Play → Play
+after_poll o p = met o p.moment p.lines
 
 -- the event was brought
 abbrev pub brought : Play → Play
@@ -45,7 +45,7 @@ brought p = record p { due = [] }
 abbrev pub play_after : Outside → Play → Turn → Play
 play_after o p (Start setup) = p
 play_after o p OpenFailed = p
-play_after o p (Polled now) = polled o p
+play_after o p (Polled now) = after_poll o p
 play_after o p (Opened till) = brought p
 play_after o p (HeardTill till bytes) = brought p
 play_after o p (Closed till) = brought p
@@ -75,7 +75,7 @@ Due p turn = p.due ≡ turn ∷ []
 abbrev pub Fits : Outside → Play → Turn → Type 0
 Fits o p (Start setup) = Idle p
 Fits o p OpenFailed = ⊥
-Fits o p (Polled now) = Idle p × (now ≡ (polled o p).moment)
+Fits o p (Polled now) = Idle p × (now ≡ (after_poll o p).moment)
 Fits o p (Opened till) = Due p (Opened till)
 Fits o p (HeardTill till bytes) = Due p (HeardTill till bytes)
 Fits o p (Closed till) = Due p (Closed till)
@@ -119,6 +119,7 @@ play_of lines log = play_from nothing_yet (begins lines) log
 abbrev pub PlaysLines : List Line → List Turn → Type 0
 PlaysLines lines log = PlaysFrom nothing_yet (begins lines) log
 
+-- the log plays the script that was read, or a front of it; none plays a text that is no script
 abbrev pub PlaysRead : Result Script ℕ → List Turn → Type 0
 PlaysRead (Ok script) log = PlaysLines script.lines log
 PlaysRead (Err number) log = ⊥
@@ -135,6 +136,7 @@ IsStopped log = (front : List Turn) × (log ≡ front ++ Stopped ∷ [])
 abbrev pub IsRunWith : Setup → List Turn → Type 0
 IsRunWith setup log = (run : List Turn) × (log ≡ Start setup ∷ run) × IsQuiet run
 
+-- one run with the setup of the script that was read; none for a text that is no script
 abbrev pub IsRunRead : Result Script ℕ → List Turn → Type 0
 IsRunRead (Ok script) log = IsRunWith (script_setup script.name) log
 IsRunRead (Err number) log = ⊥

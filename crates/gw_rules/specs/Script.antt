@@ -52,10 +52,12 @@ default_name = codes "GATEWAY"
 abbrev pub script_setup : Option (List ℕ) → Setup
 script_setup name = record { name = unwrap_or name default_name; listen = []; journal = []; line = 0; wait = 60; slots = 1000000; terminals = [] }
 
+-- nothing is in the list
 abbrev pub is_empty : {A : Type 0} → List A → Bool
 is_empty [] = true
 is_empty (first ∷ rest) = false
 
+-- a decimal digit in ASCII
 abbrev pub is_digit : ℕ → Bool
 is_digit byte = nat_le 48 byte && nat_le byte 57
 
@@ -74,6 +76,7 @@ pub record Split : Type 0 where
   pub word : List ℕ
   pub rest : List ℕ
 
+-- the same split with one byte more at the front of its word
 abbrev pub with_first : ℕ → Option Split → Option Split
 with_first byte None = None
 with_first byte (Some split) = Some (record split { word = byte ∷ split.word })
@@ -91,6 +94,7 @@ is_visible byte = nat_le 33 byte && nat_le byte 126
 abbrev pub is_name : List ℕ → Bool
 is_name word = nat_le 1 (length word) && nat_le (length word) 40 && list_all is_visible word
 
+-- the line that gives the gateway this name, where it may be one
 abbrev pub name_line : List ℕ → Option Entry
 name_line word = if is_name word then Some (Naming word) else None
 
@@ -132,6 +136,7 @@ worded word rest =
     else if bytes_eq word (codes "say") then poll_line (numbered said_piece (split_at_space rest))
     else None
 
+-- the line of a text by its first word; a text without a space has none
 abbrev pub parts_line : Option Split → Option Entry
 parts_line None = None
 parts_line (Some split) = worded split.word split.rest
@@ -149,6 +154,7 @@ spelled text = if is_blank text then Some Blank else if bytes_eq text (codes "ti
 abbrev pub entry_of : List ℕ → Option Entry
 entry_of text = if is_utf8 text then spelled text else None
 
+-- the same texts with one byte more at the front of the first
 abbrev pub with_front : ℕ → List (List ℕ) → List (List ℕ)
 with_front byte [] = (byte ∷ []) ∷ []
 with_front byte (text ∷ texts) = (byte ∷ text) ∷ texts
@@ -168,6 +174,7 @@ with_entry script Blank = Some script
 with_entry script (Naming name) = if is_some script.name || not (is_empty script.lines) then None else Some (record script { name = Some name })
 with_entry script (Playing line) = Some (record script { lines = script.lines ++ line ∷ [] })
 
+-- what comes of the script so far, and the number of the line where none can be made with it
 abbrev pub goes_on : Option Script → ℕ → (Script → Result Script ℕ) → Result Script ℕ
 goes_on None number next = Err number
 goes_on (Some script) number next = next script

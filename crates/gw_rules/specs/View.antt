@@ -12,10 +12,11 @@ pub record Opens : Type 0 where
   pub calls : List Call
   pub refused : Bool
 
--- no journal is kept in this step: nothing is opened and nothing refused
+-- no journal is kept yet: nothing is opened and nothing refused
 abbrev pub opening : Setup → List ℕ → Opens
 opening setup file = record { calls = []; refused = false }
 
+-- how far a run is while its journal is opened, by whether it is refused then
 abbrev pub opening_standing : Bool → Standing
 opening_standing true = Refusing
 opening_standing false = Opening
@@ -96,7 +97,7 @@ after_turn v Synced = made v Synced
 after_turn v DiskFailed = record { scene = ended v.scene DiskFailed Broken; calls = []; items = [] }
 after_turn v (Crash file) = record { scene = fresh v.scene (Crash file) None Resting; calls = []; items = [] }
 
--- a step of a course: the first item begins, and owes these calls, or a turn is taken
+-- a move of a course: the first item begins, and owes these calls, or a turn is taken
 pub data Move : Type 0 where
   Begin : List Call → Move
   Take : Turn → Move
@@ -110,6 +111,7 @@ items_behind (item ∷ items) = items
 abbrev pub begun : View → List Call → View
 begun v calls = record { scene = record v.scene { standing = busy v.scene.standing; wrote = false }; calls = calls; items = items_behind v.items }
 
+-- the view after one more move
 abbrev pub after : View → Move → View
 after v (Begin calls) = begun v calls
 after v (Take turn) = after_turn v turn
