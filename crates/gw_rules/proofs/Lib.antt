@@ -7,6 +7,7 @@ pub mod EndLemmas
 pub mod FrontLemmas
 pub mod AnswerLemmas
 pub mod OneLogLemmas
+pub mod LineLemmas
 pub mod ExampleLemmas
 pub mod NumberLemmas
 pub mod EntryLemmas

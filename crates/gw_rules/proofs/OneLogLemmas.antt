@@ -274,3 +274,25 @@ one-by (Err number) log other p q lawful lawful2 one one2 stopped stopped2 = abs
 
 pub one-log : OneLog
 one-log text log other x y = one-by (script_of text) log other x.plays y.plays x.lawful y.lawful x.one_run y.one_run x.stopped y.stopped
+
+-- ---- the stop is the last turn
+
+stop-last : (v : View) (o : Outside) (p : Play) (moves : List Move) (front rest : List Turn) → Calm v → Rest v o p moves → turns_of moves ≡ front ++ Stopped ∷ rest → rest ≡ []
+stop-last v o p [] [] rest calm r e = absurd (let n : [] ≡ Stopped ∷ rest = e in cc)
+stop-last v o p [] (turn ∷ front) rest calm r e = absurd (let n : [] ≡ turn ∷ (front ++ Stopped ∷ rest) = e in cc)
+stop-last v o p (Begin calls ∷ moves) front rest calm r e = stop-last (after v (Begin calls)) o p moves front rest (calm-begin v calls r.lawful.0) (rest-begin v o p calls moves r) e
+stop-last v o p (Take turn ∷ moves) [] rest calm r e =
+    let heads : Stopped ≡ turn = (let n : turn ∷ turns_of moves ≡ Stopped ∷ rest = e in cc) in
+    let tails : turns_of moves ≡ rest = (let n : turn ∷ turns_of moves ≡ Stopped ∷ rest = e in cc) in
+    let over : (after_turn v turn).scene.standing ≡ Over = subst (λ t. (after_turn v t).scene.standing ≡ Over) heads refl in
+    sym tails ∙ sym (over-rest (after_turn v turn) (outside_after o turn) (play_after o p turn) moves (calm-turn v turn calm r.lawful.0) over (rest-take v o p turn moves r))
+stop-last v o p (Take turn ∷ moves) (first ∷ front) rest calm r e =
+    let tails : turns_of moves ≡ front ++ Stopped ∷ rest = (let n : turn ∷ turns_of moves ≡ first ∷ (front ++ Stopped ∷ rest) = e in cc) in
+    stop-last (after_turn v turn) (outside_after o turn) (play_after o p turn) moves front rest (calm-turn v turn calm r.lawful.0) (rest-take v o p turn moves r) tails
+
+-- behind the start of a script's log, nothing follows the stop
+pub nothing-behind : (setup : Setup) (lines : List Line) (run : List Turn) → IsLawful (Start setup ∷ run) → PlaysLines lines (Start setup ∷ run) → IsQuiet run → IsStopped (Start setup ∷ run) → (front rest : List Turn) → run ≡ front ++ Stopped ∷ rest → rest ≡ []
+nothing-behind setup lines run lawful plays quiet stopped front rest e =
+    let x = run-of setup lines (Start setup ∷ run) lawful plays (run, refl, quiet) stopped in
+    let same : run ≡ turns_of x.moves = (let n : Start setup ∷ run ≡ Start setup ∷ turns_of x.moves = x.log_is in cc) in
+    stop-last _ _ _ x.moves front rest (start-calm setup) x.rest (sym same ∙ e)

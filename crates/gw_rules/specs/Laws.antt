@@ -1,5 +1,5 @@
 -- Laws of what is owed, of lawful logs and of the logs of scripts.
-use Rattle.std.specs.Prelude.{◌≡◌, ◌↔◌, ◌<◌, ℕ, true, List, [], ◌∷◌, ◌++◌, map}
+use Rattle.std.specs.Prelude.{◌≡◌, ◌↔◌, ◌<◌, ℕ, true, List, [], ◌∷◌, ◌++◌, map, Ok}
 use Rattle.std.specs.List.{AllByRecursion}
 use Rattle.sale_frame.specs.Frame.{IsUnfinished, IsBad, Frames}
 use Rattle.gw_base.specs.Setup.{IsSetup}
@@ -12,7 +12,9 @@ use Rattle.gw_site.specs.declared.turn.Turn.TheVariants.{Start, Crash}
 use Rattle.gw_rules.specs.Scene.{Item, Message, Unframed}
 use Rattle.gw_rules.specs.Owes.{heard_items, is_unframed}
 use Rattle.gw_rules.specs.Lawful.{IsLawful}
+use Rattle.gw_rules.specs.Script.{Script, script_of}
 use Rattle.gw_rules.specs.Plays.{IsLogOf}
+use Rattle.gw_rules.specs.ByLines.{GoesByScript}
 
 -- these numbers are bytes
 abbrev pub AreBytes : List ℕ → Type 0
@@ -47,3 +49,11 @@ FrontIsLawful = (front log : List Turn) → IsFront front log → IsLawful log �
 -- a script has one log at most
 abbrev pub OneLog : Type 0
 OneLog = (script : List ℕ) (log other : List Turn) → IsLogOf script log → IsLogOf script other → log ≡ other
+
+-- the log of a script is exactly a lawful log that goes by the script's lines
+abbrev pub LogGoesByLines : Type 0
+LogGoesByLines = (text : List ℕ) (script : Script) (log : List Turn) → script_of text ≡ Ok script → IsLogOf text log ↔ (IsLawful log × GoesByScript script log)
+
+-- and only a text that is a script has a log
+abbrev pub LogHasScript : Type 0
+LogHasScript = (text : List ℕ) (log : List Turn) → IsLogOf text log → (script : Script) × (script_of text ≡ Ok script)

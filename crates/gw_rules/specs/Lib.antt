@@ -8,6 +8,7 @@ pub mod Keeps
 pub mod Script
 pub mod Grammar
 pub mod Plays
+pub mod ByLines
 pub mod LogText
 pub mod Laws
 pub mod Example

@@ -1,0 +1,8 @@
+use Rattle.gw_rules.proofs.LineLemmas.{log-by-lines, log-has-script}
+use Rattle.gw_rules.proofs.law_plays.Goals as goal
+
+pub returns-clause-lines : goal.returns-clause-lines
+returns-clause-lines c = log-by-lines
+
+pub returns-clause-script : goal.returns-clause-script
+returns-clause-script c = log-has-script

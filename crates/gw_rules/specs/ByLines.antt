@@ -1,0 +1,60 @@
+-- A log beside its script, line by line, in the words of the script's table.
+use Rattle.std.specs.Prelude.{◌≡◌, ◌⊎◌, ◌<◌, ℕ, ℤ, pos, Bool, true, false, List, [], ◌∷◌, ◌++◌}
+use Rattle.std.specs.List.{AllByRecursion}
+use Rattle.gw_site.specs.Outside.{Outside, outside_from, outside_of, is_open}
+use Rattle.gw_site.specs.declared.turn.Turn.{Turn}
+use Rattle.gw_site.specs.declared.turn.Turn.TheVariants.{Start, OpenFailed, Polled, Opened, HeardTill, Closed, HeardPt, Lost, Stopped, Linked, LinkFailed, SentTill, SentPt, CutTill, CutPt, Wrote, Synced, DiskFailed, Crash}
+use Rattle.gw_rules.specs.Script.{Event, Open, Close, Say, Tick, Line, At, Poll, Script, script_setup}
+use Rattle.gw_rules.specs.Plays.{brings}
+
+-- the line is skipped: the number of the till that opens isn't above all that opened in this run, or the till that closes or sends isn't there
+abbrev pub IsSkipped : Outside → Event → Type 0
+IsSkipped o (Open till) = till < o.next_till
+IsSkipped o (Close till) = is_open o.tills till ≡ false
+IsSkipped o (Say till bytes) = is_open o.tills till ≡ false
+IsSkipped o Tick = ⊥
+
+-- the turn is that of a call which the gateway made and which didn't fail
+abbrev pub IsCall : Turn → Type 0
+IsCall (Start setup) = ⊥
+IsCall OpenFailed = ⊥
+IsCall (Polled now) = ⊥
+IsCall (Opened till) = ⊥
+IsCall (HeardTill till bytes) = ⊥
+IsCall (Closed till) = ⊥
+IsCall (HeardPt pt bytes) = ⊥
+IsCall (Lost pt) = ⊥
+IsCall Stopped = ⊥
+IsCall (Linked pt) = Unit {0}
+IsCall (LinkFailed pt) = ⊥
+IsCall (SentTill till bytes ok) = ok ≡ true
+IsCall (SentPt pt bytes ok) = ok ≡ true
+IsCall (CutTill till) = Unit {0}
+IsCall (CutPt pt) = Unit {0}
+IsCall (Wrote at bytes) = Unit {0}
+IsCall Synced = Unit {0}
+IsCall DiskFailed = ⊥
+IsCall (Crash file) = ⊥
+
+-- a line that isn't skipped gives a poll at the moment that is set, its event, and behind it the calls of the gateway; from there the log goes on
+pub record IsPlayed (o : Outside) (moment : ℤ) (event : Event) (turns : List Turn) (GoesOn : Outside → List Turn → Type 0) : Type 0 where
+  pub calls : List Turn
+  pub later : List Turn
+  pub not_skipped : ¬ IsSkipped o event
+  pub are_calls : AllByRecursion IsCall calls
+  pub turns_are : turns ≡ Polled moment ∷ (brings event ++ (calls ++ later))
+  pub goes_on : GoesOn (outside_from o (Polled moment ∷ (brings event ++ calls))) later
+
+-- From this outside and this moment on, these lines give these turns: behind the last line a poll that brings the stop; an `at` line sets the moment; any other is skipped or played.
+abbrev pub GoesBy : Outside → ℤ → List Line → List Turn → Type 0
+GoesBy o moment [] turns = turns ≡ Polled moment ∷ Stopped ∷ []
+GoesBy o moment (At now ∷ lines) turns = GoesBy o now lines turns
+GoesBy o moment (Poll event ∷ lines) turns = (IsSkipped o event × GoesBy o moment lines turns) ⊎ IsPlayed o moment event turns (λ after later. GoesBy after moment lines later)
+
+-- the log is a start with the script's setup, the calls that open the journal, and what the lines give; the moment begins at 0
+pub record GoesByScript (script : Script) (log : List Turn) : Type 0 where
+  pub calls : List Turn
+  pub later : List Turn
+  pub are_calls : AllByRecursion IsCall calls
+  pub log_is : log ≡ Start (script_setup script.name) ∷ (calls ++ later)
+  pub goes_on : GoesBy (outside_of (Start (script_setup script.name) ∷ calls)) (pos 0) script.lines later
