@@ -1,8 +1,8 @@
 -- A log that plays a script to its end goes by its lines, and one that goes by its lines plays it.
 use Rattle.std.proofs.Common.{◌≡◌, ℕ, ◌<◌, ◌≤◌, inl, inr, Bool, true, false, List, [], ◌∷◌, ◌++◌, refl, sym, ◌∙◌, ap, subst, arith, append_assoc}
 use Rattle.std.proofs.lemmas.Bool.{false_from_ne_true, leb-true, leb-false}
-use Rattle.std.specs.Prelude.{ℤ, pos, ◌⊎◌, nat_le, if◌then◌else◌, Result, Ok, Err}
-use Rattle.std.specs.List.{AllByRecursion}
+use Rattle.std.specs.Prelude.{ℤ, pos, ◌⊎◌, if◌then◌else◌, map, Result, Ok, Err}
+use Rattle.std.specs.List.{AllByRecursion, flat_map}
 use Rattle.gw_base.specs.declared.setup.Setup.{Setup}
 use Rattle.gw_site.specs.Outside.{Outside, outside_after, outside_from, nothing_yet, is_open}
 use Rattle.gw_site.specs.declared.turn.Turn.{Turn}
@@ -10,8 +10,8 @@ use Rattle.gw_site.specs.declared.turn.Turn.TheVariants.{Start, OpenFailed, Poll
 use Rattle.gw_rules.specs.Script.{Event, Open, Close, Say, Tick, Line, At, Poll, Script, script_of, script_setup}
 use Rattle.gw_rules.specs.Lawful.{IsLawful, IsQuiet}
 use Rattle.gw_rules.specs.Plays.{Play, applies, brings, met, play_after, Fits, PlaysFrom, rests, begins, PlaysLines, PlaysRead, IsStopped, IsRunWith, IsRunRead, IsLogOf}
-use Rattle.gw_rules.specs.ByLines.{IsSkipped, IsCall, IsPlayed, GoesBy, GoesByScript}
-use Rattle.gw_rules.specs.Laws.{LogGoesByLines, LogHasScript}
+use Rattle.gw_rules.specs.ByLines.{IsSkipped, IsCall, IsPlayed, GoesBy, GoesByScript, Timed, timed, last_moment_of, AreSomeOf, event_of, poll_of, HasEventsOf}
+use Rattle.gw_rules.specs.Laws.{LogGoesByLines, LogHasEvents, LogHasScript}
 use Rattle.gw_rules.proofs.OneLogLemmas.{nothing-behind}
 
 abbrev AreCalls : List Turn → Type 0
@@ -387,3 +387,80 @@ script_read (Err number) log h = absurd h
 
 pub log-has-script : LogHasScript
 log-has-script text log x = script_read (script_of text) log x.plays
+
+-- ---- its events and its polls
+
+calls_silent : (calls later : List Turn) → AreCalls calls → (flat_map event_of (calls ++ later) ≡ flat_map event_of later) × (flat_map poll_of (calls ++ later) ≡ flat_map poll_of later)
+calls_silent [] later are = (refl, refl)
+calls_silent (call ∷ calls) later are = let rest = calls_silent calls later are.1 in by_call call are.0 rest
+  where
+    by_call : (call : Turn) → IsCall call → (flat_map event_of (calls ++ later) ≡ flat_map event_of later) × (flat_map poll_of (calls ++ later) ≡ flat_map poll_of later)
+        → (flat_map event_of (call ∷ (calls ++ later)) ≡ flat_map event_of later) × (flat_map poll_of (call ∷ (calls ++ later)) ≡ flat_map poll_of later)
+    by_call (Start setup) is rest = absurd is
+    by_call OpenFailed is rest = absurd is
+    by_call (Polled now) is rest = absurd is
+    by_call (Opened till) is rest = absurd is
+    by_call (HeardTill till bytes) is rest = absurd is
+    by_call (Closed till) is rest = absurd is
+    by_call (HeardPt pt bytes) is rest = absurd is
+    by_call (Lost pt) is rest = absurd is
+    by_call Stopped is rest = absurd is
+    by_call (Linked pt) is rest = rest
+    by_call (LinkFailed pt) is rest = absurd is
+    by_call (SentTill till bytes ok) is rest = rest
+    by_call (SentPt pt bytes ok) is rest = rest
+    by_call (CutTill till) is rest = rest
+    by_call (CutPt pt) is rest = rest
+    by_call (Wrote at bytes) is rest = rest
+    by_call Synced is rest = rest
+    by_call DiskFailed is rest = absurd is
+    by_call (Crash file) is rest = absurd is
+
+event_heard : (event : Event) (later : List Turn) → (flat_map event_of (brings event ++ later) ≡ brings event ++ flat_map event_of later) × (flat_map poll_of (brings event ++ later) ≡ flat_map poll_of later)
+event_heard (Open till) later = (refl, refl)
+event_heard (Close till) later = (refl, refl)
+event_heard (Say till bytes) later = (refl, refl)
+event_heard Tick later = (refl, refl)
+
+-- what these lines give from this moment on
+record Gives (moment : ℤ) (lines : List Line) (turns : List Turn) : Type 0 where
+  played : List Timed
+  of_lines : AreSomeOf played (timed moment lines)
+  events : flat_map event_of turns ≡ flat_map (λ (line : Timed). brings line.event) played ++ Stopped ∷ []
+  moments : flat_map poll_of turns ≡ map (λ (line : Timed). line.moment) played ++ last_moment_of moment lines ∷ []
+
+some_more : (these : List Timed) (other : Timed) (those : List Timed) → AreSomeOf these those → AreSomeOf these (other ∷ those)
+some_more [] other those h = tt
+some_more (first ∷ these) other those h = inr h
+
+gives_event : (o : Outside) (moment : ℤ) (event : Event) (lines : List Line) (turns : List Turn) → (x : IsPlayed o moment event turns (λ after later. GoesBy after moment lines later)) → Gives moment lines x.later → Gives moment (Poll event ∷ lines) turns
+gives_event o moment event lines turns x later =
+    let line : Timed = record { moment = moment; event = event } in
+    let heard = event_heard event (x.calls ++ x.later) in
+    let silent = calls_silent x.calls x.later x.are_calls in
+    record {
+      played = line ∷ later.played;
+      of_lines = inl (refl, later.of_lines);
+      events = ap (flat_map event_of) x.turns_are ∙ heard.0 ∙ ap (λ l. brings event ++ l) (silent.0 ∙ later.events) ∙ sym (append_assoc (brings event) _ (Stopped ∷ []));
+      moments = ap (flat_map poll_of) x.turns_are ∙ ap (λ l. moment ∷ l) (heard.1 ∙ silent.1 ∙ later.moments);
+    }
+
+gives : (lines : List Line) (o : Outside) (moment : ℤ) (turns : List Turn) → GoesBy o moment lines turns → Gives moment lines turns
+gives [] o moment turns e = record { played = []; of_lines = tt; events = ap (flat_map event_of) e; moments = ap (flat_map poll_of) e }
+gives (At now ∷ lines) o moment turns h = let g = gives lines o now turns h in record { played = g.played; of_lines = g.of_lines; events = g.events; moments = g.moments }
+gives (Poll event ∷ lines) o moment turns (inl (is, h)) =
+    let g = gives lines o moment turns h in
+    record { played = g.played; of_lines = some_more g.played _ (timed moment lines) g.of_lines; events = g.events; moments = g.moments }
+gives (Poll event ∷ lines) o moment turns (inr x) = gives_event o moment event lines turns x (gives lines (outside_from o (Polled moment ∷ (brings event ++ x.calls))) moment x.later x.goes_on)
+
+pub log-has-events : LogHasEvents
+log-has-events text script log e x =
+    let g = ((log-by-lines text script log e).0 x).1 in
+    let all = gives script.lines _ (pos 0) g.later g.goes_on in
+    let silent = calls_silent g.calls g.later g.are_calls in
+    record {
+      played = all.played;
+      of_lines = all.of_lines;
+      events = ap (flat_map event_of) g.log_is ∙ silent.0 ∙ all.events;
+      moments = ap (flat_map poll_of) g.log_is ∙ silent.1 ∙ all.moments;
+    }

@@ -1,6 +1,6 @@
 -- A log beside its script, line by line, in the words of the script's table.
-use Rattle.std.specs.Prelude.{◌≡◌, ◌⊎◌, ◌<◌, ℕ, ℤ, pos, Bool, true, false, List, [], ◌∷◌, ◌++◌}
-use Rattle.std.specs.List.{AllByRecursion}
+use Rattle.std.specs.Prelude.{◌≡◌, ◌⊎◌, ◌<◌, ℕ, ℤ, pos, true, false, List, [], ◌∷◌, ◌++◌, map}
+use Rattle.std.specs.List.{AllByRecursion, flat_map}
 use Rattle.gw_site.specs.Outside.{Outside, outside_from, outside_of, is_open}
 use Rattle.gw_site.specs.declared.turn.Turn.{Turn}
 use Rattle.gw_site.specs.declared.turn.Turn.TheVariants.{Start, OpenFailed, Polled, Opened, HeardTill, Closed, HeardPt, Lost, Stopped, Linked, LinkFailed, SentTill, SentPt, CutTill, CutPt, Wrote, Synced, DiskFailed, Crash}
@@ -58,3 +58,77 @@ pub record GoesByScript (script : Script) (log : List Turn) : Type 0 where
   pub are_calls : AllByRecursion IsCall calls
   pub log_is : log ≡ Start (script_setup script.name) ∷ (calls ++ later)
   pub goes_on : GoesBy (outside_of (Start (script_setup script.name) ∷ calls)) (pos 0) script.lines later
+
+-- a line that polls, with the moment that is set where it stands
+pub record Timed : Type 0 where
+  pub moment : ℤ
+  pub event : Event
+
+-- the lines that poll, each with the moment of the last `at` line in front of it
+abbrev pub timed : ℤ → List Line → List Timed
+timed moment [] = []
+timed moment (At now ∷ lines) = timed now lines
+timed moment (Poll event ∷ lines) = record { moment = moment; event = event } ∷ timed moment lines
+
+-- the moment of the last `at` line
+abbrev pub last_moment_of : ℤ → List Line → ℤ
+last_moment_of moment [] = moment
+last_moment_of moment (At now ∷ lines) = last_moment_of now lines
+last_moment_of moment (Poll event ∷ lines) = last_moment_of moment lines
+
+-- these are some of those, in the same order
+abbrev pub AreSomeOf : List Timed → List Timed → Type 0
+AreSomeOf [] those = Unit {0}
+AreSomeOf (first ∷ these) [] = ⊥
+AreSomeOf (first ∷ these) (other ∷ those) = ((first ≡ other) × AreSomeOf these those) ⊎ AreSomeOf (first ∷ these) those
+
+-- the turn, where it is an event
+abbrev pub event_of : Turn → List Turn
+event_of (Start setup) = []
+event_of OpenFailed = []
+event_of (Polled now) = []
+event_of (Opened till) = Opened till ∷ []
+event_of (HeardTill till bytes) = HeardTill till bytes ∷ []
+event_of (Closed till) = Closed till ∷ []
+event_of (HeardPt pt bytes) = HeardPt pt bytes ∷ []
+event_of (Lost pt) = Lost pt ∷ []
+event_of Stopped = Stopped ∷ []
+event_of (Linked pt) = []
+event_of (LinkFailed pt) = []
+event_of (SentTill till bytes ok) = []
+event_of (SentPt pt bytes ok) = []
+event_of (CutTill till) = []
+event_of (CutPt pt) = []
+event_of (Wrote at bytes) = []
+event_of Synced = []
+event_of DiskFailed = []
+event_of (Crash file) = []
+
+-- the moment of the turn, where it is a poll
+abbrev pub poll_of : Turn → List ℤ
+poll_of (Start setup) = []
+poll_of OpenFailed = []
+poll_of (Polled now) = now ∷ []
+poll_of (Opened till) = []
+poll_of (HeardTill till bytes) = []
+poll_of (Closed till) = []
+poll_of (HeardPt pt bytes) = []
+poll_of (Lost pt) = []
+poll_of Stopped = []
+poll_of (Linked pt) = []
+poll_of (LinkFailed pt) = []
+poll_of (SentTill till bytes ok) = []
+poll_of (SentPt pt bytes ok) = []
+poll_of (CutTill till) = []
+poll_of (CutPt pt) = []
+poll_of (Wrote at bytes) = []
+poll_of Synced = []
+poll_of DiskFailed = []
+poll_of (Crash file) = []
+
+-- The polls and events of the log are those of some of the script's lines, in their order, each poll at the moment of the last `at` line in front; behind them comes a poll at the moment of the last `at` line of all, which brings the stop.
+pub record HasEventsOf (lines : List Line) (log : List Turn) : Type 0 where
+  pub played : List Timed
+  pub of_lines : AreSomeOf played (timed (pos 0) lines)
+  pub events : flat_map event_of log ≡ flat_map (λ (line : Timed). brings line.event) played ++ Stopped ∷ []
+  pub moments : flat_map poll_of log ≡ map (λ (line : Timed). line.moment) played ++ last_moment_of (pos 0) lines ∷ []

@@ -14,7 +14,7 @@ use Rattle.gw_rules.specs.Owes.{heard_items, is_unframed}
 use Rattle.gw_rules.specs.Lawful.{IsLawful}
 use Rattle.gw_rules.specs.Script.{Script, script_of}
 use Rattle.gw_rules.specs.Plays.{IsLogOf}
-use Rattle.gw_rules.specs.ByLines.{GoesByScript}
+use Rattle.gw_rules.specs.ByLines.{GoesByScript, HasEventsOf}
 
 -- these numbers are bytes
 abbrev pub AreBytes : List ℕ → Type 0
@@ -53,6 +53,10 @@ OneLog = (script : List ℕ) (log other : List Turn) → IsLogOf script log → 
 -- the log of a script is exactly a lawful log that goes by the script's lines
 abbrev pub LogGoesByLines : Type 0
 LogGoesByLines = (text : List ℕ) (script : Script) (log : List Turn) → script_of text ≡ Ok script → IsLogOf text log ↔ (IsLawful log × GoesByScript script log)
+
+-- its events and polls are those of the lines that aren't skipped, in their order
+abbrev pub LogHasEvents : Type 0
+LogHasEvents = (text : List ℕ) (script : Script) (log : List Turn) → script_of text ≡ Ok script → IsLogOf text log → HasEventsOf script.lines log
 
 -- and only a text that is a script has a log
 abbrev pub LogHasScript : Type 0

@@ -3,7 +3,7 @@
 
 ghost use Rattle.gw_rules.specs.Example.{PollBeforeReply, StatusHasText, StatusIsLawful, StatusIsOfScript, UnaskedReply};
 ghost use Rattle.gw_rules.specs.Grammar.{ReadsScripts};
-ghost use Rattle.gw_rules.specs.Laws.{FindsBad, FrontIsLawful, HeardOwes, LogGoesByLines, LogHasScript, OneLog, RestartIsLawful};
+ghost use Rattle.gw_rules.specs.Laws.{FindsBad, FrontIsLawful, HeardOwes, LogGoesByLines, LogHasEvents, LogHasScript, OneLog, RestartIsLawful};
 
 /// What a till's newly heard bytes owe is, in order, an item for each message that they newly complete, by the frames of
 /// all bytes heard before and of all bytes heard with them, and then one more exactly where no frame can follow.
@@ -32,6 +32,7 @@ pub fn law_one_log()
 /// `at` line and its event; behind the last line comes the stop.
 pub fn law_plays()
     ensures lines { LogGoesByLines }
+    ensures events { LogHasEvents }
     ensures script { LogHasScript }
 {}
 
