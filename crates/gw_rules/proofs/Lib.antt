@@ -8,6 +8,7 @@ pub mod FrontLemmas
 pub mod AnswerLemmas
 pub mod OneLogLemmas
 pub mod LineLemmas
+pub mod ShownLemmas
 pub mod ExampleLemmas
 pub mod NumberLemmas
 pub mod EntryLemmas

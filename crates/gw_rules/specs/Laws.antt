@@ -1,7 +1,8 @@
 -- Laws of what is owed, of lawful logs and of the logs of scripts.
-use Rattle.std.specs.Prelude.{◌≡◌, ◌↔◌, ◌<◌, ℕ, true, List, [], ◌∷◌, ◌++◌, map, Ok}
+use Rattle.std.specs.Prelude.{◌≡◌, ◌↔◌, ◌<◌, ◌≤◌, ℕ, true, List, [], ◌∷◌, ◌++◌, map, Ok}
 use Rattle.std.specs.List.{AllByRecursion}
-use Rattle.sale_frame.specs.Frame.{IsUnfinished, IsBad, Frames}
+use Rattle.hex.specs.Hex.{encode_lower}
+use Rattle.sale_frame.specs.Frame.{IsMessage, IsUnfinished, IsBad, Frames, frame}
 use Rattle.gw_base.specs.Setup.{IsSetup}
 use Rattle.gw_base.specs.declared.setup.Setup.{Setup}
 use Rattle.gw_site.specs.Outside.{outside_of}
@@ -14,6 +15,7 @@ use Rattle.gw_rules.specs.Owes.{heard_items, is_unframed}
 use Rattle.gw_rules.specs.Lawful.{IsLawful}
 use Rattle.gw_rules.specs.Script.{Script, script_of}
 use Rattle.gw_rules.specs.Plays.{IsLogOf}
+use Rattle.gw_rules.specs.LogText.{shown}
 use Rattle.gw_rules.specs.ByLines.{GoesByScript, HasEventsOf}
 
 -- these numbers are bytes
@@ -61,3 +63,16 @@ LogHasEvents = (text : List ℕ) (script : Script) (log : List Turn) → script_
 -- and only a text that is a script has a log
 abbrev pub LogHasScript : Type 0
 LogHasScript = (text : List ℕ) (log : List Turn) → IsLogOf text log → (script : Script) × (script_of text ≡ Ok script)
+
+-- a message of a till that the text of a log shows as it is: spaces and visible ASCII alone
+pub record IsPrintable (message : List ℕ) : Type 0 where
+  pub is_message : IsMessage message
+  pub printable : AllByRecursion (λ byte. (32 ≤ byte) × (byte ≤ 126)) message
+
+-- its frame is shown as `'` and the message
+abbrev pub ShowsFrame : Type 0
+ShowsFrame = (message : List ℕ) → IsPrintable message → shown (frame message) ≡ 39 ∷ message
+
+-- bytes that are no such frame are shown in hexadecimal
+abbrev pub ShowsBytes : Type 0
+ShowsBytes = (bytes : List ℕ) → AreBytes bytes → ((message : List ℕ) → IsPrintable message → ¬ (bytes ≡ frame message)) → shown bytes ≡ encode_lower bytes

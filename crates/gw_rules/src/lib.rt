@@ -3,7 +3,7 @@
 
 ghost use Rattle.gw_rules.specs.Example.{PollBeforeReply, StatusHasText, StatusIsLawful, StatusIsOfScript, UnaskedReply};
 ghost use Rattle.gw_rules.specs.Grammar.{ReadsScripts};
-ghost use Rattle.gw_rules.specs.Laws.{FindsBad, FrontIsLawful, HeardOwes, LogGoesByLines, LogHasEvents, LogHasScript, OneLog, RestartIsLawful};
+ghost use Rattle.gw_rules.specs.Laws.{FindsBad, FrontIsLawful, HeardOwes, LogGoesByLines, LogHasEvents, LogHasScript, OneLog, RestartIsLawful, ShowsBytes, ShowsFrame};
 
 /// What a till's newly heard bytes owe is, in order, an item for each message that they newly complete, by the frames of
 /// all bytes heard before and of all bytes heard with them, and then one more exactly where no frame can follow.
@@ -39,6 +39,13 @@ pub fn law_plays()
 /// A text is read as the script that its lines make, and exactly where they make none the first wrong line is told.
 pub fn law_scripts()
     ensures reads { ReadsScripts }
+{}
+
+/// In the text of a log a frame whose message is printable ASCII is shown as `'` and the message, and other bytes in
+/// hexadecimal.
+pub fn law_shown()
+    ensures framed { ShowsFrame }
+    ensures other { ShowsBytes }
 {}
 
 /// A script in which a till asks for the status of a payment that nobody knows has this lawful log, with this text; a

@@ -87,7 +87,7 @@ frame_size : (message : List ℕ) → length (frame message) ≡ 4 + length mess
 frame_size message = omega (arith, length-frame message [], ap length (append-nil (frame message)))
 
 -- a frame is that of the bytes behind its length
-is_framed : (bytes : List ℕ) → AreBytes bytes → is_frame bytes ≡ true → IsMessage (drop 4 bytes) × (bytes ≡ frame (drop 4 bytes))
+pub is_framed : (bytes : List ℕ) → AreBytes bytes → is_frame bytes ≡ true → IsMessage (drop 4 bytes) × (bytes ≡ frame (drop 4 bytes))
 is_framed bytes small test =
     let tested : IsMessageLength (spelled_length bytes) × (length bytes ≡ 4 + spelled_length bytes) = frame_tested bytes test in
     let size : length (drop 4 bytes) ≡ spelled_length bytes = omega (arith, length-drop 4 bytes, tested.1) in
