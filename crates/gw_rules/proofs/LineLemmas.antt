@@ -1,16 +1,15 @@
 -- A log that plays a script to its end goes by its lines, and one that goes by its lines plays it.
-use Rattle.std.proofs.Common.{◌≡◌, ℕ, ◌<◌, ◌≤◌, inl, inr, Bool, true, false, List, [], ◌∷◌, ◌++◌, refl, sym, ◌∙◌, ap, subst, arith, append_assoc}
+use Rattle.std.proofs.Common.{◌≡◌, ℕ, inl, inr, Bool, true, false, List, [], ◌∷◌, ◌++◌, refl, sym, ◌∙◌, ap, subst, arith, append_assoc}
 use Rattle.std.proofs.lemmas.Bool.{false_from_ne_true, leb-true, leb-false}
-use Rattle.std.specs.Prelude.{ℤ, pos, ◌⊎◌, if◌then◌else◌, map, Result, Ok, Err}
+use Rattle.std.specs.Prelude.{ℤ, pos, if◌then◌else◌, map, Result, Ok, Err}
 use Rattle.std.specs.List.{AllByRecursion, flat_map}
-use Rattle.gw_base.specs.declared.setup.Setup.{Setup}
-use Rattle.gw_site.specs.Outside.{Outside, outside_after, outside_from, nothing_yet, is_open}
+use Rattle.gw_site.specs.Outside.{Outside, outside_after, outside_from, nothing_yet}
 use Rattle.gw_site.specs.declared.turn.Turn.{Turn}
 use Rattle.gw_site.specs.declared.turn.Turn.TheVariants.{Start, OpenFailed, Polled, Opened, HeardTill, Closed, HeardPt, Lost, Stopped, Linked, LinkFailed, SentTill, SentPt, CutTill, CutPt, Wrote, Synced, DiskFailed, Crash}
 use Rattle.gw_rules.specs.Script.{Event, Open, Close, Say, Tick, Line, At, Poll, Script, script_of, script_setup}
 use Rattle.gw_rules.specs.Lawful.{IsLawful, IsQuiet}
-use Rattle.gw_rules.specs.Plays.{Play, applies, brings, met, play_after, Fits, PlaysFrom, rests, begins, PlaysLines, PlaysRead, IsStopped, IsRunWith, IsRunRead, IsLogOf}
-use Rattle.gw_rules.specs.ByLines.{IsSkipped, IsCall, IsPlayed, GoesBy, GoesByScript, Timed, timed, last_moment_of, AreSomeOf, event_of, poll_of, HasEventsOf}
+use Rattle.gw_rules.specs.Plays.{Play, applies, brings, met, play_after, Fits, PlaysFrom, rests, begins, PlaysLines, PlaysRead, IsStopped, IsRunWith}
+use Rattle.gw_rules.specs.ByLines.{IsSkipped, IsCall, IsPlayed, GoesBy, GoesByScript, Timed, timed, last_moment_of, AreSomeOf, event_of, poll_of}
 use Rattle.gw_rules.specs.Laws.{LogGoesByLines, LogHasEvents, LogHasScript}
 use Rattle.gw_rules.proofs.OneLogLemmas.{nothing-behind}
 

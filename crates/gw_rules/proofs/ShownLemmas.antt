@@ -1,14 +1,14 @@
 -- How the text of a log shows the bytes of a till.
-use Rattle.std.proofs.Common.{◌≡◌, ℕ, ◌≤◌, Bool, true, false, List, [], ◌∷◌, ◌++◌, drop, refl, sym, ◌∙◌, subst}
+use Rattle.std.proofs.Common.{◌≡◌, ℕ, ◌≤◌, Bool, true, false, List, [], ◌∷◌, drop, refl}
 use Rattle.std.proofs.lemmas.Bool.{and_from, and_parts, le-leb, leb-true}
-use Rattle.std.specs.Prelude.{nat_le, ◌&&◌, if◌then◌else◌}
+use Rattle.std.specs.Prelude.{nat_le}
 use Rattle.std.specs.List.{AllByRecursion, list_all}
 use Rattle.hex.specs.Hex.{encode_lower}
-use Rattle.sale_frame.specs.Frame.{IsMessage, IsFrame, frame}
+use Rattle.sale_frame.specs.Frame.{frame}
 use Rattle.sale_frame.specs.Reading.{is_frame}
-use Rattle.sale_frame.proofs.ReadingLemmas.{frame_passes, frames_found, is_framed}
+use Rattle.sale_frame.proofs.ReadingLemmas.{frame_passes, is_framed}
 use Rattle.gw_rules.specs.LogText.{is_printable, is_shown_frame, shown}
-use Rattle.gw_rules.specs.Laws.{AreBytes, IsPrintable, ShowsFrame, ShowsBytes}
+use Rattle.gw_rules.specs.Laws.{ShowsFrame, ShowsBytes}
 
 abbrev ArePrintable : List ℕ → Type 0
 ArePrintable bytes = AllByRecursion (λ byte. (32 ≤ byte) × (byte ≤ 126)) bytes

@@ -1,5 +1,5 @@
 -- A log beside its script, line by line, in the words of the script's table.
-use Rattle.std.specs.Prelude.{◌≡◌, ◌⊎◌, ◌<◌, ℕ, ℤ, pos, true, false, List, [], ◌∷◌, ◌++◌, map}
+use Rattle.std.specs.Prelude.{◌≡◌, ◌⊎◌, ◌<◌, ℤ, pos, true, false, List, [], ◌∷◌, ◌++◌, map}
 use Rattle.std.specs.List.{AllByRecursion, flat_map}
 use Rattle.gw_site.specs.Outside.{Outside, outside_from, outside_of, is_open}
 use Rattle.gw_site.specs.declared.turn.Turn.{Turn}
