@@ -3,6 +3,7 @@ use Rattle.std.proofs.Common.{◌≡◌, ℕ, inl, inr, Bool, true, false, List,
 use Rattle.std.proofs.lemmas.Bool.{false_from_ne_true, leb-true, leb-false}
 use Rattle.std.specs.Prelude.{ℤ, pos, if◌then◌else◌, map, Result, Ok, Err}
 use Rattle.std.specs.List.{AllByRecursion, flat_map}
+use Rattle.gw_base.specs.declared.setup.Setup.{Setup}
 use Rattle.gw_site.specs.Outside.{Outside, outside_after, outside_from, nothing_yet}
 use Rattle.gw_site.specs.declared.turn.Turn.{Turn}
 use Rattle.gw_site.specs.declared.turn.Turn.TheVariants.{Start, OpenFailed, Polled, Opened, HeardTill, Closed, HeardPt, Lost, Stopped, Linked, LinkFailed, SentTill, SentPt, CutTill, CutPt, Wrote, Synced, DiskFailed, Crash}
@@ -341,6 +342,9 @@ plays_by (Poll event ∷ lines) o moment turns (inr x) = played_back event lines
 
 -- ---- the law
 
+start_more : (setup : Setup) (log run turns : List Turn) → log ≡ Start setup ∷ run → run ≡ turns → log ≡ Start setup ∷ turns
+start_more setup log run turns is same = is ∙ ap (λ l. Start setup ∷ l) same
+
 log_goes : (script : Script) (log : List Turn) → IsLawful log → PlaysLines script.lines log → IsRunWith (script_setup script.name) log → IsStopped log → GoesByScript script log
 log_goes script log lawful plays (run, is, quiet) stopped =
     let setup = script_setup script.name in
@@ -353,7 +357,7 @@ log_goes script log lawful plays (run, is, quiet) stopped =
       calls = i.calls;
       later = Polled i.now ∷ i.rest;
       are_calls = i.are_calls;
-      log_is = is ∙ ap (λ l. Start setup ∷ l) i.turns_are;
+      log_is = start_more setup log run (i.calls ++ Polled i.now ∷ i.rest) is i.turns_are;
       goes_on = goes_by script.lines (outside_from (outside_after nothing_yet (Start setup)) i.calls) (pos 0) i.now i.rest i.now_is i.plays i.left;
     }
 
