@@ -139,7 +139,7 @@ list_all_zeros : (fraction : List ℕ) → All (λ digit. digit ≡ 48) fraction
 list_all_zeros fraction all = (zeros_test fraction).1 all
 
 -- an amount is read
-minor_units-text : (text : List ℕ) (minor : ℕ) → IsAmountText text minor → minor_units text ≡ Some minor
+pub minor_units-text : (text : List ℕ) (minor : ℕ) → IsAmountText text minor → minor_units text ≡ Some minor
 unfolding minor_units
 minor_units-text text minor a =
     let digits : All IsAsciiDigit a.whole = whole_digits a.whole a.whole_digits in
@@ -204,7 +204,7 @@ amount_of text fraction minor e f =
       amount = subst IsAmount chosen.1 tests.1;
     }
 
-minor_units-is : (text : List ℕ) (minor : ℕ) → minor_units text ≡ Some minor → IsAmountText text minor
+pub minor_units-is : (text : List ℕ) (minor : ℕ) → minor_units text ≡ Some minor → IsAmountText text minor
 unfolding minor_units
 minor_units-is text minor e = at (fraction_of (rest_of text)) refl e
   where
@@ -223,3 +223,8 @@ minor_units-meaning text = at (minor_units text) refl
 -- minor units beyond the limits are none
 pub minor_with-large : (whole fraction : List ℕ) → is_amount (minor_value whole fraction) ≡ false → minor_with whole (Some fraction) ≡ None
 minor_with-large whole fraction e = rw e (simp and-false)
+
+-- a text spells one amount at most
+pub amount_text-one : (text : List ℕ) (minor other : ℕ) → IsAmountText text minor → IsAmountText text other → minor ≡ other
+amount_text-one text minor other a b =
+    let e : Some minor ≡ Some other = sym (minor_units-text text minor a) ∙ minor_units-text text other b in cc

@@ -1,9 +1,11 @@
 -- Laws of binary coded decimals.
-use Rattle.std.proofs.Common.{◌≡◌, ℕ, zero, suc, ◌+◌, ◌*◌, ◌/◌, ◌%◌, ◌^◌, ◌<◌, ◌≤◌, List, [], ◌∷◌, ◌++◌, length, arith, sym, ◌∙◌, ap, length-append, length-take, take, get_or, refl}
+use Rattle.std.proofs.Common.{◌≡◌, ℕ, zero, suc, ◌+◌, ◌*◌, ◌/◌, ◌%◌, ◌^◌, ◌<◌, ◌≤◌, true, leb, List, [], ◌∷◌, ◌++◌, length, arith, sym, ◌∙◌, ap, length-append, length-take, take, get_or, refl}
 use Rattle.std.proofs.Math.Nat.{pow-suc, mul_assoc, mul-le-mul_right, add-mul, pow-le-pow_right}
+use Rattle.std.specs.Prelude.{◌&&◌, ◌↔◌, IsTrue}
+use Rattle.std.proofs.lemmas.Bool.{leb-true, le-leb, and_parts, and_from}
 use Rattle.std.proofs.lemmas.List.{take_more}
-use Rattle.std.proofs.lemmas.List.Elements.{All-nil, All-head, All-tail, All-push, All-more}
-use Rattle.gw_base.specs.Bcd.{IsBcdByte, IsBcd, bcd_of, bcd_value, pair_byte, pair_value}
+use Rattle.std.proofs.lemmas.List.Elements.{All-nil, All-cons, All-head, All-tail, All-push, All-more}
+use Rattle.gw_base.specs.Bcd.{IsBcdByte, IsBcd, bcd_of, bcd_value, is_bcd, pair_byte, pair_value}
 
 -- a hundred to one power more
 hundred_more : (n m k : ℕ) → m ≡ n + 1 → k * 100 ^ m ≡ 100 * (k * 100 ^ n)
@@ -119,3 +121,22 @@ pub bcd_take-more : (bytes : List ℕ) (at : ℕ) → at < length bytes → IsBc
 bcd_take-more bytes at inside digits here =
     let e : take (at + 1) bytes ≡ take at bytes ++ get_or bytes at 0 ∷ [] = take_more bytes at 0 inside in
     (All-more IsBcdByte bytes at 0 inside digits here, ap bcd_value e ∙ bcd_value-snoc (take at bytes) (get_or bytes at 0))
+
+-- the test of digits passes bytes that hold digits
+pub bcd_passes : (bytes : List ℕ) → IsBcd bytes → is_bcd bytes ≡ true
+bcd_passes [] digits = refl
+bcd_passes (byte ∷ bytes) digits =
+    let here : IsBcdByte byte = All-head IsBcdByte byte bytes digits in
+    and_from _ _ (le-leb _ _ here.0) (and_from _ _ (le-leb _ _ here.1) (bcd_passes bytes (All-tail IsBcdByte byte bytes digits)))
+
+-- bytes that the test of digits passes hold digits
+pub passes_bcd : (bytes : List ℕ) → is_bcd bytes ≡ true → IsBcd bytes
+passes_bcd [] passed = All-nil IsBcdByte
+passes_bcd (byte ∷ bytes) passed =
+    let parts = and_parts (leb (byte / 16) 9) (leb (byte % 16) 9 && is_bcd bytes) passed in
+    let others = and_parts (leb (byte % 16) 9) (is_bcd bytes) parts.1 in
+    All-cons IsBcdByte byte bytes (leb-true _ _ parts.0, leb-true _ _ others.0) (passes_bcd bytes others.1)
+
+-- the test of digits passes exactly the bytes that hold digits
+pub is_bcd-test : (bytes : List ℕ) → IsTrue (is_bcd bytes) ↔ IsBcd bytes
+is_bcd-test bytes = (passes_bcd bytes, bcd_passes bytes)

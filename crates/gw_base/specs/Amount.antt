@@ -35,13 +35,15 @@ pub record IsAmountText (text : List ℕ) (minor : ℕ) : Type 0 where
   pub value : minor ≡ minor_value whole fraction
   pub amount : IsAmount minor
 
--- the digits that the text begins with, and what follows them
+-- the digits that the text begins with
 abbrev pub whole_of : List ℕ → List ℕ
 whole_of text = take_while is_ascii_digit text
 
+-- what follows the digits that the text begins with
 abbrev pub rest_of : List ℕ → List ℕ
 rest_of text = drop (prefix_len is_ascii_digit text) text
 
+-- whether there are no digits
 abbrev pub is_empty : List ℕ → Bool
 is_empty [] = true
 is_empty (_ ∷ _) = false
@@ -62,6 +64,7 @@ fraction_of (byte ∷ digits) =
 abbrev pub is_amount : ℕ → Bool
 is_amount minor = nat_le 1 minor && nat_le minor 999999999999
 
+-- the minor units of a whole number and the digits behind its point, where these are an amount
 abbrev pub minor_with : List ℕ → Option (List ℕ) → Option ℕ
 minor_with whole None = None
 minor_with whole (Some fraction) =

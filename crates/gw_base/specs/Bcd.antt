@@ -1,5 +1,5 @@
 -- Binary coded decimals: two digits in each byte, the more significant in its upper half.
-use Rattle.std.specs.Prelude.{ℕ, suc, zero, ◌+◌, ◌*◌, ◌/◌, ◌%◌, ◌^◌, ◌<◌, ◌≤◌, List, [], ◌∷◌, ◌++◌, All, length, take, slice_index}
+use Rattle.std.specs.Prelude.{ℕ, suc, zero, ◌+◌, ◌*◌, ◌/◌, ◌%◌, ◌^◌, ◌<◌, ◌≤◌, nat_le, Bool, true, ◌&&◌, List, [], ◌∷◌, ◌++◌, All, length, take, slice_index}
 
 -- both halves of the byte are decimal digits
 abbrev pub IsBcdByte : ℕ → Type 0
@@ -8,6 +8,11 @@ IsBcdByte byte = (byte / 16 ≤ 9) × (byte % 16 ≤ 9)
 -- every byte holds two decimal digits
 abbrev pub IsBcd : List ℕ → Type 0
 IsBcd bytes = All IsBcdByte bytes
+
+-- the same as a test: whether every byte holds two decimal digits
+abbrev pub is_bcd : List ℕ → Bool
+is_bcd [] = true
+is_bcd (byte ∷ bytes) = nat_le (byte / 16) 9 && (nat_le (byte % 16) 9 && is_bcd bytes)
 
 -- the number that two digits in a byte spell, 0 to 99
 abbrev pub pair_value : ℕ → ℕ

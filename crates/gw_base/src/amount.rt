@@ -1,5 +1,5 @@
 //! Amounts in the text of a JSON number.
-ghost use Rattle.std.specs.Prelude.{◌≡◌, ℕ, ◌++◌, ◌==◌, ◌<◌, ◌≤◌, [], ◌∷◌, All, length, take, drop, IsTrue, IfSome, Some, MatchOption};
+ghost use Rattle.std.specs.Prelude.{◌≡◌, ◌↔◌, ℕ, List, ◌++◌, ◌==◌, ◌<◌, ◌≤◌, [], ◌∷◌, All, length, take, drop, IsTrue, IfSome, Some, MatchOption};
 ghost use Rattle.std.specs.Char.{is_ascii_digit, IsAsciiDigit};
 ghost use Rattle.std.specs.List.{list_all, prefix_len};
 ghost use Rattle.std.specs.Option.{option_copied};
@@ -119,3 +119,9 @@ fn hundredths(fraction: &[u8]) -> u64
         [tenths, hundredths, ..] => u64::from(10 * (tenths - b'0') + (hundredths - b'0')),
     }
 }
+
+/// What is read from a text is exactly the amount that it spells, and a text spells one amount at most.
+pub fn law_amounts()
+    ensures meaning { (text : List ℕ) (minor : ℕ) → (minor_units text ≡ Some minor) ↔ IsAmountText text minor }
+    ensures one { (text : List ℕ) (minor other : ℕ) → IsAmountText text minor → IsAmountText text other → minor ≡ other }
+{}

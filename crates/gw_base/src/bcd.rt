@@ -1,6 +1,6 @@
 //! Binary coded decimals: two digits in each byte, the more significant in its upper half.
-ghost use Rattle.std.specs.Prelude.{◌≡◌, ℕ, ◌^◌, ◌<◌, ◌≤◌, List, length, MatchResult};
-ghost use Rattle.gw_base.specs.Bcd.{IsBcd, IsFirstNotBcd, bcd_of, bcd_value, pair_byte, pair_value};
+ghost use Rattle.std.specs.Prelude.{◌≡◌, ◌↔◌, ℕ, ◌^◌, ◌<◌, ◌≤◌, List, length, IsTrue, MatchResult};
+ghost use Rattle.gw_base.specs.Bcd.{IsBcd, IsFirstNotBcd, bcd_of, bcd_value, is_bcd, pair_byte, pair_value};
 
 /// A byte of which a half is above 9.
 #[derive(Clone, Copy, PartialEq, Eq, Debug)]
@@ -45,11 +45,12 @@ fn byte_of_pair(pair: u8) -> u8
     16 * (pair / 10) + pair % 10
 }
 
-/// Digits that were written are read again as the same value, and a number has one spelling in so many
-/// bytes.
+/// Digits that were written are read again as the same value, a number has one spelling in so many bytes,
+/// and the test of digits passes exactly the bytes that hold digits.
 pub fn law_bcd()
     ensures read_again { (count value : ℕ) → value < 100 ^ count
         → IsBcd (bcd_of count value) × (bcd_value (bcd_of count value) ≡ value) }
     ensures one_spelling { (bytes : List ℕ) → IsBcd bytes → bcd_of (length bytes) (bcd_value bytes) ≡ bytes }
     ensures count { (count value : ℕ) → length (bcd_of count value) ≡ count }
+    ensures test { (bytes : List ℕ) → IsTrue (is_bcd bytes) ↔ IsBcd bytes }
 {}

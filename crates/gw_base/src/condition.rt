@@ -72,3 +72,8 @@ impl Condition {
         None
     }
 }
+
+/// No two conditions have the same name.
+pub fn law_conditions()
+    ensures { (a b : Condition) → name_of a ≡ name_of b → a ≡ b }
+{}

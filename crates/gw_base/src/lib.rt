@@ -12,9 +12,9 @@ mod money;
 mod setup;
 mod text_437;
 
-pub use amount::minor_of;
+pub use amount::{law_amounts, minor_of};
 pub use bcd::{NotDigits, bcd_read, bcd_write, law_bcd};
-pub use condition::Condition;
+pub use condition::{Condition, law_conditions};
 pub use currency::{Currency, law_currencies};
 pub use ident::Ident;
 pub use lists::{Bodies, Bytes, Text};

@@ -32,6 +32,7 @@ impl Pt {
     pub fn is_within_limits(&self) -> bool
         ensures { IsTrue result ↔ IsPt self.now }
     {
+        // The proof takes the limits of an identifier from this call.
         let _poi = self.poi.as_bytes();
         self.password
             .iter()
@@ -108,6 +109,7 @@ impl Setup {
     pub fn is_within_limits(&self) -> bool
         ensures { IsTrue result ↔ IsSetup self.now }
     {
+        // The proof takes the limits of an identifier from this call.
         let _name = self.name.as_bytes();
         let terminals = self.terminals.as_slice();
         if self.line > 8 || terminals.len() > 32 {
