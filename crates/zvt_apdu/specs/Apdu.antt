@@ -12,6 +12,7 @@ pub record ApduValue : Type 0 where
   pub instr : ℕ
   pub body : List ℕ
 
+-- the APDU as plain data
 abbrev pub value_of : Apdu → ApduValue
 value_of apdu = record { class = apdu.class; instr = apdu.instr; body = apdu.body.now }
 

@@ -21,6 +21,7 @@ front_of_long class instr [] = Partial
 front_of_long class instr (low ∷ []) = Partial
 front_of_long class instr (low ∷ high ∷ bytes) = front_of_body class instr (low + 256 * high) bytes
 
+-- what stands at the front of bytes
 abbrev pub front_of : List ℕ → Front
 front_of [] = Partial
 front_of (class ∷ []) = Partial

@@ -26,6 +26,10 @@ pub fn law_any_pieces()
     ensures pieces { (calls : List Call) (waiting : List ℕ) → Run [] calls waiting
         → Splits (fed calls) (given calls) waiting }
 
+    // So where no more can be given, exactly the APDUs of all that was fed were given.
+    ensures exactly { (calls : List Call) (waiting : List ℕ) → Run [] calls waiting → IsEnd waiting
+        → Apdus (fed calls) (given calls) waiting }
+
     // Bytes are read in one way.
     ensures only { (bytes r s : List ℕ) (xs ys : List ApduValue) → Apdus bytes xs r → Apdus bytes ys s
         → (xs ≡ ys) × (r ≡ s) }

@@ -2,14 +2,14 @@
 use Rattle.std.proofs.Common.{◌≡◌, ℕ, ◌-◌, ◌^◌, ◌<◌, Bool, true, false, cond, List, [], ◌∷◌, ◌++◌, length, Option, Some, None, Result, Ok, refl, sym, ap, ◌∙◌, arith}
 use Rattle.std.specs.Prelude.{is_some, IfSome}
 use Rattle.std.proofs.lemmas.List.{append-nil}
-use Rattle.gw_base.specs.Bcd.{IsBcd, bcd_value, bcd_of}
+use Rattle.gw_base.specs.Bcd.{IsBcd, bcd_value, bcd_of, is_bcd}
 use Rattle.zvt_bmp.specs.declared.form.Form.TheVariants.{Fixed}
 use Rattle.zvt_bmp.specs.declared.fields.Fields.{Fields}
 use Rattle.zvt_bmp.specs.declared.fields.FieldFault.{FieldFault}
 use Rattle.zvt_bmp.specs.declared.fields.Seen.{Seen}
 use Rattle.zvt_bmp.specs.Writing.{HasDigits, written, written_result, written_digits, written_currency}
-use Rattle.zvt_bmp.specs.Reading.{is_bcd, value_at, after_put, after_value, field_at, with_tail, read_within, nothing, fields_of}
-use Rattle.zvt_bmp.proofs.Digits.{bcd_passes}
+use Rattle.zvt_bmp.specs.Reading.{value_at, after_put, after_value, field_at, with_tail, read_within, nothing, fields_of}
+use Rattle.gw_base.proofs.BcdLemmas.{bcd_passes}
 use Rattle.zvt_bmp.proofs.Values.{value_found}
 use Rattle.zvt_bmp.proofs.Telling.{goes_on, empty_within, all_within}
 

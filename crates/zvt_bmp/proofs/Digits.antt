@@ -6,22 +6,9 @@ use Rattle.std.specs.Result.{result_ok}
 use Rattle.std.proofs.lemmas.Nat.{mul-add-lt}
 use Rattle.std.proofs.Math.Nat.{pow-suc}
 use Rattle.std.proofs.lemmas.List.Elements.{All-nil, All-cons, All-head, All-tail, All-get_or}
-use Rattle.gw_base.specs.Bcd.{IsBcdByte, IsBcd, IsFirstNotBcd, bcd_value, pair_value}
+use Rattle.gw_base.specs.Bcd.{IsBcdByte, IsBcd, IsFirstNotBcd, bcd_value, is_bcd, pair_value}
 use Rattle.gw_base.specs.declared.bcd.NotDigits.{NotDigits}
-use Rattle.zvt_bmp.specs.Reading.{is_bcd}
-
-pub bcd_passes : (bytes : List ℕ) → IsBcd bytes → is_bcd bytes ≡ true
-bcd_passes [] all = refl
-bcd_passes (byte ∷ bytes) all =
-    let here : IsBcdByte byte = All-head IsBcdByte byte bytes all in
-    and_from _ _ (le-leb _ _ here.0) (and_from _ _ (le-leb _ _ here.1) (bcd_passes bytes (All-tail IsBcdByte byte bytes all)))
-
-pub passes_bcd : (bytes : List ℕ) → is_bcd bytes ≡ true → IsBcd bytes
-passes_bcd [] passed = All-nil IsBcdByte
-passes_bcd (byte ∷ bytes) passed =
-    let parts = and_parts (leb (byte / 16) 9) (leb (byte % 16) 9 && is_bcd bytes) passed in
-    let others = and_parts (leb (byte % 16) 9) (is_bcd bytes) parts.1 in
-    All-cons IsBcdByte byte bytes (leb-true _ _ parts.0, leb-true _ _ others.0) (passes_bcd bytes others.1)
+use Rattle.gw_base.proofs.BcdLemmas.{bcd_passes, passes_bcd}
 
 failed_by : (bytes : List ℕ) (at : ℕ) (passed : Bool) → IsFirstNotBcd bytes at → is_bcd bytes ≡ passed → passed ≡ false
 failed_by bytes at false first e = refl

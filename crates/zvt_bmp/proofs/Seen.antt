@@ -3,11 +3,11 @@ use Rattle.std.proofs.Common.{◌≡◌, ℕ, Bool, true, false, cond, eqb, List
 use Rattle.std.specs.Prelude.{◌&&◌, ◌||◌, is_some, slice_index, option_and_then}
 use Rattle.std.specs.Option.{option_map}
 use Rattle.std.proofs.lemmas.Bool.{cases_eq, ne_eqb}
-use Rattle.gw_base.specs.Bcd.{IsBcd, bcd_value}
+use Rattle.gw_base.specs.Bcd.{IsBcd, bcd_value, is_bcd}
 use Rattle.zvt_bmp.specs.declared.fields.Seen.{Seen}
 use Rattle.zvt_bmp.specs.Fields.{Field, has, first_value, digits_of, fields_from, is_single, Repeats, IsInDigits, IsLawfulAfter}
-use Rattle.zvt_bmp.specs.Reading.{is_bcd, has_seen, first_currency, put}
-use Rattle.zvt_bmp.proofs.Digits.{bcd_passes, passes_bcd}
+use Rattle.zvt_bmp.specs.Reading.{has_seen, first_currency, put}
+use Rattle.gw_base.proofs.BcdLemmas.{bcd_passes, passes_bcd}
 
 abbrev pub seen_of : List Field → Seen
 seen_of before = record { fields = fields_from before 0; receipt = has 0x87 before }

@@ -12,8 +12,9 @@ use Rattle.zvt_bmp.specs.declared.fields.FieldFault.TheVariants.{Short, BadLengt
 use Rattle.zvt_bmp.specs.declared.fields.Seen.{Seen}
 use Rattle.zvt_bmp.specs.Table.{form_of}
 use Rattle.zvt_bmp.specs.Fields.{Field, BeginsWith, Splits, IsTail, has, is_single, Repeats, IsInDigits, IsLawfulAfter, AreLawful, StopsAt, Tell}
-use Rattle.zvt_bmp.specs.Reading.{is_bcd, value_at, has_seen, put, after_put, after_value, after_form, field_at, with_tail, read_from, read_within, nothing, fields_of}
-use Rattle.zvt_bmp.proofs.Digits.{bcd_passes, passes_bcd}
+use Rattle.zvt_bmp.specs.Reading.{value_at, has_seen, put, after_put, after_value, after_form, field_at, with_tail, read_from, read_within, nothing, fields_of}
+use Rattle.gw_base.specs.Bcd.{is_bcd}
+use Rattle.gw_base.proofs.BcdLemmas.{bcd_passes, passes_bcd}
 use Rattle.zvt_bmp.proofs.Values.{value_found, value_read, value_wrong, wrong_value, value_cut, cut_value, value_shorter}
 use Rattle.zvt_bmp.proofs.Seen.{seen_of, seen_has, put_seen, put_none}
 

@@ -1,14 +1,13 @@
 -- The fields of a status, what they tell, and the first fault.
 use Rattle.std.specs.Prelude.{◌≡◌, ℕ, ◌-◌, ◌⊎◌, List, [], ◌∷◌, ◌++◌, length, slice_index, Option, None, Some, option_and_then, Result, Ok, Err, Bool, false, ◌&&◌, ◌||◌, ◌==◌, IsTrue, if◌then◌else◌}
 use Rattle.std.specs.Option.{option_map}
-use Rattle.gw_base.specs.Bcd.{IsBcd, bcd_value}
+use Rattle.gw_base.specs.Bcd.{IsBcd, bcd_value, is_bcd}
 use Rattle.zvt_bmp.specs.declared.form.Form.{Form}
 use Rattle.zvt_bmp.specs.declared.fields.Fields.{Fields}
 use Rattle.zvt_bmp.specs.declared.fields.FieldFault.{FieldFault}
 use Rattle.zvt_bmp.specs.declared.fields.FieldFault.TheVariants.{Short, BadLength, NotDigits, Twice}
 use Rattle.zvt_bmp.specs.Table.{form_of}
 use Rattle.zvt_bmp.specs.Value.{BeginsWithValue, IsWrong, IsCut}
-use Rattle.zvt_bmp.specs.Reading.{is_bcd}
 
 -- a field: its number and its value
 pub record Field : Type 0 where
@@ -32,6 +31,7 @@ IsTail (number ∷ more) = form_of number ≡ None
 
 -- ---- what fields tell
 
+-- one of the fields has this number
 abbrev pub has : ℕ → List Field → Bool
 has number [] = false
 has number (field ∷ fields) = (field.number == number) || has number fields
@@ -45,6 +45,7 @@ first_value number (field ∷ fields) = if field.number == number then Some fiel
 abbrev pub digits_of : List ℕ → Option ℕ
 digits_of value = if is_bcd value then Some (bcd_value value) else None
 
+-- what the fields tell, with a tail from this place on
 abbrev pub fields_from : List Field → ℕ → Fields
 fields_from fields tail = record {
   result = option_map (λ value. slice_index value 0) (first_value 0x27 fields);
@@ -69,6 +70,7 @@ Repeats before number = IsTrue (is_single number && has number before)
 abbrev pub IsInDigits : ℕ → Type 0
 IsInDigits number = (number ≡ 0x04) ⊎ (number ≡ 0x0B)
 
+-- the field may follow those before it: it repeats none that comes once, and its value is in digits where it should be
 pub record IsLawfulAfter (before : List Field) (field : Field) : Type 0 where
   pub once : ¬ Repeats before field.number
   pub digits : IsInDigits field.number → IsBcd field.value

@@ -5,10 +5,12 @@ use Rattle.zvt_bmp.specs.declared.fields.FieldFault.{FieldFault}
 use Rattle.zvt_bmp.specs.declared.fields.Seen.{Seen}
 use denote.Ref.{Bor}
 
+-- the code found this length, and these bytes behind it, or this fault
 abbrev pub FindsLength : Result (ℕ × Bor (List ℕ)) LengthFault → Result (ℕ × List ℕ) LengthFault → Type 0
 FindsLength (Ok found) length = length ≡ Ok (found.0, found.1.now)
 FindsLength (Err fault) length = length ≡ Err fault
 
+-- the code found this value, and these bytes behind it, or this fault
 abbrev pub FindsValue : Result (Bor (List ℕ) × Bor (List ℕ)) LengthFault → Result (List ℕ × List ℕ) LengthFault → Type 0
 FindsValue (Ok found) value = value ≡ Ok (found.0.now, found.1.now)
 FindsValue (Err fault) value = value ≡ Err fault

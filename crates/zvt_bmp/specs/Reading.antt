@@ -1,6 +1,6 @@
 -- Reading fields from left to right, as functions that compute it.
 use Rattle.std.specs.Prelude.{ℕ, zero, suc, ◌+◌, ◌-◌, ◌*◌, ◌/◌, ◌%◌, List, [], ◌∷◌, length, take, drop, slice_index, Option, None, Some, is_some, Result, Ok, Err, Bool, true, false, ◌&&◌, nat_lt, nat_le, ◌==◌, if◌then◌else◌}
-use Rattle.gw_base.specs.Bcd.{bcd_value}
+use Rattle.gw_base.specs.Bcd.{bcd_value, is_bcd}
 use Rattle.zvt_tlv.specs.Reading.{length_of}
 use Rattle.zvt_bmp.specs.declared.form.Form.{Form}
 use Rattle.zvt_bmp.specs.declared.form.Form.TheVariants.{Fixed, Llvar, Lllvar, Tlv}
@@ -14,9 +14,11 @@ use Rattle.zvt_bmp.specs.Table.{form_of}
 
 -- ---- a length, and the bytes behind it
 
+-- a byte F0 to F9
 abbrev pub is_length_digit : ℕ → Bool
 is_length_digit b = nat_le 240 b && nat_le b 249
 
+-- the length in two such bytes, the tens first; a wrong byte goes before a missing one
 abbrev pub llvar_at : List ℕ → Result (ℕ × List ℕ) LengthFault
 llvar_at [] = Err Cut
 llvar_at (tens ∷ []) = if is_length_digit tens then Err Cut else Err Wrong
@@ -24,10 +26,12 @@ llvar_at (tens ∷ units ∷ bytes) =
     if is_length_digit tens then (if is_length_digit units then Ok (10 * (tens - 240) + (units - 240), bytes) else Err Wrong)
     else Err Wrong
 
+-- a digit of hundreds in front of a length of two digits
 abbrev pub with_hundreds : ℕ → Result (ℕ × List ℕ) LengthFault → Result (ℕ × List ℕ) LengthFault
 with_hundreds hundreds (Ok found) = Ok (100 * (hundreds - 240) + found.0, found.1)
 with_hundreds hundreds (Err fault) = Err fault
 
+-- the length in three such bytes, the hundreds first
 abbrev pub lllvar_at : List ℕ → Result (ℕ × List ℕ) LengthFault
 lllvar_at [] = Err Cut
 lllvar_at (hundreds ∷ bytes) = if is_length_digit hundreds then with_hundreds hundreds (llvar_at bytes) else Err Wrong
@@ -37,10 +41,12 @@ abbrev pub tlv_fault : List ℕ → LengthFault
 tlv_fault [] = Cut
 tlv_fault (b ∷ bytes) = if b == 128 then Wrong else if nat_lt 130 b then Wrong else Cut
 
+-- the length of a TLV object, or why there is none
 abbrev pub tlv_or_fault : List ℕ → Option (ℕ × List ℕ) → Result (ℕ × List ℕ) LengthFault
 tlv_or_fault bytes (Some found) = Ok found
 tlv_or_fault bytes None = Err (tlv_fault bytes)
 
+-- the length at the front, by its form
 abbrev pub length_at : Form → List ℕ → Result (ℕ × List ℕ) LengthFault
 length_at (Fixed size) bytes = Ok (size, bytes)
 length_at Llvar bytes = llvar_at bytes
@@ -49,19 +55,16 @@ length_at Tlv bytes = tlv_or_fault bytes (length_of bytes)
 
 -- ---- a value, and the bytes behind it
 
+-- behind a length that was read, a value of that length
 abbrev pub behind_length : Result (ℕ × List ℕ) LengthFault → Result (List ℕ × List ℕ) LengthFault
 behind_length (Err fault) = Err fault
 behind_length (Ok found) = if nat_lt (length found.1) found.0 then Err Cut else Ok (take found.0 found.1, drop found.0 found.1)
 
+-- the value at the front with its length, by the form of this, and the bytes behind it
 unfoldable pub value_at : Form → List ℕ → Result (List ℕ × List ℕ) LengthFault
 value_at form bytes = behind_length (length_at form bytes)
 
 -- ---- what a field adds to those before it
-
--- each half of each byte is a decimal digit
-abbrev pub is_bcd : List ℕ → Bool
-is_bcd [] = true
-is_bcd (byte ∷ bytes) = nat_le (byte / 16) 9 && (nat_le (byte % 16) 9 && is_bcd bytes)
 
 -- a field of this number was there, and may not come again
 abbrev pub has_seen : Seen → ℕ → Bool
@@ -89,15 +92,18 @@ put seen number value =
 
 -- ---- one field, and all
 
+-- behind a value that was added, or that should be in digits and is not
 abbrev pub after_put : ℕ → List ℕ → Option Seen → Result (Option (Seen × List ℕ)) FieldFault
 after_put at rest None = Err (NotDigits at)
 after_put at rest (Some seen) = Ok (Some (seen, rest))
 
+-- behind a value that was read, or the fault of its length
 abbrev pub after_value : Seen → ℕ → ℕ → Result (List ℕ × List ℕ) LengthFault → Result (Option (Seen × List ℕ)) FieldFault
 after_value seen at number (Err Wrong) = Err (BadLength at)
 after_value seen at number (Err Cut) = Err (Short at)
 after_value seen at number (Ok found) = after_put at found.1 (put seen number found.0)
 
+-- behind a number, by its form: none where the number is not known
 abbrev pub after_form : Seen → ℕ → ℕ → List ℕ → Option Form → Result (Option (Seen × List ℕ)) FieldFault
 after_form seen at number bytes None = Ok None
 after_form seen at number bytes (Some form) =
@@ -108,9 +114,11 @@ unfoldable pub field_at : Seen → ℕ → List ℕ → Result (Option (Seen × 
 field_at seen at [] = Ok None
 field_at seen at (number ∷ bytes) = after_form seen at number bytes (form_of number)
 
+-- all that is known, with the tail at this place
 abbrev pub with_tail : Seen → ℕ → Fields
 with_tail seen at = record seen.fields { tail = at }
 
+-- with the first field, what more gives for the bytes behind it
 abbrev pub read_from : (Seen → List ℕ → Result Fields FieldFault) → Seen → ℕ → Result (Option (Seen × List ℕ)) FieldFault → Result Fields FieldFault
 read_from more seen at (Err fault) = Err fault
 read_from more seen at (Ok None) = Ok (with_tail seen at)
@@ -121,6 +129,7 @@ unfoldable pub read_within : ℕ → ℕ → Seen → List ℕ → Result Fields
 read_within zero whole seen bytes = Ok (with_tail seen (whole - length bytes))
 read_within (suc n) whole seen bytes = read_from (read_within n whole) seen (whole - length bytes) (field_at seen (whole - length bytes) bytes)
 
+-- what is known before the first field
 abbrev pub nothing : Seen
 nothing = record { fields = record { result = None; amount = None; trace = None; receipt = None; currency = None; tail = 0 }; receipt = false }
 

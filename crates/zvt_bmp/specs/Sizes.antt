@@ -12,5 +12,6 @@ HasSizeOf (Some Llvar) size = Unit {0}
 HasSizeOf (Some Lllvar) size = Unit {0}
 HasSizeOf (Some Tlv) size = Unit {0}
 
+-- the value has the size that the form of its number says, where this says one
 abbrev pub HasSize : ℕ → List ℕ → Type 0
 HasSize number value = HasSizeOf (form_of number) (length value)

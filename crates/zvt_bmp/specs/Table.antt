@@ -8,9 +8,11 @@ pub record Row : Type 0 where
   pub number : ℕ
   pub form : Form
 
+-- one row of the table
 abbrev pub row : ℕ → Form → Row
 row number form = record { number = number; form = form }
 
+-- the fields that are known, by their numbers
 abbrev pub table : List Row
 table =
     row 0x04 (Fixed 6) ∷ row 0x06 Tlv ∷ row 0x0B (Fixed 3) ∷ row 0x0C (Fixed 3) ∷ row 0x0D (Fixed 2)
@@ -26,5 +28,6 @@ abbrev pub form_in : List Row → ℕ → Option Form
 form_in [] number = None
 form_in (r ∷ rows) number = if r.number == number then Some r.form else form_in rows number
 
+-- the form of the length of the field with this number; none where the number is not known
 abbrev pub form_of : ℕ → Option Form
 form_of number = form_in table number

@@ -9,14 +9,17 @@ pub record HasDigits (fields : Fields) : Type 0 where
   pub trace : IfSome fields.trace (λ n. n < 100 ^ 3)
   pub receipt : IfSome fields.receipt (λ n. n < 100 ^ 2)
 
+-- the field of the result, where there is one
 abbrev pub written_result : Option ℕ → List ℕ
 written_result None = []
 written_result (Some code) = 0x27 ∷ code ∷ []
 
+-- the field of a number in so many bytes of digits, where there is one
 abbrev pub written_digits : ℕ → ℕ → Option ℕ → List ℕ
 written_digits number size None = []
 written_digits number size (Some value) = number ∷ bcd_of size value
 
+-- the field of the currency, where there is one
 abbrev pub written_currency : Option (List ℕ) → List ℕ
 written_currency None = []
 written_currency (Some currency) = 0x49 ∷ currency

@@ -1,4 +1,4 @@
-ghost use Rattle.gw_base.specs.Bcd.{bcd_value};
+ghost use Rattle.gw_base.specs.Bcd.{bcd_value, is_bcd};
 ghost use Rattle.std.specs.Prelude.{◌≡◌, ◌<◌, ◌≤◌, ◌↔◌, ◌^◌, length, Some, None, MatchResult, IfOk, IfSome, if◌then◌else◌};
 ghost use Rattle.std.specs.Bool.{OnTrue, OnFalse};
 ghost use Rattle.zvt_bmp.specs.Sizes.{HasSize};
@@ -6,7 +6,7 @@ ghost use Rattle.zvt_bmp.specs.declared.fields.Fields.{Fields};
 ghost use Rattle.zvt_bmp.specs.declared.fields.FieldFault.{FieldFault};
 ghost use Rattle.zvt_bmp.specs.Fields.{AreFields, IsFirstFault};
 ghost use Rattle.zvt_bmp.specs.Found.{FindsField};
-ghost use Rattle.zvt_bmp.specs.Reading.{is_bcd, has_seen, put, nothing, field_at, fields_of};
+ghost use Rattle.zvt_bmp.specs.Reading.{has_seen, put, nothing, field_at, fields_of};
 
 use crate::form::{Form, LengthFault};
 use gw_base::bcd_read;

@@ -7,6 +7,7 @@ pub record ObjectValue : Type 0 where
   pub tag : ℕ
   pub value : List ℕ
 
+-- the object as plain data
 abbrev pub value_of : Object → ObjectValue
 value_of object = record { tag = object.tag; value = object.value.now }
 
