@@ -4,11 +4,9 @@ use Rattle.std.specs.Prelude.{◌↔◌, ◌&&◌, IsNone}
 use Rattle.std.proofs.lemmas.Bool.{eq-eqb, eqb-true, and_parts}
 use Rattle.std.proofs.lemmas.List.{take_at, drop_at, take-append-drop, length-append}
 use Rattle.arrayvec.specs.ArrayVec.{ArrayVec}
-use Rattle.gw_base.specs.Bcd.{bcd_value, bcd_of}
-use Rattle.gw_base.proofs.BcdLemmas.{length-bcd_of, bcd_value_bound, bcd_of-value, bcd_value-of}
+use Rattle.gw_base.specs.Bcd.{bcd_value, bcd_of, is_bcd}
+use Rattle.gw_base.proofs.BcdLemmas.{length-bcd_of, bcd_value_bound, bcd_of-value, bcd_value-of, bcd_passes, passes_bcd}
 use Rattle.zvt_apdu.specs.Apdu.{ApduValue}
-use Rattle.zvt_bmp.specs.Reading.{is_bcd}
-use Rattle.zvt_bmp.proofs.Digits.{bcd_passes, passes_bcd}
 use Rattle.zvt_msg.specs.declared.command.Command.{Command}
 use Rattle.zvt_msg.specs.declared.command.Command.TheVariants.{Register, Authorise, Enquire, Reverse, EndOfDay, Stop, Show}
 use Rattle.zvt_msg.specs.Messages.{Has}

@@ -17,6 +17,7 @@ container_of body = contained (object_of body)
 
 -- ---- how many bytes are left from the first object on that is not lawful: 0 where all are
 
+-- inside of one object, which holds lines or none
 abbrev pub left_inside : ObjectValue → ℕ
 left_inside object = if object.tag == text_tag then length (split_of object.value).rest else 0
 
@@ -41,6 +42,7 @@ abbrev pub in_container : ℕ → Option (List ℕ) → Result (List ℕ) TlvFau
 in_container size None = Err (record { at = 0 })
 in_container size (Some bytes) = if left_of bytes == 0 then Ok bytes else Err (record { at = size - left_of bytes })
 
+-- the objects of a block, or the place of its fault
 abbrev pub block_of : List ℕ → Result (List ℕ) TlvFault
 block_of body = in_container (length body) (container_of body)
 

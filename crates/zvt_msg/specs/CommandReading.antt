@@ -1,9 +1,8 @@
 -- The command that an APDU spells, as a function that computes it.
 use Rattle.std.specs.Prelude.{ℕ, zero, suc, ◌+◌, ◌-◌, ◌*◌, List, [], ◌∷◌, length, take, drop, Option, None, Some, ◌&&◌, nat_lt, nat_le, ◌==◌, if◌then◌else◌}
 use Rattle.arrayvec.specs.ArrayVec.{ArrayVec}
-use Rattle.gw_base.specs.Bcd.{bcd_value}
+use Rattle.gw_base.specs.Bcd.{bcd_value, is_bcd}
 use Rattle.zvt_apdu.specs.Apdu.{ApduValue}
-use Rattle.zvt_bmp.specs.Reading.{is_bcd}
 use Rattle.zvt_msg.specs.declared.command.Command.{Command}
 use Rattle.zvt_msg.specs.declared.command.Command.TheVariants.{Register, Authorise, Enquire, Reverse, EndOfDay, Stop, Show}
 
@@ -28,6 +27,7 @@ line_with n bytes =
     else if nat_lt (length bytes) n then None
     else Some (record { items = take n bytes }, drop n bytes)
 
+-- a line by the two digits of its length, where both are digits
 abbrev pub line_by : Option ℕ → Option ℕ → List ℕ → Option (ArrayVec ℕ × List ℕ)
 line_by None units bytes = None
 line_by (Some tens) None bytes = None
@@ -39,6 +39,7 @@ line_of [] = None
 line_of (tens ∷ []) = None
 line_of (tens ∷ units ∷ bytes) = line_by (digit_of tens) (digit_of units) bytes
 
+-- one line more in front, where the others were read
 abbrev pub with_first : ArrayVec ℕ → Option (List (ArrayVec ℕ)) → Option (List (ArrayVec ℕ))
 with_first line None = None
 with_first line (Some lines) = Some (line ∷ lines)
@@ -60,59 +61,73 @@ lines_of bytes = lines_within 8 0xF1 bytes
 
 -- ---- the commands, by their data
 
+-- a registration of these parts, where all were read
 abbrev pub register_with : Option (List ℕ) → ℕ → Option ℕ → Option Command
 register_with None config currency = None
 register_with (Some password) config None = None
 register_with (Some password) config (Some currency) = Some (Register password config currency)
 
+-- a registration behind its password
 abbrev pub register_at : Option (List ℕ) → List ℕ → Option Command
 register_at password [] = None
 register_at password (config ∷ number) = register_with password config (number_of 2 number)
 
+-- a registration: a password, the configuration byte and a currency
 abbrev pub register_of : List ℕ → Option Command
 register_of body = register_at (password_of (take 3 body)) (drop 3 body)
 
+-- an authorisation of these parts, where both were read
 abbrev pub authorise_with : Option ℕ → Option ℕ → Option Command
 authorise_with None currency = None
 authorise_with (Some amount) None = None
 authorise_with (Some amount) (Some currency) = Some (Authorise amount currency)
 
+-- an authorisation behind its amount
 abbrev pub authorise_at : Option ℕ → List ℕ → Option Command
 authorise_at amount [] = None
 authorise_at amount (b ∷ number) = if b == 0x49 then authorise_with amount (number_of 2 number) else None
 
+-- an authorisation: 04 and an amount, 49 and a currency
 abbrev pub authorise_of : List ℕ → Option Command
 authorise_of [] = None
 authorise_of (b ∷ bytes) = if b == 0x04 then authorise_at (number_of 6 (take 6 bytes)) (drop 6 bytes) else None
 
+-- a reversal of these parts, where both were read
 abbrev pub reverse_with : Option (List ℕ) → Option ℕ → Option Command
 reverse_with None receipt = None
 reverse_with (Some password) None = None
 reverse_with (Some password) (Some receipt) = Some (Reverse password receipt)
 
+-- a reversal behind its password
 abbrev pub reverse_at : Option (List ℕ) → List ℕ → Option Command
 reverse_at password [] = None
 reverse_at password (b ∷ number) = if b == 0x87 then reverse_with password (number_of 2 number) else None
 
+-- a reversal: a password, 87 and a receipt number
 abbrev pub reverse_of : List ℕ → Option Command
 reverse_of body = reverse_at (password_of (take 3 body)) (drop 3 body)
 
+-- an enquiry with this password, where it was read
 abbrev pub enquire_with : Option (List ℕ) → Option Command
 enquire_with None = None
 enquire_with (Some password) = Some (Enquire password)
 
+-- an end of day with this password, where it was read
 abbrev pub end_of_day_with : Option (List ℕ) → Option Command
 end_of_day_with None = None
 end_of_day_with (Some password) = Some (EndOfDay password)
 
+-- an abort, which has no data
 abbrev pub stop_of : List ℕ → Option Command
 stop_of [] = Some Stop
 stop_of (b ∷ bytes) = None
 
+-- a display of these lines, where they were read
 abbrev pub show_with : Option (List (ArrayVec ℕ)) → Option Command
 show_with None = None
 show_with (Some lines) = Some (Show (record { items = lines }))
 
+-- a display: F0 05 and lines
 abbrev pub show_of : List ℕ → Option Command
 show_of [] = None
 show_of (b ∷ []) = None
@@ -120,6 +135,7 @@ show_of (b ∷ c ∷ bytes) = if (b == 0xF0) && (c == 0x05) then show_with (line
 
 -- ---- the command of an APDU
 
+-- the command with this instruction, by its data
 abbrev pub command_by : ℕ → List ℕ → Option Command
 command_by instr body =
     if instr == 0x00 then register_of body
@@ -131,5 +147,6 @@ command_by instr body =
     else if instr == 0xE0 then show_of body
     else None
 
+-- the command that an APDU spells; none where it spells none
 unfoldable pub command_of : ApduValue → Option Command
 command_of apdu = if apdu.class == 0x06 then command_by apdu.instr apdu.body else None

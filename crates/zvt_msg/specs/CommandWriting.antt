@@ -15,6 +15,7 @@ abbrev pub written_lines : ℕ → List (ArrayVec ℕ) → List ℕ
 written_lines number [] = []
 written_lines number (line ∷ lines) = number ∷ (llvar_of (array_vec_len line) ++ (line.items ++ written_lines (number + 1) lines))
 
+-- the instruction of a command; the class is 06
 abbrev pub instr_of : Command → ℕ
 instr_of (Register password config currency) = 0x00
 instr_of (Authorise amount currency) = 0x01
@@ -24,6 +25,7 @@ instr_of (EndOfDay password) = 0x50
 instr_of Stop = 0xB0
 instr_of (Show lines) = 0xE0
 
+-- the data of a command
 abbrev pub body_of : Command → List ℕ
 body_of (Register password config currency) = password ++ config ∷ bcd_of 2 currency
 body_of (Authorise amount currency) = 0x04 ∷ (bcd_of 6 amount ++ 0x49 ∷ bcd_of 2 currency)

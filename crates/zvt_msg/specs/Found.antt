@@ -27,10 +27,12 @@ abbrev pub Yields : List (List ℕ) → Option (Bor (List ℕ)) → List (List �
 Yields old None new = (old ≡ []) × (new ≡ [])
 Yields old (Some found) new = old ≡ found.now ∷ new
 
+-- the code found these bytes, or none
 abbrev pub FindsBytes : Option (Bor (List ℕ)) → Option (List ℕ) → Type 0
 FindsBytes None bytes = bytes ≡ None
 FindsBytes (Some found) bytes = bytes ≡ Some found.now
 
+-- the code found a block of these objects, or this fault
 abbrev pub FindsBlock : Result (Bor (List ℕ)) TlvFault → Result (List ℕ) TlvFault → Type 0
 FindsBlock (Ok bytes) block = block ≡ Ok bytes.now
 FindsBlock (Err fault) block = block ≡ Err fault
@@ -45,10 +47,12 @@ abbrev pub Answers : Result PtMessage PtFault → Result MessageValue PtFault �
 Answers (Ok found) told = told ≡ Ok (message_value found)
 Answers (Err fault) told = told ≡ Err fault
 
+-- the code found this line, and these bytes behind it, or none
 abbrev pub FindsLine : Option (ArrayVec ℕ × Bor (List ℕ)) → Option (ArrayVec ℕ × List ℕ) → Type 0
 FindsLine None line = line ≡ None
 FindsLine (Some found) line = line ≡ Some (found.0, found.1.now)
 
+-- the code found these lines, or none
 abbrev pub FindsLines : Option (ArrayVec (ArrayVec ℕ)) → Option (List (ArrayVec ℕ)) → Type 0
 FindsLines None lines = lines ≡ None
 FindsLines (Some found) lines = lines ≡ Some found.items

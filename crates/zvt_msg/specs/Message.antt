@@ -16,6 +16,7 @@ pub data MessageValue : Type 0 where
   Abort : (code : Option ℕ) → MessageValue
   Other : MessageValue
 
+-- the message as plain data
 abbrev pub value_of : PtMessage → MessageValue
 value_of message.Ack = Ack
 value_of (message.Nack code) = Nack code

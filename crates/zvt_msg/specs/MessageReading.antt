@@ -36,10 +36,12 @@ abbrev pub behind_first : List ℕ → List ℕ
 behind_first [] = []
 behind_first (byte ∷ bytes) = bytes
 
+-- a status of the fields that were read, or their fault
 abbrev pub of_fields : Result Fields FieldFault → Result MessageValue PtFault
 of_fields (Ok fields) = Ok (MessageValue.Status fields)
 of_fields (Err fault) = Err (Field fault)
 
+-- a block of the objects that were read, or their fault
 abbrev pub of_block : Result (List ℕ) TlvFault → Result MessageValue PtFault
 of_block (Ok objects) = Ok (MessageValue.Block objects)
 of_block (Err fault) = Err (Tlv fault)
@@ -56,5 +58,6 @@ told_by (Some Kind.Status) apdu = of_fields (fields_of apdu.body)
 told_by (Some Kind.Completion) apdu = Ok MessageValue.Completion
 told_by (Some Kind.Abort) apdu = Ok (MessageValue.Abort (first_of apdu.body))
 
+-- what an APDU of a terminal tells, or its fault
 unfoldable pub told_of : ApduValue → Result MessageValue PtFault
 told_of apdu = told_by (kind_of apdu.class apdu.instr) apdu
