@@ -1,14 +1,14 @@
 -- What the table says, in words of its own.
-use Rattle.std.specs.Prelude.{◌≡◌, ◌≢◌, ℕ, ◌≤◌, ◌⊎◌, Bool, false, List, [], Option, None, Some}
+use Rattle.std.specs.Prelude.{◌≡◌, ◌≢◌, ℕ, ◌≤◌, ◌⊎◌, Bool, false, List, [], Option, None, Some, IsTrue}
 use Rattle.gw_base.specs.declared.money.Figures.{Figures}
 use Rattle.zvt_bmp.specs.declared.fields.Fields.{Fields}
-use Rattle.zvt_msg.specs.Message.{MessageValue, Ack, Nack, Completion, Abort}
+use Rattle.zvt_msg.specs.Message.{MessageValue, Ack, Nack, Intermediate, Line, Block, Status, Completion, Abort, Other}
 use Rattle.zvt_talk.specs.declared.kind.Kind.{Kind}
 use Rattle.zvt_talk.specs.declared.kind.Kind.TheVariants.{Registration, Enquiry, Payment, Reversal, EndOfDay, Display}
 use Rattle.zvt_talk.specs.declared.heard.Heard.{Heard}
 use Rattle.zvt_talk.specs.declared.heard.Heard.TheVariants as heard
 use Rattle.zvt_talk.specs.Dialogue.{Dialogue}
-use Rattle.zvt_talk.specs.Came.{Came, messages, statuses, last_status}
+use Rattle.zvt_talk.specs.Came.{Came, messages, statuses, last_status, said_approved}
 use Rattle.zvt_talk.specs.Table.{trace_of}
 
 -- a payment or a reversal
@@ -122,6 +122,57 @@ pub record TellsNone (dialogue : Dialogue) (came : List Came) (message : Message
   pub not_zero : code ≢ 0
   pub no_number : number ≡ 0
   pub no_figures : approved ≡ None
+
+-- ---- what leaves open how a dialogue ended
+
+-- no answer to a command: neither an acknowledgement nor a refusal with a code above 00, and not outside the table
+abbrev pub IsNoAnswer : MessageValue → Type 0
+IsNoAnswer Ack = ⊥
+IsNoAnswer (Nack code) = code ≡ 0
+IsNoAnswer (Intermediate code) = Unit {0}
+IsNoAnswer (Line text) = Unit {0}
+IsNoAnswer (Block objects) = Unit {0}
+IsNoAnswer (Status fields) = Unit {0}
+IsNoAnswer Completion = Unit {0}
+IsNoAnswer (Abort code) = Unit {0}
+IsNoAnswer Other = ⊥
+
+-- the terminal aborts without a code, or with 00
+abbrev pub AbortsWithoutCode : MessageValue → Type 0
+AbortsWithoutCode message = (message ≡ Abort None) ⊎ (message ≡ Abort (Some 0))
+
+-- a number that isn't there, or 0
+abbrev pub IsNoNumber : Option ℕ → Type 0
+IsNoNumber None = Unit {0}
+IsNoNumber (Some number) = number ≡ 0
+
+-- the status has no full figures: a trace number above 0, a receipt number in digits or an amount above 0 is missing
+abbrev pub LacksFigures : Fields → Type 0
+LacksFigures status = IsNoNumber status.trace ⊎ ((status.receipt ≡ None) ⊎ IsNoNumber status.amount)
+
+-- the terminal aborts with a code although a status said that it is approved
+abbrev pub AbortsApproved : List Came → MessageValue → Type 0
+AbortsApproved came message = (code : ℕ) × (message ≡ Abort (Some code)) × IsTrue (said_approved came)
+
+-- The last status of a payment or a reversal that completes, if there is one: without a result, approved without full
+-- figures, or with another code although a status said that it is approved.
+abbrev pub LeavesTransactionOpen : List Came → Option Fields → Type 0
+LeavesTransactionOpen came None = Unit {0}
+LeavesTransactionOpen came (Some status) = (status.result ≡ None)
+    ⊎ (((status.result ≡ Some 0) × LacksFigures status)
+    ⊎ ((code : ℕ) × (status.result ≡ Some code) × (code ≢ 0) × IsTrue (said_approved came)))
+
+-- an enquiry is aborted with another code than the configured one, or although a status was heard
+abbrev pub AbortsEnquiry : Dialogue → List Came → MessageValue → Type 0
+AbortsEnquiry dialogue came message = (code : ℕ) × (message ≡ Abort (Some code))
+    × ((code ≢ dialogue.none) ⊎ (statuses came ≢ []))
+
+-- the last status of an enquiry that completes, if there is one: without a result or a trace number, or approved without
+-- full figures
+abbrev pub LeavesEnquiryOpen : Option Fields → Type 0
+LeavesEnquiryOpen None = Unit {0}
+LeavesEnquiryOpen (Some status) = (status.result ≡ None)
+    ⊎ ((status.trace ≡ None) ⊎ ((status.result ≡ Some 0) × LacksFigures status))
 
 -- ---- ends
 

@@ -8,7 +8,7 @@ ghost use Rattle.zvt_talk.specs.declared.kind.Kind.TheVariants.{Display};
 ghost use Rattle.zvt_talk.specs.Dialogue.{Dialogue};
 ghost use Rattle.zvt_talk.specs.Came.{Came, Message, Wish, messages, statuses, last_status, said_approved, has_ended, is_begun, is_stopped};
 ghost use Rattle.zvt_talk.specs.Talk.{answer, end_of, is_end, phase_of, talk_after, goes_on};
-ghost use Rattle.zvt_talk.specs.Laws.{Approves, HasNoRefusal, IsAnswer, IsEndOf, IsEnquiry, IsEnquiryOrDisplay, IsService, IsTransaction, RefusedAtOnce, RefusedLater, Refuses, TellsLast, TellsNone, tells_stop};
+ghost use Rattle.zvt_talk.specs.Laws.{AbortsApproved, AbortsEnquiry, AbortsWithoutCode, Approves, HasNoRefusal, IsAnswer, IsEndOf, IsEnquiry, IsEnquiryOrDisplay, IsNoAnswer, IsService, IsTransaction, LeavesEnquiryOpen, LeavesTransactionOpen, RefusedAtOnce, RefusedLater, Refuses, TellsLast, TellsNone, tells_stop};
 
 /// A message approves exactly where it completes a payment or a reversal whose last status said that it is approved, with
 /// full figures.
@@ -52,6 +52,23 @@ pub fn law_done()
         → (answer dialogue came message ≡ heard.Done) ↔ ((messages came ≡ []) × (message ≡ Ack)) }
 {}
 
+/// When a dialogue ends and it isn't clear how, by how far it is. A display ends with the answer to its command.
+#[tactic(auto, using(crate::proofs::Last::no_status))]
+pub fn law_unclear()
+    ensures asked { (dialogue : Dialogue) (came : List Came) (message : MessageValue) → messages came ≡ []
+        → (answer dialogue came message ≡ heard.Unclear) ↔ IsNoAnswer message }
+    ensures transaction { (dialogue : Dialogue) (came : List Came) (message : MessageValue) → messages came ≢ []
+        → IsTransaction dialogue.kind → (answer dialogue came message ≡ heard.Unclear)
+        ↔ (AbortsWithoutCode message ⊎ (AbortsApproved came message
+        ⊎ ((message ≡ Completion) × LeavesTransactionOpen came (last_status came)))) }
+    ensures enquiry { (dialogue : Dialogue) (came : List Came) (message : MessageValue) → messages came ≢ []
+        → IsEnquiry dialogue.kind → (answer dialogue came message ≡ heard.Unclear)
+        ↔ (AbortsWithoutCode message ⊎ (AbortsEnquiry dialogue came message
+        ⊎ ((message ≡ Completion) × LeavesEnquiryOpen (last_status came)))) }
+    ensures service { (dialogue : Dialogue) (came : List Came) (message : MessageValue) → messages came ≢ []
+        → IsService dialogue.kind → (answer dialogue came message ≡ heard.Unclear) ↔ AbortsWithoutCode message }
+{}
+
 /// A message means nothing exactly where it is outside the table, or an answer that comes when the command was answered.
 pub fn law_stray()
     ensures { (dialogue : Dialogue) (came : List Came) (message : MessageValue)
@@ -77,12 +94,15 @@ pub fn law_told()
 /// In a dialogue that was begun, an acknowledgement or a refusal answers `06 B0`, or nothing: it ends nothing, and nothing
 /// but the deadline changes.
 pub fn law_answer_to_stop()
-    ensures ack { (dialogue : Dialogue) (came : List Came) (at : ℤ) → IsTrue (is_begun dialogue.kind (messages came))
-        → (answer dialogue came Ack ≡ heard.Stray)
-        × (phase_of dialogue.kind (came ++ Message Ack at ∷ []) ≡ phase_of dialogue.kind came) }
-    ensures nack { (dialogue : Dialogue) (came : List Came) (code : ℕ) (at : ℤ) → IsTrue (is_begun dialogue.kind (messages came))
-        → (answer dialogue came (Nack code) ≡ heard.Stray)
-        × (phase_of dialogue.kind (came ++ Message (Nack code) at ∷ []) ≡ phase_of dialogue.kind came) }
+    ensures ack { (dialogue : Dialogue) (came : List Came) → IsTrue (is_begun dialogue.kind (messages came))
+        → answer dialogue came Ack ≡ heard.Stray }
+    ensures ack_stays { (dialogue : Dialogue) (came : List Came) (at : ℤ) → IsTrue (is_begun dialogue.kind (messages came))
+        → phase_of dialogue.kind (came ++ Message Ack at ∷ []) ≡ phase_of dialogue.kind came }
+    ensures nack { (dialogue : Dialogue) (came : List Came) (code : ℕ) → IsTrue (is_begun dialogue.kind (messages came))
+        → answer dialogue came (Nack code) ≡ heard.Stray }
+    ensures nack_stays { (dialogue : Dialogue) (came : List Came) (code : ℕ) (at : ℤ)
+        → IsTrue (is_begun dialogue.kind (messages came))
+        → phase_of dialogue.kind (came ++ Message (Nack code) at ∷ []) ≡ phase_of dialogue.kind came }
 {}
 
 /// `06 B0` is told once: exactly where it was not sent before and is sent afterwards.

@@ -12,7 +12,7 @@ mod talk;
 pub use heard::Heard;
 pub use laws::{
     law_answer_to_stop, law_approved, law_declined, law_done, law_ends, law_no_status, law_stop,
-    law_stray, law_told,
+    law_stray, law_told, law_unclear,
 };
 pub use talk::Talk;
 
