@@ -21,7 +21,8 @@ appended log slot body = log ++ body_write slot body ∷ Synced ∷ gate_write s
 
 -- an append to a log at rest leaves the old bodies or the new at each turn, whatever bytes a torn write leaves
 abbrev pub AppendKeepsImages : Type 0
-AppendKeepsImages = (log : List Turn) (bodies : List (List ℕ)) (body : List ℕ) → IsAtRest log (length bodies) → AreKept log bodies → length body ≡ 255 → AppendImages log (appended log (length bodies) body) bodies body
+AppendKeepsImages = (log : List Turn) (bodies : List (List ℕ)) (body : List ℕ) → IsAtRest log (length bodies) → AreKept log bodies → length body ≡ 255 →
+    AppendImages log (appended log (length bodies) body) bodies body
 
 -- and is at rest with the new bodies behind its last turn
 abbrev pub AppendRests : Type 0

@@ -1,7 +1,9 @@
 -- Each field of a record stands at its place, and a body is that of one record.
-use Rattle.std.proofs.Common.{◌≡◌, ℕ, suc, zero, ◌+◌, ◌-◌, ◌<◌, ◌≤◌, ◌^◌, ◌==◌, Bool, true, false, if◌then◌else◌, List, [], ◌∷◌, ◌++◌, length, take, drop, replicate, get_or, arith, sym, ◌∙◌, ap, subst, refl, length-append, append_assoc, Option, Some, None, ℤ, pos, negsuc, w32, w64}
+use Rattle.std.proofs.Common.{◌≡◌, ℕ, suc, zero, ◌+◌, ◌-◌, ◌<◌, ◌≤◌, ◌^◌, ◌==◌, Bool, true, false, if◌then◌else◌, List, [], ◌∷◌, ◌++◌, length, take, drop, replicate, get_or, arith, sym, ◌∙◌, ap, subst, refl, length-append, append_assoc, inl, inr, Option, Some, None, ℤ, pos, negsuc, w32, w64}
 use Rattle.std.proofs.Math.Seq.{drop-append_seam, take-append_seam}
 use Rattle.std.proofs.lemmas.List.{length-replicate}
+use Rattle.std.proofs.lemmas.Bool.{cases_lt}
+use Rattle.std.specs.Prelude.{map, slice_index}
 use Rattle.std.proofs.lemmas.Int.{ints}
 use Rattle.std.proofs.lemmas.Nat.{from_be_bytes-to_be_bytes_4, from_be_bytes-to_be_bytes_8}
 use Rattle.std.specs.Int.{from_be_bytes, to_be_bytes}
@@ -350,3 +352,23 @@ fault-no_record body at fault item is e =
     let same : Agree (length (table_at body)) (fields_of item) (table_at body) body =
     subst (λ t. Agree (length t) (fields_of item) t body) (sym table) whole in
     fault.not_spelled item is (agree_front (suc fault.count) (length (table_at body)) (fields_of item) (table_at body) body fault.inside same)
+
+-- ---- a body has one first fault
+
+-- the fields before a first fault are spelled, so another isn't among them
+no_less : (table : List Place) (body : List ℕ) (at other : ℕ) (fault : IsFirstFault table body at) (later : IsFirstFault table body other) → fault.count < later.count → ⊥
+no_less table body at other fault later less =
+    let before = later.spelled_before in
+    fault.not_spelled before.0 before.1 (agree_front (suc fault.count) later.count (fields_of before.0) table body (omega arith) before.2)
+
+pub first_fault-one : (table : List Place) (body : List ℕ) (at other : ℕ) → IsFirstFault table body at → IsFirstFault table body other → at ≡ other
+first_fault-one table body at other fault later = fault.place ∙ ap (λ count. slice_index (map (λ there. there.place) table) count) same ∙ sym later.place
+  where
+    same : fault.count ≡ later.count
+    same = elim (cases_lt fault.count later.count) [
+      | inl less ↦ absurd (no_less table body at other fault later less)
+      | inr le ↦ elim (cases_lt later.count fault.count) [
+        | inl less ↦ absurd (no_less table body other at later fault less)
+        | inr ge ↦ omega arith
+      ]
+    ]

@@ -1,7 +1,7 @@
 -- The limits of a record's fields.
 use Rattle.std.specs.Prelude.{◌≡◌, ℕ, ◌^◌, ◌<◌, ◌≤◌, Bool, true, false, List, Option, Some, None}
 use Rattle.gw_base.specs.Ident.{IsIdent}
-use Rattle.gw_base.specs.Limits.{IsAmount, IsNumber}
+use Rattle.gw_base.specs.Limits.{IsAmount, IsNumber, IsReceipt}
 use Rattle.gw_base.specs.Moment.{IsMoment}
 use Rattle.gw_base.specs.declared.condition.Condition.{Condition}
 use Rattle.gw_base.specs.declared.condition.Condition.TheVariants.{Aborted, Busy, Cancel, InProgress, InsertedCard, InvalidCard, LoggedOut, MessageFormat, NotAllowed, NotFound, Refusal, UnavailableDevice, UnavailableService}
@@ -27,6 +27,7 @@ HasOriginal Payment (Some slot) = ⊥
 HasOriginal Reversal None = ⊥
 HasOriginal Reversal (Some slot) = slot < 2 ^ 32
 
+-- each field of an Intent lies within its limits
 pub record IsIntent (intent : TheIntent) : Type 0 where
   pub sale : IsIdent 40 intent.sale
   pub poi : IsIdent 40 intent.poi
@@ -38,10 +39,14 @@ pub record IsIntent (intent : TheIntent) : Type 0 where
   pub original : HasOriginal intent.what intent.original
   pub moment : IsMoment intent.moment
 
--- what an approval tells, from the least to the greatest, and a refusal tells as 0
+-- a number that an approval tells, which keeps its limits, and a refusal tells as 0
+abbrev pub IsToldAs : Bool → (ℕ → Type 0) → ℕ → Type 0
+IsToldAs true IsLimited number = IsLimited number
+IsToldAs false IsLimited number = number ≡ 0
+
+-- the same with the least and the greatest for its limits
 abbrev pub IsTold : Bool → ℕ → ℕ → ℕ → Type 0
-IsTold true least greatest number = (least ≤ number) × (number ≤ greatest)
-IsTold false least greatest number = number ≡ 0
+IsTold told least greatest number = IsToldAs told (λ n. (least ≤ n) × (n ≤ greatest)) number
 
 -- the code of a condition that a refusal can have; 0 for every other
 abbrev pub reason_code : Condition → ℕ
@@ -66,21 +71,23 @@ HasReason true (Some condition) = ⊥
 HasReason false None = ⊥
 HasReason false (Some condition) = 1 ≤ reason_code condition
 
+-- each field of an Outcome lies within its limits
 pub record IsOutcome (outcome : TheOutcome) : Type 0 where
   pub slot : outcome.slot < 2 ^ 32
-  pub number : IsTold outcome.approved 1 999999 outcome.number
-  pub receipt : IsTold outcome.approved 0 9999 outcome.receipt
-  pub amount : IsTold outcome.approved 1 999999999999 outcome.amount
+  pub number : IsToldAs outcome.approved (λ number. (1 ≤ number) × IsNumber number) outcome.number
+  pub receipt : IsToldAs outcome.approved (λ receipt. (0 ≤ receipt) × IsReceipt receipt) outcome.receipt
+  pub amount : IsToldAs outcome.approved IsAmount outcome.amount
   pub condition : HasReason outcome.approved outcome.condition
   pub moment : IsMoment outcome.moment
 
+-- each field of a Settled lies within its limits
 pub record IsSettled (settled : TheSettled) : Type 0 where
   pub sale : IsIdent 40 settled.sale
   pub poi : IsIdent 40 settled.poi
   pub service : IsIdent 10 settled.service
   pub moment : IsMoment settled.moment
 
--- each field lies within its limits
+-- each field of a record lies within its limits
 abbrev pub IsRecord : Record → Type 0
 IsRecord (Intent intent) = IsIntent intent
 IsRecord (Outcome outcome) = IsOutcome outcome

@@ -25,6 +25,7 @@ abbrev pub option_field : ℕ → Option (List ℕ) → List ℕ
 option_field size None = replicate size 0
 option_field size (Some text) = text_field size text
 
+-- the byte of what is asked of the terminal
 abbrev pub deal_code : Deal → ℕ
 deal_code Payment = 1
 deal_code Reversal = 2
@@ -34,18 +35,22 @@ abbrev pub original_code : Option ℕ → ℕ
 original_code None = 0xFFFFFFFF
 original_code (Some slot) = slot
 
+-- the byte of an approval, or of a refusal
 abbrev pub approval_code : Bool → ℕ
 approval_code true = 1
 approval_code false = 2
 
+-- the byte of a refusal's reason; an approval spells 0
 abbrev pub condition_code : Option Condition → ℕ
 condition_code None = 0
 condition_code (Some condition) = reason_code condition
 
+-- the byte of whose reconciliation it was
 abbrev pub how_code : How → ℕ
 how_code Sale = 1
 how_code Acquirer = 2
 
+-- a moment in eight bytes
 abbrev pub moment_field : ℤ → List ℕ
 moment_field moment = to_be_bytes w64 (unsigned_abs moment)
 
@@ -68,6 +73,7 @@ settled_fields s =
     (3 ∷ []) ∷ (how_code s.how ∷ []) ∷ text_field 41 s.sale ∷ text_field 41 s.poi ∷ text_field 11 s.service
     ∷ bcd_of 2 (number_of s.currency) ∷ moment_field s.moment ∷ replicate 150 0 ∷ []
 
+-- the fields of a record, in the order of its table
 abbrev pub fields_of : Record → List (List ℕ)
 fields_of (Intent intent) = intent_fields intent
 fields_of (Outcome outcome) = outcome_fields outcome

@@ -10,6 +10,7 @@ pub record Place : Type 0 where
   pub place : ℕ
   pub size : ℕ
 
+-- the field at this place, of this size
 abbrev pub field : ℕ → ℕ → Place
 field place size = record { place = place; size = size }
 
@@ -29,6 +30,7 @@ abbrev pub settled_table : List Place
 settled_table =
     field 0 1 ∷ field 1 1 ∷ field 2 41 ∷ field 43 41 ∷ field 84 11 ∷ field 95 2 ∷ field 97 8 ∷ field 105 150 ∷ []
 
+-- the table of a record's kind
 abbrev pub table_of : Record → List Place
 table_of (Intent _) = intent_table
 table_of (Outcome _) = outcome_table

@@ -17,6 +17,18 @@ const INTENT: [(usize, &[u8]); 11] = [
     (227, b"\x00\x00\x00\x00\x67\xCA\xC6\x38"),
 ];
 
+const REVERSAL: [(usize, &[u8]); 9] = [
+    (0, b"\x01\x02"),
+    (2, b"\x06Till-1"),
+    (43, b"\x05POI-1"),
+    (84, b"\x0244"),
+    (212, b"\x00\x00\x00\x00\x10\x99"),
+    (218, b"\x09\x78"),
+    (220, b"\x00\x01\x23"),
+    (223, b"\x00\x01\x02\x03"),
+    (227, b"\x00\x00\x00\x00\x67\xCA\xC6\x38"),
+];
+
 const APPROVED: [(usize, &[u8]); 1] = [(
     0,
     b"\x02\x01\x00\x00\x00\x00\x00\x01\x23\x00\x17\x00\x00\x00\x00\x10\x99\x00\x00\x00\x00\x00\x67\xCA\xC6\x38",
@@ -74,6 +86,19 @@ fn bodies(rt: HostRuntime) -> Result<(), Fail> {
         original: None,
         moment: 1_741_342_264,
     };
+    let reversal = Intent {
+        what: Deal::Reversal,
+        sale,
+        poi,
+        service: Ident::of(b"44").ok_or("service")?,
+        transaction: None,
+        stamp: None,
+        amount: 1099,
+        currency: Currency::Eur,
+        before: 123,
+        original: Some(66_051),
+        moment: 1_741_342_264,
+    };
     let approved = Outcome {
         approved: true,
         slot: 0,
@@ -102,17 +127,15 @@ fn bodies(rt: HostRuntime) -> Result<(), Fail> {
     };
     let rows = [
         (body(&INTENT), Record::Intent(intent)),
+        (body(&REVERSAL), Record::Intent(reversal)),
         (body(&APPROVED), Record::Outcome(approved)),
         (body(&DECLINED), Record::Outcome(declined)),
         (body(&SETTLED), Record::Settled(settled)),
     ];
     for (bytes, item) in rows {
+        assert_eq!(rt; to_body(&item).as_slice(), bytes.as_slice());
         assert_eq!(rt; from_body(&bytes), Ok(item));
     }
-    assert_eq!(rt;
-        to_body(&Record::Outcome(approved)).as_slice(),
-        body(&APPROVED).as_slice()
-    );
     Ok(())
 }
 

@@ -1,4 +1,5 @@
-use Rattle.jrn_record.proofs.LawLemmas.{body_of-injective, body_of-places, fault-no_record}
+use Rattle.jrn_record.proofs.LawLemmas.{body_of-injective, body_of-places, fault-no_record, first_fault-one}
+use Rattle.jrn_record.specs.Table.{table_at}
 use Rattle.jrn_record.proofs.laws.law_bodies.Goals as goal
 
 pub returns-clause-size : goal.returns-clause-size
@@ -12,3 +13,6 @@ returns-clause-one_record c = body_of-injective
 
 pub returns-clause-faulty : goal.returns-clause-faulty
 returns-clause-faulty c = fault-no_record
+
+pub returns-clause-one_fault : goal.returns-clause-one_fault
+returns-clause-one_fault c = λ body. first_fault-one (table_at body) body
