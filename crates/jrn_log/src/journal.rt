@@ -106,7 +106,8 @@ impl Journal {
         ensures cut { Tells (S.seen site.old) (λ log. IsExactlyCut slots (outside_of log).file result) }
         ensures disk { result ≡ Err OpenFault.Disk → Rose (S.seen site.old).faults (S.seen site.new).faults }
         ensures later { (S.seen site.old).faults ≤ (S.seen site.new).faults }
-        ensures journal { IfOk result (λ opened. (opened.0.len ≡ length opened.1) × (opened.0.slots ≡ slots)) }
+        ensures count { IfOk result (λ opened. opened.0.len ≡ length opened.1) }
+        ensures limit { IfOk result (λ opened. opened.0.slots ≡ slots) }
 
         // What it adds to the log, what it leaves, and what a power failure in it leaves.
         ensures turns { GrowsBy Added (S.seen site.old) (S.seen site.new) (λ before. OpeningTurns (outside_of before).file result) }

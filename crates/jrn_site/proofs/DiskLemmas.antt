@@ -6,6 +6,7 @@ use Rattle.gw_site.specs.Outside.{overwrite, outside_after, outside_of}
 use Rattle.gw_site.specs.declared.turn.Turn.{Turn}
 use Rattle.gw_site.specs.declared.turn.Turn.TheVariants.{Wrote, Synced, Crash}
 use Rattle.gw_site.proofs.OutsideLemmas.{outside_of_more}
+use Rattle.jrn_site.specs.Disk.{LeavesFile}
 
 nothing_added : (before after : Bool) (turns : List Turn) → after ≡ true → Added before after turns []
 nothing_added true true turns e = refl
@@ -43,3 +44,9 @@ file_crashed log new file crash e c = sym c ∙ sym (ap (λ outside. outside.fil
 
 pub stable_crashed : (log new : List Turn) (file crash : List ℕ) → new ≡ log ++ Crash crash ∷ [] → crash ≡ file → file ≡ (outside_of new).stable
 stable_crashed log new file crash e c = sym c ∙ sym (ap (λ outside. outside.stable) (after log new (Crash crash) e))
+
+pub file_noted : (log new : List Turn) (file : List ℕ) (turn : Turn) → LeavesFile turn → new ≡ log ++ turn ∷ [] → file ≡ (outside_of log).file → file ≡ (outside_of new).file
+file_noted log new file turn leaves e f = f ∙ sym (leaves.file (outside_of log)) ∙ sym (ap (λ outside. outside.file) (after log new turn e))
+
+pub stable_noted : (log new : List Turn) (stable : List ℕ) (turn : Turn) → LeavesFile turn → new ≡ log ++ turn ∷ [] → stable ≡ (outside_of log).stable → stable ≡ (outside_of new).stable
+stable_noted log new stable turn leaves e s = s ∙ sym (leaves.stable (outside_of log)) ∙ sym (ap (λ outside. outside.stable) (after log new turn e))

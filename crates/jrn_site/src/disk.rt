@@ -1,6 +1,7 @@
 //! A file in memory.
-ghost use Rattle.std.specs.Prelude.{◌≡◌, ◌≤◌, ◌+◌, ◌-◌, ◌++◌, length, take, drop, replicate, IfOk, slice_index};
-ghost use Rattle.gw_site.specs.Outside.{file_part, overwrite};
+ghost use Rattle.std.specs.Prelude.{◌≡◌, ◌+◌, ◌-◌, ◌++◌, length, take, drop, replicate, if◌then◌else◌, IfOk, slice_index};
+ghost use Rattle.gw_site.specs.Image.{covers, is_covered, junked_from};
+ghost use Rattle.gw_site.specs.Outside.{Outside, file_part, outside_after, outside_of, overwrite};
 
 use gw_site::Turn;
 use std::alloc::{AllocError, Global};
@@ -62,32 +63,48 @@ pub(crate) fn read_part(file: &[u8], pos: u64, buf: &mut [u8])
 }
 
 /// Puts one byte over each that was written since the last sync or power failure of this log.
-pub(crate) fn put_junk(file: &mut [u8], log: &[Turn], junk: u8) {
-    for turn in &log[unsynced(log)..] {
-        if let Turn::Wrote { pos, bytes } = turn {
-            put_over(file, *pos, bytes.as_slice().len(), junk);
-        }
-    }
-}
-
-/// Puts a byte over so many from a place on, as far as the file has them.
-fn put_over(file: &mut [u8], pos: u64, count: usize, junk: u8) {
-    let from = (pos as usize).min(file.len());
-    let size = count.min(file.len() - from);
-    for byte in file[from..from + size].iter_mut() {
-        *byte = junk;
-    }
-}
-
-/// The place behind the last sync or power failure of a log.
-fn unsynced(log: &[Turn]) -> usize
-    ensures { result ≤ length log.now }
+pub(crate) fn put_junk(file: &mut [u8], log: &[Turn], junk: u8)
+    ensures { file.new ≡ junked_from junk (outside_of log.now).written 0 file.old }
 {
-    let mut place = 0;
-    for (at, turn) in log.iter().enumerate() {
-        if matches!(turn, Turn::Synced | Turn::Crash { .. }) {
-            place = at + 1;
-        }
+    for (at, byte) in file.iter_mut().enumerate() {
+        *byte = junk_at(log, at, *byte, junk);
     }
-    place
+}
+
+/// The byte of junk where the place was written since the last sync or power failure of this log, else the file's.
+fn junk_at(log: &[Turn], place: usize, byte: u8, junk: u8) -> u8
+    ensures { result ≡ (if is_covered (outside_of log.now).written place then junk else byte) }
+{
+    if is_written(log, place) { junk } else { byte }
+}
+
+/// Whether the byte at a place was written since the last sync or power failure of this log.
+fn is_written(log: &[Turn], place: usize) -> bool
+    ensures { result ≡ is_covered (outside_of log.now).written place }
+{
+    let mut written = false;
+    for turn in log {
+        written = written_after(turn, place, written);
+    }
+    written
+}
+
+/// Whether the byte at a place is written since then, after one more turn.
+fn written_after(turn: &Turn, place: usize, before: bool) -> bool
+    ensures { (o : Outside) → before ≡ is_covered o.written place → result ≡ is_covered (outside_after o turn.now).written place }
+{
+    match turn {
+        Turn::Wrote { pos, bytes } => {
+            is_within(*pos as usize, bytes.as_slice().len(), place) || before
+        }
+        Turn::Synced | Turn::Crash { .. } => false,
+        _ => before,
+    }
+}
+
+/// Whether a place is one of so many from a place on.
+fn is_within(from: usize, size: usize, place: usize) -> bool
+    ensures { result ≡ covers place (record { from = from; size = size }) }
+{
+    from <= place && place - from < size
 }

@@ -1,10 +1,12 @@
 //! The site.
-ghost use Rattle.std.specs.Prelude.{◌≡◌, ◌≤◌, ◌∷◌, ◌++◌, [], List, ℕ, Some, true, false, OnOk, OnErr, IfOk};
-ghost use Rattle.gw_site.specs.Causes.{Rose};
-ghost use Rattle.gw_site.specs.Outside.{outside_of};
+ghost use Rattle.std.specs.Prelude.{◌≡◌, ◌≤◌, ◌∷◌, ◌++◌, ◌||◌, ◌==◌, [], length, List, Some, None, true, false, IsOk, IsErr, OnOk, OnErr, IfOk};
+ghost use Rattle.gw_site.specs.Causes.{HasCause, Rose};
+ghost use Rattle.gw_site.specs.Outside.{file_part, outside_of};
+ghost use Rattle.gw_site.specs.Seen.{Grows, GrowsWhole, Tells};
+ghost use Rattle.gw_site.specs.Turns.{DiskTurns, IsTurn, SyncedTurns, WroteTurns};
 ghost use Rattle.gw_site.specs.declared.turn.Turn.{Turn as ATurn};
 ghost use Rattle.gw_site.specs.declared.turn.Turn.TheVariants.{Crash, Synced, Wrote};
-ghost use Rattle.jrn_site.specs.Left.{LeftBy};
+ghost use Rattle.jrn_site.specs.Left.{file_left};
 
 use crate::disk::{overwritten, put_junk, read_part};
 use gw_base::{Bytes, Setup};
@@ -24,8 +26,8 @@ pub enum Left {
 
 /// A site in memory with a disk.
 ///
-/// It has no lines: a call on one fails, and the site is dark. Where memory is refused it is dark too, and its log ends
-/// there.
+/// It has no lines: a call on one that can fail does, and a poll brings the stop, at the moment 0. Where memory is
+/// refused the site is dark, and its log ends there.
 #[derive(Drop)]
 pub struct DiskSite {
     alloc: Global,
@@ -33,7 +35,7 @@ pub struct DiskSite {
     file: Vec<u8>,
     /// The file of the last sync or power failure.
     stable: Vec<u8>,
-    /// How many more calls there are before the power fails, where it does.
+    /// How many more calls on the disk there are before the power fails, where it is to fail.
     calls: Option<u64>,
     dark: bool,
     faults: u64,
@@ -65,11 +67,12 @@ fn copied(alloc: Global, bytes: &[u8]) -> Result<Vec<u8>, AllocError>
 }
 
 impl DiskSite {
-    ghost use Rattle.jrn_site.specs.Disk.{seen_of};
+    ghost use Rattle.jrn_site.specs.Disk.{LeavesFile, calls_of, is_last, one_less, seen_of};
 
     /// A site with an empty file and an empty log.
     pub fn new(alloc: Global) -> DiskSite
-        ensures { seen_of result ≡ record { log = Some []; faults = 0; dark = false; origin = [] } }
+        ensures seen { seen_of result ≡ record { log = Some []; faults = 0; dark = false; origin = [] } }
+        ensures calls { calls_of result ≡ None }
     {
         DiskSite {
             alloc,
@@ -84,7 +87,8 @@ impl DiskSite {
 
     /// A site with this file, as if a power failure had left it.
     pub fn holding(alloc: Global, file: &[u8]) -> Result<DiskSite, AllocError>
-        ensures { IfOk result (λ site. (seen_of site).log ≡ Some (Crash file.now ∷ [])) }
+        ensures seen { IfOk result (λ site. seen_of site ≡ record { log = Some (Crash file.now ∷ []); faults = 0; dark = false; origin = [] }) }
+        ensures calls { IfOk result (λ site. calls_of site ≡ None) }
     {
         let mut site = DiskSite::new(alloc);
         site.hold(copied(alloc, file)?)?;
@@ -105,24 +109,24 @@ impl DiskSite {
         &self.log
     }
 
-    /// The power fails behind so many more calls, the last of which is made whole.
+    /// The power fails behind so many more calls on the disk, the last of which is made whole.
     pub fn stop_after(&mut self, calls: u64)
         ensures log { (seen_of self.new).log ≡ (seen_of self.old).log }
-        ensures dark { (seen_of self.new).dark ≡ false → (seen_of self.old).dark ≡ false }
-        ensures at_once { calls ≡ 0 → (seen_of self.new).dark ≡ true }
+        ensures calls { calls_of self.new ≡ Some calls }
+        ensures dark { (seen_of self.new).dark ≡ ((seen_of self.old).dark || (calls == 0)) }
         ensures faults { (seen_of self.new).faults ≡ (seen_of self.old).faults }
     {
         self.calls = Some(calls);
-        if calls == 0 {
-            self.dark = true;
-        }
+        self.dark = self.dark || calls == 0;
     }
 
     /// Writes, where there is memory.
     fn wrote(&mut self, pos: u64, bytes: &[u8]) -> bool
         ensures wrote { result ≡ true → self.new.log.items ≡ self.old.log.items ++ Wrote pos bytes.now ∷ [] }
         ensures same { result ≡ false → self.new.log.items ≡ self.old.log.items }
-        ensures rest { (self.new.faults ≡ self.old.faults) × (self.new.dark ≡ self.old.dark) }
+        ensures faults { self.new.faults ≡ self.old.faults }
+        ensures dark { self.new.dark ≡ self.old.dark }
+        ensures calls { self.new.calls ≡ self.old.calls }
     {
         let Ok(file) = overwritten(self.alloc, &self.file, pos as usize, bytes) else {
             return false;
@@ -141,7 +145,9 @@ impl DiskSite {
     fn synced(&mut self) -> bool
         ensures synced { result ≡ true → self.new.log.items ≡ self.old.log.items ++ Synced ∷ [] }
         ensures same { result ≡ false → self.new.log.items ≡ self.old.log.items }
-        ensures rest { (self.new.faults ≡ self.old.faults) × (self.new.dark ≡ self.old.dark) }
+        ensures faults { self.new.faults ≡ self.old.faults }
+        ensures dark { self.new.dark ≡ self.old.dark }
+        ensures calls { self.new.calls ≡ self.old.calls }
     {
         let Ok(stable) = copied(self.alloc, &self.file) else {
             return false;
@@ -153,20 +159,16 @@ impl DiskSite {
         true
     }
 
-    /// Counts a call that was made.
+    /// Counts a call on the disk that was made.
     fn count(&mut self)
         ensures log { self.new.log.items ≡ self.old.log.items }
         ensures faults { self.new.faults ≡ self.old.faults }
+        ensures calls { self.new.calls ≡ one_less self.old.calls }
+        ensures dark { self.old.dark ≡ false → self.new.dark ≡ is_last self.old.calls }
     {
-        match self.calls {
-            None => {}
-            Some(calls) => {
-                if calls <= 1 {
-                    self.dark = true;
-                } else {
-                    self.calls = Some(calls - 1);
-                }
-            }
+        if let Some(calls) = self.calls {
+            self.dark = self.dark || calls <= 1;
+            self.calls = Some(calls.saturating_sub(1));
         }
     }
 
@@ -182,21 +184,58 @@ impl DiskSite {
         Failed
     }
 
+    /// Appends a turn that leaves the file; where the log can't grow the site is dark.
+    fn note(&mut self, turn: Turn)
+        requires { LeavesFile turn }
+        ensures turns { Grows (seen_of self.old) (seen_of self.new) (IsTurn turn) }
+        ensures whole { GrowsWhole (seen_of self.old) (seen_of self.new) (λ before. IsTurn turn) }
+        ensures faults { self.new.faults ≡ self.old.faults }
+        ensures calls { self.new.calls ≡ self.old.calls }
+    {
+        if !self.dark && !grown(&mut self.log, turn) {
+            self.dark = true;
+        }
+    }
+
+    /// A call on a line fails, which is this turn.
+    fn refuse(&mut self, turn: Turn) -> Failed
+        requires { LeavesFile turn }
+        ensures turns { Grows (seen_of self.old) (seen_of self.new) (IsTurn turn) }
+        ensures whole { GrowsWhole (seen_of self.old) (seen_of self.new) (λ before. IsTurn turn) }
+        ensures rose { Rose self.old.faults self.new.faults }
+        ensures later { self.old.faults ≤ self.new.faults }
+        ensures calls { self.new.calls ≡ self.old.calls }
+    {
+        self.faults = risen(self.faults);
+        self.note(turn);
+        Failed
+    }
+
+    /// The file that a power failure leaves.
+    fn leave(&self, left: Left) -> Result<Vec<u8>, AllocError>
+        ensures { IfOk result (λ file. file.items ≡ file_left left (outside_of self.now.log.items)) }
+    {
+        match left {
+            Left::Old => copied(self.alloc, &self.stable),
+            Left::New => copied(self.alloc, &self.file),
+            Left::Junk(junk) => {
+                let mut file = copied(self.alloc, &self.file)?;
+                put_junk(&mut file, &self.log, junk);
+                Ok(file)
+            }
+        }
+    }
+
     /// A power failure, behind which the site has its power again. Without memory nothing happens.
     pub fn restart(&mut self, left: Left) -> Result<(), AllocError>
+        ensures crash { OnOk result ((log : List ATurn) → (seen_of self.old).log ≡ Some log
+            → (seen_of self.new).log ≡ Some (log ++ Crash (file_left left (outside_of log)) ∷ [])) }
         ensures lit { OnOk result ((seen_of self.new).dark ≡ false) }
-        ensures faults { (seen_of self.new).faults ≡ (seen_of self.old).faults }
+        ensures calls { OnOk result (calls_of self.new ≡ None) }
         ensures err { OnErr result (seen_of self.new ≡ seen_of self.old) }
-        ensures crash { OnOk result ((file : List ℕ) × LeftBy left (outside_of self.old.log.items) file × (self.new.log.items ≡ self.old.log.items ++ Crash file ∷ [])) }
+        ensures faults { (seen_of self.new).faults ≡ (seen_of self.old).faults }
     {
-        let mut file = match left {
-            Left::Old => copied(self.alloc, &self.stable)?,
-            Left::New => copied(self.alloc, &self.file)?,
-            Left::Junk(_) => copied(self.alloc, &self.file)?,
-        };
-        if let Left::Junk(junk) = left {
-            put_junk(&mut file, &self.log, junk);
-        }
+        let file = self.leave(left)?;
         self.hold(file)
     }
 
@@ -205,6 +244,7 @@ impl DiskSite {
         ensures ok { OnOk result (self.new.log.items ≡ self.old.log.items ++ Crash file.items ∷ []) }
         ensures err { OnErr result (seen_of self.new ≡ seen_of self.old) }
         ensures lit { OnOk result ((seen_of self.new).dark ≡ false) }
+        ensures calls { OnOk result (calls_of self.new ≡ None) }
         ensures faults { (seen_of self.new).faults ≡ (seen_of self.old).faults }
     {
         let stable = copied(self.alloc, &file)?;
@@ -219,43 +259,61 @@ impl DiskSite {
 }
 
 impl Site for DiskSite {
-    ghost use Rattle.jrn_site.specs.Disk.{seen_of};
+    ghost use Rattle.jrn_site.specs.Disk.{IsMade, seen_of};
 
     ghost seen = { seen_of };
 
     fn open(&mut self, _setup: &Setup) -> Result<(), Failed> {
-        Err(self.fail())
+        Err(self.refuse(Turn::OpenFailed))
     }
 
     fn poll(&mut self, _buf: &mut [u8; 4096]) -> Polled {
-        self.fail();
+        self.note(Turn::Polled { now: 0 });
+        self.note(Turn::Stopped);
         Polled {
             now: 0,
             what: What::Stopped,
         }
     }
 
-    fn send_till(&mut self, _till: u64, _bytes: &[u8]) -> Result<(), Failed> {
-        Err(self.fail())
+    fn send_till(&mut self, till: u64, _bytes: &[u8]) -> Result<(), Failed> {
+        let bytes = Bytes::new(Vec::new(self.alloc));
+        Err(self.refuse(Turn::SentTill {
+            till,
+            bytes,
+            ok: false,
+        }))
     }
 
-    fn send_pt(&mut self, _pt: u16, _bytes: &[u8]) -> Result<(), Failed> {
-        Err(self.fail())
+    fn send_pt(&mut self, pt: u16, _bytes: &[u8]) -> Result<(), Failed> {
+        let bytes = Bytes::new(Vec::new(self.alloc));
+        Err(self.refuse(Turn::SentPt {
+            pt,
+            bytes,
+            ok: false,
+        }))
     }
 
-    fn link_pt(&mut self, _pt: u16) -> Result<(), Failed> {
-        Err(self.fail())
+    fn link_pt(&mut self, pt: u16) -> Result<(), Failed> {
+        Err(self.refuse(Turn::LinkFailed { pt }))
     }
 
-    fn cut_till(&mut self, _till: u64) {
-        self.fail();
+    fn cut_till(&mut self, till: u64) {
+        self.note(Turn::CutTill { till });
     }
 
-    fn cut_pt(&mut self, _pt: u16) {
-        self.fail();
+    fn cut_pt(&mut self, pt: u16) {
+        self.note(Turn::CutPt { pt });
     }
 
-    fn length(&mut self) -> Result<u64, Failed> {
+    fn length(&mut self) -> Result<u64, Failed>
+        ensures turns { Grows (seen_of self.old) (seen_of self.new) (DiskTurns result) }
+        ensures length { Tells (seen_of self.old) (λ log. IfOk result (λ count. count ≡ length (outside_of log).file)) }
+        ensures cause { HasCause (seen_of self.old).faults (seen_of self.new).faults result }
+        ensures dark { (seen_of self.old).dark ≡ true → IsErr result }
+        ensures lit { (seen_of self.old).dark ≡ false → IsOk result }
+        ensures made { OnOk result (IsMade self.old self.new) }
+    {
         if self.dark {
             return Err(self.fail());
         }
@@ -263,7 +321,14 @@ impl Site for DiskSite {
         Ok(self.file.len() as u64)
     }
 
-    fn read_at(&mut self, pos: u64, buf: &mut [u8]) -> Result<(), Failed> {
+    fn read_at(&mut self, pos: u64, buf: &mut [u8]) -> Result<(), Failed>
+        ensures turns { Grows (seen_of self.old) (seen_of self.new) (DiskTurns result) }
+        ensures bytes { Tells (seen_of self.old) (λ log. IfOk result (λ done. buf.new ≡ file_part (outside_of log).file pos (length buf.old))) }
+        ensures cause { HasCause (seen_of self.old).faults (seen_of self.new).faults result }
+        ensures dark { (seen_of self.old).dark ≡ true → IsErr result }
+        ensures lit { (seen_of self.old).dark ≡ false → IsOk result }
+        ensures made { OnOk result (IsMade self.old self.new) }
+    {
         if self.dark {
             return Err(self.fail());
         }
@@ -272,7 +337,12 @@ impl Site for DiskSite {
         Ok(())
     }
 
-    fn write_at(&mut self, pos: u64, bytes: &[u8]) -> Result<(), Failed> {
+    fn write_at(&mut self, pos: u64, bytes: &[u8]) -> Result<(), Failed>
+        ensures turns { Grows (seen_of self.old) (seen_of self.new) (WroteTurns pos bytes.now result) }
+        ensures cause { HasCause (seen_of self.old).faults (seen_of self.new).faults result }
+        ensures dark { (seen_of self.old).dark ≡ true → IsErr result }
+        ensures made { OnOk result (IsMade self.old self.new) }
+    {
         if self.dark {
             return Err(self.fail());
         }
@@ -283,7 +353,12 @@ impl Site for DiskSite {
         Ok(())
     }
 
-    fn sync(&mut self) -> Result<(), Failed> {
+    fn sync(&mut self) -> Result<(), Failed>
+        ensures turns { Grows (seen_of self.old) (seen_of self.new) (SyncedTurns result) }
+        ensures cause { HasCause (seen_of self.old).faults (seen_of self.new).faults result }
+        ensures dark { (seen_of self.old).dark ≡ true → IsErr result }
+        ensures made { OnOk result (IsMade self.old self.new) }
+    {
         if self.dark {
             return Err(self.fail());
         }
