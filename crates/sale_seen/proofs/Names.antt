@@ -1,0 +1,37 @@
+-- Names of bodies: a category and what stands behind it.
+use Rattle.std.proofs.Common.{◌≡◌, ◌≢◌, ℕ, ◌+◌, List, [], ◌∷◌, ◌++◌, Bool, true, false, ◌&&◌, bytes_eq, codes, length, drop, refl, sym, ap, ◌∙◌, arith, eqb, true≢false}
+use Rattle.std.proofs.lemmas.Bool.{eq-eqb}
+use Rattle.std.proofs.lemmas.List.{length-append}
+use Rattle.std.proofs.Math.Seq.{drop-append_seam}
+use Rattle.std.proofs.lemmas.Slice.Eq.{bytes_eq-Decides}
+
+-- what stands in front of both counts for nothing
+pub front_eq : (front a b : List ℕ) → bytes_eq (front ++ a) (front ++ b) ≡ bytes_eq a b
+front_eq [] a b = refl
+front_eq (c ∷ front) a b = rw (eq-eqb c c refl) (front_eq front a b)
+
+is_false : (b : Bool) → (b ≡ true → ⊥) → b ≡ false
+is_false true h = absurd (h refl)
+is_false false h = refl
+
+pub not_eq : (a b : List ℕ) → a ≢ b → bytes_eq a b ≡ false
+not_eq a b h = is_false (bytes_eq a b) (λ e. h ((bytes_eq-Decides a b).0 e))
+
+pub same_eq : (a : List ℕ) → bytes_eq a a ≡ true
+same_eq a = (bytes_eq-Decides a a).1 refl
+
+pub differ : (a b : List ℕ) → bytes_eq a b ≡ false → a ≡ b → ⊥
+differ a b e same = true≢false (sym ((bytes_eq-Decides a b).1 same) ∙ e)
+
+-- no body has the name of the header
+pub not_header : (category : List ℕ) → codes "MessageHeader" ≢ category ++ codes "Response"
+not_header category e =
+    let count : length category ≡ 5 = omega (arith, ap length e, length-append category (codes "Response")) in
+    let behind : drop 5 (codes "MessageHeader") ≡ codes "Response" =
+    ap (drop 5) e ∙ ap (λ n. drop n (category ++ codes "Response")) (sym count) ∙ drop-append_seam category (codes "Response") in
+    differ (drop 5 (codes "MessageHeader")) (codes "Response") refl behind
+
+-- what stands behind the same is the same
+pub same_behind : (front a b : List ℕ) → front ++ a ≡ front ++ b → a ≡ b
+same_behind front a b e =
+    sym (drop-append_seam front a) ∙ ap (drop (length front)) e ∙ drop-append_seam front b

@@ -1,0 +1,5 @@
+use Rattle.sale_seen.proofs.Seeing.{display_lacks}
+use Rattle.sale_seen.proofs.laws.law_display.Goals as goal
+
+pub returns : goal.returns
+returns c = display_lacks

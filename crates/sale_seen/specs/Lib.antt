@@ -1,0 +1,4 @@
+pub mod Place
+pub mod Seen
+pub mod Fault
+pub mod Told

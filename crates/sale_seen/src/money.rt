@@ -1,0 +1,58 @@
+//! Money, as it is written.
+ghost use Rattle.std.specs.Prelude.{◌≡◌, ◌↔◌, ℕ, ◌+◌, ◌-◌, ◌*◌, ◌^◌, ◌<◌, ◌≤◌, IsTrue, MatchOption, Some, if◌then◌else◌};
+ghost use Rattle.std.specs.Char.{is_ascii_digit};
+ghost use Rattle.sale_values.specs.Money.{money_text};
+ghost use Rattle.sale_seen.specs.Seen.{Finds};
+
+use itoa::Buffer;
+
+/// The minor units that are written with this text: whole units, a point and two digits. `None` where 64 bits don't
+/// hold them, or where they are written in another way.
+pub(crate) fn minor_of(text: &[u8]) -> Option<u64>
+    ensures { Finds (λ minor. (text.now ≡ money_text minor) × (minor < 2 ^ 64)) result }
+{
+    match spelled(text) {
+        None => None,
+        Some(minor) => {
+            if is_written(minor, text) {
+                Some(minor)
+            } else {
+                None
+            }
+        }
+    }
+}
+
+/// The number that the digits of the text spell, whatever stands among them; `None` where 64 bits don't hold it.
+fn spelled(text: &[u8]) -> Option<u64>
+    ensures { (minor : ℕ) → minor < 2 ^ 64 → text.now ≡ money_text minor → result ≡ Some minor }
+{
+    let mut value: u64 = 0;
+    for byte in text {
+        value = with_byte(value, *byte)?;
+    }
+    Some(value)
+}
+
+/// The number with one more byte behind it, which counts where it is a digit.
+fn with_byte(value: u64, byte: u8) -> Option<u64>
+    ensures { let longer = (if is_ascii_digit byte then 10 * value + (byte - 48) else value) in
+        MatchOption result (2 ^ 64 ≤ longer) (λ n. n ≡ longer) }
+{
+    if !byte.is_ascii_digit() {
+        return Some(value);
+    }
+    value.checked_mul(10)?.checked_add(u64::from(byte - b'0'))
+}
+
+/// Whether this is how so many minor units are written.
+fn is_written(minor: u64, text: &[u8]) -> bool
+    ensures { IsTrue result ↔ (text.now ≡ money_text minor) }
+{
+    let cents = (minor % 100) as u8;
+    let mut whole = Buffer::new();
+    match text.strip_prefix(whole.format(minor / 100).as_bytes()) {
+        None => false,
+        Some(behind) => behind == [b'.', b'0' + cents / 10, b'0' + cents % 10].as_slice(),
+    }
+}

@@ -1,0 +1,174 @@
+//! Replies, read from trees.
+ghost use Rattle.std.specs.Prelude.{◌≡◌, ◌≢◌, ◌↔◌, ℕ, ◌≤◌, List, length, Err, IfOk, MatchResult, option_map, option_copied, IsOkAnd, SomeIff, codes};
+ghost use Rattle.std.specs.Option.{option_and_then};
+ghost use Rattle.gw_base.specs.Ident.{IsIdent};
+ghost use Rattle.json_text.specs.Tree.{Tree, string_of};
+ghost use Rattle.json_text.specs.View.{view};
+ghost use Rattle.sale_values.specs.declared.header.Header.{Header};
+ghost use Rattle.sale_msg.specs.Message.{IsHeaded, LacksHeader};
+ghost use Rattle.sale_msg.specs.Path.{text_at};
+ghost use Rattle.sale_msg.specs.declared.table.Envelope.{Envelope};
+ghost use Rattle.sale_seen.specs.Fault.{HasOtherResult, IsUnseen, LacksResult, result_path};
+ghost use Rattle.sale_seen.specs.Place.{amount_in, response_of, transaction_in};
+ghost use Rattle.sale_seen.specs.Seen.{Finds, IsSeen, Seen, TellsCondition, TellsMinor, TellsResult, TellsTransaction, shown};
+
+use crate::ReplySeen;
+use crate::money::minor_of;
+use crate::parts::{amount, outcome, response, text};
+use arrayvec::ArrayVec;
+use gw_base::{Condition, Ident};
+use json_text::Json;
+use sale_msg::{find, read_header};
+use sale_reply::ReplyResult;
+use sale_values::{Header, SaleFault};
+
+/// Reads what a till sees in a reply, from the tree of its text. It takes no memory.
+///
+/// The header is read as that of any message. What stands elsewhere than where nexo Sale to POI 3.0 puts it in this
+/// profile's replies is ignored.
+pub fn read_reply(tree: &Json) -> Result<ReplySeen, SaleFault>
+    // What is given is seen in the tree, and where something is seen it is given.
+    ensures ok { IfOk result (λ seen. IsSeen (view tree.now) (shown seen)) }
+    ensures every { (seen : Seen) → IsSeen (view tree.now) seen → IsOkAnd result (λ own. shown own ≡ seen) }
+
+    // Each fault is told exactly where the tree has it.
+    ensures no_header { (path : List ℕ) → (result ≡ Err (SaleFault.NoHeader path)) ↔ LacksHeader (view tree.now) path }
+    ensures missing { (header : Header) (path : List ℕ) → (result ≡ Err (SaleFault.Missing header path)) ↔ LacksResult (view tree.now) header path }
+    ensures wrong { (header : Header) (path : List ℕ) → (result ≡ Err (SaleFault.Wrong header path)) ↔ HasOtherResult (view tree.now) header path }
+    ensures unserved { (header : Header) → result ≢ Err (SaleFault.Unserved header) }
+{
+    match read_header(tree) {
+        Ok(headed) => read_body(&headed.header, headed.body),
+        Err(fault) => Err(fault),
+    }
+}
+
+/// What is seen beside this header in the object where it stands.
+fn read_body(header: &Header, object: &Json) -> Result<ReplySeen, SaleFault>
+    ensures { (message : Tree) (envelope : Envelope) → IsHeaded message envelope (view object.now) header.now
+        → MatchResult result (λ seen. IsSeen message (shown seen)) (IsUnseen message) }
+{
+    match response(object, header.category.as_bytes()) {
+        None => Err(SaleFault::Missing {
+            header: *header,
+            path: result_path(&header.category),
+        }),
+        Some(body) => match find(body, "Response.Result") {
+            None => Err(SaleFault::Missing {
+                header: *header,
+                path: result_path(&header.category),
+            }),
+            Some(value) => match result_of(value) {
+                None => Err(SaleFault::Wrong {
+                    header: *header,
+                    path: result_path(&header.category),
+                }),
+                Some(result) => {
+                    let told = outcome(header.category.as_bytes(), body);
+                    Ok(ReplySeen {
+                        category: header.category,
+                        result,
+                        condition: condition(body),
+                        transaction: transaction(told),
+                        minor: minor(told),
+                    })
+                }
+            },
+        },
+    }
+}
+
+/// The path of the result of a reply of this category.
+fn result_path(category: &Ident<40>) -> Ident<100>
+    ensures { result ≡ result_path category.now }
+{
+    path_of(path_text(category.as_bytes()).as_slice())
+}
+
+fn path_text(category: &[u8]) -> ArrayVec<u8, 64>
+    requires { length category.now ≤ 40 }
+    ensures { result.items ≡ result_path category.now }
+{
+    let mut path = ArrayVec::new();
+    path.try_extend_from_slice(category).unwrap();
+    path.try_extend_from_slice(b"Response.Response.Result")
+        .unwrap();
+    path
+}
+
+/// The path of this text.
+fn path_of(text: &[u8]) -> Ident<100>
+    requires { IsIdent 100 text.now }
+    ensures { result ≡ text.now }
+{
+    match Ident::of(text) {
+        None => unreachable!(),
+        Some(path) => path,
+    }
+}
+
+/// The result of this name.
+fn result_of(value: &Json) -> Option<ReplyResult>
+    ensures { Finds (TellsResult (string_of (view value.now))) result }
+{
+    match value.as_str() {
+        None => None,
+        Some(text) => match text.as_str() {
+            "Success" => Some(ReplyResult::Success),
+            "Partial" => Some(ReplyResult::Partial),
+            "Failure" => Some(ReplyResult::Failure),
+            _ => None,
+        },
+    }
+}
+
+/// The condition of the name that stands as a body's `ErrorCondition`.
+fn condition(body: &Json) -> Option<Condition>
+    ensures { Finds (TellsCondition (text_at (codes "Response.ErrorCondition") (view body.now))) result }
+{
+    match text(body, "Response.ErrorCondition") {
+        None => None,
+        Some(name) => Condition::from_name(name),
+    }
+}
+
+/// The text that identifies the transaction of an outcome, where it is 1 to 80 printable bytes.
+fn transaction(outcome: Option<&Json>) -> Option<ArrayVec<u8, 80>>
+    ensures { Finds (TellsTransaction (option_and_then transaction_in (option_map (λ v. view v.now) outcome.entry)))
+        (option_map (λ text. text.items) result) }
+{
+    match outcome {
+        None => None,
+        Some(body) => match text(body, "POIData.POITransactionID.TransactionID") {
+            None => None,
+            Some(text) => identifier(text),
+        },
+    }
+}
+
+/// The text, where it is 1 to 80 printable bytes.
+fn identifier(text: &[u8]) -> Option<ArrayVec<u8, 80>>
+    ensures { SomeIff (option_map (λ text. text.items) result) (IsIdent 80 text.now) text.now }
+{
+    match Ident::<80>::of(text) {
+        None => None,
+        Some(id) => {
+            let mut own = ArrayVec::new();
+            own.try_extend_from_slice(id.as_bytes()).unwrap();
+            Some(own)
+        }
+    }
+}
+
+/// The amount of an outcome in minor units, where it is written with two digits behind the point and has 64 bits.
+fn minor(outcome: Option<&Json>) -> Option<u64>
+    ensures { Finds (TellsMinor (option_and_then amount_in (option_map (λ v. view v.now) outcome.entry))) result }
+{
+    match outcome {
+        None => None,
+        Some(body) => match amount(body) {
+            None => None,
+            Some(numeral) => minor_of(numeral),
+        },
+    }
+}
