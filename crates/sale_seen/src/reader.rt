@@ -49,20 +49,11 @@ fn read_body(header: &Header, object: &Json) -> Result<ReplySeen, SaleFault>
         → MatchResult result (λ seen. IsSeen message (shown seen)) (IsUnseen message) }
 {
     match response(object, header.category.as_bytes()) {
-        None => Err(SaleFault::Missing {
-            header: *header,
-            path: result_path(&header.category),
-        }),
+        None => Err(missing(header)),
         Some(body) => match find(body, "Response.Result") {
-            None => Err(SaleFault::Missing {
-                header: *header,
-                path: result_path(&header.category),
-            }),
+            None => Err(missing(header)),
             Some(value) => match result_of(value) {
-                None => Err(SaleFault::Wrong {
-                    header: *header,
-                    path: result_path(&header.category),
-                }),
+                None => Err(wrong(header)),
                 Some(result) => {
                     let told = outcome(header.category.as_bytes(), body);
                     Ok(ReplySeen {
@@ -75,6 +66,26 @@ fn read_body(header: &Header, object: &Json) -> Result<ReplySeen, SaleFault>
                 }
             },
         },
+    }
+}
+
+/// The fault of a reply without a result.
+fn missing(header: &Header) -> SaleFault
+    ensures { result ≡ SaleFault.Missing header.now (result_path header.now.category) }
+{
+    SaleFault::Missing {
+        header: *header,
+        path: result_path(&header.category),
+    }
+}
+
+/// The fault of a reply of another result than the three.
+fn wrong(header: &Header) -> SaleFault
+    ensures { result ≡ SaleFault.Wrong header.now (result_path header.now.category) }
+{
+    SaleFault::Wrong {
+        header: *header,
+        path: result_path(&header.category),
     }
 }
 
