@@ -1,23 +1,23 @@
 -- What the bodies of written replies tell.
-use Rattle.std.proofs.Common.{◌≡◌, ◌≢◌, ℕ, ◌^◌, ◌<◌, List, ◌++◌, Option, Some, None, refl, sym, ap, subst, ◌∙◌, codes, IfSome, bytes_eq, Bool, true, false, if◌then◌else◌, option_map}
+use Rattle.std.proofs.Common.{◌≡◌, ℕ, ◌^◌, ◌<◌, List, ◌++◌, Option, Some, None, refl, sym, ap, ◌∙◌, codes, IfSome, bytes_eq, Bool, true, false, if◌then◌else◌, option_map}
 use Rattle.std.specs.Option.{option_and_then}
 use Rattle.gw_base.specs.Condition.{name_of}
 use Rattle.gw_base.specs.Ident.{IsIdent}
 use Rattle.gw_base.specs.declared.condition.Condition.{Condition}
-use Rattle.json_text.specs.Tree.{Tree, member, object, no_members}
+use Rattle.json_text.specs.Tree.{Tree}
 use Rattle.sale_values.specs.Money.{money_text}
 use Rattle.sale_values.specs.declared.header.Header.{Header}
 use Rattle.sale_msg.specs.Path.{text_at, value_at}
 use Rattle.sale_reply.specs.Limits.{IsTold}
 use Rattle.sale_reply.specs.Names.{result_name, result_of}
-use Rattle.sale_reply.specs.Reply.{approved_body, diagnosis_body, header_tree, payment_result, plain_body, poi_data, print_body, repeated_message, result_tree, sale_data, status_body, told_body, totals}
+use Rattle.sale_reply.specs.Reply.{approved_body, diagnosis_body, header_tree, payment_result, plain_body, poi_data, print_body, repeated_message, result_tree, sale_data, status_body, told_body}
 use Rattle.sale_reply.specs.declared.reply.GlobalStatus.{GlobalStatus}
 use Rattle.sale_reply.specs.declared.reply.ReplyResult.{ReplyResult}
 use Rattle.sale_reply.specs.declared.reply.ReplyResult.TheVariants as results
 use Rattle.sale_reply.specs.declared.reply.Told.{Told}
 use Rattle.sale_reply.specs.declared.reply.Told.TheVariants.{PaymentApproved, PaymentDeclined, ReversalApproved, ReversalDeclined, Reconciled}
 use Rattle.sale_reply.specs.declared.reply.Verdict.{Verdict}
-use Rattle.sale_seen.specs.Place.{amount_in, outcome_in, repeated_in, response_of, transaction_in}
+use Rattle.sale_seen.specs.Place.{amount_in, outcome_in, repeated_in, transaction_in}
 use Rattle.sale_seen.specs.Seen.{Finds, TellsCondition, TellsMinor, TellsTransaction}
 use Rattle.sale_seen.specs.Told.{condition_told, minor_told, result_told, transaction_told}
 use Rattle.sale_seen.proofs.Idents.{transaction-ident}

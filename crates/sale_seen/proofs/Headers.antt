@@ -1,7 +1,6 @@
 -- The header of a written reply is read again.
-use Rattle.std.proofs.Common.{◌≡◌, ◌≢◌, ℕ, List, ◌++◌, Option, Some, None, refl, sym, ap, ◌∙◌, codes, inl, inr, ◌⊎◌, All, IfSome, length, ◌≤◌, bytes_eq, true, false}
-use Rattle.gw_base.specs.Ident.{IsIdent}
-use Rattle.json_text.specs.Tree.{Tree, get_of, object, member, no_members}
+use Rattle.std.proofs.Common.{◌≡◌, ℕ, List, ◌++◌, Option, Some, None, refl, ap, codes, inl, inr, ◌⊎◌, All, length, ◌≤◌, bytes_eq, true, false}
+use Rattle.json_text.specs.Tree.{Tree, object, member, no_members}
 use Rattle.sale_values.specs.Names.{class_name, kind_name}
 use Rattle.sale_values.specs.declared.header.Header.{Header}
 use Rattle.sale_values.specs.declared.names.Class.{Class as ClassType}

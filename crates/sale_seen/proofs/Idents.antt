@@ -1,5 +1,5 @@
 -- Texts that are identifiers.
-use Rattle.std.proofs.Common.{◌≡◌, ℕ, ◌+◌, ◌/◌, ◌%◌, ◌^◌, ◌<◌, ◌≤◌, List, [], ◌∷◌, ◌++◌, All, length, codes, arith, decimal, refl, true, false, Bool, zero, suc, nat_le, ◌&&◌}
+use Rattle.std.proofs.Common.{◌≡◌, ℕ, ◌+◌, ◌/◌, ◌%◌, ◌^◌, ◌<◌, ◌≤◌, List, [], ◌∷◌, ◌++◌, All, length, codes, arith, decimal, refl, true, Bool, zero, suc, nat_le, ◌&&◌}
 use Rattle.std.specs.List.{list_all}
 use Rattle.std.proofs.lemmas.Bool.Decides.{nat_tests}
 use Rattle.std.proofs.lemmas.List.{length-append}
@@ -8,15 +8,12 @@ use Rattle.std.proofs.lemmas.Fmt.{decimal_by_steps, length-decimal-le}
 use Rattle.gw_base.specs.Digits.{digits}
 use Rattle.gw_base.specs.Ident.{IsIdent, IsPrintable}
 use Rattle.sale_reply.specs.Texts.{transaction_text}
+use Rattle.sale_seen.proofs.Names.{both}
 use Rattle.sale_seen.specs.Fault.{result_path}
 
 -- whether the byte is a printable one
 abbrev pub is_printable : ℕ → Bool
 is_printable byte = nat_le 0x20 byte && nat_le byte 0x7E
-
-both : (a b : Bool) → (a && b) ≡ true → (a ≡ true) × (b ≡ true)
-both true b h = (refl, h)
-both false b h = absurd cc
 
 printable_byte : (byte : ℕ) → is_printable byte ≡ true → IsPrintable byte
 printable_byte byte h =

@@ -5,3 +5,4 @@ pub mod One
 pub mod Headers
 pub mod Bodies
 pub mod Seeing
+pub mod ResultPath

@@ -1,5 +1,5 @@
 -- What is seen in a tree is one, so is the fault of a tree, and no tree has both.
-use Rattle.std.proofs.Common.{◌≡◌, ℕ, List, Option, Some, None, refl, sym, ap, subst, ◌∙◌, true, false, Result, Ok, Err, MatchResult, IfOk, IsOkAnd, IsSome, true≢false, bytes_eq, ◌↔◌, codes}
+use Rattle.std.proofs.Common.{◌≡◌, ℕ, List, Option, Some, None, refl, sym, ap, subst, ◌∙◌, Result, Ok, Err, MatchResult, IfOk, IsOkAnd, IsSome, true≢false, ◌↔◌, codes}
 use Rattle.std.specs.Option.{option_and_then}
 use Rattle.gw_base.specs.Condition.{name_of}
 use Rattle.gw_base.specs.declared.condition.Condition.{Condition}
@@ -9,14 +9,14 @@ use Rattle.sale_values.specs.declared.header.Header.{Header}
 use Rattle.sale_values.specs.declared.fault.SaleFault.{SaleFault}
 use Rattle.sale_values.specs.declared.fault.SaleFault.TheVariants as faults
 use Rattle.sale_values.specs.Money.{money_text}
-use Rattle.sale_msg.specs.Message.{IsHeaded, LacksHeader}
+use Rattle.sale_msg.specs.Message.{IsHeaded}
 use Rattle.sale_msg.specs.Path.{text_at, value_at}
 use Rattle.sale_msg.specs.declared.table.Envelope.{Envelope}
 use Rattle.sale_msg.proofs.One.{header_place_one, no_header_one, no_header_heard}
 use Rattle.sale_reply.specs.Names.{result_name}
 use Rattle.sale_reply.specs.declared.reply.ReplyResult.{ReplyResult}
 use Rattle.sale_reply.specs.declared.reply.ReplyResult.TheVariants as results
-use Rattle.sale_seen.specs.Fault.{HasOtherResult, HasOtherResultIn, IsUnseen, LacksResult, LacksResultIn, result_in, result_path}
+use Rattle.sale_seen.specs.Fault.{HasOtherResult, IsUnseen, LacksResult, result_in, result_path}
 use Rattle.sale_seen.specs.Place.{amount_in, outcome_in, response_of, transaction_in}
 use Rattle.sale_seen.specs.Seen.{Finds, IsSeen, IsSeenIn, Seen, TellsCondition, TellsMinor, TellsResult, TellsTransaction, shown}
 use Rattle.sale_seen.specs.declared.seen.ReplySeen.{ReplySeen}

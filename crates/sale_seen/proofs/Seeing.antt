@@ -1,5 +1,5 @@
 -- What a till is to see of a written reply is seen.
-use Rattle.std.proofs.Common.{◌≡◌, ◌≢◌, ℕ, List, Option, Some, None, refl, sym, ap, subst, ◌∙◌, codes, Bool, true, false, bytes_eq, if◌then◌else◌}
+use Rattle.std.proofs.Common.{◌≡◌, ◌≢◌, ℕ, List, Option, Some, None, refl, ap, subst, ◌∙◌, codes, true, bytes_eq}
 use Rattle.std.specs.Option.{option_and_then}
 use Rattle.gw_base.specs.declared.condition.Condition.{Condition}
 use Rattle.json_text.specs.Tree.{Tree}
@@ -8,21 +8,20 @@ use Rattle.sale_msg.specs.Path.{value_at}
 use Rattle.sale_msg.specs.declared.table.Envelope.TheVariants as envelopes
 use Rattle.sale_reply.specs.Limits.{IsHeader as HasIdents, IsTold, IsWithinLimits}
 use Rattle.sale_reply.specs.Names.{result_of}
-use Rattle.sale_reply.specs.Reply.{diagnosis_body, display_body, plain_body, print_body, response, result_tree, status_body, told_body, tree_of, verdict_tree}
+use Rattle.sale_reply.specs.Reply.{diagnosis_body, display_body, plain_body, print_body, response, status_body, told_body, tree_of, verdict_tree}
 use Rattle.sale_reply.specs.declared.reply.ReplyResult.{ReplyResult}
 use Rattle.sale_reply.specs.declared.reply.ReplyResult.TheVariants as results
 use Rattle.sale_reply.specs.declared.reply.SaleReply.{SaleReply}
 use Rattle.sale_reply.specs.declared.reply.SaleReply.TheVariants as reply
 use Rattle.sale_reply.specs.declared.reply.Shown.{Shown}
 use Rattle.sale_reply.specs.declared.reply.Told.{Told}
-use Rattle.sale_reply.specs.declared.reply.Verdict.{Verdict}
-use Rattle.sale_seen.specs.Fault.{LacksResult, result_in, result_path}
-use Rattle.sale_seen.specs.Place.{amount_in, outcome_in, repeated_in, response_of, transaction_in}
+use Rattle.sale_seen.specs.Fault.{LacksResult, result_path}
+use Rattle.sale_seen.specs.Place.{amount_in, outcome_in, repeated_in, transaction_in}
 use Rattle.sale_seen.specs.Seen.{IsSeen, Seen}
 use Rattle.sale_seen.specs.Told.{IsReadable, Suits, condition_told, display_of, outcome, plain, result_told, seen_of}
 use Rattle.sale_seen.proofs.Bodies.{HasOutcome, HasResult, IsAlone, alone, diagnosis_alone, diagnosis_shows, finds_minor, finds_transaction, minor_fits, plain_alone, plain_shows, print_alone, print_shows, status_repeats, status_shows, told_outcome, told_shows, transaction_fits}
 use Rattle.sale_seen.proofs.Headers.{bodied, headed, object_of_reply}
-use Rattle.sale_seen.proofs.Names.{not_eq, same_eq}
+use Rattle.sale_seen.proofs.Names.{not_eq}
 
 -- a reply that has a result alone
 seen_alone : (header : Header) (body : Tree) (condition : Option Condition) → HasIdents header → IsReadable header

@@ -9,12 +9,11 @@ use Rattle.sale_reply.specs.Names.{paid_result, result_of}
 use Rattle.sale_reply.specs.Texts.{transaction_text}
 use Rattle.sale_reply.specs.declared.reply.PoiMark.{PoiMark}
 use Rattle.sale_reply.specs.declared.reply.ReplyResult.{ReplyResult}
-use Rattle.sale_reply.specs.declared.reply.ReplyResult.TheVariants.{Success, Partial, Failure}
+use Rattle.sale_reply.specs.declared.reply.ReplyResult.TheVariants.{Success, Failure}
 use Rattle.sale_reply.specs.declared.reply.Told.{Told}
 use Rattle.sale_reply.specs.declared.reply.Told.TheVariants.{PaymentApproved, PaymentDeclined, ReversalApproved, ReversalDeclined, Reconciled}
 use Rattle.sale_reply.specs.declared.reply.SaleReply.{SaleReply}
 use Rattle.sale_reply.specs.declared.reply.SaleReply.TheVariants as reply
-use Rattle.sale_reply.specs.declared.reply.Verdict.{Verdict}
 use Rattle.sale_seen.specs.Seen.{Seen}
 
 -- the result of an outcome

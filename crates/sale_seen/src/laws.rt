@@ -1,10 +1,13 @@
 //! Laws of what is seen of the replies that are written.
-ghost use Rattle.std.specs.Prelude.{◌≡◌, Some};
+ghost use Rattle.std.specs.Prelude.{◌≡◌, ℕ, List, All, Some};
+ghost use Rattle.json_text.specs.Tree.{Tree};
 ghost use Rattle.sale_values.specs.declared.header.Header.{Header};
+ghost use Rattle.sale_msg.specs.Form.{IsLetter};
+ghost use Rattle.sale_msg.specs.Path.{value_at};
 ghost use Rattle.sale_reply.specs.Limits.{IsWithinLimits};
 ghost use Rattle.sale_reply.specs.Reply.{tree_of};
 ghost use Rattle.sale_reply.specs.declared.reply.SaleReply.{SaleReply};
-ghost use Rattle.sale_seen.specs.Fault.{LacksResult, result_path};
+ghost use Rattle.sale_seen.specs.Fault.{LacksResult, result_in, result_path};
 ghost use Rattle.sale_seen.specs.Seen.{IsSeen, Seen};
 ghost use Rattle.sale_seen.specs.Told.{Suits, display_of, seen_of};
 
@@ -17,4 +20,9 @@ pub fn law_seen()
 pub fn law_display()
     ensures { (reply : SaleReply) (header : Header) → IsWithinLimits reply → Suits reply → display_of reply ≡ Some header
         → LacksResult (tree_of reply) header (result_path header.category) }
+{}
+
+/// The path that a fault tells leads to what stands as the reply's result.
+pub fn law_path()
+    ensures { (category : List ℕ) (object : Tree) → All IsLetter category → value_at (result_path category) object ≡ result_in category object }
 {}

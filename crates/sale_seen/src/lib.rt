@@ -9,6 +9,6 @@ mod seen;
 #[cfg(test)]
 mod tests;
 
-pub use laws::{law_display, law_seen};
+pub use laws::{law_display, law_path, law_seen};
 pub use reader::read_reply;
 pub use seen::ReplySeen;

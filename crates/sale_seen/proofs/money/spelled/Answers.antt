@@ -1,4 +1,4 @@
-use Rattle.std.proofs.Common.{◌≡◌, ◌∙◌, ap, drop, length, Some, sym, []}
+use Rattle.std.proofs.Common.{ap, Some}
 use Rattle.sale_seen.proofs.Spelled.{read_whole, too_long}
 use Rattle.sale_seen.proofs.money.spelled.Goals as goal
 

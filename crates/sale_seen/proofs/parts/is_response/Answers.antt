@@ -1,4 +1,4 @@
-use Rattle.std.proofs.Common.{◌≡◌, ◌∙◌, ◌++◌, None, Some, ap, bytes_eq, codes, sym}
+use Rattle.std.proofs.Common.{◌∙◌, ◌++◌, None, Some, ap, bytes_eq, codes, sym}
 use Rattle.std.proofs.lemmas.Slice.Eq.{strip_prefix_is}
 use Rattle.std.proofs.lemmas.Bool.Decides.{Decides-eqb}
 use Rattle.sale_seen.proofs.Names.{front_eq, not_eq}

@@ -1,4 +1,4 @@
-use Rattle.std.proofs.Common.{◌≡◌, ◌∙◌, ap, refl, subst, sym, Option, option_map}
+use Rattle.std.proofs.Common.{◌∙◌, ap, refl, subst, sym, Option, option_map}
 use Rattle.std.specs.Option.{option_and_then}
 use Rattle.json_text.specs.Tree.{Tree, string_of}
 use Rattle.json_text.specs.View.{view}

@@ -1,11 +1,10 @@
 use Rattle.std.proofs.Common.{Err, Result, subst, sym}
-use Rattle.json_text.specs.Tree.{Tree}
 use Rattle.json_text.specs.View.{view}
 use Rattle.sale_values.specs.declared.fault.SaleFault.{SaleFault}
 use Rattle.sale_values.specs.declared.fault.SaleFault.TheVariants as faults
 use Rattle.sale_seen.specs.Fault.{IsUnseen}
 use Rattle.sale_seen.specs.declared.seen.ReplySeen.{ReplySeen}
-use Rattle.sale_seen.proofs.One.{IsAnswer, answer_every, answer_fault, answer_ok}
+use Rattle.sale_seen.proofs.One.{answer_every, answer_fault, answer_ok}
 use Rattle.sale_seen.proofs.reader.read_reply.Goals as goal
 
 pub returns-in-Ok : goal.returns-in-Ok

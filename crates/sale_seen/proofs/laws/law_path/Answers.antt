@@ -1,0 +1,5 @@
+use Rattle.sale_seen.proofs.ResultPath.{path_leads}
+use Rattle.sale_seen.proofs.laws.law_path.Goals as goal
+
+pub returns : goal.returns
+returns c = path_leads
