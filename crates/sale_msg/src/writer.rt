@@ -16,10 +16,10 @@ use std::alloc::{AllocError, Global};
 /// what is absent.
 ///
 /// `ProtocolVersion` is written as `3.0`, `ReversalReason` as `MerchantCancel`, `OutputFormat` as `Text`, and
-/// `ResponseRequiredFlag` always. An amount has two digits behind the point. It asks for nothing: a request that
-/// [`read_message`](crate::read_message) gave is written as JSON text (RFC 8259) that is read as this request again
-/// ([`law_written_again`](crate::law_written_again)), while the words of a `Header` or a `SaleRequest` that was put
-/// together otherwise are written as they are.
+/// `ResponseRequiredFlag` always. An amount has two digits behind the point. A request that
+/// [`read_message`](crate::read_message) gave of a text's tree is written as JSON text (RFC 8259) that is read as this
+/// request again ([`law_written_again`](crate::law_written_again)). This asks for nothing: one that was put together
+/// otherwise is written by the same rules, though its bytes may be no text.
 pub fn write_request(
     alloc: Global,
     header: &Header,
