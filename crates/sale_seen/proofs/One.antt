@@ -61,9 +61,9 @@ condition_one a b e = absurd (differ (name_of a) (name_of b) refl e)
 
 -- ---- what is seen
 
-told_one : (message : Tree) (envelope : Envelope) (object : Tree) (header : Header) (body : Tree) (s t : Seen)
-    → IsSeenIn message envelope object header body s → (e : Envelope) → IsSeenIn message e object header body t → s ≡ t
-told_one message envelope object header body s t h e k =
+told_one : (message : Tree) (envelope : Envelope) (holder : Tree) (header : Header) (body : Tree) (s t : Seen)
+    → IsSeenIn message envelope holder header body s → (e : Envelope) → IsSeenIn message e holder header body t → s ≡ t
+told_one message envelope holder header body s t h e k =
     let outcome = outcome_in header.category body in
     let condition_text = text_at (codes "Response.ErrorCondition") body in
     let transaction_text = option_and_then transaction_in outcome in
@@ -100,31 +100,31 @@ result_there : (found : Option Tree) (body : Tree) → found ≡ Some body
 result_there found body e = ap (option_and_then (value_at (codes "Response.Result"))) e
 
 -- a result that is seen is there, and is one of the three
-record HasResult (category : List ℕ) (object : Tree) (outcome : ReplyResult) : Type 0 where
-  told : TellsResult (option_and_then string_of (result_in category object)) outcome
+record HasResult (category : List ℕ) (holder : Tree) (outcome : ReplyResult) : Type 0 where
+  told : TellsResult (option_and_then string_of (result_in category holder)) outcome
 
-has_result : (message : Tree) (e : Envelope) (object : Tree) (header : Header) (body : Tree) (s : Seen)
-    → IsSeenIn message e object header body s → HasResult header.category object s.result
-has_result message e object header body s h =
-    let there = result_there (response_of header.category object) body h.body_is in
+has_result : (message : Tree) (e : Envelope) (holder : Tree) (header : Header) (body : Tree) (s : Seen)
+    → IsSeenIn message e holder header body s → HasResult header.category holder s.result
+has_result message e holder header body s h =
+    let there = result_there (response_of header.category holder) body h.body_is in
     record { told = ap (option_and_then string_of) there ∙ h.result }
 
 nothing_told : (found : Option Tree) (outcome : ReplyResult) → found ≡ None → TellsResult (option_and_then string_of found) outcome → ⊥
 nothing_told found outcome e told = none_some (option_and_then string_of found) (result_name outcome) (ap (option_and_then string_of) e) told
 
--- a header and its object are the only ones of a message
+-- a header and its holder are the only ones of a message
 record SamePlace (o p : Tree) (g h : Header) : Type 0 where
-  object : o ≡ p
+  holder : o ≡ p
   header : g ≡ h
 
 same_place : (message : Tree) (e d : Envelope) (o p : Tree) (g h : Header) → IsHeaded message e o g → IsHeaded message d p h → SamePlace o p g h
-same_place message e d o p g h x y = let both = header_place_one message e d o p g h x y in record { object = both.0; header = both.1 }
+same_place message e d o p g h x y = let both = header_place_one message e d o p g h x y in record { holder = both.0; header = both.1 }
 
 moved : (o p : Tree) (g h : Header) (outcome : ReplyResult) → SamePlace o p g h → HasResult g.category o outcome → HasResult h.category p outcome
 moved o p g h outcome same x =
     let P : Tree → Type 0 = λ tree. HasResult g.category tree outcome in
     let Q : Header → Type 0 = λ header. HasResult header.category p outcome in
-    subst Q same.header (subst P same.object x)
+    subst Q same.header (subst P same.holder x)
 
 pub not_both : (message : Tree) (s : Seen) (f : SaleFault) → IsSeen message s → IsUnseen message f → ⊥
 not_both message s (faults.NoHeader path) x h = no_header_heard message path x.0 x.1 x.2 h x.4.headed.0 x.4.headed.1
@@ -148,7 +148,7 @@ absent_present message g h p q x y =
     let same = same_place message x.0 y.0 x.1 y.1 g h x.2.headed y.2.headed in
     let P : Tree → Type 0 = λ tree. result_in g.category tree ≡ None in
     let Q : Header → Type 0 = λ header. result_in header.category y.1 ≡ None in
-    let absent = subst Q same.header (subst P same.object x.2.absent) in
+    let absent = subst Q same.header (subst P same.holder x.2.absent) in
     let R : Option Tree → Type 0 = λ found. IsSome found in
     let nowhere : IsSome {T = Tree} None = subst R absent y.2.present in
     true≢false (sym nowhere)

@@ -24,14 +24,14 @@ name_by_test (byte ∷ text) h =
     let parts = both (not (is_point byte)) (list_all (λ b. not (is_point b)) text) h in
     All-cons IsName byte text (not-true (is_point byte) parts.0) (name_by_test text parts.1)
 
-pub path_leads : (category : List ℕ) (object : Tree) → All IsLetter category → value_at (result_path category) object ≡ result_in category object
+pub path_leads : (category : List ℕ) (holder : Tree) → All IsLetter category → value_at (result_path category) holder ≡ result_in category holder
 unfolding value_at
-path_leads category object letters =
+path_leads category holder letters =
     let name = category ++ codes "Response" in
     let behind = codes "Response.Result" in
     let whole : result_path category ≡ name ++ (0x2E ∷ behind) = sym (append_assoc category (codes "Response") (0x2E ∷ behind)) in
     let no_point = All-append IsName category (codes "Response") (All-weaker IsLetter IsName letter_in_name category letters)
     (name_by_test (codes "Response") refl) in
     let split = slice_split_at is_point name 0x2E behind no_point refl in
-    ap (λ path. value_behind (slice_split is_point path) object) whole
-    ∙ ap (λ names. value_behind names object) split
+    ap (λ path. value_behind (slice_split is_point path) holder) whole
+    ∙ ap (λ names. value_behind names holder) split

@@ -18,28 +18,28 @@ result_path category = category ++ codes "Response.Response.Result"
 
 -- what stands as the result of a reply
 abbrev pub result_in : List ℕ → Tree → Option Tree
-result_in category object = option_and_then (value_at (codes "Response.Result")) (response_of category object)
+result_in category holder = option_and_then (value_at (codes "Response.Result")) (response_of category holder)
 
 -- the message has this header, and nothing stands as its result
-pub record LacksResultIn (message : Tree) (envelope : Envelope) (object : Tree) (header : Header) (path : List ℕ) : Type 0 where
-  pub headed : IsHeaded message envelope object header
-  pub absent : result_in header.category object ≡ None
+pub record LacksResultIn (message : Tree) (envelope : Envelope) (holder : Tree) (header : Header) (path : List ℕ) : Type 0 where
+  pub headed : IsHeaded message envelope holder header
+  pub absent : result_in header.category holder ≡ None
   pub path_is : path ≡ result_path header.category
 
 -- the message has this header, and what stands as its result is none of the three
-pub record HasOtherResultIn (message : Tree) (envelope : Envelope) (object : Tree) (header : Header) (path : List ℕ) : Type 0 where
-  pub headed : IsHeaded message envelope object header
-  pub present : IsSome (result_in header.category object)
-  pub other : (outcome : ReplyResult) → ¬ TellsResult (option_and_then string_of (result_in header.category object)) outcome
+pub record HasOtherResultIn (message : Tree) (envelope : Envelope) (holder : Tree) (header : Header) (path : List ℕ) : Type 0 where
+  pub headed : IsHeaded message envelope holder header
+  pub present : IsSome (result_in header.category holder)
+  pub other : (outcome : ReplyResult) → ¬ TellsResult (option_and_then string_of (result_in header.category holder)) outcome
   pub path_is : path ≡ result_path header.category
 
 -- a result is missing, which is told with this header and path
 abbrev pub LacksResult : Tree → Header → List ℕ → Type 0
-LacksResult message header path = (envelope : Envelope) × (object : Tree) × LacksResultIn message envelope object header path
+LacksResult message header path = (envelope : Envelope) × (holder : Tree) × LacksResultIn message envelope holder header path
 
 -- a result is of another form, which is told with this header and path
 abbrev pub HasOtherResult : Tree → Header → List ℕ → Type 0
-HasOtherResult message header path = (envelope : Envelope) × (object : Tree) × HasOtherResultIn message envelope object header path
+HasOtherResult message header path = (envelope : Envelope) × (holder : Tree) × HasOtherResultIn message envelope holder header path
 
 -- nothing is seen in the message, and this is why
 abbrev pub IsUnseen : Tree → SaleFault → Type 0

@@ -55,9 +55,9 @@ abbrev pub TellsMinor : Option (List ℕ) → ℕ → Type 0
 TellsMinor numeral minor = (numeral ≡ Some (money_text minor)) × (minor < 2 ^ 64)
 
 -- the message has this header beside this body, in which this is seen
-pub record IsSeenIn (message : Tree) (envelope : Envelope) (object : Tree) (header : Header) (body : Tree) (seen : Seen) : Type 0 where
-  pub headed : IsHeaded message envelope object header
-  pub body_is : response_of header.category object ≡ Some body
+pub record IsSeenIn (message : Tree) (envelope : Envelope) (holder : Tree) (header : Header) (body : Tree) (seen : Seen) : Type 0 where
+  pub headed : IsHeaded message envelope holder header
+  pub body_is : response_of header.category holder ≡ Some body
   pub category : seen.category ≡ header.category
   pub result : TellsResult (text_at (codes "Response.Result") body) seen.result
   pub condition : Finds (TellsCondition (text_at (codes "Response.ErrorCondition") body)) seen.condition
@@ -67,4 +67,4 @@ pub record IsSeenIn (message : Tree) (envelope : Envelope) (object : Tree) (head
 -- this is seen in the message
 abbrev pub IsSeen : Tree → Seen → Type 0
 IsSeen message seen =
-    (envelope : Envelope) × (object : Tree) × (header : Header) × (body : Tree) × IsSeenIn message envelope object header body seen
+    (envelope : Envelope) × (holder : Tree) × (header : Header) × (body : Tree) × IsSeenIn message envelope holder header body seen

@@ -24,5 +24,5 @@ pub fn law_display()
 
 /// The path that a fault tells leads to what stands as the reply's result.
 pub fn law_path()
-    ensures { (category : List ℕ) (object : Tree) → All IsLetter category → value_at (result_path category) object ≡ result_in category object }
+    ensures { (category : List ℕ) (holder : Tree) → All IsLetter category → value_at (result_path category) holder ≡ result_in category holder }
 {}

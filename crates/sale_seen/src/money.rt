@@ -4,7 +4,7 @@ ghost use Rattle.std.specs.Char.{is_ascii_digit};
 ghost use Rattle.sale_values.specs.Money.{money_text};
 ghost use Rattle.sale_seen.specs.Seen.{Finds};
 
-use itoa::Buffer;
+use sale_values::money;
 
 /// The minor units that are written with this text: whole units, a point and two digits. `None` where 64 bits don't
 /// hold them, or where they are written in another way.
@@ -49,10 +49,5 @@ fn with_byte(value: u64, byte: u8) -> Option<u64>
 fn is_written(minor: u64, text: &[u8]) -> bool
     ensures { IsTrue result ↔ (text.now ≡ money_text minor) }
 {
-    let cents = (minor % 100) as u8;
-    let mut whole = Buffer::new();
-    match text.strip_prefix(whole.format(minor / 100).as_bytes()) {
-        None => false,
-        Some(behind) => behind == [b'.', b'0' + cents / 10, b'0' + cents % 10].as_slice(),
-    }
+    money(minor).as_slice() == text
 }
