@@ -88,7 +88,7 @@ pub struct Shown {
 }
 
 impl Default for Shown {
-    /// The one entry of an answer to a Display whose outputs could not be read.
+    /// What stands in the free places of a list of outputs; it is never written.
     fn default() -> Self {
         Shown {
             device: name(b"CustomerDisplay"),
