@@ -1,11 +1,10 @@
--- The test for digits is the fact.
-use Rattle.std.proofs.Common.{◌≡◌, ℕ, ◌/◌, ◌%◌, ◌^◌, ◌<◌, Bool, true, false, cond, leb, Some, None, Result, Ok, Err, List, [], ◌∷◌, length, refl, arith}
-use Rattle.std.specs.Prelude.{◌&&◌, IfSome, MatchResult}
-use Rattle.std.proofs.lemmas.Bool.{leb-true, le-leb, and_parts, and_from}
+-- What the test for digits tells of what is read.
+use Rattle.std.proofs.Common.{◌≡◌, ℕ, ◌^◌, ◌<◌, Bool, true, false, cond, Some, None, Result, Ok, Err, List, [], ◌∷◌, length, refl, arith}
+use Rattle.std.specs.Prelude.{IfSome, MatchResult}
 use Rattle.std.specs.Result.{result_ok}
 use Rattle.std.proofs.lemmas.Nat.{mul-add-lt}
 use Rattle.std.proofs.Math.Nat.{pow-suc}
-use Rattle.std.proofs.lemmas.List.Elements.{All-nil, All-cons, All-head, All-tail, All-get_or}
+use Rattle.std.proofs.lemmas.List.Elements.{All-head, All-tail, All-get_or}
 use Rattle.gw_base.specs.Bcd.{IsBcdByte, IsBcd, IsFirstNotBcd, bcd_value, is_bcd, pair_value}
 use Rattle.gw_base.specs.declared.bcd.NotDigits.{NotDigits}
 use Rattle.gw_base.proofs.BcdLemmas.{bcd_passes, passes_bcd}
