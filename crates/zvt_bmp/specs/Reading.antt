@@ -1,5 +1,5 @@
 -- Reading fields from left to right, as functions that compute it.
-use Rattle.std.specs.Prelude.{ℕ, zero, suc, ◌+◌, ◌-◌, ◌*◌, ◌/◌, ◌%◌, List, [], ◌∷◌, length, take, drop, slice_index, Option, None, Some, is_some, Result, Ok, Err, Bool, true, false, ◌&&◌, nat_lt, nat_le, ◌==◌, if◌then◌else◌}
+use Rattle.std.specs.Prelude.{ℕ, zero, suc, ◌+◌, ◌-◌, ◌*◌, List, [], ◌∷◌, length, take, drop, slice_index, Option, None, Some, is_some, Result, Ok, Err, Bool, true, false, ◌&&◌, nat_lt, nat_le, ◌==◌, if◌then◌else◌}
 use Rattle.gw_base.specs.Bcd.{bcd_value, is_bcd}
 use Rattle.zvt_tlv.specs.Reading.{length_of}
 use Rattle.zvt_bmp.specs.declared.form.Form.{Form}
@@ -17,6 +17,10 @@ use Rattle.zvt_bmp.specs.Table.{form_of}
 -- a byte F0 to F9
 abbrev pub is_length_digit : ℕ → Bool
 is_length_digit b = nat_le 240 b && nat_le b 249
+
+-- the digit in a byte F0 to F9
+abbrev pub length_digit : ℕ → Option ℕ
+length_digit b = if is_length_digit b then Some (b - 240) else None
 
 -- the length in two such bytes, the tens first; a wrong byte goes before a missing one
 abbrev pub llvar_at : List ℕ → Result (ℕ × List ℕ) LengthFault

@@ -4,12 +4,16 @@ use Rattle.zvt_tlv.specs.Object.{SpellsLength as SpellsTlvLength}
 use Rattle.zvt_bmp.specs.declared.form.Form.{Form}
 use Rattle.zvt_bmp.specs.declared.form.Form.TheVariants.{Fixed, Llvar, Lllvar, Tlv}
 
+-- the bytes are a length below 100 (LLVAR): two bytes F0 to F9, a decimal digit each
+abbrev pub SpellsLlvar : List ℕ → ℕ → Type 0
+SpellsLlvar bytes n = (tens : ℕ) × (units : ℕ) × (tens < 10) × (units < 10)
+    × (n ≡ 10 * tens + units) × (bytes ≡ (0xF0 + tens) ∷ (0xF0 + units) ∷ [])
+
 -- The bytes are the length of a value of n bytes: none where the length is fixed, two or three bytes F0 to F9 with a
 -- decimal digit each, or the length of a TLV object.
 abbrev pub SpellsLength : Form → List ℕ → ℕ → Type 0
 SpellsLength (Fixed size) bytes n = (bytes ≡ []) × (n ≡ size)
-SpellsLength Llvar bytes n = (tens : ℕ) × (units : ℕ) × (tens < 10) × (units < 10)
-    × (n ≡ 10 * tens + units) × (bytes ≡ (240 + tens) ∷ (240 + units) ∷ [])
+SpellsLength Llvar bytes n = SpellsLlvar bytes n
 SpellsLength Lllvar bytes n = (hundreds : ℕ) × (tens : ℕ) × (units : ℕ) × (hundreds < 10) × (tens < 10) × (units < 10)
     × (n ≡ 100 * hundreds + (10 * tens + units)) × (bytes ≡ (240 + hundreds) ∷ (240 + tens) ∷ (240 + units) ∷ [])
 SpellsLength Tlv bytes n = SpellsTlvLength bytes n

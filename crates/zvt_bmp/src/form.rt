@@ -1,6 +1,6 @@
-ghost use Rattle.std.specs.Prelude.{◌≡◌, ◌-◌, ◌≤◌, length, IfOk, None, Some, if◌then◌else◌};
+ghost use Rattle.std.specs.Prelude.{◌≡◌, ◌≤◌, length, IfOk, Some};
 ghost use Rattle.zvt_bmp.specs.Found.{FindsLength, FindsValue};
-ghost use Rattle.zvt_bmp.specs.Reading.{is_length_digit, llvar_at, lllvar_at, length_at, tlv_or_fault, value_at};
+ghost use Rattle.zvt_bmp.specs.Reading.{length_digit, llvar_at, lllvar_at, length_at, tlv_or_fault, value_at};
 ghost use Rattle.zvt_bmp.specs.Sizes.{HasSizeOf};
 ghost use Rattle.zvt_bmp.specs.Table.{form_of};
 ghost use Rattle.zvt_tlv.specs.Reading.{length_of};
@@ -52,7 +52,7 @@ pub(crate) enum LengthFault {
 }
 
 fn digit_of(byte: u8) -> Option<usize>
-    ensures { result ≡ (if is_length_digit byte then Some (byte - 240) else None) }
+    ensures { result ≡ length_digit byte }
 {
     match byte {
         0xF0..=0xF9 => Some(usize::from(byte - 0xF0)),

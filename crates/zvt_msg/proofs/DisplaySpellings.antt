@@ -4,13 +4,15 @@ use Rattle.std.specs.Prelude.{◌⊎◌, ◌&&◌}
 use Rattle.std.proofs.lemmas.Bool.{cases_lt, eq-eqb, eqb-true, leb-true, le-leb, lt-ltb, le-ltb, and_parts, and_from}
 use Rattle.std.proofs.lemmas.List.{take_at, drop_at, length-append, length-take-le, take-append-drop}
 use Rattle.arrayvec.specs.ArrayVec.{ArrayVec}
-use Rattle.zvt_msg.specs.Command.{SpellsLlvar, SpellsLines, AreShort}
-use Rattle.zvt_msg.specs.CommandReading.{digit_of, line_with, line_by, line_of, with_first, lines_from, lines_within}
+use Rattle.zvt_bmp.specs.Reading.{length_digit}
+use Rattle.zvt_bmp.specs.Value.{SpellsLlvar}
+use Rattle.zvt_msg.specs.Command.{SpellsLines, AreShort}
+use Rattle.zvt_msg.specs.CommandReading.{line_with, line_by, line_of, with_first, lines_from, lines_within}
 use Rattle.zvt_msg.specs.CommandWriting.{llvar_of, written_lines}
 
 -- ---- a digit
 
-digit_found : (digit : ℕ) → digit < 10 → digit_of (240 + digit) ≡ Some digit
+digit_found : (digit : ℕ) → digit < 10 → length_digit (240 + digit) ≡ Some digit
 digit_found digit small =
     let test : (leb 240 (240 + digit) && leb (240 + digit) 249) ≡ true = and_from (leb 240 (240 + digit)) (leb (240 + digit) 249) (le-leb 240 (240 + digit) (omega arith)) (le-leb (240 + digit) 249 (omega arith)) in
     let value : (240 + digit) - 240 ≡ digit = omega arith in
@@ -31,7 +33,7 @@ digit_by byte digit true is e =
     let value = told_is (byte - 240) digit e in
     (omega arith, omega arith)
 
-found_digit : (byte digit : ℕ) → digit_of byte ≡ Some digit → (digit < 10) × (byte ≡ 240 + digit)
+found_digit : (byte digit : ℕ) → length_digit byte ≡ Some digit → (digit < 10) × (byte ≡ 240 + digit)
 found_digit byte digit e = digit_by byte digit (leb 240 byte && leb byte 249) refl e
 
 -- ---- a line
@@ -57,7 +59,7 @@ line_found bytes found rest has =
     let short : ltb 40 (length found.items) ≡ false = le-ltb _ _ has.short in
     let there : ltb (length (found.items ++ rest)) (length found.items) ≡ false = le-ltb _ _ (omega (arith, length-append found.items rest)) in
     ap line_of whole
-    ∙ ap (λ (d : Option ℕ). line_by d (digit_of (240 + units)) (found.items ++ rest)) first
+    ∙ ap (λ (d : Option ℕ). line_by d (length_digit (240 + units)) (found.items ++ rest)) first
     ∙ ap (λ (d : Option ℕ). line_by (Some tens) d (found.items ++ rest)) second
     ∙ ap (λ (n : ℕ). line_with n (found.items ++ rest)) (sym count)
     ∙ rw (short, there, take_at found.items rest (length found.items) refl, drop_at found.items rest (length found.items) refl) refl
@@ -97,7 +99,7 @@ cut_with n bytes found rest (inr short) (inr there) e =
       parts = sym (take-append-drop n bytes) ∙ ap (λ (t : List ℕ). t ++ drop n bytes) items ∙ ap (λ (r : List ℕ). found.items ++ r) same.1;
     }
 
-line_by_digits : (tens units : ℕ) (bytes : List ℕ) (found : ArrayVec ℕ) (rest : List ℕ) (t u : Option ℕ) → digit_of tens ≡ t → digit_of units ≡ u → line_by t u bytes ≡ both found rest → HasLine (tens ∷ units ∷ bytes) found rest
+line_by_digits : (tens units : ℕ) (bytes : List ℕ) (found : ArrayVec ℕ) (rest : List ℕ) (t u : Option ℕ) → length_digit tens ≡ t → length_digit units ≡ u → line_by t u bytes ≡ both found rest → HasLine (tens ∷ units ∷ bytes) found rest
 line_by_digits tens units bytes found rest None u first second e = absurd cc
 line_by_digits tens units bytes found rest (Some t) None first second e = absurd cc
 line_by_digits tens units bytes found rest (Some t) (Some u) first second e =
@@ -114,7 +116,7 @@ line_by_digits tens units bytes found rest (Some t) (Some u) first second e =
 found_line : (bytes : List ℕ) (found : ArrayVec ℕ) (rest : List ℕ) → line_of bytes ≡ Some (found, rest) → HasLine bytes found rest
 found_line [] found rest e = absurd cc
 found_line (tens ∷ []) found rest e = absurd cc
-found_line (tens ∷ units ∷ bytes) found rest e = line_by_digits tens units bytes found rest (digit_of tens) (digit_of units) refl refl e
+found_line (tens ∷ units ∷ bytes) found rest e = line_by_digits tens units bytes found rest (length_digit tens) (length_digit units) refl refl e
 
 -- ---- lines
 

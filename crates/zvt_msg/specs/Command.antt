@@ -1,8 +1,9 @@
 -- The commands of the till side, and the one APDU that spells each (ZVT PA00P015; this profile's).
-use Rattle.std.specs.Prelude.{◌≡◌, ℕ, ◌+◌, ◌*◌, ◌^◌, ◌<◌, ◌≤◌, List, [], ◌∷◌, ◌++◌, length}
+use Rattle.std.specs.Prelude.{◌≡◌, ℕ, ◌+◌, ◌^◌, ◌<◌, ◌≤◌, List, [], ◌∷◌, ◌++◌, length}
 use Rattle.arrayvec.specs.ArrayVec.{ArrayVec, array_vec_len}
 use Rattle.gw_base.specs.Bcd.{IsBcd, bcd_value}
 use Rattle.zvt_apdu.specs.Apdu.{ApduValue}
+use Rattle.zvt_bmp.specs.Value.{SpellsLlvar}
 use Rattle.zvt_msg.specs.declared.command.Command.{Command}
 use Rattle.zvt_msg.specs.declared.command.Command.TheVariants.{Register, Authorise, Enquire, Reverse, EndOfDay, Stop, Show}
 use Rattle.zvt_msg.specs.Messages.{Has}
@@ -16,11 +17,6 @@ IsPassword bytes = (length bytes ≡ 3) × IsBcd bytes
 -- the bytes, so many of them, are the decimal digits of the number
 abbrev pub SpellsNumber : ℕ → List ℕ → ℕ → Type 0
 SpellsNumber count bytes n = (length bytes ≡ count) × IsBcd bytes × (bcd_value bytes ≡ n)
-
--- the bytes are a length below 100 (LLVAR): two bytes F0 to F9, a decimal digit each
-abbrev pub SpellsLlvar : List ℕ → ℕ → Type 0
-SpellsLlvar bytes n = (tens : ℕ) × (units : ℕ) × (tens < 10) × (units < 10)
-    × (n ≡ 10 * tens + units) × (bytes ≡ (0xF0 + tens) ∷ (0xF0 + units) ∷ [])
 
 -- the bytes are these lines of a display, numbered on from this one: of each its number, its length and its text
 abbrev pub SpellsLines : ℕ → List ℕ → List (ArrayVec ℕ) → Type 0

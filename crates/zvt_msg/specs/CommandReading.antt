@@ -1,8 +1,9 @@
 -- The command that an APDU spells, as a function that computes it.
-use Rattle.std.specs.Prelude.{ℕ, zero, suc, ◌+◌, ◌-◌, ◌*◌, List, [], ◌∷◌, length, take, drop, Option, None, Some, ◌&&◌, nat_lt, nat_le, ◌==◌, if◌then◌else◌}
+use Rattle.std.specs.Prelude.{ℕ, zero, suc, ◌+◌, ◌*◌, List, [], ◌∷◌, length, take, drop, Option, None, Some, ◌&&◌, nat_lt, ◌==◌, if◌then◌else◌}
 use Rattle.arrayvec.specs.ArrayVec.{ArrayVec}
 use Rattle.gw_base.specs.Bcd.{bcd_value, is_bcd}
 use Rattle.zvt_apdu.specs.Apdu.{ApduValue}
+use Rattle.zvt_bmp.specs.Reading.{length_digit}
 use Rattle.zvt_msg.specs.declared.command.Command.{Command}
 use Rattle.zvt_msg.specs.declared.command.Command.TheVariants.{Register, Authorise, Enquire, Reverse, EndOfDay, Stop, Show}
 
@@ -15,10 +16,6 @@ password_of bytes = if (length bytes == 3) && is_bcd bytes then Some bytes else 
 -- the number that the digits spell, if they are digits in so many bytes
 abbrev pub number_of : ℕ → List ℕ → Option ℕ
 number_of count bytes = if (length bytes == count) && is_bcd bytes then Some (bcd_value bytes) else None
-
--- the digit in a byte F0 to F9
-abbrev pub digit_of : ℕ → Option ℕ
-digit_of byte = if nat_le 240 byte && nat_le byte 249 then Some (byte - 240) else None
 
 -- a line of so many bytes, and what follows it
 abbrev pub line_with : ℕ → List ℕ → Option (ArrayVec ℕ × List ℕ)
@@ -37,7 +34,7 @@ line_by (Some tens) (Some units) bytes = line_with (10 * tens + units) bytes
 abbrev pub line_of : List ℕ → Option (ArrayVec ℕ × List ℕ)
 line_of [] = None
 line_of (tens ∷ []) = None
-line_of (tens ∷ units ∷ bytes) = line_by (digit_of tens) (digit_of units) bytes
+line_of (tens ∷ units ∷ bytes) = line_by (length_digit tens) (length_digit units) bytes
 
 -- one line more in front, where the others were read
 abbrev pub with_first : ArrayVec ℕ → Option (List (ArrayVec ℕ)) → Option (List (ArrayVec ℕ))

@@ -1,5 +1,6 @@
 ghost use Rattle.std.specs.Prelude.{◌≡◌, ◌≤◌, ◌<◌, length, IfSome};
-ghost use Rattle.zvt_msg.specs.CommandReading.{digit_of, line_of, lines_of};
+ghost use Rattle.zvt_bmp.specs.Reading.{length_digit};
+ghost use Rattle.zvt_msg.specs.CommandReading.{line_of, lines_of};
 ghost use Rattle.zvt_msg.specs.Found.{FindsLine, FindsLines};
 
 use crate::command::{Line, Lines};
@@ -42,7 +43,7 @@ fn read_line(bytes: &[u8]) -> Option<(Line, &[u8])>
 
 /// The digit of a byte `F0` to `F9`.
 fn digit(byte: u8) -> Option<usize>
-    ensures digit { result ≡ digit_of byte }
+    ensures digit { result ≡ length_digit byte }
     ensures bound { IfSome result (λ digit. digit < 10) }
 {
     match byte {
