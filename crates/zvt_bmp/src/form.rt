@@ -1,4 +1,4 @@
-ghost use Rattle.std.specs.Prelude.{◌≡◌, ◌≤◌, length, IfOk, Some};
+ghost use Rattle.std.specs.Prelude.{◌≡◌, ◌<◌, ◌≤◌, length, IfOk, IfSome, Some};
 ghost use Rattle.zvt_bmp.specs.Found.{FindsLength, FindsValue};
 ghost use Rattle.zvt_bmp.specs.Reading.{length_digit, llvar_at, lllvar_at, length_at, tlv_or_fault, value_at};
 ghost use Rattle.zvt_bmp.specs.Sizes.{HasSizeOf};
@@ -51,8 +51,10 @@ pub(crate) enum LengthFault {
     Cut,
 }
 
-fn digit_of(byte: u8) -> Option<usize>
-    ensures { result ≡ length_digit byte }
+/// The digit of a byte `F0` to `F9` of a length; `None` for any other byte.
+pub fn digit_of(byte: u8) -> Option<usize>
+    ensures digit { result ≡ length_digit byte }
+    ensures bound { IfSome result (λ digit. digit < 10) }
 {
     match byte {
         0xF0..=0xF9 => Some(usize::from(byte - 0xF0)),

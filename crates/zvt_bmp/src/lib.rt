@@ -7,6 +7,7 @@ mod laws;
 mod writing;
 
 pub use fields::{FieldFault, Fields, read_fields};
+pub use form::digit_of;
 pub use laws::{law_fields, law_read_again};
 pub use writing::write_fields;
 

@@ -1,9 +1,9 @@
-ghost use Rattle.std.specs.Prelude.{◌≡◌, ◌≤◌, ◌<◌, length, IfSome};
-ghost use Rattle.zvt_bmp.specs.Reading.{length_digit};
+ghost use Rattle.std.specs.Prelude.{◌≤◌, length, IfSome};
 ghost use Rattle.zvt_msg.specs.CommandReading.{line_of, lines_of};
 ghost use Rattle.zvt_msg.specs.Found.{FindsLine, FindsLines};
 
 use crate::command::{Line, Lines};
+use zvt_bmp::digit_of;
 
 /// The lines of a display that fill the bytes.
 #[tactic(auto, unfolding(crate::specs::CommandReading::lines_of))]
@@ -31,7 +31,7 @@ fn read_line(bytes: &[u8]) -> Option<(Line, &[u8])>
     let [tens, units, rest @ ..] = bytes else {
         return None;
     };
-    let length = 10 * digit(*tens)? + digit(*units)?;
+    let length = 10 * digit_of(*tens)? + digit_of(*units)?;
     if length > 40 || rest.len() < length {
         return None;
     }
@@ -39,15 +39,4 @@ fn read_line(bytes: &[u8]) -> Option<(Line, &[u8])>
     let mut line = Line::new();
     line.try_extend_from_slice(text).unwrap();
     Some((line, rest))
-}
-
-/// The digit of a byte `F0` to `F9`.
-fn digit(byte: u8) -> Option<usize>
-    ensures digit { result ≡ length_digit byte }
-    ensures bound { IfSome result (λ digit. digit < 10) }
-{
-    match byte {
-        0xF0..=0xF9 => Some(usize::from(byte - 0xF0)),
-        _ => None,
-    }
 }
