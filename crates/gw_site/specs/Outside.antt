@@ -15,14 +15,21 @@ pub record Range : Type 0 where
   pub from : ℕ
   pub size : ℕ
 
--- the outside after a log: the moment of the run's last poll; the tills that are there and the terminals that are linked; the least number with which a till may open; the file as a read gives it; the file of the last sync or power failure; the ranges written since then
+-- the outside after a log
 pub record Outside : Type 0 where
+  -- the moment of the run's last poll
   pub moment : ℕ
+  -- the tills that are there
   pub tills : List Line
+  -- the terminals that are linked
   pub links : List Line
+  -- the least number with which a till may open
   pub next_till : ℕ
+  -- the file as a read gives it
   pub file : List ℕ
+  -- the file of the last sync or power failure
   pub stable : List ℕ
+  -- the ranges written since then
   pub written : List Range
 
 -- the line of this number is open
