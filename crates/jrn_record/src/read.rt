@@ -18,24 +18,11 @@ pub fn from_body(body: &[u8; 255]) -> Result<Record, RecordFault>
     ensures { MatchResult result (λ item. IsRecord item × (body.now ≡ body_of item))
         (λ fault. IsFirstFault (table_at body.now) body.now fault.at) }
 {
-    let kind = body[0];
-    if kind == 1 {
-        match read_intent(body) {
-            Ok(intent) => Ok(Record::Intent(intent)),
-            Err(fault) => Err(fault),
-        }
-    } else if kind == 2 {
-        match read_outcome(body) {
-            Ok(outcome) => Ok(Record::Outcome(outcome)),
-            Err(fault) => Err(fault),
-        }
-    } else if kind == 3 {
-        match read_settled(body) {
-            Ok(settled) => Ok(Record::Settled(settled)),
-            Err(fault) => Err(fault),
-        }
-    } else {
-        Err(RecordFault { at: 0 })
+    match body[0] {
+        1 => Ok(Record::Intent(read_intent(body)?)),
+        2 => Ok(Record::Outcome(read_outcome(body)?)),
+        3 => Ok(Record::Settled(read_settled(body)?)),
+        _ => Err(RecordFault { at: 0 }),
     }
 }
 
