@@ -114,6 +114,7 @@ impl DiskSite {
         ensures log { (seen_of self.new).log ≡ (seen_of self.old).log }
         ensures calls { calls_of self.new ≡ Some calls }
         ensures dark { (seen_of self.new).dark ≡ ((seen_of self.old).dark || (calls == 0)) }
+        ensures lit { (seen_of self.new).dark ≡ false → (seen_of self.old).dark ≡ false }
         ensures faults { (seen_of self.new).faults ≡ (seen_of self.old).faults }
     {
         self.calls = Some(calls);
