@@ -15,7 +15,8 @@ use Rattle.gw_rules.specs.Plays.{Play, Plays, PlaysFrom, PlaysRead, PlaysLines, 
 use Rattle.gw_rules.specs.Script.{Line, Script, script_of, script_setup}
 use Rattle.gw_rules.proofs.EndLemmas.{over-ends, polls-most}
 use Rattle.gw_rules.proofs.FrontLemmas.{front-lawful}
-use Rattle.gw_run.specs.Top.{GivesName, IsAtMostOneRun, IsInput, IsFresh, IsPlayOf, IsTold, IsToldEnd, IsPlayEnd, NamesLine, PlayOut, PlayWritten, Writes, tail_of}
+use Rattle.gw_run.specs.Top.{IsAtMostOneRun, IsInput, Writes, tail_of}
+use Rattle.gw_run.specs.Replay.{GivesName, IsFresh, IsPlayOf, TellsLines, IsToldEnd, IsPlayEnd, NamesLine, PlayOut, PlayWritten}
 use Rattle.gw_run.specs.Turns.{EndedBy}
 use Rattle.gw_run.specs.declared.engine.Ended.TheVariants.{Done}
 use Rattle.gw_run.specs.declared.ending.Ending.{Ending}
@@ -119,7 +120,7 @@ front-front text added tail (rest, e) = (rest, ap (λ t. text ++ t) e ∙ sym (a
 
 -- the lines behind a text, told in full or in part
 pub told-behind : (ending result : Ending) (input : Option (List ℕ)) (text added : List ℕ)
-    → (NamesLine ending → ⊥) → IsPlayEnd ending → Writes ending input (text ++ tail_of ending) → IsTold ending result added → PlayOut result input (text ++ added)
+    → (NamesLine ending → ⊥) → IsPlayEnd ending → Writes ending input (text ++ tail_of ending) → TellsLines ending result added → PlayOut result input (text ++ added)
 told-behind ending result input text added never end w (inl (same, all)) = rw (same, all) (written-of ending input (text ++ tail_of ending) w)
 told-behind ending result input text added never end w (inr (inl (m, names, a))) = absurd (never names)
 told-behind ending result input text added never end w (inr (inr (cut, (told, inl same, front)))) = rw cut (record {
@@ -139,7 +140,7 @@ memory-line (line, e) = cc
 
 -- the log was written, and the lines behind it
 pub log-told : (script : List ℕ) (whole : Bool) (ending result : Ending) (log : List Turn) (first added : List ℕ)
-    → ((whole ≡ true) × (ending ≡ Played)) ⊎ (ending ≡ Memory) → IsPlayOf script whole log → first ≡ log_text log → IsTold ending result added → PlayWritten script result (first ++ added)
+    → ((whole ≡ true) × (ending ≡ Played)) ⊎ (ending ≡ Memory) → IsPlayOf script whole log → first ≡ log_text log → TellsLines ending result added → PlayWritten script result (first ++ added)
 log-told script whole ending result log first added (inl (w, e)) p f t = λ input i.
     subst (λ l. PlayOut result input (l ++ added)) (sym f) (told-behind Played result input (log_text log) added played-line tt (whole-text script input log i (rw w at p)) (rw e at t))
 log-told script whole ending result log first added (inr e) p f t = λ input i.

@@ -1,9 +1,10 @@
 -- What a replay has written, and why it ended so.
-use Rattle.std.proofs.Common.{◌≡◌, ℕ, ◌≤◌, List, [], length, refl, arith, inl, inr}
-use Rattle.std.specs.Prelude.{◌⊎◌, Option, Some, None, Err}
+use Rattle.std.proofs.Common.{◌≡◌, ℕ, ◌≤◌, List, [], length, refl, sym, ◌∙◌, ap, arith, inl, inr}
+use Rattle.std.specs.Prelude.{◌⊎◌, Option, Some, None, Ok, Err}
 use Rattle.gw_site.specs.Seen.{IsFront}
-use Rattle.gw_rules.specs.Script.{script_limit}
-use Rattle.gw_run.specs.Top.{Cause, IfTold, IsAccepted, IsInputFault, IsInputRead, IsPlayEnd, IsScriptLeft, IsTold, IsToldEnd, NamesLine, PlayOut, Writes, WritesFront, Written, status_of, tail_of}
+use Rattle.gw_rules.specs.Script.{Script, script_limit, script_of}
+use Rattle.gw_run.specs.Top.{Stream, Cause, HasRisen, IfTold, IsAccepted, IsReadWhole, IsScript, IsScriptLeft, Writes, WritesFront, Written, status_of, tail_of}
+use Rattle.gw_run.specs.Replay.{IsInputFault, IsInputRead, IsPlayEnd, TellsLines, IsToldEnd, NamesLine, PlayOut}
 use Rattle.gw_run.specs.declared.ending.Ending.{Ending}
 use Rattle.gw_run.specs.declared.ending.Ending.TheVariants.{Played, Words, Long, Line as AtLine, Input, Memory, Cut}
 
@@ -17,14 +18,14 @@ IsFault Input = Unit {0}
 IsFault Memory = Unit {0}
 IsFault Cut = ⊥
 
-lines-written : (ending : Ending) (words : List (List ℕ)) (input left : Option (List ℕ)) (input_rose out_rose : Type 0) → IsFault ending → Written ending words input left input_rose out_rose (tail_of ending)
-lines-written Words words input left input_rose out_rose h = refl
-lines-written Long words input left input_rose out_rose h = refl
-lines-written (AtLine line) words input left input_rose out_rose h = refl
-lines-written Input words input left input_rose out_rose h = refl
-lines-written Memory words input left input_rose out_rose h = inl refl
-lines-written Played words input left input_rose out_rose h = absurd h
-lines-written Cut words input left input_rose out_rose h = absurd h
+lines-written : (ending : Ending) (words : List (List ℕ)) (input out : Stream) → IsFault ending → Written ending words input out (tail_of ending)
+lines-written Words words input out h = refl
+lines-written Long words input out h = refl
+lines-written (AtLine line) words input out h = refl
+lines-written Input words input out h = refl
+lines-written Memory words input out h = inl refl
+lines-written Played words input out h = absurd h
+lines-written Cut words input out h = absurd h
 
 lines-whole : (ending : Ending) (input : Option (List ℕ)) → IsFault ending → Writes ending input (tail_of ending)
 lines-whole Words input h = refl
@@ -35,77 +36,81 @@ lines-whole Memory input h = inl refl
 lines-whole Played input h = absurd h
 lines-whole Cut input h = absurd h
 
-lines-front : (ending : Ending) (words : List (List ℕ)) (input left : Option (List ℕ)) (input_rose out_rose : Type 0) (added : List ℕ)
-    → IsFault ending → Cause ending words input left input_rose out_rose → IsFront added (tail_of ending) → WritesFront words input left input_rose out_rose added
-lines-front ending words input left input_rose out_rose added h cause front = record { ending = ending; whole = tail_of ending; cause = cause; writes = lines-whole ending input h; front = front }
+lines-front : (ending : Ending) (words : List (List ℕ)) (input out : Stream) (added : List ℕ)
+    → IsFault ending → Cause ending words input out → IsFront added (tail_of ending) → WritesFront words input out added
+lines-front ending words input out added h cause front = record { ending = ending; whole = tail_of ending; cause = cause; writes = lines-whole ending input.before h; front = front }
 
 words-line : NamesLine Words → ⊥
 words-line (line, e) = cc
 
 -- the lines of a fault that words accepted may meet, in full or in part
-pub fault-told : (ending result : Ending) (words : List (List ℕ)) (input left : Option (List ℕ)) (input_rose out_rose : Type 0) (added : List ℕ)
-    → IsFault ending → IsAccepted words → Cause ending words input left input_rose out_rose → IsTold ending result added → Written result words input left input_rose out_rose added
-fault-told ending result words input left input_rose out_rose added h acc cause (inl (same, all)) = rw (same, all) (lines-written ending words input left input_rose out_rose h)
-fault-told ending result words input left input_rose out_rose added h acc cause (inr (inl (m, names, a))) = rw m (inl a)
-fault-told ending result words input left input_rose out_rose added h acc cause (inr (inr (cut, (told, inl same, front)))) = rw cut (lines-front ending words input left input_rose out_rose added h cause (rw same at front))
-fault-told ending result words input left input_rose out_rose added h acc cause (inr (inr (cut, (told, inr other, front)))) = rw cut (lines-front Memory words input left input_rose out_rose added tt acc (rw other.0 at front))
+pub fault-told : (ending result : Ending) (words : List (List ℕ)) (input out : Stream) (added : List ℕ)
+    → IsFault ending → IsAccepted words → Cause ending words input out → TellsLines ending result added → Written result words input out added
+fault-told ending result words input out added h acc cause (inl (same, all)) = rw (same, all) (lines-written ending words input out h)
+fault-told ending result words input out added h acc cause (inr (inl (m, names, a))) = rw m (inl a)
+fault-told ending result words input out added h acc cause (inr (inr (cut, (told, inl same, front)))) = rw cut (lines-front ending words input out added h cause (rw same at front))
+fault-told ending result words input out added h acc cause (inr (inr (cut, (told, inr other, front)))) = rw cut (lines-front Memory words input out added tt acc (rw other.0 at front))
 
 -- the lines for refused words, in full or in part
-pub words-told : (result : Ending) (words : List (List ℕ)) (input left : Option (List ℕ)) (input_rose out_rose : Type 0) (added : List ℕ)
-    → (IsAccepted words → ⊥) → IsTold Words result added → Written result words input left input_rose out_rose added
-words-told result words input left input_rose out_rose added never (inl (same, all)) = rw (same, all) refl
-words-told result words input left input_rose out_rose added never (inr (inl (m, names, a))) = absurd (words-line names)
-words-told result words input left input_rose out_rose added never (inr (inr (cut, (told, inl same, front)))) = rw cut (lines-front Words words input left input_rose out_rose added tt never (rw same at front))
-words-told result words input left input_rose out_rose added never (inr (inr (cut, (told, inr other, front)))) = absurd (words-line other.1)
+pub words-told : (result : Ending) (words : List (List ℕ)) (input out : Stream) (added : List ℕ)
+    → (IsAccepted words → ⊥) → TellsLines Words result added → Written result words input out added
+words-told result words input out added never (inl (same, all)) = rw (same, all) refl
+words-told result words input out added never (inr (inl (m, names, a))) = absurd (words-line names)
+words-told result words input out added never (inr (inr (cut, (told, inl same, front)))) = rw cut (lines-front Words words input out added tt never (rw same at front))
+words-told result words input out added never (inr (inr (cut, (told, inr other, front)))) = absurd (words-line other.1)
 
 -- the cause of the end that is told is that of the end, or the want of memory, or a failed write
-pub told-cause : (ending result : Ending) (words : List (List ℕ)) (input left : Option (List ℕ)) (input_rose out_rose : Type 0)
-    → IsAccepted words → Cause ending words input left input_rose out_rose → (result ≡ Cut → out_rose) → IsToldEnd ending result → Cause result words input left input_rose out_rose
-told-cause ending result words input left input_rose out_rose acc cause cut (inl same) = rw same cause
-told-cause ending result words input left input_rose out_rose acc cause cut (inr (inl (memory, names))) = rw memory acc
-told-cause ending result words input left input_rose out_rose acc cause cut (inr (inr e)) = rw e (cut e)
+pub told-cause : (ending result : Ending) (words : List (List ℕ)) (input out : Stream)
+    → IsAccepted words → Cause ending words input out → (result ≡ Cut → HasRisen out) → IsToldEnd ending result → Cause result words input out
+told-cause ending result words input out acc cause cut (inl same) = rw same cause
+told-cause ending result words input out acc cause cut (inr (inl (memory, names))) = rw memory acc
+told-cause ending result words input out acc cause cut (inr (inr e)) = rw e (cut e)
 
 -- the cause of the end where the words are refused
-pub words-cause : (result : Ending) (words : List (List ℕ)) (input left : Option (List ℕ)) (input_rose out_rose : Type 0)
-    → (IsAccepted words → ⊥) → (result ≡ Cut → out_rose) → IsToldEnd Words result → Cause result words input left input_rose out_rose
-words-cause result words input left input_rose out_rose never cut (inl same) = rw same never
-words-cause result words input left input_rose out_rose never cut (inr (inl (memory, names))) = absurd (words-line names)
-words-cause result words input left input_rose out_rose never cut (inr (inr e)) = rw e (cut e)
+pub words-cause : (result : Ending) (words : List (List ℕ)) (input out : Stream)
+    → (IsAccepted words → ⊥) → (result ≡ Cut → HasRisen out) → IsToldEnd Words result → Cause result words input out
+words-cause result words input out never cut (inl same) = rw same never
+words-cause result words input out never cut (inr (inl (memory, names))) = absurd (words-line names)
+words-cause result words input out never cut (inr (inr e)) = rw e (cut e)
+
+-- a text that was read as a script is one
+pub is-script : (text all : List ℕ) (script : Script) → text ≡ all → length all ≤ script_limit → script_of text ≡ Ok script → IsScript all
+is-script text all script e few reads = (few, (script, ap script_of (sym e) ∙ reads))
 
 -- the cause of a play's end
-pub play-cause : (result : Ending) (words : List (List ℕ)) (input left : Option (List ℕ)) (input_rose out_rose : Type 0)
-    → IsAccepted words → IfTold input (λ script. (left ≡ Some []) × (length script ≤ script_limit)) → (result ≡ Cut → out_rose) → IsPlayEnd result → Cause result words input left input_rose out_rose
-play-cause Played words input left input_rose out_rose acc read cut end = (acc, read)
-play-cause Memory words input left input_rose out_rose acc read cut end = acc
-play-cause Cut words input left input_rose out_rose acc read cut end = cut refl
-play-cause Words words input left input_rose out_rose acc read cut end = absurd end
-play-cause Long words input left input_rose out_rose acc read cut end = absurd end
-play-cause (AtLine line) words input left input_rose out_rose acc read cut end = absurd end
-play-cause Input words input left input_rose out_rose acc read cut end = absurd end
+pub play-cause : (result : Ending) (words : List (List ℕ)) (input out : Stream)
+    → IsAccepted words → IsReadWhole input IsScript → (result ≡ Cut → HasRisen out) → IsPlayEnd result → Cause result words input out
+play-cause Played words input out acc read cut end = (acc, read)
+play-cause Memory words input out acc read cut end = acc
+play-cause Cut words input out acc read cut end = cut refl
+play-cause Words words input out acc read cut end = absurd end
+play-cause Long words input out acc read cut end = absurd end
+play-cause (AtLine line) words input out acc read cut end = absurd end
+play-cause Input words input out acc read cut end = absurd end
 
-front-cause : (ending : Ending) (words : List (List ℕ)) (input left : Option (List ℕ)) (input_rose out_rose : Type 0) (text : List ℕ)
-    → IsAccepted words → IfTold input (λ script. (left ≡ Some []) × (length script ≤ script_limit)) → IsPlayEnd ending → Writes ending input text → Cause ending words input left input_rose out_rose
-front-cause Played words input left input_rose out_rose text acc read end w = (acc, read)
-front-cause Memory words input left input_rose out_rose text acc read end w = acc
-front-cause Cut words input left input_rose out_rose text acc read end w = absurd w
-front-cause Words words input left input_rose out_rose text acc read end w = absurd end
-front-cause Long words input left input_rose out_rose text acc read end w = absurd end
-front-cause (AtLine line) words input left input_rose out_rose text acc read end w = absurd end
-front-cause Input words input left input_rose out_rose text acc read end w = absurd end
+front-cause : (ending : Ending) (words : List (List ℕ)) (input out : Stream) (text : List ℕ)
+    → IsAccepted words → IsReadWhole input IsScript → IsPlayEnd ending → Writes ending input.before text → Cause ending words input out
+front-cause Played words input out text acc read end w = (acc, read)
+front-cause Memory words input out text acc read end w = acc
+front-cause Cut words input out text acc read end w = absurd w
+front-cause Words words input out text acc read end w = absurd end
+front-cause Long words input out text acc read end w = absurd end
+front-cause (AtLine line) words input out text acc read end w = absurd end
+front-cause Input words input out text acc read end w = absurd end
 
 -- what a replay writes in a play
-pub play-written : (result : Ending) (words : List (List ℕ)) (input left : Option (List ℕ)) (input_rose out_rose : Type 0) (text : List ℕ)
-    → IsAccepted words → IfTold input (λ script. (left ≡ Some []) × (length script ≤ script_limit)) → PlayOut result input text → Written result words input left input_rose out_rose text
-play-written Played words input left input_rose out_rose text acc read w = w
-play-written Words words input left input_rose out_rose text acc read w = w
-play-written Long words input left input_rose out_rose text acc read w = w
-play-written (AtLine line) words input left input_rose out_rose text acc read w = w
-play-written Input words input left input_rose out_rose text acc read w = w
-play-written Memory words input left input_rose out_rose text acc read w = w
-play-written Cut words input left input_rose out_rose text acc read w = record {
+pub play-written : (result : Ending) (words : List (List ℕ)) (input out : Stream) (text : List ℕ)
+    → IsAccepted words → IsReadWhole input IsScript → PlayOut result input.before text → Written result words input out text
+play-written Played words input out text acc read w = w
+play-written Words words input out text acc read w = w
+play-written Long words input out text acc read w = w
+play-written (AtLine line) words input out text acc read w = w
+play-written Input words input out text acc read w = w
+play-written Memory words input out text acc read w = w
+play-written Cut words input out text acc read w = record {
   ending = w.ending;
   whole = w.whole;
-  cause = front-cause w.ending words input left input_rose out_rose w.whole acc read w.end w.writes;
+  cause = front-cause w.ending words input out w.whole acc read w.end w.writes;
   writes = w.writes;
   front = w.front;
 }
@@ -121,15 +126,15 @@ input-fault (AtLine line) h = absurd h
 input-fault Cut h = absurd h
 
 -- the cause of a fault of the reading
-pub input-cause : (fault : Ending) (words : List (List ℕ)) (input left : Option (List ℕ)) (input_rose out_rose : Type 0)
-    → IsAccepted words → IsInputFault fault → (fault ≡ Input → input_rose) → IfTold input (λ all. IsInputRead (Err fault) all left) → Cause fault words input left input_rose out_rose
-input-cause Long words input left input_rose out_rose acc h rose long = (acc, long)
-input-cause Input words input left input_rose out_rose acc h rose long = (acc, rose refl)
-input-cause Memory words input left input_rose out_rose acc h rose long = acc
-input-cause Played words input left input_rose out_rose acc h rose long = absurd h
-input-cause Words words input left input_rose out_rose acc h rose long = absurd h
-input-cause (AtLine line) words input left input_rose out_rose acc h rose long = absurd h
-input-cause Cut words input left input_rose out_rose acc h rose long = absurd h
+pub input-cause : (fault : Ending) (words : List (List ℕ)) (input out : Stream)
+    → IsAccepted words → IsInputFault fault → (fault ≡ Input → HasRisen input) → IfTold input.before (λ all. IsInputRead (Err fault) all input.after) → Cause fault words input out
+input-cause Long words input out acc h rose long = (acc, long)
+input-cause Input words input out acc h rose long = (acc, rose refl, long)
+input-cause Memory words input out acc h rose long = acc
+input-cause Played words input out acc h rose long = absurd h
+input-cause Words words input out acc h rose long = absurd h
+input-cause (AtLine line) words input out acc h rose long = absurd h
+input-cause Cut words input out acc h rose long = absurd h
 
 play-end : (ending result : Ending) → IsPlayEnd ending → IsToldEnd ending result → IsPlayEnd result
 play-end ending result h (inl same) = rw same h

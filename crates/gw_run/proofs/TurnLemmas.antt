@@ -19,7 +19,7 @@ use Rattle.gw_rules.proofs.KeepsLemmas.{keeps-refl, keeps-then, keeps-weaker, ke
 use Rattle.gw_rules.proofs.CallLemmas.{cut-till-keeps}
 use Rattle.gw_rules.proofs.ReadingLemmas.{reading-piece, rest-piece}
 use Rattle.gw_run.specs.Tills.{rank, held, others, AreBelow}
-use Rattle.gw_run.specs.Turns.{IsIn, InRun, BeforeTill, AfterTill, ReadsOn, BeforePiece, BeforeOpen, RestFacts, IsPolled, IsAtRest, EndedBy}
+use Rattle.gw_run.specs.Turns.{IsIn, InRun, BeforeTill, AfterTill, ReadsOn, BeforePiece, BeforeOpen, RestFacts, IsPolled, IsBetweenTurns, EndedBy}
 use Rattle.gw_run.specs.declared.tills.Till.{Till}
 use Rattle.gw_run.specs.declared.engine.Served.{Served}
 use Rattle.gw_run.specs.declared.engine.Served.TheVariants.{More, Waiting, Gone}
@@ -50,7 +50,7 @@ pub record Knows (tills : List Till) (number at : ℕ) (piece : List ℕ) (now :
 
 -- after the till's bytes were served, while it is still there
 waited : (setup : Setup) (tills : List Till) (polls : ℕ) (now : ℤ) (number at : ℕ) (piece : List ℕ) (till new : Till) (o : Outside) → Knows tills number at piece now till o → new.number ≡ till.number → new.reader ≡ (reading_of (till.reader ++ piece)).rest →
-    (v : View) → InRun setup polls (outside_after o (HeardTill number piece)) [] v → IsAtRest setup (slice_set tills at new) polls v
+    (v : View) → InRun setup polls (outside_after o (HeardTill number piece)) [] v → IsBetweenTurns setup (slice_set tills at new) polls v
 waited setup tills polls now number at piece till new o k n r v run =
     let f = found o.tills number at piece (ap (rank number) (sym k.tills_are) ∙ k.place) in
     let same : new ≡ record { number = number; reader = (reading_of (heard_on o.tills number ++ piece)).rest } =
@@ -65,7 +65,7 @@ waited setup tills polls now number at piece till new o k n r v run =
 
 -- after the till was cut
 gone : (setup : Setup) (tills rest : List Till) (polls : ℕ) (now : ℤ) (number at : ℕ) (piece : List ℕ) (till new : Till) (o : Outside) → Knows tills number at piece now till o → new.number ≡ till.number → rest ≡ others (slice_set tills at new) number →
-    (v : View) → InRun setup polls (outside_after (outside_after o (HeardTill number piece)) (CutTill number)) [] v → IsAtRest setup rest polls v
+    (v : View) → InRun setup polls (outside_after (outside_after o (HeardTill number piece)) (CutTill number)) [] v → IsBetweenTurns setup rest polls v
 gone setup tills rest polls now number at piece till new o k n e v run = record {
   outside = outside_after (outside_after o (HeardTill number piece)) (CutTill number);
   run = run;
@@ -106,7 +106,7 @@ piece-held E a b setup tills polls now number at piece till result after Q place
 pub piece-waited : (E : Type 0) (a b : Seen) (setup : Setup) (tills : List Till) (polls : ℕ) (now : ℤ) (number at : ℕ) (piece : List ℕ) (till new : Till) (served : Served) →
     rank number tills ≡ Some at → get_or tills at till ≡ till → new.number ≡ till.number → ReadsOn served (till.reader ++ piece) new.reader → (served ≡ More → ⊥) → (served ≡ Gone → ⊥) →
     ((o : Outside) → Keeps a b (BeforeTill setup polls o now till.number (till.reader ++ piece)) (AfterTill {E = E} (Ok served) setup polls o now till.number new.reader)) →
-    Keeps a b (BeforePiece setup tills polls now number piece) (IsAtRest setup (slice_set tills at new) polls)
+    Keeps a b (BeforePiece setup tills polls now number piece) (IsBetweenTurns setup (slice_set tills at new) polls)
 piece-waited E a b setup tills polls now number at piece till new More place is n r no_more no_gone served = absurd (no_more refl)
 piece-waited E a b setup tills polls now number at piece till new Gone place is n r no_more no_gone served = absurd (no_gone refl)
 piece-waited E a b setup tills polls now number at piece till new Waiting place is n r no_more no_gone served =
@@ -115,7 +115,7 @@ piece-waited E a b setup tills polls now number at piece till new Waiting place 
 pub piece-gone : (E : Type 0) (a b : Seen) (setup : Setup) (tills rest : List Till) (polls : ℕ) (now : ℤ) (number at : ℕ) (piece : List ℕ) (till new : Till) →
     rank number tills ≡ Some at → get_or tills at till ≡ till → new.number ≡ till.number → rest ≡ others (slice_set tills at new) number →
     ((o : Outside) → Keeps a b (BeforeTill setup polls o now till.number (till.reader ++ piece)) (AfterTill {E = E} (Ok Gone) setup polls o now till.number new.reader)) →
-    Keeps a b (BeforePiece setup tills polls now number piece) (IsAtRest setup rest polls)
+    Keeps a b (BeforePiece setup tills polls now number piece) (IsBetweenTurns setup rest polls)
 piece-gone E a b setup tills rest polls now number at piece till new place is n e served =
     piece-held E a b setup tills polls now number at piece till (Ok Gone) new.reader _ place is served (λ o k v q. gone setup tills rest polls now number at piece till new o k n e v q)
 
@@ -139,7 +139,7 @@ items-many number lines le = rw (le-ltb (length lines) 64 le) refl
 
 -- a till opens
 pub open-taken : (s : Seen) (setup : Setup) (tills new : List Till) (polls number : ℕ) → length tills < 64 → new ≡ tills ++ record { number = number; reader = [] } ∷ [] →
-    Keeps s s (BeforeOpen setup tills polls number) (IsAtRest setup new polls)
+    Keeps s s (BeforeOpen setup tills polls number) (IsBetweenTurns setup new polls)
 open-taken s setup tills new polls number few is = keeps-after s s _ _ _ (keeps-refl s (BeforeOpen setup tills polls number)) (λ v p.
     let o = p.outside in
     let l : length o.tills < 64 = (let k : length tills ≡ length o.tills = ap length p.tills_are ∙ length-held o.tills in omega arith) in
@@ -152,10 +152,10 @@ open-taken s setup tills new polls number few is = keeps-after s s _ _ _ (keeps-
 
 -- a till that opens while as many are there as may be is cut
 pub open-crowded : (a b : Seen) (setup : Setup) (tills : List Till) (polls number : ℕ) → 64 ≤ length tills → Grows a b (IsTurn (CutTill number)) →
-    Keeps a b (BeforeOpen setup tills polls number) (IsAtRest setup tills polls)
+    Keeps a b (BeforeOpen setup tills polls number) (IsBetweenTurns setup tills polls)
 open-crowded a b setup tills polls number many grows =
     keeps-before a b _ _ _ open-up
-    (keeps-some a b (λ (o : Outside) v. InRun setup polls (outside_after o (Opened number)) (Crowded number ∷ []) v × IsFull o) (IsAtRest setup tills polls) at_first.scene.outside
+    (keeps-some a b (λ (o : Outside) v. InRun setup polls (outside_after o (Opened number)) (Crowded number ∷ []) v × IsFull o) (IsBetweenTurns setup tills polls) at_first.scene.outside
     (λ o. keeps-then a a b _ _ _ (begin-first a setup polls (outside_after o (Opened number)) (Crowded number) [] (Cut (ATill number) ∷ []) (IsFull o) (λ k scene f. refl))
     (keeps-after a b _ _ _ (keeps-frame a b _ _ (IsFull o) (pending-keeps a b setup polls (outside_after o (Opened number)) (Cut (ATill number) ∷ []) [] _ (λ scene. cut-till-keeps scene [] [] a b number grows)))
     (λ v q. closed o v q.0 q.1))))
@@ -169,7 +169,7 @@ open-crowded a b setup tills polls number many grows =
         let l : 64 ≤ length o.tills = (let k : length tills ≡ length o.tills = ap length p.tills_are ∙ length-held o.tills in omega arith) in
         (o, ((rw (items-many number o.tills l) at p.run), (p.tills_are, p.below, p.above)))
 
-    closed : (o : Outside) (v : View) → ((scene : Scene) × Owing (called scene (CutTill number) false) [] [] v × IsIn setup polls (outside_after o (Opened number)) scene) → IsFull o → IsAtRest setup tills polls v
+    closed : (o : Outside) (v : View) → ((scene : Scene) × Owing (called scene (CutTill number) false) [] [] v × IsIn setup polls (outside_after o (Opened number)) scene) → IsFull o → IsBetweenTurns setup tills polls v
     closed o v q full =
         let same : without (o.tills ++ new_line number ∷ []) number ≡ o.tills = without-new o.tills number (below-closed o.next_till number o.tills full.1 full.2) in
         record {
@@ -181,7 +181,7 @@ open-crowded a b setup tills polls number many grows =
 
 -- a poll between two turns
 pub rest-polled : (a b : Seen) (setup : Setup) (tills : List Till) (polls : ℕ) (now : ℤ) (what : What) (buf : List ℕ) →
-    ((scene : Scene) → Keeps a b (λ v. Owing scene [] [] v × IsRunning scene.standing) (AtEvent scene now what buf)) → Keeps a b (IsAtRest setup tills polls) (IsPolled setup tills polls now what buf)
+    ((scene : Scene) → Keeps a b (λ v. Owing scene [] [] v × IsRunning scene.standing) (AtEvent scene now what buf)) → Keeps a b (IsBetweenTurns setup tills polls) (IsPolled setup tills polls now what buf)
 rest-polled a b setup tills polls now what buf polls_keep =
     keeps-before a b _ _ _ (λ v p. let s = p.run in (
       s.0,
@@ -209,7 +209,7 @@ polled_in : (setup : Setup) (polls : ℕ) (tills : List Till) (now : ℤ) (scene
 polled_in setup polls tills now scene k = record { setup_is = k.setup_is; running = tt; polls_are = ap (λ n. n + 1) k.polls_are; outside_is = refl }
 
 -- nothing came, or nothing that concerns the tills
-pub rest-nothing : (buf : List ℕ) (setup : Setup) (tills : List Till) (polls : ℕ) (now : ℤ) (scene : Scene) → RestFacts setup tills polls scene → (v : View) → AtEvent scene now Nothing buf v → IsAtRest setup tills (polls + 1) v
+pub rest-nothing : (buf : List ℕ) (setup : Setup) (tills : List Till) (polls : ℕ) (now : ℤ) (scene : Scene) → RestFacts setup tills polls scene → (v : View) → AtEvent scene now Nothing buf v → IsBetweenTurns setup tills (polls + 1) v
 rest-nothing buf setup tills polls now scene k v q = record {
   outside = outside_after scene.outside (Polled now);
   run = (polled scene (Polled now), q.0, polled_in setup polls tills now scene k);
@@ -217,7 +217,7 @@ rest-nothing buf setup tills polls now scene k v q = record {
   below = k.below;
 }
 
-pub rest-pt-bytes : (pt count : ℕ) (buf : List ℕ) (setup : Setup) (tills : List Till) (polls : ℕ) (now : ℤ) (scene : Scene) → RestFacts setup tills polls scene → (v : View) → AtEvent scene now (PtBytes pt count) buf v → IsAtRest setup tills (polls + 1) v
+pub rest-pt-bytes : (pt count : ℕ) (buf : List ℕ) (setup : Setup) (tills : List Till) (polls : ℕ) (now : ℤ) (scene : Scene) → RestFacts setup tills polls scene → (v : View) → AtEvent scene now (PtBytes pt count) buf v → IsBetweenTurns setup tills (polls + 1) v
 rest-pt-bytes pt count buf setup tills polls now scene k v q =
     let turn = HeardPt pt (take count buf) in
     record {
@@ -227,7 +227,7 @@ rest-pt-bytes pt count buf setup tills polls now scene k v q =
       below = k.below;
     }
 
-pub rest-pt-closed : (pt : ℕ) (buf : List ℕ) (setup : Setup) (tills : List Till) (polls : ℕ) (now : ℤ) (scene : Scene) → RestFacts setup tills polls scene → (v : View) → AtEvent scene now (PtClosed pt) buf v → IsAtRest setup tills (polls + 1) v
+pub rest-pt-closed : (pt : ℕ) (buf : List ℕ) (setup : Setup) (tills : List Till) (polls : ℕ) (now : ℤ) (scene : Scene) → RestFacts setup tills polls scene → (v : View) → AtEvent scene now (PtClosed pt) buf v → IsBetweenTurns setup tills (polls + 1) v
 rest-pt-closed pt buf setup tills polls now scene k v q = record {
   outside = outside_after (outside_after scene.outside (Polled now)) (Lost pt);
   run = (serving (polled scene (Polled now)) (Lost pt), q.0, record { setup_is = k.setup_is; running = tt; polls_are = ap (λ n. n + 1) k.polls_are; outside_is = refl });
@@ -235,7 +235,7 @@ rest-pt-closed pt buf setup tills polls now scene k v q = record {
   below = k.below;
 }
 
-pub rest-closed : (number : ℕ) (buf : List ℕ) (setup : Setup) (tills new : List Till) (polls : ℕ) (now : ℤ) → new ≡ others tills number → (scene : Scene) → RestFacts setup tills polls scene → (v : View) → AtEvent scene now (TillClosed number) buf v → IsAtRest setup new (polls + 1) v
+pub rest-closed : (number : ℕ) (buf : List ℕ) (setup : Setup) (tills new : List Till) (polls : ℕ) (now : ℤ) → new ≡ others tills number → (scene : Scene) → RestFacts setup tills polls scene → (v : View) → AtEvent scene now (TillClosed number) buf v → IsBetweenTurns setup new (polls + 1) v
 rest-closed number buf setup tills new polls now e scene k v q = record {
   outside = outside_after (outside_after scene.outside (Polled now)) (Closed number);
   run = (serving (polled scene (Polled now)) (Closed number), q.0, record { setup_is = k.setup_is; running = tt; polls_are = ap (λ n. n + 1) k.polls_are; outside_is = refl });
@@ -278,7 +278,7 @@ rest-heard number count buf setup tills polls now scene k v q =
     }
 
 -- a run that has just begun
-pub begun-rest : (setup : Setup) (v : View) → JustBegun setup v → IsAtRest setup [] 0 v
+pub begun-rest : (setup : Setup) (v : View) → JustBegun setup v → IsBetweenTurns setup [] 0 v
 begun-rest setup v (scene, is, f) = record {
   outside = scene.outside;
   run = (scene, is, record { setup_is = f.setup_is; running = subst IsRunning (sym f.standing) tt; polls_are = f.polls; outside_is = refl });
@@ -286,7 +286,7 @@ begun-rest setup v (scene, is, f) = record {
   below = subst (AreBelow scene.outside.next_till) (sym f.tills) tt;
 }
 
-pub all-polled : (setup : Setup) (tills : List Till) (made turns : ℕ) (v : View) → made ≡ turns → IsAtRest setup tills made v → EndedBy Done turns v
+pub all-polled : (setup : Setup) (tills : List Till) (made turns : ℕ) (v : View) → made ≡ turns → IsBetweenTurns setup tills made v → EndedBy Done turns v
 all-polled setup tills made turns v e p =
     let r = p.run in
     inr (record { running = rw r.1 r.2.running; calls = ap (λ (w : View). w.calls) r.1; items = ap (λ (w : View). w.items) r.1; polls = ap (λ (w : View). w.scene.polls) r.1 ∙ r.2.polls_are ∙ e })

@@ -4,6 +4,7 @@ pub mod Turns
 pub mod ScriptRead
 pub mod LogWritten
 pub mod Top
+pub mod Replay
 pub mod PlaysProp
 pub mod PlayerTills
 pub mod PlayerMet

@@ -1,4 +1,4 @@
--- Playing lines is a proposition.
+-- What is a proposition of plays.
 use Rattle.std.specs.Prelude.{List, [], ◌∷◌}
 use Rattle.std.proofs.Props.{props}
 use Rattle.gw_site.specs.Outside.{Outside, outside_after, nothing_yet}
@@ -7,6 +7,7 @@ use Rattle.gw_site.specs.declared.turn.Turn.TheVariants.{Start, OpenFailed, Poll
 use Rattle.gw_rules.specs.Plays.{Play, Fits, PlaysFrom, PlaysLines, play_after, begins}
 use Rattle.gw_rules.specs.Script.{Line}
 
+-- that a turn fits is a proposition
 fits_prop : (o : Outside) (p : Play) (turn : Turn) → IsProp (Fits o p turn)
 fits_prop o p (Start setup) = hlevel props
 fits_prop o p OpenFailed = hlevel props
@@ -28,9 +29,11 @@ fits_prop o p Synced = hlevel props
 fits_prop o p DiskFailed = hlevel props
 fits_prop o p (Crash file) = hlevel props
 
+-- playing from here on is a proposition
 plays_from_prop : (o : Outside) (p : Play) (turns : List Turn) → IsProp (PlaysFrom o p turns)
 plays_from_prop o p [] = hlevel props
 plays_from_prop o p (turn ∷ turns) = hlevel (props, fits_prop o p turn, plays_from_prop (outside_after o turn) (play_after o p turn) turns)
 
+-- playing lines is a proposition
 pub plays_prop : (lines : List Line) (turns : List Turn) → IsProp (PlaysLines lines turns)
 plays_prop lines turns = plays_from_prop nothing_yet (begins lines) turns

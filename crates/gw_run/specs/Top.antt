@@ -1,12 +1,12 @@
 -- How the top call ends, and what it writes.
-use Rattle.std.specs.Prelude.{◌≡◌, ◌⊎◌, ℕ, ◌+◌, ◌<◌, ◌≤◌, List, [], ◌∷◌, ◌++◌, Bool, true, false, Option, Some, None, Result, Ok, Err, codes, length}
+use Rattle.std.specs.Prelude.{◌≡◌, ◌⊎◌, ℕ, ◌+◌, ◌<◌, ◌≤◌, List, [], ◌∷◌, ◌++◌, Option, Some, None, Ok, Err, codes, length}
 use Rattle.std.specs.Fmt.{decimal}
-use Rattle.std.specs.Global.{Vec}
-use Rattle.gw_site.specs.Seen.{Seen, IsFront}
+use Rattle.gw_site.specs.Causes.{Rose}
+use Rattle.gw_site.specs.Seen.{IsFront}
 use Rattle.gw_site.specs.declared.turn.Turn.{Turn}
 use Rattle.gw_rules.specs.Lawful.{IsLawful}
-use Rattle.gw_rules.specs.Script.{Line, Script, script_of, script_limit}
-use Rattle.gw_rules.specs.Plays.{Plays, IsLogOf, IsOneRun, IsStopped}
+use Rattle.gw_rules.specs.Script.{Script, script_of, script_limit}
+use Rattle.gw_rules.specs.Plays.{Plays, IsLogOf, IsOneRun}
 use Rattle.gw_rules.specs.LogText.{log_text}
 use Rattle.gw_run.specs.declared.ending.Ending.{Ending}
 use Rattle.gw_run.specs.declared.ending.Ending.TheVariants.{Played, Words, Long, Line as AtLine, Input, Memory, Cut}
@@ -35,37 +35,68 @@ tail_of Input = codes "input\nstatus 66\n"
 tail_of Memory = codes "memory\nstatus 71\n"
 tail_of Cut = []
 
+-- a stream before a call and after it
+pub record Stream : Type 0 where
+  -- its bytes before the call, where it tells them: those to be read, or those written
+  pub before : Option (List ℕ)
+  -- its bytes after the call: those left to be read, or those written
+  pub after : Option (List ℕ)
+  -- how often a read or a write of it has failed, before the call
+  pub faults_before : ℕ
+  -- how often a read or a write of it has failed, after the call
+  pub faults_after : ℕ
+
+-- a read or a write of the stream has failed in the call
+abbrev pub HasRisen : Stream → Type 0
+HasRisen stream = Rose stream.faults_before stream.faults_after
+
 -- a fact of the bytes of a stream, where it tells them
 abbrev pub IfTold : Option (List ℕ) → (List ℕ → Type 0) → Type 0
 IfTold told P = (bytes : List ℕ) → told ≡ Some bytes → P bytes
 
+-- a script of the grammar
+abbrev pub IsScript : List ℕ → Type 0
+IsScript text = (length text ≤ script_limit) × ((script : Script) × (script_of text ≡ Ok script))
+
 -- the text has a line of another form, this one first
 abbrev pub IsWrongAt : ℕ → List ℕ → Type 0
-IsWrongAt line script = (length script ≤ script_limit) × (script_of script ≡ Err line)
+IsWrongAt line text = (length text ≤ script_limit) × (script_of text ≡ Err line)
 
 -- the text is above the limit, and was read no further than a piece beyond it
-pub record IsTooLong (script : List ℕ) (left : Option (List ℕ)) : Type 0 where
-  pub long : script_limit < length script
+pub record IsScriptTooLong (text : List ℕ) (left : Option (List ℕ)) : Type 0 where
+  pub long : script_limit < length text
   pub rest : List ℕ
   pub left_is : left ≡ Some rest
-  pub no_further : length script ≤ script_limit + 4096 + length rest
+  pub no_further : length text ≤ script_limit + 4096 + length rest
 
--- the cause of each end, by the words, the input before and after, and the counts of faults of input and output
-abbrev pub Cause : Ending → List (List ℕ) → Option (List ℕ) → Option (List ℕ) → Type 0 → Type 0 → Type 0
-Cause Played words input left input_rose out_rose = IsAccepted words × IfTold input (λ script. (left ≡ Some []) × (length script ≤ script_limit))
-Cause Words words input left input_rose out_rose = ¬ IsAccepted words
-Cause Long words input left input_rose out_rose = IsAccepted words × IfTold input (λ script. IsTooLong script left)
-Cause (AtLine line) words input left input_rose out_rose = IsAccepted words × IfTold input (IsWrongAt line)
-Cause Input words input left input_rose out_rose = IsAccepted words × input_rose
-Cause Memory words input left input_rose out_rose = IsAccepted words
-Cause Cut words input left input_rose out_rose = out_rose
+-- what was read of the text is not above the limit
+pub record IsReadWithin (text : List ℕ) (left : Option (List ℕ)) : Type 0 where
+  pub taken : List ℕ
+  pub rest : List ℕ
+  pub text_is : text ≡ taken ++ rest
+  pub left_is : left ≡ Some rest
+  pub within : length taken ≤ script_limit
+
+-- the input was read to its end, and its text is such
+abbrev pub IsReadWhole : Stream → (List ℕ → Type 0) → Type 0
+IsReadWhole input P = IfTold input.before (λ text. (input.after ≡ Some []) × P text)
+
+-- the cause of each end, by the words, the input and the output
+abbrev pub Cause : Ending → List (List ℕ) → Stream → Stream → Type 0
+Cause Played words input out = IsAccepted words × IsReadWhole input IsScript
+Cause Words words input out = ¬ IsAccepted words
+Cause Long words input out = IsAccepted words × IfTold input.before (λ text. IsScriptTooLong text input.after)
+Cause (AtLine line) words input out = IsAccepted words × IsReadWhole input (IsWrongAt line)
+Cause Input words input out = IsAccepted words × HasRisen input × IfTold input.before (λ text. IsReadWithin text input.after)
+Cause Memory words input out = IsAccepted words
+Cause Cut words input out = HasRisen out
 
 -- the script is the one that was read
 abbrev pub IsInput : Option (List ℕ) → List ℕ → Type 0
 IsInput input script = IfTold input (λ bytes. script ≡ bytes)
 
 -- the text of the log of the script that was read, which was played to its end
-pub record IsPlayed (input : Option (List ℕ)) (text : List ℕ) : Type 0 where
+pub record IsPlayedWhole (input : Option (List ℕ)) (text : List ℕ) : Type 0 where
   pub script : List ℕ
   pub log : List Turn
   pub input_is : IsInput input script
@@ -88,7 +119,7 @@ pub record IsCutShort (input : Option (List ℕ)) (text : List ℕ) : Type 0 whe
 
 -- what is written by the end of the call, if no write fails
 abbrev pub Writes : Ending → Option (List ℕ) → List ℕ → Type 0
-Writes Played input text = IsPlayed input text
+Writes Played input text = IsPlayedWhole input text
 Writes Words input text = text ≡ tail_of Words
 Writes Long input text = text ≡ tail_of Long
 Writes (AtLine line) input text = text ≡ tail_of (AtLine line)
@@ -97,121 +128,31 @@ Writes Memory input text = (text ≡ tail_of Memory) ⊎ IsCutShort input text
 Writes Cut input text = ⊥
 
 -- what is written where a write has failed: a front of what another end writes whose cause holds
-pub record WritesFront (words : List (List ℕ)) (input left : Option (List ℕ)) (input_rose out_rose : Type 0) (text : List ℕ) : Type 0 where
+pub record WritesFront (words : List (List ℕ)) (input out : Stream) (text : List ℕ) : Type 0 where
   pub ending : Ending
   pub whole : List ℕ
-  pub cause : Cause ending words input left input_rose out_rose
-  pub writes : Writes ending input whole
+  pub cause : Cause ending words input out
+  pub writes : Writes ending input.before whole
   pub front : IsFront text whole
 
 -- what is written by the end of the call
-abbrev pub Written : Ending → List (List ℕ) → Option (List ℕ) → Option (List ℕ) → Type 0 → Type 0 → List ℕ → Type 0
-Written Played words input left input_rose out_rose text = Writes Played input text
-Written Words words input left input_rose out_rose text = Writes Words input text
-Written Long words input left input_rose out_rose text = Writes Long input text
-Written (AtLine line) words input left input_rose out_rose text = Writes (AtLine line) input text
-Written Input words input left input_rose out_rose text = Writes Input input text
-Written Memory words input left input_rose out_rose text = Writes Memory input text
-Written Cut words input left input_rose out_rose text = WritesFront words input left input_rose out_rose text
+abbrev pub Written : Ending → List (List ℕ) → Stream → Stream → List ℕ → Type 0
+Written Played words input out text = Writes Played input.before text
+Written Words words input out text = Writes Words input.before text
+Written Long words input out text = Writes Long input.before text
+Written (AtLine line) words input out text = Writes (AtLine line) input.before text
+Written Input words input out text = Writes Input input.before text
+Written Memory words input out text = Writes Memory input.before text
+Written Cut words input out text = WritesFront words input out text
 
 -- the call has ended so: its status, the cause, and what was written, where the sink tells it
-pub record IsEnded (status : ℕ) (words : List (List ℕ)) (input left before after : Option (List ℕ)) (input_rose out_rose : Type 0) : Type 0 where
+pub record IsEnded (status : ℕ) (words : List (List ℕ)) (input out : Stream) : Type 0 where
   pub ending : Ending
   pub status_is : status ≡ status_of ending
-  pub cause : Cause ending words input left input_rose out_rose
-  pub output : IfTold before (λ written. (text : List ℕ) × (after ≡ Some (written ++ text)) × Written ending words input left input_rose out_rose text)
-
--- a script of the grammar
-abbrev pub IsScript : List ℕ → Type 0
-IsScript text = (length text ≤ script_limit) × ((script : Script) × (script_of text ≡ Ok script))
+  pub cause : Cause ending words input out
+  pub output : IfTold out.before (λ written. (text : List ℕ) × (out.after ≡ Some (written ++ text)) × Written ending words input out text)
 
 -- the source tells what is left in it, and that is a script
 abbrev pub IsScriptLeft : Option (List ℕ) → Type 0
 IsScriptLeft None = ⊥
 IsScriptLeft (Some bytes) = IsScript bytes
-
--- what is written of a replay by its end
-abbrev pub ReplayWritten : Option (List ℕ) → Option (List ℕ) → Type 0 → Type 0 → Ending → List ℕ → Type 0
-ReplayWritten input left input_rose out_rose ending text = (words : List (List ℕ)) → IsAccepted words → Written ending words input left input_rose out_rose text
-
--- the cause of a replay's end
-abbrev pub ReplayCause : Ending → Option (List ℕ) → Option (List ℕ) → Type 0 → Type 0 → Type 0
-ReplayCause ending input left input_rose out_rose = (words : List (List ℕ)) → IsAccepted words → Cause ending words input left input_rose out_rose
-
--- what a play of a script may end with
-abbrev pub IsPlayEnd : Ending → Type 0
-IsPlayEnd Played = Unit {0}
-IsPlayEnd Words = ⊥
-IsPlayEnd Long = ⊥
-IsPlayEnd (AtLine line) = ⊥
-IsPlayEnd Input = ⊥
-IsPlayEnd Memory = Unit {0}
-IsPlayEnd Cut = Unit {0}
-
--- what is written of a play where a write has failed: a front of what another of its ends may write
-pub record PlayFront (input : Option (List ℕ)) (text : List ℕ) : Type 0 where
-  pub ending : Ending
-  pub whole : List ℕ
-  pub end : IsPlayEnd ending
-  pub writes : Writes ending input whole
-  pub front : IsFront text whole
-
--- what is written by the end of a play
-abbrev pub PlayOut : Ending → Option (List ℕ) → List ℕ → Type 0
-PlayOut Played input text = Writes Played input text
-PlayOut Words input text = Writes Words input text
-PlayOut Long input text = Writes Long input text
-PlayOut (AtLine line) input text = Writes (AtLine line) input text
-PlayOut Input input text = Writes Input input text
-PlayOut Memory input text = Writes Memory input text
-PlayOut Cut input text = PlayFront input text
-
--- what is written of a play of this script by its end
-abbrev pub PlayWritten : List ℕ → Ending → List ℕ → Type 0
-PlayWritten script ending text = (input : Option (List ℕ)) → IsInput input script → PlayOut ending input text
-
--- the text is a script that gives this name, or none
-abbrev pub GivesName : List ℕ → Option (List ℕ) → Type 0
-GivesName text name = (lines : List Line) × (script_of text ≡ Ok (record { name = name; lines = lines }))
-
--- nothing was played of the script, and no call has failed
-abbrev pub IsFresh : Seen → List ℕ → Type 0
-IsFresh seen script = seen ≡ record { log = Some []; faults = 0; dark = false; origin = script }
-
--- the log is lawful, and plays a front of the script in one run at most; or all of it, in one run
-pub record IsPlayOf (script : List ℕ) (whole : Bool) (log : List Turn) : Type 0 where
-  pub lawful : IsLawful log
-  pub plays : Plays script log
-  pub one_run : IsAtMostOneRun script log
-  pub stopped : whole ≡ true → IsStopped log
-
--- an end whose fault line names a line of the script
-abbrev pub NamesLine : Ending → Type 0
-NamesLine ending = (line : ℕ) × (ending ≡ AtLine line)
-
--- the lines of an end are told: all of them, or those of wanting memory where the fault line could not be made, or a front of either
-abbrev pub IsTold : Ending → Ending → List ℕ → Type 0
-IsTold ending result added =
-    ((result ≡ ending) × (added ≡ tail_of ending))
-    ⊎ (((result ≡ Memory) × NamesLine ending × (added ≡ tail_of Memory))
-    ⊎ ((result ≡ Cut) × ((told : Ending) × ((told ≡ ending) ⊎ ((told ≡ Memory) × NamesLine ending)) × IsFront added (tail_of told))))
-
--- what is told in the end: the end itself, or the want of memory for its fault line, or that a write failed
-abbrev pub IsToldEnd : Ending → Ending → Type 0
-IsToldEnd ending result = (result ≡ ending) ⊎ (((result ≡ Memory) × NamesLine ending) ⊎ (result ≡ Cut))
-
--- what the reading of the input gives: all of it, or its fault
-abbrev pub IsInputRead : Result (Vec ℕ) Ending → List ℕ → Option (List ℕ) → Type 0
-IsInputRead (Ok bytes) all left = (bytes.items ≡ all) × (left ≡ Some []) × (length all ≤ script_limit)
-IsInputRead (Err Long) all left = IsTooLong all left
-IsInputRead (Err ending) all left = Unit {0}
-
--- the faults that the reading of the input may meet
-abbrev pub IsInputFault : Ending → Type 0
-IsInputFault Played = ⊥
-IsInputFault Words = ⊥
-IsInputFault Long = Unit {0}
-IsInputFault (AtLine line) = ⊥
-IsInputFault Input = Unit {0}
-IsInputFault Memory = Unit {0}
-IsInputFault Cut = ⊥

@@ -53,7 +53,7 @@ Delivered true scene till bytes items v = Owing (called scene (SentTill till byt
 Delivered false scene till bytes items v = (taken : List ℕ) × Owing (called (called scene (SentTill till taken false) false) (CutTill till) false) [] items v
 
 -- between two turns: the engine holds the tills that are there
-pub record IsAtRest (setup : Setup) (tills : List Till) (polls : ℕ) (v : View) : Type 0 where
+pub record IsBetweenTurns (setup : Setup) (tills : List Till) (polls : ℕ) (v : View) : Type 0 where
   pub outside : Outside
   pub run : InRun setup polls outside [] v
   pub tills_are : tills ≡ map held outside.tills
@@ -92,7 +92,7 @@ pub record BeforeOpen (setup : Setup) (tills : List Till) (polls till : ℕ) (v 
 
 -- after a turn
 abbrev pub AfterTurn : {E : Type 0} → Result Turned E → Setup → List Till → ℕ → View → Type 0
-AfterTurn (Ok Went) setup tills polls v = IsAtRest setup tills polls v
+AfterTurn (Ok Went) setup tills polls v = IsBetweenTurns setup tills polls v
 AfterTurn (Ok Stopped) setup tills polls v = v.scene.standing ≡ Over
 AfterTurn (Err memory) setup tills polls v = Unit {0}
 

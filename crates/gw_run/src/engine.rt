@@ -12,7 +12,7 @@ ghost use Rattle.gw_rules.specs.Reply.{Reply, tree, told_bytes};
 ghost use Rattle.gw_rules.specs.Scene.{Scene, Item, Tell};
 ghost use Rattle.gw_rules.specs.Keeps.{Keeps, Runs, IsRun, Owing, JustBegun};
 ghost use Rattle.gw_run.specs.Answered.{IsNextOf};
-ghost use Rattle.gw_run.specs.Turns.{BeforeTill, AfterTill, ReadsOn, Delivered, BeforePiece, BeforeOpen, IsAtRest, IsPolled, AfterTurn, EndedBy};
+ghost use Rattle.gw_run.specs.Turns.{BeforeTill, AfterTill, ReadsOn, Delivered, BeforePiece, BeforeOpen, IsBetweenTurns, IsPolled, AfterTurn, EndedBy};
 
 use crate::tills::{Till, drop_till, open_till, place_of};
 use gw_base::{Ident, Setup};
@@ -286,7 +286,7 @@ fn turn<S: Site>(
     site: &mut S,
 ) -> Result<Turned, AllocError>
     ensures keeps { (setup : Setup) (polls : ℕ) → setup.name ≡ name.now → Keeps (S.seen site.old) (S.seen site.new)
-        (IsAtRest setup tills.old.items polls)
+        (IsBetweenTurns setup tills.old.items polls)
         (AfterTurn result setup tills.new.items (polls + 1)) }
     ensures later { (S.seen site.old).faults ≤ (S.seen site.new).faults }
 {

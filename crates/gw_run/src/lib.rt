@@ -13,8 +13,7 @@ mod tills;
 mod top_call;
 
 pub use ending::Ending;
-pub use line::{Piece, Script, ScriptEvent, ScriptLine};
-pub use script::{ScriptFault, read_script};
+pub use gw_rules::law_crash;
 pub use text::{Unwritten, write_log};
 pub use top_call::top;
 

@@ -6,14 +6,14 @@ use gw_base::{Bytes, Ident};
 
 /// A script: the gateway's name, where the script gives it, and the lines that are played.
 #[derive(Debug, Drop)]
-pub struct Script {
-    pub name: Option<Ident<40>>,
-    pub lines: Vec<ScriptLine>,
+pub(crate) struct Script {
+    pub(crate) name: Option<Ident<40>>,
+    pub(crate) lines: Vec<ScriptLine>,
 }
 
 /// A line that is played.
 #[derive(Debug, Drop)]
-pub enum ScriptLine {
+pub(crate) enum ScriptLine {
     /// The moment of later polls, in seconds since 1970-01-01T00:00:00Z.
     At(i64),
     /// A poll, and what it brings.
@@ -22,7 +22,7 @@ pub enum ScriptLine {
 
 /// What a poll brings.
 #[derive(Debug, Drop)]
-pub enum ScriptEvent {
+pub(crate) enum ScriptEvent {
     /// The till of this number opens its line.
     Open(u64),
     /// The till of this number closes it.
@@ -35,7 +35,7 @@ pub enum ScriptEvent {
 
 /// What a till sends at once: 1 to 4,096 bytes.
 #[derive(Debug, Drop)]
-pub struct Piece {
+pub(crate) struct Piece {
     bytes: Bytes,
     pub ghost within: { IsCount (length bytes) },
 }
@@ -52,7 +52,7 @@ impl Piece {
     }
 
     /// The bytes.
-    pub fn as_slice(&self) -> &[u8]
+    pub(crate) fn as_slice(&self) -> &[u8]
         ensures bytes { result.now ≡ self.now.bytes }
         ensures within { IsCount (length result.now) }
     {

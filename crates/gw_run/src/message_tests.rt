@@ -204,6 +204,31 @@ fn a_frame_cut_after_each_byte(rt: HostRuntime) -> Result<(), Fail> {
 }
 
 #[test]
+fn pieces(rt: HostRuntime) -> Result<(), Fail> {
+    let rows = [
+        ("000000027b7d", "'{}", "header SaleToPOIRequest", ""),
+        (
+            "000000027b7d00000000",
+            "000000027b7d00000000",
+            "header SaleToPOIRequest",
+            "till 1 cut\n",
+        ),
+        ("0000000322ff22", "0000000322ff22", "json BadUtf8 1", ""),
+    ];
+    for (piece, shown, details, cut) in rows {
+        let script = format!(in rt.alloc(); "open 1\ntill 1 {piece}\n")?;
+        let (status, written) = played(rt.alloc(), script.as_bytes())?;
+        let told = reject(rt.alloc(), "0", "GATEWAY", details)?;
+        let log = format!(in rt.alloc();
+            "start\nat 0\nopen 1\nat 0\ntill 1 in {shown}\n{told}{cut}at 0\nstop\nstatus 0\n"
+        )?;
+        assert_eq!(rt; str::from_utf8(written.as_slice())?, log.as_str());
+        assert_eq!(rt; status, 0, "of {piece}");
+    }
+    Ok(())
+}
+
+#[test]
 fn one_till_too_many(rt: HostRuntime) -> Result<(), Fail> {
     let mut script = String::new(rt.alloc());
     let mut log = String::from_str(rt.alloc(), "start\n")?;

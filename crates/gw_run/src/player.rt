@@ -87,12 +87,12 @@ fn follow(tills: &mut Vec<u64>, opened: &mut Option<u64>, what: What) -> bool
 }
 
 impl<'a> Player<'a> {
-    ghost use Rattle.gw_run.specs.Player.{seen_of};
+    ghost use Rattle.gw_run.specs.Player.{player_seen};
 
     /// A player of this script, which the text was read as.
     pub(crate) fn new(alloc: Global, script: &'a [u8], read: Script) -> Player<'a>
         requires { script_of script.now ≡ Ok (script_seen read) }
-        ensures { seen_of result ≡ record { log = Some []; faults = 0; dark = false; origin = script.now } }
+        ensures { player_seen result ≡ record { log = Some []; faults = 0; dark = false; origin = script.now } }
     {
         Player {
             alloc,
@@ -105,21 +105,21 @@ impl<'a> Player<'a> {
 
     /// What went in and out.
     pub(crate) fn log(&self) -> &[Turn]
-        ensures { (seen_of self.now).log ≡ Some result.now }
+        ensures { (player_seen self.now).log ≡ Some result.now }
     {
         &self.play.log
     }
 
     /// Whether the player is dark: memory was refused, or a call on the disk was made.
     pub(crate) fn is_short(&self) -> bool
-        ensures { result ≡ (seen_of self.now).dark }
+        ensures { result ≡ (player_seen self.now).dark }
     {
         self.play.short
     }
 
     /// The log plays the script, or a front of it.
     pub(crate) fn played(&self)
-        ensures { (log : List ATurn) → (seen_of self.now).log ≡ Some log → Plays (seen_of self.now).origin log }
+        ensures { (log : List ATurn) → (player_seen self.now).log ≡ Some log → Plays (player_seen self.now).origin log }
     {
         let _ = self.play.at;
     }
@@ -188,9 +188,9 @@ impl<'a> Player<'a> {
 }
 
 impl Site for Player<'_> {
-    ghost use Rattle.gw_run.specs.Player.{seen_of};
+    ghost use Rattle.gw_run.specs.Player.{player_seen};
 
-    ghost seen = { seen_of };
+    ghost seen = { player_seen };
 
     fn open(&mut self, setup: &Setup) -> Result<(), Failed> {
         match copied(setup) {

@@ -4,9 +4,9 @@ ghost use Rattle.gw_site.specs.Causes.{Rose};
 ghost use Rattle.gw_site.specs.Seen.{Tells};
 ghost use Rattle.gw_rules.specs.Script.{default_name, script_of, script_setup};
 ghost use Rattle.gw_run.specs.LogWritten.{Adds};
-ghost use Rattle.gw_run.specs.Player.{seen_of};
+ghost use Rattle.gw_run.specs.Player.{player_seen};
+ghost use Rattle.gw_run.specs.Replay.{GivesName, IsFresh, IsPlayEnd, IsPlayOf, PlayWritten};
 ghost use Rattle.gw_run.specs.ScriptRead.{script_seen};
-ghost use Rattle.gw_run.specs.Top.{GivesName, IsFresh, IsPlayEnd, IsPlayOf, PlayWritten};
 
 use crate::ending::Ending;
 use crate::engine::{Ended, run_once};
@@ -42,7 +42,7 @@ fn script_setup(alloc: Global, name: Option<Ident<40>>) -> Setup
 
 /// Plays a script that gives this name from its first line. False where memory was wanting.
 fn run_script(alloc: Global, name: Option<Ident<40>>, player: &mut Player) -> bool
-    ensures log { (script : List ℕ) → GivesName script name → IsFresh (seen_of player.old) script → Tells (seen_of player.new) (IsPlayOf script result) }
+    ensures log { (script : List ℕ) → GivesName script name → IsFresh (player_seen player.old) script → Tells (player_seen player.new) (IsPlayOf script result) }
 {
     let setup = script_setup(alloc, name);
     let ended = run_once(alloc, &setup, player, u64::MAX);

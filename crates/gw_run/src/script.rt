@@ -8,23 +8,20 @@ ghost use Rattle.gw_rules.specs.Script.{script_limit, script_of, split_lines, en
 ghost use Rattle.gw_run.specs.ScriptRead.{entry_seen, event_seen, line_seen, script_seen, IsAdded, IsFaultOf};
 
 use crate::line::{Piece, Script, ScriptEvent, ScriptLine};
-use gw_base::{Bytes, Ident};
+use gw_base::{Bytes, Ident, LAST_MOMENT};
 use hex::FromHexError;
 use sale_frame::frame_length;
 use std::alloc::{AllocError, AllocFailed, Global};
 use std::str;
 
 /// The most bytes of a script.
-const SCRIPT_LIMIT: usize = 4_194_304;
+pub(crate) const SCRIPT_LIMIT: usize = 4_194_304;
 
 /// The most bytes of a said text.
 const SAID_LIMIT: usize = 4_092;
 
 /// The most bytes that a till sends at once.
 const PIECE_LIMIT: usize = 4_096;
-
-/// The last moment, 9999-01-01T00:00:00Z.
-const LAST_MOMENT: u64 = 253_370_764_800;
 
 /// What one line of the text is.
 #[derive(Drop)]
@@ -39,7 +36,7 @@ enum ReadEntry {
 
 /// Why a script was not read.
 #[derive(Clone, Copy, Debug, PartialEq, Eq)]
-pub enum ScriptFault {
+pub(crate) enum ScriptFault {
     /// It has more than 4,194,304 bytes.
     Long,
     /// The line of this number, counted from 1, is the first of another form.
@@ -106,7 +103,7 @@ fn at_line(rest: &str) -> Option<ReadEntry>
     ensures { option_map entry_seen result ≡ at_line (number rest.now) }
 {
     let moment = number(rest)?;
-    if moment > LAST_MOMENT {
+    if moment > LAST_MOMENT as u64 {
         return None;
     }
     Some(ReadEntry::Playing(ScriptLine::At(moment as i64)))
@@ -317,7 +314,7 @@ fn first_text(bytes: &[u8]) -> (&[u8], &[u8])
 /// `open T`, `close T`, `till T HEX`, `say T TEXT`; `tick`. Numbers are decimal, below 2^64, without sign or leading
 /// zeros; N is a moment of at most 253,370,764,800. NAME is one word of 1 to 40 bytes of printable ASCII. HEX has 1 to
 /// 4,096 bytes in hexadecimal. TEXT is the rest of the line, of 1 to 4,092 bytes, which the till sends in a frame.
-pub fn read_script(alloc: Global, bytes: &[u8]) -> Result<Script, ScriptFault>
+pub(crate) fn read_script(alloc: Global, bytes: &[u8]) -> Result<Script, ScriptFault>
     ensures ok { IfOk result (λ script. script_of bytes.now ≡ Ok (script_seen script)) }
     ensures within { OnOk result (length bytes.now ≤ script_limit) }
     ensures fault { IfErr result (IsFaultOf bytes.now) }

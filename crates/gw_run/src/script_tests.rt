@@ -55,6 +55,10 @@ fn lines_and_their_turns(rt: HostRuntime) -> Result<(), Fail> {
             "start\nat 0\nopen 1\nat 0\ntill 1 in 00000000\ntill 1 cut\nat 0\nstop\nstatus 0\n",
         ),
         (
+            "open 1\ntill 1 00010001\n",
+            "start\nat 0\nopen 1\nat 0\ntill 1 in 00010001\ntill 1 cut\nat 0\nstop\nstatus 0\n",
+        ),
+        (
             "at 253370764800\nopen 18446744073709551615",
             "start\nat 253370764800\nopen 18446744073709551615\nat 253370764800\nstop\nstatus 0\n",
         ),

@@ -2,7 +2,8 @@
 ghost use Rattle.std.specs.Prelude.{◌≡◌, ◌≢◌, ◌⊎◌, ◌≤◌, ◌++◌, List, ℕ, Some, Ok, IfOk, string_bytes};
 ghost use Rattle.gw_site.specs.Causes.{Rose};
 ghost use Rattle.gw_run.specs.LogWritten.{Adds};
-ghost use Rattle.gw_run.specs.Top.{IsTold, IsToldEnd, tail_of};
+ghost use Rattle.gw_run.specs.Replay.{TellsLines, IsToldEnd};
+ghost use Rattle.gw_run.specs.Top.{tail_of};
 
 use crate::ending::Ending;
 use gw_site::{Failed, Sink};
@@ -11,7 +12,7 @@ use std::alloc::{AllocError, Global};
 /// Writes the last lines.
 fn end_with<O: Sink>(ending: Ending, tail: &str, out: &mut O) -> Ending
     requires { tail.now ≡ tail_of ending }
-    ensures told { Adds (O.written out.old) (O.written out.new) (IsTold ending result) }
+    ensures told { Adds (O.written out.old) (O.written out.new) (TellsLines ending result) }
     ensures cut { result ≡ Ending.Cut → (ending ≡ Ending.Cut) ⊎ Rose (O.faults out.old) (O.faults out.new) }
     ensures which { (result ≡ ending) ⊎ (result ≡ Ending.Cut) }
     ensures later { O.faults out.old ≤ O.faults out.new }
@@ -32,7 +33,7 @@ fn line_tail(alloc: Global, line: u32) -> Result<String, AllocError>
 /// Writes the fault line, where there is one, and the status line.
 pub(crate) fn tell<O: Sink>(alloc: Global, ending: Ending, out: &mut O) -> Ending
     requires { ending ≢ Ending.Cut }
-    ensures told { Adds (O.written out.old) (O.written out.new) (IsTold ending result) }
+    ensures told { Adds (O.written out.old) (O.written out.new) (TellsLines ending result) }
     ensures which { IsToldEnd ending result }
     ensures cut { result ≡ Ending.Cut → Rose (O.faults out.old) (O.faults out.new) }
     ensures later { O.faults out.old ≤ O.faults out.new }

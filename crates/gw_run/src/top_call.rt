@@ -2,18 +2,16 @@
 ghost use Rattle.std.specs.Prelude.{◌≡◌, ◌≢◌, ◌⊎◌, ◌≤◌, ◌++◌, List, ℕ, Some, Ok, IsTrue, ◌↔◌, IfOk, IfErr, IsErrOf, map, string_bytes};
 ghost use Rattle.gw_site.specs.Causes.{Rose};
 ghost use Rattle.gw_run.specs.LogWritten.{Adds};
-ghost use Rattle.gw_run.specs.Top.{IsAccepted, IfTold, IsInputRead, IsInputFault, IsPlayEnd, IsEnded, IsScriptLeft, ReplayCause, ReplayWritten};
+ghost use Rattle.gw_run.specs.Replay.{IsInputRead, IsInputFault, IsPlayEnd, ReplayCause, ReplayWritten};
+ghost use Rattle.gw_run.specs.Top.{IsAccepted, IfTold, IsEnded, IsScriptLeft};
 
 use crate::ending::Ending;
 use crate::replay::play;
-use crate::script::{ScriptFault, read_script};
+use crate::script::{SCRIPT_LIMIT, ScriptFault, read_script};
 use crate::tail::tell;
 use gw_base::Text;
 use gw_site::{Failed, Sink, Site, Source};
 use std::alloc::{AllocError, Global};
-
-/// The most bytes that a script may have.
-const SCRIPT_LIMIT: usize = 4_194_304;
 
 /// Whether the words are accepted.
 fn is_replay(words: &[Text]) -> bool
@@ -49,8 +47,12 @@ fn read_input<I: Source>(alloc: Global, input: &mut I) -> Result<Vec<u8>, Ending
 
 /// The mode `replay`.
 fn replay<I: Source, O: Sink>(alloc: Global, input: &mut I, out: &mut O) -> Ending
-    ensures written { Adds (O.written out.old) (O.written out.new) (ReplayWritten (I.left input.old) (I.left input.new) (Rose (I.faults input.old) (I.faults input.new)) (Rose (O.faults out.old) (O.faults out.new)) result) }
-    ensures cause { ReplayCause result (I.left input.old) (I.left input.new) (Rose (I.faults input.old) (I.faults input.new)) (Rose (O.faults out.old) (O.faults out.new)) }
+    ensures written { Adds (O.written out.old) (O.written out.new) (ReplayWritten
+        (record { before = I.left input.old; after = I.left input.new; faults_before = I.faults input.old; faults_after = I.faults input.new })
+        (record { before = O.written out.old; after = O.written out.new; faults_before = O.faults out.old; faults_after = O.faults out.new }) result) }
+    ensures cause { ReplayCause result
+        (record { before = I.left input.old; after = I.left input.new; faults_before = I.faults input.old; faults_after = I.faults input.new })
+        (record { before = O.written out.old; after = O.written out.new; faults_before = O.faults out.old; faults_after = O.faults out.new }) }
     ensures complete { IsScriptLeft (I.left input.old) → ¬ Rose (I.faults input.old) (I.faults input.new) → ¬ Rose (O.faults out.old) (O.faults out.new) → IsPlayEnd result }
     ensures cut { result ≡ Ending.Cut → Rose (O.faults out.old) (O.faults out.new) }
     ensures input_later { I.faults input.old ≤ I.faults input.new }
@@ -86,7 +88,9 @@ pub fn top<S: Site, I: Source, O: Sink>(
     input: &mut I,
     out: &mut O,
 ) -> u8
-    ensures ended { IsEnded result words.now (I.left input.old) (I.left input.new) (O.written out.old) (O.written out.new) (Rose (I.faults input.old) (I.faults input.new)) (Rose (O.faults out.old) (O.faults out.new)) }
+    ensures ended { IsEnded result words.now
+        (record { before = I.left input.old; after = I.left input.new; faults_before = I.faults input.old; faults_after = I.faults input.new })
+        (record { before = O.written out.old; after = O.written out.new; faults_before = O.faults out.old; faults_after = O.faults out.new }) }
 
     // Nothing but 0, or 71 for want of memory, where the input is a script and nothing fails.
     ensures complete { IsAccepted words.now → IsScriptLeft (I.left input.old) → ¬ Rose (I.faults input.old) (I.faults input.new) → ¬ Rose (O.faults out.old) (O.faults out.new) → (result ≡ 0) ⊎ (result ≡ 71) }

@@ -1,0 +1,98 @@
+-- How a replay and a play end, and what they write.
+use Rattle.std.specs.Prelude.{◌≡◌, ◌⊎◌, ℕ, ◌≤◌, List, [], Bool, true, false, Option, Some, Result, Ok, Err, length}
+use Rattle.std.specs.Global.{Vec}
+use Rattle.gw_site.specs.Seen.{Seen, IsFront}
+use Rattle.gw_site.specs.declared.turn.Turn.{Turn}
+use Rattle.gw_rules.specs.Lawful.{IsLawful}
+use Rattle.gw_rules.specs.Script.{Line, script_of, script_limit}
+use Rattle.gw_rules.specs.Plays.{Plays, IsStopped}
+use Rattle.gw_run.specs.Top.{Stream, Cause, Written, Writes, IsAccepted, IsAtMostOneRun, IsInput, IsReadWithin, IsScriptTooLong, tail_of}
+use Rattle.gw_run.specs.declared.ending.Ending.{Ending}
+use Rattle.gw_run.specs.declared.ending.Ending.TheVariants.{Played, Words, Long, Line as AtLine, Input, Memory, Cut}
+
+-- what is written of a replay by its end
+abbrev pub ReplayWritten : Stream → Stream → Ending → List ℕ → Type 0
+ReplayWritten input out ending text = (words : List (List ℕ)) → IsAccepted words → Written ending words input out text
+
+-- the cause of a replay's end
+abbrev pub ReplayCause : Ending → Stream → Stream → Type 0
+ReplayCause ending input out = (words : List (List ℕ)) → IsAccepted words → Cause ending words input out
+
+-- what a play of a script may end with
+abbrev pub IsPlayEnd : Ending → Type 0
+IsPlayEnd Played = Unit {0}
+IsPlayEnd Words = ⊥
+IsPlayEnd Long = ⊥
+IsPlayEnd (AtLine line) = ⊥
+IsPlayEnd Input = ⊥
+IsPlayEnd Memory = Unit {0}
+IsPlayEnd Cut = Unit {0}
+
+-- what is written of a play where a write has failed: a front of what another of its ends may write
+pub record PlayFront (input : Option (List ℕ)) (text : List ℕ) : Type 0 where
+  pub ending : Ending
+  pub whole : List ℕ
+  pub end : IsPlayEnd ending
+  pub writes : Writes ending input whole
+  pub front : IsFront text whole
+
+-- what is written by the end of a play
+abbrev pub PlayOut : Ending → Option (List ℕ) → List ℕ → Type 0
+PlayOut Played input text = Writes Played input text
+PlayOut Words input text = Writes Words input text
+PlayOut Long input text = Writes Long input text
+PlayOut (AtLine line) input text = Writes (AtLine line) input text
+PlayOut Input input text = Writes Input input text
+PlayOut Memory input text = Writes Memory input text
+PlayOut Cut input text = PlayFront input text
+
+-- what is written of a play of this script by its end
+abbrev pub PlayWritten : List ℕ → Ending → List ℕ → Type 0
+PlayWritten script ending text = (input : Option (List ℕ)) → IsInput input script → PlayOut ending input text
+
+-- the text is a script that gives this name, or none
+abbrev pub GivesName : List ℕ → Option (List ℕ) → Type 0
+GivesName text name = (lines : List Line) × (script_of text ≡ Ok (record { name = name; lines = lines }))
+
+-- nothing was played of the script, and no call has failed
+abbrev pub IsFresh : Seen → List ℕ → Type 0
+IsFresh seen script = seen ≡ record { log = Some []; faults = 0; dark = false; origin = script }
+
+-- the log is lawful, and plays a front of the script in one run at most; or all of it, in one run
+pub record IsPlayOf (script : List ℕ) (whole : Bool) (log : List Turn) : Type 0 where
+  pub lawful : IsLawful log
+  pub plays : Plays script log
+  pub one_run : IsAtMostOneRun script log
+  pub stopped : whole ≡ true → IsStopped log
+
+-- an end whose fault line names a line of the script
+abbrev pub NamesLine : Ending → Type 0
+NamesLine ending = (line : ℕ) × (ending ≡ AtLine line)
+
+-- the lines of an end are told: all of them, or those of wanting memory where the fault line could not be made, or a front of either
+abbrev pub TellsLines : Ending → Ending → List ℕ → Type 0
+TellsLines ending result added =
+    ((result ≡ ending) × (added ≡ tail_of ending))
+    ⊎ (((result ≡ Memory) × NamesLine ending × (added ≡ tail_of Memory))
+    ⊎ ((result ≡ Cut) × ((told : Ending) × ((told ≡ ending) ⊎ ((told ≡ Memory) × NamesLine ending)) × IsFront added (tail_of told))))
+
+-- what is told in the end: the end itself, or the want of memory for its fault line, or that a write failed
+abbrev pub IsToldEnd : Ending → Ending → Type 0
+IsToldEnd ending result = (result ≡ ending) ⊎ (((result ≡ Memory) × NamesLine ending) ⊎ (result ≡ Cut))
+
+-- what the reading of the input gives: all of it, or its fault
+abbrev pub IsInputRead : Result (Vec ℕ) Ending → List ℕ → Option (List ℕ) → Type 0
+IsInputRead (Ok bytes) all left = (bytes.items ≡ all) × (left ≡ Some []) × (length all ≤ script_limit)
+IsInputRead (Err Long) all left = IsScriptTooLong all left
+IsInputRead (Err Input) all left = IsReadWithin all left
+IsInputRead (Err ending) all left = Unit {0}
+
+-- the faults that the reading of the input may meet
+abbrev pub IsInputFault : Ending → Type 0
+IsInputFault Played = ⊥
+IsInputFault Words = ⊥
+IsInputFault Long = Unit {0}
+IsInputFault (AtLine line) = ⊥
+IsInputFault Input = Unit {0}
+IsInputFault Memory = Unit {0}
+IsInputFault Cut = ⊥
