@@ -1,5 +1,5 @@
 -- What a replay has written, and why it ended so.
-use Rattle.std.proofs.Common.{◌≡◌, ℕ, ◌≤◌, List, [], length, refl, sym, ◌∙◌, ap, arith, inl, inr}
+use Rattle.std.proofs.Common.{◌≡◌, ℕ, ◌≤◌, List, length, refl, sym, ◌∙◌, ap, arith, inl, inr}
 use Rattle.std.specs.Prelude.{◌⊎◌, Option, Some, None, Ok, Err}
 use Rattle.gw_site.specs.Seen.{IsFront}
 use Rattle.gw_rules.specs.Script.{Script, script_limit, script_of}
