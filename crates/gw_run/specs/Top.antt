@@ -62,11 +62,11 @@ IsScript text = (length text ≤ script_limit) × ((script : Script) × (script_
 abbrev pub IsWrongAt : ℕ → List ℕ → Type 0
 IsWrongAt line text = (length text ≤ script_limit) × (script_of text ≡ Err line)
 
--- the text is above the limit, and was read no further than a piece beyond it
+-- what was read of the text is above the limit, and no further than a piece beyond it
 pub record IsScriptTooLong (text : List ℕ) (left : Option (List ℕ)) : Type 0 where
-  pub long : script_limit < length text
   pub rest : List ℕ
   pub left_is : left ≡ Some rest
+  pub long : script_limit + length rest < length text
   pub no_further : length text ≤ script_limit + 4096 + length rest
 
 -- what was read of the text is not above the limit
