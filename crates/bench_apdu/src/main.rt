@@ -1,12 +1,12 @@
-//! Feeds a reader with a stream of mixed APDUs in pieces of 1, 100 and 4,096 bytes.
+//! Feeds a reader with a stream of mixed APDUs in chunks of 1, 100 and 4,096 bytes.
 //!
 //! Without arguments it reads a short stream and prints what it counted. With the arguments BYTES and ROUNDS it reads
 //! a stream of that length so many times, and prints the nanoseconds per APDU too, beside those of adding up the same
-//! bytes in the same pieces.
+//! bytes in the same chunks.
 #![tactic(auto)]
 
 ghost use Rattle.std.specs.Prelude.{◌≡◌, ◌<◌, ◌≤◌, length, OnOk};
-ghost use Rattle.zvt_apdu.specs.Front.{Front, front_of};
+ghost use Rattle.zvt_apdu.specs.Decode.{DecodedApdu, decode_apdu};
 
 use anyhow::Context;
 use arrayvec::ArrayVec;
@@ -52,13 +52,13 @@ fn stream_of(alloc: Global, bytes: usize) -> Result<Vec<u8>, AllocError> {
     Ok(stream)
 }
 
-/// Feeds a piece, and counts each APDU that is whole then.
-fn read_piece(reader: &mut ApduReader, piece: &[u8], tally: &mut Tally) -> Result<(), ApduFault>
-    requires piece { length piece.now ≤ 4096 }
-    requires waits { front_of reader.old ≡ Front.Partial }
-    ensures { OnOk result (front_of reader.new ≡ Front.Partial) }
+/// Feeds a chunk, and counts each APDU that is whole then.
+fn read_chunk(reader: &mut ApduReader, chunk: &[u8], tally: &mut Tally) -> Result<(), ApduFault>
+    requires chunk { length chunk.now ≤ 4096 }
+    requires waits { decode_apdu reader.old ≡ DecodedApdu.Incomplete }
+    ensures { OnOk result (decode_apdu reader.new ≡ DecodedApdu.Incomplete) }
 {
-    reader.feed(piece);
+    reader.feed(chunk);
     while let Some(apdu) = reader.next()? {
         tally.apdus = tally.apdus.wrapping_add(1);
         tally.bytes = tally.bytes.wrapping_add(apdu.body.len() as u64);
@@ -66,8 +66,8 @@ fn read_piece(reader: &mut ApduReader, piece: &[u8], tally: &mut Tally) -> Resul
     Ok(())
 }
 
-/// Reads the stream in pieces of this size.
-fn read_pieces(reader: &mut ApduReader, stream: &[u8], size: usize) -> Result<Tally, ApduFault>
+/// Reads the stream in chunks of this size.
+fn read_chunks(reader: &mut ApduReader, stream: &[u8], size: usize) -> Result<Tally, ApduFault>
     requires some { 0 < size }
     requires few { size ≤ 4096 }
 {
@@ -75,22 +75,22 @@ fn read_pieces(reader: &mut ApduReader, stream: &[u8], size: usize) -> Result<Ta
     let mut rest = stream;
     reader.clear();
     while !rest.is_empty() {
-        let (piece, more) = rest.split_at(rest.len().min(size));
-        read_piece(reader, piece, &mut tally)?;
+        let (chunk, more) = rest.split_at(rest.len().min(size));
+        read_chunk(reader, chunk, &mut tally)?;
         rest = more;
     }
     Ok(tally)
 }
 
-/// Adds up the bytes of the stream in pieces of this size.
-fn sum_pieces(stream: &[u8], size: usize) -> u64
+/// Adds up the bytes of the stream in chunks of this size.
+fn sum_chunks(stream: &[u8], size: usize) -> u64
     requires { 0 < size }
 {
     let mut sum: u64 = 0;
     let mut rest = stream;
     while !rest.is_empty() {
-        let (piece, more) = rest.split_at(rest.len().min(size));
-        for byte in piece {
+        let (chunk, more) = rest.split_at(rest.len().min(size));
+        for byte in chunk {
             sum = sum.wrapping_add(u64::from(*byte));
         }
         rest = more;
@@ -104,7 +104,7 @@ fn nanoseconds_each(rt: &impl Clock, start: Instant, count: u64) -> anyhow::Resu
     Ok(u64::try_from(all).unwrap_or(u64::MAX) / count.max(1))
 }
 
-/// Reads and adds up the stream in pieces of this size, so many times where there are rounds, and prints the figures.
+/// Reads and adds up the stream in chunks of this size, so many times where there are rounds, and prints the figures.
 fn report(
     rt: &(impl Print + Clock),
     reader: &mut ApduReader,
@@ -115,10 +115,10 @@ fn report(
     requires some { 0 < size }
     requires few { size ≤ 4096 }
 {
-    let tally = read_pieces(reader, stream, size)?;
-    let sum = sum_pieces(stream, size);
+    let tally = read_chunks(reader, stream, size)?;
+    let sum = sum_chunks(stream, size);
     println!(rt;
-        "pieces of {size}: {} APDUs, {} bytes of data, sum {sum}",
+        "chunks of {size}: {} APDUs, {} bytes of data, sum {sum}",
         tally.apdus, tally.bytes
     )?;
     if rounds == 0 {
@@ -126,13 +126,13 @@ fn report(
     }
     let start = Instant::now(rt)?;
     for _ in 0..rounds {
-        read_pieces(reader, stream, size)?;
+        read_chunks(reader, stream, size)?;
     }
     let reading = nanoseconds_each(rt, start, tally.apdus.saturating_mul(rounds))?;
     let start = Instant::now(rt)?;
     let mut sums: u64 = 0;
     for _ in 0..rounds {
-        sums = sums.wrapping_add(sum_pieces(stream, size));
+        sums = sums.wrapping_add(sum_chunks(stream, size));
     }
     let adding = nanoseconds_each(rt, start, tally.apdus.saturating_mul(rounds))?;
     println!(rt; "  per APDU: {reading} ns read, {adding} ns added up ({sums})")?;

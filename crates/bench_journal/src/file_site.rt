@@ -1,20 +1,20 @@
-//! A site that has a real file and no lines, and tells no log.
+//! A site that has a real file and no connections, and whose log no proof observes.
 ghost use Rattle.std.specs.Prelude.{◌≡◌, ◌≤◌, [], None, false, IsErr, length};
-ghost use Rattle.gw_site.specs.Causes.{HasCause, Rose};
+ghost use Rattle.gw_site.specs.Failures.{HasCause, Rose};
 
 use gw_base::Setup;
 use gw_site::{Failed, Polled, Site, What};
 use std::fs::File;
 use std::io::{self, Read, Seek, SeekFrom, Write};
 
-/// A site over a file. Every call on a line fails, and a poll brings `Stopped` at the moment 0.
+/// A site over a file. Every call on a connection fails, and a poll brings `Stopped` at the moment 0.
 #[derive(Drop)]
 pub(crate) struct FileSite {
     file: File,
     faults: u64,
 }
 
-/// Fills the buffer with the file's bytes from a place on, and zeros past its end.
+/// Fills the buffer with the file's bytes from an offset on, and zeros past its end.
 fn read_full(file: &mut File, pos: u64, buf: &mut [u8]) -> io::Result<()> {
     file.seek(SeekFrom::Start(pos))?;
     let mut at = 0;
@@ -34,7 +34,7 @@ fn read_full(file: &mut File, pos: u64, buf: &mut [u8]) -> io::Result<()> {
     Ok(())
 }
 
-/// Writes bytes at a place of the file.
+/// Writes bytes at an offset of the file.
 fn write_whole(file: &mut File, pos: u64, bytes: &[u8]) -> io::Result<()> {
     file.seek(SeekFrom::Start(pos))?;
     file.write_all(bytes)
@@ -69,7 +69,7 @@ impl FileSite {
 }
 
 impl Site for FileSite {
-    ghost seen = { λ site. record { log = None; faults = site.faults; dark = false; origin = [] } };
+    ghost observed = { λ site. record { log = None; faults = site.faults; dark = false; origin = [] } };
 
     fn open(&mut self, _setup: &Setup) -> Result<(), Failed> {
         self.fail()

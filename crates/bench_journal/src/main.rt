@@ -2,7 +2,7 @@
 //!
 //! Without arguments it makes a journal of three bodies, opens it, appends one and opens it again, and prints what it
 //! counted. With the arguments RECORDS and ROUNDS it does so with a journal of that many bodies, and prints the
-//! microseconds of an opening beside those of a plain read of the same file in the same pieces, and of an append beside
+//! microseconds of an opening beside those of a plain read of the same file in the same chunks, and of an append beside
 //! those of two bare writes with two syncs, each the mean of so many rounds.
 #![tactic(auto)]
 
@@ -35,12 +35,12 @@ fn write_journal(file: &mut File, records: u64) -> io::Result<()> {
     file.write_all(&[0x00])
 }
 
-/// Reads a file to its end in pieces of 4,096 bytes, and counts them.
+/// Reads a file to its end in chunks of 4,096 bytes, and counts them.
 fn read_plain(file: &mut File) -> io::Result<u64> {
-    let mut piece = [0; 4096];
+    let mut chunk = [0; 4096];
     let mut bytes: u64 = 0;
     for _ in 0..u64::MAX {
-        let count = file.read(&mut piece)?;
+        let count = file.read(&mut chunk)?;
         if count == 0 {
             break;
         }
@@ -70,7 +70,7 @@ fn append(
     Ok(start.elapsed(rt)?.as_nanos())
 }
 
-/// Makes the same writes and syncs behind the file's end. Answers their nanoseconds.
+/// Makes the same writes and syncs after the file's end. Returns their nanoseconds.
 fn write_bare(rt: &impl Clock, site: &mut FileSite, rounds: u64) -> anyhow::Result<u128> {
     let end = bare(site.length())?;
     let start = Instant::now(rt)?;
@@ -84,7 +84,7 @@ fn write_bare(rt: &impl Clock, site: &mut FileSite, rounds: u64) -> anyhow::Resu
     Ok(start.elapsed(rt)?.as_nanos())
 }
 
-/// What a call on the site has told.
+/// What a call on the site has returned.
 fn bare<T>(told: Result<T, Failed>) -> anyhow::Result<T> {
     match told {
         Ok(told) => Ok(told),
@@ -97,7 +97,7 @@ fn microseconds_each(nanoseconds: u128, rounds: u64) -> u64 {
     u64::try_from(nanoseconds).unwrap_or(u64::MAX) / 1000 / rounds.max(1)
 }
 
-/// The peak of the process's memory, as Linux tells it.
+/// The peak of the process's memory, as Linux reports it.
 fn print_peak<R: Files + AllocGlobal + Print>(rt: &R) -> anyhow::Result<()> {
     let status = fs::read_to_string(rt, "/proc/self/status")?;
     for line in status.as_str().lines() {

@@ -1,6 +1,7 @@
-//! Reads JSON texts, one a line in hexadecimal, and tells what each is.
+//! Reads JSON texts, one a line in hexadecimal, and reports what each is.
 //!
-//! Without arguments it prints for each line the written spelling, in hexadecimal, or the kind and place of the fault.
+//! Without arguments it prints for each line the canonical spelling, in hexadecimal, or the kind and offset of the
+//! fault.
 //! With the argument ROUNDS it reads each text so many times, and prints the nanoseconds of one reading.
 #![tactic(auto)]
 

@@ -2,8 +2,8 @@
 #![tactic(auto)]
 
 ghost use Rattle.std.specs.Prelude.{◌≡◌, ◌⊎◌, codes};
-ghost use Rattle.gw_site.specs.Causes.{Rose};
-ghost use Rattle.gw_site.specs.Seen.{IsFront};
+ghost use Rattle.gw_site.specs.Failures.{Rose};
+ghost use Rattle.gw_bytes.specs.Bytes.{IsPrefix};
 ghost use Rattle.gw_run.specs.LogWritten.{Adds};
 
 use gw_base::Text;
@@ -13,7 +13,7 @@ use std::env::{self, Env};
 use std::io::ErrorKind;
 use std::process::ExitCode;
 
-/// The words behind the program's name.
+/// The words after the program's name.
 ///
 /// Where one of them isn't UTF-8 there are none: no list with such a word is accepted, nor is the empty one.
 fn words_of<R: Env + AllocGlobal>(rt: &R) -> Result<Vec<Text>, AllocError> {
@@ -33,10 +33,10 @@ fn words_of<R: Env + AllocGlobal>(rt: &R) -> Result<Vec<Text>, AllocError> {
     Ok(words)
 }
 
-/// Writes the last lines where there was no memory for the words, and answers the status.
+/// Writes the last lines where there was no memory for the words, and returns the status.
 fn tell_memory<O: Sink>(out: &mut O) -> u8
     ensures whole { result ≡ 71 → Adds (O.written out.old) (O.written out.new) (λ text. text ≡ codes "memory\nstatus 71\n") }
-    ensures front { result ≡ 73 → Adds (O.written out.old) (O.written out.new) (λ text. IsFront text (codes "memory\nstatus 71\n")) }
+    ensures prefix { result ≡ 73 → Adds (O.written out.old) (O.written out.new) (λ text. IsPrefix text (codes "memory\nstatus 71\n")) }
     ensures cut { result ≡ 73 → Rose (O.faults out.old) (O.faults out.new) }
     ensures status { (result ≡ 71) ⊎ (result ≡ 73) }
 {

@@ -9,7 +9,7 @@ use Rattle.std.specs.Bool.{Decides}
 use Rattle.std.proofs.lemmas.Bool.Decides.{nat_tests, Decides-and, Decides-at, Decides-by_and, Decides-eqb, Decides-like, Decides-not}
 use Rattle.std.proofs.Math.Bool.{and-false, and-true, or-false, or-true}
 use Rattle.std.proofs.Math.Seq.{take-append_seam, drop-append_seam}
-use Rattle.gw_base.specs.Amount.{decimal_value, fraction_of, is_amount, is_empty, is_whole, minor_units, minor_value, minor_with, numeral_text, rest_of, whole_of, IsAmountText, IsWhole}
+use Rattle.gw_base.specs.Amount.{decimal_value, fraction_of, is_amount, has_no_digits, is_whole, minor_units, minor_units_of, minor_units_with, numeral_text, rest_of, whole_of, SpellsAmount, IsWhole}
 use Rattle.gw_base.specs.Limits.{IsAmount}
 
 -- ten to one power more
@@ -75,8 +75,8 @@ zeros_test : (digits : List ℕ) → Decides (list_all (λ digit. digit == 48) d
 zeros_test digits =
     Decides-by_and (λ digit. digit == 48) (λ digit. digit ≡ 48) (list_all (λ digit. digit == 48)) (λ digit. Decides-eqb digit 48) refl (λ _ _. refl) digits
 
--- no zero at the head, or nothing behind it
-head_test : (digit : ℕ) (digits : List ℕ) → Decides (not (digit == 48) || is_empty digits) (digit ≡ 48 → digits ≡ [])
+-- no zero at the head, or nothing after it
+head_test : (digit : ℕ) (digits : List ℕ) → Decides (not (digit == 48) || has_no_digits digits) (digit ≡ 48 → digits ≡ [])
 head_test digit [] = (λ e h. refl, λ h. simp or-true)
 head_test digit (next ∷ digits) =
     Decides-like (not (digit == 48) || false) (λ n e. absurd (n e)) (λ h e. cons-ne-nil next digits (h e))
@@ -89,14 +89,14 @@ head_test digit (next ∷ digits) =
 whole_test : (digits : List ℕ) → Decides (is_whole digits) (IsWhole digits)
 whole_test [] = (λ e. cc, λ h. absurd h)
 whole_test (digit ∷ digits) =
-    Decides-and (list_all is_ascii_digit (digit ∷ digits)) (not (digit == 48) || is_empty digits)
+    Decides-and (list_all is_ascii_digit (digit ∷ digits)) (not (digit == 48) || has_no_digits digits)
     (digits_test (digit ∷ digits)) (head_test digit digits)
 
 amount_test : (minor : ℕ) → Decides (is_amount minor) (IsAmount minor)
 amount_test minor = (λ e. grind (arith, nat_tests), λ h. grind (arith, nat_tests))
 
 -- more than ten digits before the point are too many
-pub too_long : (whole fraction : List ℕ) → is_whole whole ≡ true → 10 < length whole → is_amount (minor_value whole fraction) ≡ false
+pub too_long : (whole fraction : List ℕ) → is_whole whole ≡ true → 10 < length whole → is_amount (minor_units_of whole fraction) ≡ false
 too_long [] fraction e long = absurd (omega arith)
 too_long (digit ∷ digits) fraction e long =
     let whole : IsWhole (digit ∷ digits) = (whole_test (digit ∷ digits)).0 e in
@@ -105,9 +105,9 @@ too_long (digit ∷ digits) fraction e long =
     let q : 1 * 10 ^ length digits ≤ (digit - 48) * 10 ^ length digits = mul-le-mul_right (10 ^ length digits) (omega arith) in
     let ten : 10 ≤ length digits = omega arith in
     let p : 10 ^ 10 ≤ 10 ^ length digits = pow-le-pow_right {n = 10} (omega arith) ten in
-    let large : 999999999999 < minor_value (digit ∷ digits) fraction = omega (arith, q, p) in
-    let no : ¬ IsAmount (minor_value (digit ∷ digits) fraction) = λ amount. omega (arith, large, amount.1) in
-    not_true (is_amount (minor_value (digit ∷ digits) fraction)) (λ yes. no ((amount_test (minor_value (digit ∷ digits) fraction)).0 yes))
+    let large : 999999999999 < minor_units_of (digit ∷ digits) fraction = omega (arith, q, p) in
+    let no : ¬ IsAmount (minor_units_of (digit ∷ digits) fraction) = λ amount. omega (arith, large, amount.1) in
+    not_true (is_amount (minor_units_of (digit ∷ digits) fraction)) (λ yes. no ((amount_test (minor_units_of (digit ∷ digits) fraction)).0 yes))
   where
     not_true : (b : Bool) → (b ≡ true → ⊥) → b ≡ false
     not_true true h = absurd (h refl)
@@ -139,21 +139,21 @@ list_all_zeros : (fraction : List ℕ) → All (λ digit. digit ≡ 48) fraction
 list_all_zeros fraction all = (zeros_test fraction).1 all
 
 -- an amount is read
-pub minor_units-text : (text : List ℕ) (minor : ℕ) → IsAmountText text minor → minor_units text ≡ Some minor
+pub minor_units-text : (text : List ℕ) (minor : ℕ) → SpellsAmount text minor → minor_units text ≡ Some minor
 unfolding minor_units
 minor_units-text text minor a =
     let digits : All IsAsciiDigit a.whole = whole_digits a.whole a.whole_digits in
     let spelling : text ≡ a.whole ++ tail_of a.fraction = a.spelling ∙ numeral_text-tail a.whole a.fraction in
     let count : prefix_len is_ascii_digit text ≡ length a.whole = ap (prefix_len is_ascii_digit) spelling ∙ prefix_len-tail a.whole a.fraction digits in
-    let front : whole_of text ≡ a.whole =
+    let prefix : whole_of text ≡ a.whole =
     ap (λ n. take n text) count ∙ ap (take (length a.whole)) spelling ∙ take-append_seam a.whole (tail_of a.fraction) in
     let back : rest_of text ≡ tail_of a.fraction =
     ap (λ n. drop n text) count ∙ ap (drop (length a.whole)) spelling ∙ drop-append_seam a.whole (tail_of a.fraction) in
     let fraction : fraction_of (rest_of text) ≡ Some a.fraction = ap fraction_of back ∙ fraction_of-tail a.fraction a.fraction_digits in
-    let joined : minor_with (whole_of text) (fraction_of (rest_of text)) ≡ minor_with a.whole (Some a.fraction) =
-    ap (λ w. minor_with w (fraction_of (rest_of text))) front ∙ ap (minor_with a.whole) fraction in
+    let joined : minor_units_with (whole_of text) (fraction_of (rest_of text)) ≡ minor_units_with a.whole (Some a.fraction) =
+    ap (λ w. minor_units_with w (fraction_of (rest_of text))) prefix ∙ ap (minor_units_with a.whole) fraction in
     joined ∙ passes a.whole a.fraction ((whole_test a.whole).1 a.whole_digits) ((zeros_test (drop 2 a.fraction)).1 a.zeros_past_second)
-    ((amount_test (minor_value a.whole a.fraction)).1 (subst IsAmount a.value a.amount))
+    ((amount_test (minor_units_of a.whole a.fraction)).1 (subst IsAmount a.value a.amount))
     ∙ ap Some (sym a.value)
   where
     whole_digits : (whole : List ℕ) → IsWhole whole → All IsAsciiDigit whole
@@ -161,7 +161,7 @@ minor_units-text text minor a =
     whole_digits (digit ∷ digits) h = h.0
 
     passes : (whole fraction : List ℕ) → is_whole whole ≡ true → list_all (λ digit. digit == 48) (drop 2 fraction) ≡ true
-        → is_amount (minor_value whole fraction) ≡ true → minor_with whole (Some fraction) ≡ Some (minor_value whole fraction)
+        → is_amount (minor_units_of whole fraction) ≡ true → minor_units_with whole (Some fraction) ≡ Some (minor_units_of whole fraction)
     passes whole fraction e f g = rw (e, f, g) refl
 
 -- a choice that gives a value took the value
@@ -169,7 +169,7 @@ picked : {X : Type 0} (test : Bool) (x y : X) → (if test then Some x else None
 picked true x y e = (refl, cc)
 picked false x y e = absurd (cc)
 
--- the rest of a numeral with these digits behind the point
+-- the rest of a numeral with these digits after the point
 tail_is : (rest fraction : List ℕ) → fraction_of rest ≡ Some fraction → (rest ≡ tail_of fraction) × All IsAsciiDigit fraction
 tail_is [] fraction e = let empty : [] ≡ fraction = cc in (ap tail_of empty, subst (All IsAsciiDigit) empty (All-nil IsAsciiDigit))
 tail_is (byte ∷ []) fraction e =
@@ -183,15 +183,15 @@ tail_is (byte ∷ digit ∷ digits) fraction e =
     (ap (λ b. b ∷ digit ∷ digits) both.0 ∙ ap tail_of h.1, subst (All IsAsciiDigit) h.1 both.1)
 
 -- what is read is an amount
-amount_of : (text fraction : List ℕ) (minor : ℕ) → fraction_of (rest_of text) ≡ Some fraction → minor_with (whole_of text) (Some fraction) ≡ Some minor → IsAmountText text minor
+amount_of : (text fraction : List ℕ) (minor : ℕ) → fraction_of (rest_of text) ≡ Some fraction → minor_units_with (whole_of text) (Some fraction) ≡ Some minor → SpellsAmount text minor
 amount_of text fraction minor e f =
     let whole = whole_of text in
     let tail = tail_is (rest_of text) fraction e in
-    let chosen = picked (is_whole whole && list_all (λ digit. digit == 48) (drop 2 fraction) && is_amount (minor_value whole fraction))
-    (minor_value whole fraction) minor f in
-    let tests = (Decides-and (is_whole whole && list_all (λ digit. digit == 48) (drop 2 fraction)) (is_amount (minor_value whole fraction))
+    let chosen = picked (is_whole whole && list_all (λ digit. digit == 48) (drop 2 fraction) && is_amount (minor_units_of whole fraction))
+    (minor_units_of whole fraction) minor f in
+    let tests = (Decides-and (is_whole whole && list_all (λ digit. digit == 48) (drop 2 fraction)) (is_amount (minor_units_of whole fraction))
     (Decides-and (is_whole whole) (list_all (λ digit. digit == 48) (drop 2 fraction)) (whole_test whole) (zeros_test (drop 2 fraction)))
-    (amount_test (minor_value whole fraction))).0 chosen.0 in
+    (amount_test (minor_units_of whole fraction))).0 chosen.0 in
     let joined : whole ++ rest_of text ≡ text = take-append-drop (prefix_len is_ascii_digit text) text in
     record {
       whole = whole;
@@ -204,27 +204,27 @@ amount_of text fraction minor e f =
       amount = subst IsAmount chosen.1 tests.1;
     }
 
-pub minor_units-is : (text : List ℕ) (minor : ℕ) → minor_units text ≡ Some minor → IsAmountText text minor
+pub minor_units-is : (text : List ℕ) (minor : ℕ) → minor_units text ≡ Some minor → SpellsAmount text minor
 unfolding minor_units
 minor_units-is text minor e = at (fraction_of (rest_of text)) refl e
   where
-    at : (found : Option (List ℕ)) → fraction_of (rest_of text) ≡ found → minor_with (whole_of text) found ≡ Some minor → IsAmountText text minor
+    at : (found : Option (List ℕ)) → fraction_of (rest_of text) ≡ found → minor_units_with (whole_of text) found ≡ Some minor → SpellsAmount text minor
     at None h g = absurd (cc)
     at (Some fraction) h g = amount_of text fraction minor h g
 
 -- the text is an amount of just the minor units that are read
-pub minor_units-meaning : (text : List ℕ) → MatchOption (minor_units text) ((minor : ℕ) → ¬ IsAmountText text minor) (IsAmountText text)
+pub minor_units-meaning : (text : List ℕ) → MatchOption (minor_units text) ((minor : ℕ) → ¬ SpellsAmount text minor) (SpellsAmount text)
 minor_units-meaning text = at (minor_units text) refl
   where
-    at : (found : Option ℕ) → minor_units text ≡ found → MatchOption found ((minor : ℕ) → ¬ IsAmountText text minor) (IsAmountText text)
+    at : (found : Option ℕ) → minor_units text ≡ found → MatchOption found ((minor : ℕ) → ¬ SpellsAmount text minor) (SpellsAmount text)
     at None e = λ minor a. let f : None ≡ Some minor = sym e ∙ minor_units-text text minor a in absurd (cc)
     at (Some minor) e = minor_units-is text minor e
 
 -- minor units beyond the limits are none
-pub minor_with-large : (whole fraction : List ℕ) → is_amount (minor_value whole fraction) ≡ false → minor_with whole (Some fraction) ≡ None
+pub minor_with-large : (whole fraction : List ℕ) → is_amount (minor_units_of whole fraction) ≡ false → minor_units_with whole (Some fraction) ≡ None
 minor_with-large whole fraction e = rw e (simp and-false)
 
 -- a text spells one amount at most
-pub amount_text-one : (text : List ℕ) (minor other : ℕ) → IsAmountText text minor → IsAmountText text other → minor ≡ other
+pub amount_text-one : (text : List ℕ) (minor other : ℕ) → SpellsAmount text minor → SpellsAmount text other → minor ≡ other
 amount_text-one text minor other a b =
     let e : Some minor ≡ Some other = sym (minor_units-text text minor a) ∙ minor_units-text text other b in cc

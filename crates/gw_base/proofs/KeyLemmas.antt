@@ -5,10 +5,10 @@ use Rattle.std.specs.declared.cmp.Ordering.TheVariants.{Less, Equal, Greater}
 use Rattle.std.specs.Ordering.{ordering_then}
 use Rattle.std.specs.Cmp.Lexicographic.{bytes_decides, slice_cmp}
 use Rattle.std.proofs.lemmas.Map.Text.{is_eq-slice_cmp}
-use Rattle.gw_base.specs.declared.money.Key.{Key}
+use Rattle.gw_base.specs.declared.key.Key.{Key}
 use Rattle.gw_base.specs.Key.{key_cmp}
 
--- two texts tie exactly where they are the same
+-- two texts tie exactly where they are equal
 pub slice_cmp-ties : (xs ys : List ℕ) → (slice_cmp nat_cmp xs ys ≡ Equal) ↔ (xs ≡ ys)
 slice_cmp-ties xs ys = (
   λ e. (bytes_decides xs ys).0 (sym (is_eq-slice_cmp xs ys) ∙ ap is_eq e),

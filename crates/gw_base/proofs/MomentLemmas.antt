@@ -12,7 +12,7 @@ use Rattle.jiff_core.specs.DateTime.{civil_nanos, civil_seconds}
 use Rattle.jiff_core.proofs.SignedLemmas.{signed_arith}
 use Rattle.gw_base.specs.Digits.{digits}
 use Rattle.gw_base.specs.Ident.{IsPrintable}
-use Rattle.gw_base.specs.Shown.{Shows}
+use Rattle.gw_base.specs.inner.DateTime.{IsDateTimeOf}
 use Rattle.gw_base.specs.declared.moment.Civil.{Civil}
 use Rattle.gw_base.specs.Moment.{Day, IsCivil, IsStamp, civil_at, civil_text, day_after, day_at, last_moment, moment_of, seconds_of, stamp_of}
 
@@ -154,15 +154,15 @@ plain-seconds civil h =
     omega (arith, signed_arith, civil_nanos-civil_seconds (plain civil h), e)
 
 -- the parts of a value of `jiff` that counts the same nanoseconds
-pub shown_parts : (civil : Civil) (h : IsCivil civil) (shown : DateTime) → civil_nanos shown ≡ seconds_of civil *ℤ pos 1_000_000_000
-    → Shows civil shown
-shown_parts civil h shown e =
-    let same = civil_nanos_injective shown (plain civil h) (e ∙ sym (plain-seconds civil h)) in
-    let date = epoch_day_injective shown.date (plain civil h).date same.0 in
-    let time = time_nanos_injective shown.time (plain civil h).time same.1 in
+pub shown_parts : (civil : Civil) (h : IsCivil civil) (date_time : DateTime) → civil_nanos date_time ≡ seconds_of civil *ℤ pos 1_000_000_000
+    → IsDateTimeOf civil date_time
+shown_parts civil h date_time e =
+    let same = civil_nanos_injective date_time (plain civil h) (e ∙ sym (plain-seconds civil h)) in
+    let date = epoch_day_injective date_time.date (plain civil h).date same.0 in
+    let time = time_nanos_injective date_time.time (plain civil h).time same.1 in
     record { year = date.0; month = date.1; day = date.2; hour = time.0; minute = time.1; second = time.2 }
 
--- of two civil dates and times the seconds tell them apart
+-- civil dates and times that differ have different seconds
 pub seconds_of-injective : (a b : Civil) → IsCivil a → IsCivil b → seconds_of a ≡ seconds_of b → civil_text a ≡ civil_text b
 unfolding civil_text
 seconds_of-injective a b h k e =
@@ -228,7 +228,7 @@ digits-plain (suc count) value =
       printable = All-push IsPrintable (digits count (value / 10)) (48 + value % 10) h.printable p;
     }
 
--- digits and a printable byte behind them, in front of a printable text
+-- digits and a printable byte after them, before a printable text
 plain_part : (count value byte : ℕ) {n : ℕ} {text : List ℕ} → IsPrintable byte → IsPlain n text
     → IsPlain (count + (n + 1)) (digits count value ++ (byte ∷ text))
 plain_part count value byte {n} {text} here h =

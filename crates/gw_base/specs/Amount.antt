@@ -20,19 +20,19 @@ numeral_text whole [] = whole
 numeral_text whole (digit ∷ digits) = whole ++ 0x2E ∷ digit ∷ digits
 
 -- the number of minor units, where a missing digit counts as zero and those past the second aren't read
-abbrev pub minor_value : List ℕ → List ℕ → ℕ
-minor_value whole fraction =
+abbrev pub minor_units_of : List ℕ → List ℕ → ℕ
+minor_units_of whole fraction =
     100 * decimal_value whole + decimal_value (take 2 (fraction ++ 0x30 ∷ 0x30 ∷ []))
 
 -- the text spells an amount of so many minor units
-pub record IsAmountText (text : List ℕ) (minor : ℕ) : Type 0 where
+pub record SpellsAmount (text : List ℕ) (minor : ℕ) : Type 0 where
   pub whole : List ℕ
   pub fraction : List ℕ
   pub spelling : text ≡ numeral_text whole fraction
   pub whole_digits : IsWhole whole
   pub fraction_digits : All IsAsciiDigit fraction
   pub zeros_past_second : All (λ digit. digit ≡ 0x30) (drop 2 fraction)
-  pub value : minor ≡ minor_value whole fraction
+  pub value : minor ≡ minor_units_of whole fraction
   pub amount : IsAmount minor
 
 -- the digits that the text begins with
@@ -44,33 +44,33 @@ abbrev pub rest_of : List ℕ → List ℕ
 rest_of text = drop (prefix_len is_ascii_digit text) text
 
 -- whether there are no digits
-abbrev pub is_empty : List ℕ → Bool
-is_empty [] = true
-is_empty (_ ∷ _) = false
+abbrev pub has_no_digits : List ℕ → Bool
+has_no_digits [] = true
+has_no_digits (_ ∷ _) = false
 
 -- whether it is an `int` by RFC 8259
 abbrev pub is_whole : List ℕ → Bool
 is_whole [] = false
 is_whole (digit ∷ digits) =
-    list_all is_ascii_digit (digit ∷ digits) && (not (digit == 0x30) || is_empty digits)
+    list_all is_ascii_digit (digit ∷ digits) && (not (digit == 0x30) || has_no_digits digits)
 
--- the digits behind the point, where the rest of a numeral is a point and digits, or nothing
+-- the digits after the point, where the rest of a numeral is a point and digits, or nothing
 abbrev pub fraction_of : List ℕ → Option (List ℕ)
 fraction_of [] = Some []
 fraction_of (byte ∷ digits) =
-    if (byte == 0x2E) && not (is_empty digits) && list_all is_ascii_digit digits then Some digits else None
+    if (byte == 0x2E) && not (has_no_digits digits) && list_all is_ascii_digit digits then Some digits else None
 
 -- whether it is within the limits of an amount
 abbrev pub is_amount : ℕ → Bool
 is_amount minor = nat_le 1 minor && nat_le minor 999999999999
 
--- the minor units of a whole number and the digits behind its point, where these are an amount
-abbrev pub minor_with : List ℕ → Option (List ℕ) → Option ℕ
-minor_with whole None = None
-minor_with whole (Some fraction) =
-    if is_whole whole && list_all (λ digit. digit == 0x30) (drop 2 fraction) && is_amount (minor_value whole fraction)
-    then Some (minor_value whole fraction) else None
+-- the minor units of a whole number and the digits after its point, where these are an amount
+abbrev pub minor_units_with : List ℕ → Option (List ℕ) → Option ℕ
+minor_units_with whole None = None
+minor_units_with whole (Some fraction) =
+    if is_whole whole && list_all (λ digit. digit == 0x30) (drop 2 fraction) && is_amount (minor_units_of whole fraction)
+    then Some (minor_units_of whole fraction) else None
 
 -- the minor units that a text spells, if it is an amount
 unfoldable pub minor_units : List ℕ → Option ℕ
-minor_units text = minor_with (whole_of text) (fraction_of (rest_of text))
+minor_units text = minor_units_with (whole_of text) (fraction_of (rest_of text))

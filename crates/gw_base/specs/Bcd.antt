@@ -9,7 +9,7 @@ IsBcdByte byte = (byte / 16 ≤ 9) × (byte % 16 ≤ 9)
 abbrev pub IsBcd : List ℕ → Type 0
 IsBcd bytes = All IsBcdByte bytes
 
--- the same as a test: whether every byte holds two decimal digits
+-- whether every byte holds two decimal digits, as a test
 abbrev pub is_bcd : List ℕ → Bool
 is_bcd [] = true
 is_bcd (byte ∷ bytes) = nat_le (byte / 16) 9 && (nat_le (byte % 16) 9 && is_bcd bytes)
@@ -32,7 +32,7 @@ abbrev pub bcd_of : ℕ → ℕ → List ℕ
 bcd_of zero value = []
 bcd_of (suc count) value = bcd_of count (value / 100) ++ pair_byte (value % 100) ∷ []
 
--- the first byte that doesn't hold two digits stands at this place
+-- this is the offset of the first byte that doesn't hold two digits
 pub record IsFirstNotBcd (bytes : List ℕ) (at : ℕ) : Type 0 where
   pub inside : at < length bytes
   pub before : IsBcd (take at bytes)

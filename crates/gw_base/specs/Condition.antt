@@ -3,7 +3,7 @@ use Rattle.std.specs.Prelude.{ℕ, List, codes}
 use Rattle.gw_base.specs.declared.condition.Condition.{Condition}
 use Rattle.gw_base.specs.declared.condition.Condition.TheVariants.{Aborted, Busy, Cancel, InProgress, InsertedCard, InvalidCard, LoggedOut, MessageFormat, NotAllowed, NotFound, Refusal, UnavailableDevice, UnavailableService}
 
--- the text that stands as `ErrorCondition` in a message
+-- the text of `ErrorCondition` in a message
 abbrev pub name_of : Condition → List ℕ
 name_of Aborted = codes "Aborted"
 name_of Busy = codes "Busy"

@@ -4,25 +4,25 @@ use Rattle.gw_base.specs.declared.currency.Currency.{Currency}
 use Rattle.gw_base.specs.declared.currency.Currency.TheVariants.{Eur, Chf, Gbp, Usd, Dkk, Sek, Nok, Pln, Czk}
 
 -- the three letters
-abbrev pub code_of : Currency → List ℕ
-code_of Eur = codes "EUR"
-code_of Chf = codes "CHF"
-code_of Gbp = codes "GBP"
-code_of Usd = codes "USD"
-code_of Dkk = codes "DKK"
-code_of Sek = codes "SEK"
-code_of Nok = codes "NOK"
-code_of Pln = codes "PLN"
-code_of Czk = codes "CZK"
+abbrev pub currency_letters : Currency → List ℕ
+currency_letters Eur = codes "EUR"
+currency_letters Chf = codes "CHF"
+currency_letters Gbp = codes "GBP"
+currency_letters Usd = codes "USD"
+currency_letters Dkk = codes "DKK"
+currency_letters Sek = codes "SEK"
+currency_letters Nok = codes "NOK"
+currency_letters Pln = codes "PLN"
+currency_letters Czk = codes "CZK"
 
 -- the three digits, as a number
-abbrev pub number_of : Currency → ℕ
-number_of Eur = 978
-number_of Chf = 756
-number_of Gbp = 826
-number_of Usd = 840
-number_of Dkk = 208
-number_of Sek = 752
-number_of Nok = 578
-number_of Pln = 985
-number_of Czk = 203
+abbrev pub currency_number : Currency → ℕ
+currency_number Eur = 978
+currency_number Chf = 756
+currency_number Gbp = 826
+currency_number Usd = 840
+currency_number Dkk = 208
+currency_number Sek = 752
+currency_number Nok = 578
+currency_number Pln = 985
+currency_number Czk = 203

@@ -14,7 +14,7 @@ IsIdent most bytes = (1 ≤ length bytes) × (length bytes ≤ most) × All IsPr
 abbrev pub zero_filled : ℕ → List ℕ → List ℕ
 zero_filled most bytes = bytes ++ replicate (most - length bytes) 0
 
--- cells whose rest is zeros are the zero-filled front
+-- cells whose rest is zeros are their first bytes, zero-filled
 pub zero_filled-take : (most len : ℕ) (cells : List ℕ) → length (take len cells) ≡ len
     → drop len cells ≡ replicate (most - len) 0 → zero_filled most (take len cells) ≡ cells
 zero_filled-take most len cells length_is rest =

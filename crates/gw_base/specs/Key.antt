@@ -2,7 +2,7 @@
 use Rattle.std.specs.declared.cmp.Ordering.{Ordering}
 use Rattle.std.specs.Ordering.{nat_cmp, ordering_then}
 use Rattle.std.specs.Cmp.Lexicographic.{slice_cmp}
-use Rattle.gw_base.specs.declared.money.Key.{Key}
+use Rattle.gw_base.specs.declared.key.Key.{Key}
 
 -- by SaleID, then POIID, then ServiceID, each by its bytes
 abbrev pub key_cmp : Key → Key → Ordering

@@ -8,5 +8,5 @@ pub mod Key
 pub mod Limits
 pub mod Moment
 pub mod Setup
-pub mod Shown
 pub mod Text437
+pub mod inner

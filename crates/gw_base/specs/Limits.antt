@@ -6,8 +6,8 @@ abbrev pub IsAmount : ℕ → Type 0
 IsAmount minor = (1 ≤ minor) × (minor ≤ 999999999999)
 
 -- a trace number of a terminal: six digits; 0 is no number of an entry
-abbrev pub IsNumber : ℕ → Type 0
-IsNumber number = number ≤ 999999
+abbrev pub IsTrace : ℕ → Type 0
+IsTrace number = number ≤ 999999
 
 -- a receipt number of a terminal: four digits
 abbrev pub IsReceipt : ℕ → Type 0

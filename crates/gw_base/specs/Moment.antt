@@ -19,7 +19,7 @@ abbrev pub moment_of : ℤ → ℕ
 moment_of (pos seconds) = min seconds last_moment
 moment_of (negsuc _) = 0
 
--- the calendar has the day, and a clock shows the time
+-- the calendar has the day, and the day has the time
 pub record IsCivil (civil : Civil) : Type 0 where
   pub date : IsCivilDate (pos civil.year) civil.month civil.day
   pub hour : civil.hour < 24

@@ -12,7 +12,7 @@ pub record IsPt (pt : Pt) : Type 0 where
   pub answer : (1 ≤ pt.answer) × (pt.answer ≤ 60)
   pub command : (1 ≤ pt.command) × (pt.command ≤ 3600)
 
--- no two of these terminals have the same POIID
+-- each of these terminals has a POIID of its own
 abbrev pub HaveDistinctPois : List Pt → Type 0
 HaveDistinctPois [] = Unit {0}
 HaveDistinctPois (pt ∷ pts) = All (λ other. pt.poi ≢ other.poi) pts × HaveDistinctPois pts

@@ -14,10 +14,11 @@ letters =
     ∷ record { byte = 0x99; scalar = 0xD6 } ∷ record { byte = 0x9A; scalar = 0xDC }
     ∷ record { byte = 0xE1; scalar = 0xDF } ∷ []
 
--- what stands for a byte or a character outside the table: the question mark
+-- a byte or a character outside the table is read and written as this: the question mark
 abbrev pub unknown : ℕ
 unknown = 0x3F
 
+-- printable ASCII, the space among them
 abbrev pub is_printable : ℕ → Bool
 is_printable code = nat_le 0x20 code && nat_le code 0x7E
 
@@ -31,10 +32,10 @@ abbrev pub byte_in : List Letter → ℕ → ℕ
 byte_in [] scalar = unknown
 byte_in (letter ∷ table) scalar = if letter.scalar == scalar then letter.byte else byte_in table scalar
 
--- the character that a byte shows
+-- the character of a byte
 abbrev pub char_of : ℕ → ℕ
 char_of byte = if is_printable byte then byte else scalar_in letters byte
 
--- the byte that shows a character
+-- the byte of a character
 abbrev pub byte_of : ℕ → ℕ
 byte_of scalar = if is_printable scalar then scalar else byte_in letters scalar

@@ -3,15 +3,15 @@ ghost use Rattle.std.specs.Prelude.{◌≡◌, ◌↔◌, ℕ, List, ◌++◌, �
 ghost use Rattle.std.specs.Char.{is_ascii_digit, IsAsciiDigit};
 ghost use Rattle.std.specs.List.{list_all, prefix_len};
 ghost use Rattle.std.specs.Option.{option_copied};
-ghost use Rattle.gw_base.specs.Amount.{decimal_value, fraction_of, is_whole, minor_units, minor_with, IsAmountText};
+ghost use Rattle.gw_base.specs.Amount.{decimal_value, fraction_of, is_whole, minor_units, minor_units_with, SpellsAmount};
 
 /// The minor units that the text of a JSON number spells, in a currency with two decimals.
 ///
-/// It has no sign and no exponent; digits past the second one behind the point are zeros, and a missing one
+/// It has no sign and no exponent; digits past the second one after the point are zeros, and a missing one
 /// counts as zero. An amount is 1 to 999,999,999,999 minor units; `None` for any other text.
 pub fn minor_of(numeral: &[u8]) -> Option<u64>
     ensures value { result ≡ minor_units numeral.now }
-    ensures amount { MatchOption result ((minor : ℕ) → ¬ IsAmountText numeral.now minor) (IsAmountText numeral.now) }
+    ensures amount { MatchOption result ((minor : ℕ) → ¬ SpellsAmount numeral.now minor) (SpellsAmount numeral.now) }
 {
     let (whole, rest) = numeral.split_at(whole_len(numeral));
     match fraction_digits(rest) {
@@ -20,15 +20,15 @@ pub fn minor_of(numeral: &[u8]) -> Option<u64>
     }
 }
 
-/// The minor units of the digits before and behind the point, if these are an amount.
+/// The minor units of the digits before and after the point, if these are an amount.
 fn minor_of_parts(whole: &[u8], fraction: &[u8]) -> Option<u64>
     requires { All IsAsciiDigit fraction.now }
-    ensures { result ≡ minor_with whole.now (Some fraction.now) }
+    ensures { result ≡ minor_units_with whole.now (Some fraction.now) }
 {
     if !is_whole_number(whole) {
         return None;
     }
-    // More digits spell more than the greatest amount.
+    // More digits spell more than the greatest amount; ten of them, in minor units, still fit 64 bits.
     if whole.len() > 10 {
         return None;
     }
@@ -72,7 +72,7 @@ fn are_digits(bytes: &[u8]) -> bool
     bytes.iter().all(|byte| byte.is_ascii_digit())
 }
 
-/// The digits behind the point, where this is a point and digits, or nothing.
+/// The digits after the point, where the text is a point and digits; none where it is empty.
 fn fraction_digits(rest: &[u8]) -> Option<&[u8]>
     ensures value { option_copied result ≡ fraction_of rest.now }
     ensures digits { IfSome result (λ digits. All IsAsciiDigit digits.now) }
@@ -107,7 +107,7 @@ fn decimal(digits: &[u8]) -> u64
     value
 }
 
-/// The minor units of the first two digits behind the point.
+/// The minor units of the first two digits after the point.
 fn hundredths(fraction: &[u8]) -> u64
     requires { All IsAsciiDigit fraction.now }
     ensures value { result ≡ decimal_value (take 2 (fraction.now ++ 0x30 ∷ 0x30 ∷ [])) }
@@ -122,6 +122,6 @@ fn hundredths(fraction: &[u8]) -> u64
 
 /// What is read from a text is exactly the amount that it spells, and a text spells one amount at most.
 pub fn law_amounts()
-    ensures meaning { (text : List ℕ) (minor : ℕ) → (minor_units text ≡ Some minor) ↔ IsAmountText text minor }
-    ensures one { (text : List ℕ) (minor other : ℕ) → IsAmountText text minor → IsAmountText text other → minor ≡ other }
+    ensures meaning { (text : List ℕ) (minor : ℕ) → (minor_units text ≡ Some minor) ↔ SpellsAmount text minor }
+    ensures one { (text : List ℕ) (minor other : ℕ) → SpellsAmount text minor → SpellsAmount text other → minor ≡ other }
 {}

@@ -2,12 +2,23 @@
 ghost use Rattle.std.specs.Prelude.{◌≡◌, ◌↔◌, ℕ, ◌^◌, ◌<◌, ◌≤◌, List, length, IsTrue, MatchResult};
 ghost use Rattle.gw_base.specs.Bcd.{IsBcd, IsFirstNotBcd, bcd_of, bcd_value, is_bcd, pair_byte, pair_value};
 
+use std::error::Error;
+use std::fmt;
+
 /// A byte of which a half is above 9.
 #[derive(Clone, Copy, PartialEq, Eq, Debug)]
 pub struct NotDigits {
-    /// The place of the first such byte.
+    /// The offset of the first such byte.
     pub at: usize,
 }
+
+impl fmt::Display for NotDigits {
+    fn fmt<W: fmt::Write>(&self, f: &mut fmt::Formatter<W>) -> fmt::Result {
+        write!(f, "no two digits at {}", self.at)
+    }
+}
+
+impl Error for NotDigits {}
 
 /// Writes the value's digits, the most significant first, two in each byte of `out`.
 pub fn bcd_write(value: u64, out: &mut [u8])

@@ -1,4 +1,4 @@
-//! Why a request failed, as nexo's `ErrorCondition` tells it.
+//! Why a request failed: nexo's `ErrorCondition`.
 ghost use Rattle.std.specs.Prelude.{◌≡◌, ◌≢◌, MatchOption};
 ghost use Rattle.gw_base.specs.declared.condition.Condition.{Condition};
 ghost use Rattle.gw_base.specs.Condition.{name_of};
@@ -39,7 +39,7 @@ impl Condition {
         Condition::UnavailableService,
     ];
 
-    /// The text that stands as `ErrorCondition` in a message.
+    /// The text of `ErrorCondition` in a message.
     pub fn name(self) -> &'static str
         ensures { result.now ≡ name_of self }
     {
@@ -73,7 +73,7 @@ impl Condition {
     }
 }
 
-/// No two conditions have the same name.
+/// Each condition has a name of its own.
 pub fn law_conditions()
     ensures { (a b : Condition) → name_of a ≡ name_of b → a ≡ b }
 {}

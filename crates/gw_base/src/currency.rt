@@ -1,7 +1,7 @@
 //! The currencies of this profile.
 ghost use Rattle.std.specs.Prelude.{◌≡◌, ◌≢◌, MatchOption};
 ghost use Rattle.gw_base.specs.declared.currency.Currency.{Currency};
-ghost use Rattle.gw_base.specs.Currency.{code_of, number_of};
+ghost use Rattle.gw_base.specs.Currency.{currency_letters, currency_number};
 
 /// A currency with two decimals, by its letters in ISO 4217.
 #[derive(Clone, Copy, PartialEq, Eq, PartialOrd, Ord, Debug)]
@@ -20,7 +20,7 @@ pub enum Currency {
 impl Currency {
     /// The currency with these three letters; `None` where this profile has none.
     pub fn from_code(code: &[u8; 3]) -> Option<Currency>
-        ensures { MatchOption result ((c : Currency) → code_of c ≢ code.now) (λ c. code_of c ≡ code.now) }
+        ensures { MatchOption result ((c : Currency) → currency_letters c ≢ code.now) (λ c. currency_letters c ≡ code.now) }
     {
         match code {
             b"EUR" => Some(Currency::Eur),
@@ -38,7 +38,7 @@ impl Currency {
 
     /// The currency with this number of three digits; `None` where this profile has none.
     pub fn from_number(number: u16) -> Option<Currency>
-        ensures { MatchOption result ((c : Currency) → number_of c ≢ number) (λ c. number_of c ≡ number) }
+        ensures { MatchOption result ((c : Currency) → currency_number c ≢ number) (λ c. currency_number c ≡ number) }
     {
         match number {
             978 => Some(Currency::Eur),
@@ -56,7 +56,7 @@ impl Currency {
 
     /// The three letters.
     pub fn code(self) -> [u8; 3]
-        ensures { result ≡ code_of self }
+        ensures { result ≡ currency_letters self }
     {
         match self {
             Currency::Eur => *b"EUR",
@@ -73,7 +73,7 @@ impl Currency {
 
     /// The number of three digits.
     pub fn number(self) -> u16
-        ensures { result ≡ number_of self }
+        ensures { result ≡ currency_number self }
     {
         match self {
             Currency::Eur => 978,
@@ -89,8 +89,8 @@ impl Currency {
     }
 }
 
-/// No two currencies have the same letters, or the same number.
+/// Each currency has letters and a number of its own.
 pub fn law_currencies()
-    ensures codes { (a b : Currency) → code_of a ≡ code_of b → a ≡ b }
-    ensures numbers { (a b : Currency) → number_of a ≡ number_of b → a ≡ b }
+    ensures codes { (a b : Currency) → currency_letters a ≡ currency_letters b → a ≡ b }
+    ensures numbers { (a b : Currency) → currency_number a ≡ currency_number b → a ≡ b }
 {}

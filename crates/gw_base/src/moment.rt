@@ -1,7 +1,7 @@
 //! Moments: seconds since 1970-01-01T00:00:00Z, and their civil date and time.
 ghost use Rattle.std.specs.Prelude.{◌≡◌, ℕ, ◌<◌, ◌≤◌, ℤ, pos, List, All, length};
 ghost use Rattle.gw_base.specs.Ident.{IsPrintable};
-ghost use Rattle.gw_base.specs.Shown.{Shows};
+ghost use Rattle.gw_base.specs.inner.DateTime.{IsDateTimeOf};
 ghost use Rattle.gw_base.specs.Digits.{digits};
 ghost use Rattle.gw_base.specs.Moment.{civil_at, last_moment, moment_of, stamp_of, IsCivil, IsMoment, IsStamp};
 
@@ -55,20 +55,22 @@ fn civil_of(now: i64) -> Civil
     ensures value { result ≡ civil_at (moment_of now) }
     ensures civil { IsCivil result }
 {
-    let shown = shown_at(now);
+    let date_time = date_time_at(now);
     Civil {
-        year: shown.year() as u16,
-        month: shown.month() as u8,
-        day: shown.day() as u8,
-        hour: shown.hour() as u8,
-        minute: shown.minute() as u8,
-        second: shown.second() as u8,
+        year: date_time.year() as u16,
+        month: date_time.month() as u8,
+        day: date_time.day() as u8,
+        hour: date_time.hour() as u8,
+        minute: date_time.minute() as u8,
+        second: date_time.second() as u8,
     }
 }
 
-/// The same as `jiff` has it.
-fn shown_at(now: i64) -> DateTime
-    ensures { Shows (civil_at (moment_of now)) result }
+/// The date and time that `jiff` makes of a number of seconds, taken into the range of moments.
+///
+/// The calendar is `jiff`'s; the definitions count days by years and months, and the two are proved to agree.
+fn date_time_at(now: i64) -> DateTime
+    ensures { IsDateTimeOf (civil_at (moment_of now)) result }
 {
     match Timestamp::from_second(to_moment(now)) {
         Ok(timestamp) => Offset::UTC.to_datetime(timestamp),

@@ -85,7 +85,7 @@ impl Pts {
 /// A gateway's setup.
 #[derive(Clone, Debug, Drop)]
 pub struct Setup {
-    /// The gateway's name, which stands as POIID where a message's own was not read.
+    /// The gateway's name, given as POIID where a message's own was not read.
     pub name: Ident<40>,
     /// Where tills connect, as `host:port`.
     pub listen: Text,
@@ -122,7 +122,9 @@ impl Setup {
     }
 }
 
-/// Whether no two of these terminals have the same POIID.
+/// Whether each of these terminals has a POIID of its own.
+///
+/// At most 32 terminals are compared, each with those after it.
 fn have_distinct_pois(terminals: &[Pt]) -> bool
     ensures { IsTrue result ↔ HaveDistinctPois terminals.now }
 {

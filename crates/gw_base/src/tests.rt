@@ -41,12 +41,18 @@ fn amounts(rt: HostRuntime) {
 }
 
 #[test]
-fn digits(rt: HostRuntime) {
+fn digits(rt: HostRuntime) -> Result<(), Fail> {
     let mut bytes = [0; 6];
     bcd_write(1099, &mut bytes);
     assert_eq!(rt; bytes.as_slice(), [0, 0, 0, 0, 0x10, 0x99].as_slice());
     assert_eq!(rt; bcd_read(&bytes), Ok(1099));
     assert_eq!(rt; bcd_read(&[0x12, 0x3A]), Err(NotDigits { at: 1 }));
+    let fault = NotDigits { at: 1 };
+    assert_eq!(rt;
+        format!(in rt.alloc(); "{fault}")?.as_str(),
+        "no two digits at 1"
+    );
+    Ok(())
 }
 
 #[test]
@@ -61,4 +67,21 @@ fn values(rt: HostRuntime) -> Result<(), Fail> {
     assert_eq!(rt; byte_of_437('ß'), 0xE1);
     assert_eq!(rt; char_of_437(0x94), 'ö');
     Ok(())
+}
+
+#[test]
+fn letters(rt: HostRuntime) {
+    let rows = [
+        (0x84, 'ä'),
+        (0x94, 'ö'),
+        (0x81, 'ü'),
+        (0x8E, 'Ä'),
+        (0x99, 'Ö'),
+        (0x9A, 'Ü'),
+        (0xE1, 'ß'),
+    ];
+    for (byte, letter) in rows {
+        assert_eq!(rt; char_of_437(byte), letter);
+        assert_eq!(rt; byte_of_437(letter), byte);
+    }
 }

@@ -2,7 +2,7 @@
 ghost use Rattle.std.specs.Prelude.{◌≡◌, ◌≢◌, ℕ, ◌^◌, ◌<◌};
 ghost use Rattle.gw_base.specs.Text437.{byte_of, char_of, unknown};
 
-/// The character that a byte of a terminal's text shows; `?` for a byte outside the table.
+/// The character of a byte in a terminal's text; `?` for a byte outside the table.
 pub fn char_of_437(byte: u8) -> char
     ensures { result ≡ char_of byte }
 {
@@ -19,7 +19,7 @@ pub fn char_of_437(byte: u8) -> char
     }
 }
 
-/// The byte that shows a character in a terminal's text; `3F` for a character outside the table.
+/// The byte of a character in a terminal's text; `3F` for a character outside the table.
 pub fn byte_of_437(c: char) -> u8
     ensures { result ≡ byte_of c }
 {
@@ -36,8 +36,8 @@ pub fn byte_of_437(c: char) -> u8
     }
 }
 
-/// What a byte of the table shows is written as that byte again, and what a character of the table is
-/// written as shows it again.
+/// A byte of the table is the byte of its character, and a character of the table is the character of its
+/// byte.
 pub fn law_text_437()
     ensures bytes { (byte : ℕ) → char_of byte ≢ unknown → byte_of (char_of byte) ≡ byte }
     ensures characters { (scalar : ℕ) → byte_of scalar ≢ unknown → char_of (byte_of scalar) ≡ scalar }

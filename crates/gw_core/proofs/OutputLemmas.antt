@@ -9,9 +9,9 @@ use Rattle.sale_values.specs.declared.request.SaleRequest.{SaleRequest}
 use Rattle.sale_values.specs.declared.request.SaleRequest.TheVariants.{Login, Logout, Payment, Reversal, Abort, Status, Reconciliation, Display, Print, Diagnosis}
 use Rattle.sale_msg.specs.Form.{IsOutputList}
 use Rattle.sale_msg.specs.Flaw.{IsMet}
-use Rattle.sale_msg.specs.Path.{value_at}
-use Rattle.sale_msg.specs.Message.{IsMessage, IsOutput, outputs_in, listed}
-use Rattle.gw_core.specs.Told.{HasFewOutputs}
+use Rattle.sale_msg.specs.Path.{tree_at}
+use Rattle.sale_msg.specs.Grammar.{IsTillMessage, IsOutput, outputs_in, listed}
+use Rattle.gw_core.specs.ReplyOf.{HasFewOutputs}
 
 listed-few : (tree : Tree) → IsOutputList tree → length (listed tree) ≤ 16
 listed-few tree h = by_list (array_of tree) refl
@@ -24,7 +24,7 @@ few : (value : Option Tree) → MatchOption value ⊥ IsOutputList → length (o
 few None h = absurd h
 few (Some tree) h = listed-few tree h
 
-pub few-outputs : (tree : Tree) (header : Header) (request : SaleRequest) → IsMessage tree (Request header request) → HasFewOutputs request
+pub few-outputs : (tree : Tree) (header : Header) (request : SaleRequest) → IsTillMessage tree (Request header request) → HasFewOutputs request
 unfolding IsMet
 few-outputs tree header Login h = tt
 few-outputs tree header Logout h = tt
@@ -34,7 +34,7 @@ few-outputs tree header (Abort reference) h = tt
 few-outputs tree header (Status reference) h = tt
 few-outputs tree header (Reconciliation period) h = tt
 few-outputs tree header (Display outputs) (body, h) =
-    let k = few (value_at (codes "DisplayRequest.DisplayOutput") body) h.members.members.1.0 in
+    let k = few (tree_at (codes "DisplayRequest.DisplayOutput") body) h.members.members.1.0 in
     let e = AllZip-long IsOutput _ outputs h.asks in
     omega (arith, e, k)
 few-outputs tree header (Print qualifier) h = tt

@@ -1,4 +1,4 @@
-//! The gateway's decisions: what a till is told of each of its messages.
+//! The gateway's decisions: the reply to each message of a till.
 #![tactic(auto)]
 
 mod refusal;

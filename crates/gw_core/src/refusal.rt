@@ -2,9 +2,9 @@
 ghost use Rattle.std.specs.Prelude.{◌≡◌, ◌≤◌, ◌<◌, [], ◌∷◌, ◌++◌, length, Some, None, pos, map, if◌then◌else◌};
 ghost use Rattle.gw_base.specs.Moment.{moment_of};
 ghost use Rattle.gw_base.specs.Ident.{IsIdent};
-ghost use Rattle.gw_rules.specs.Reply.{Displayed, Printed, Rejected};
-ghost use Rattle.gw_core.specs.Told.{Gives, Says};
-ghost use Rattle.gw_rules.specs.Answers.{is_device as told_by_device, reply_header as header_of_reply, refusal as refusal_of, malformed as malformed_at, refused as refused_for, asks_response as some_asks, not_shown as shown_of, malformed_answer as malformed_reply, unread as unread_event, no_output};
+ghost use Rattle.gw_rules.specs.Reply.{Displayed, Printed, Reject};
+ghost use Rattle.gw_core.specs.ReplyOf.{IsSameReply, AreSameReplies};
+ghost use Rattle.gw_rules.specs.Replies.{is_device as sent_by_device, reply_header as header_of_reply, refusal as refusal_of, malformed as malformed_at, refused as refused_for, asks_response as some_asks, refused_output as shown_of, malformed_reply, reject as reject_of_rules, no_output};
 
 use arrayvec::ArrayVec;
 use gw_base::{Condition, Ident, to_moment};
@@ -13,7 +13,7 @@ use sale_values::{Class, Header, Kind, Output};
 
 /// Whether a category's replies have class `Device` and the request's `DeviceID`.
 fn is_device(category: &[u8]) -> bool
-    ensures { result ≡ told_by_device category.now }
+    ensures { result ≡ sent_by_device category.now }
 {
     category == b"Display".as_slice() || category == b"Print".as_slice()
 }
@@ -60,7 +60,7 @@ fn malformed(path: Ident<100>) -> Verdict
 
 /// A refusal in a response object alone.
 pub(crate) fn refused(header: &Header, condition: Condition) -> SaleReply<'static>
-    ensures { Gives result (refused_for header.now condition) }
+    ensures { IsSameReply result (refused_for header.now condition) }
 {
     SaleReply::Plain {
         header: reply_header(header),
@@ -69,13 +69,13 @@ pub(crate) fn refused(header: &Header, condition: Condition) -> SaleReply<'stati
 }
 
 /// The event that a message is rejected.
-pub(crate) fn rejected(
+pub(crate) fn reject(
     sale: &Ident<40>,
     poi: &Ident<40>,
     now: i64,
     detail: Detail,
 ) -> SaleReply<'static>
-    ensures { Gives result (Rejected sale.now poi.now (pos (moment_of now)) detail) }
+    ensures { IsSameReply result (Reject sale.now poi.now (pos (moment_of now)) detail) }
 {
     SaleReply::Reject {
         sale: *sale,
@@ -97,10 +97,14 @@ fn constant<const N: usize>(text: &str) -> Ident<N>
 }
 
 /// The event that a message without a readable header is rejected, under the gateway's name.
-pub(crate) fn unread(name: &Ident<40>, now: i64, detail: Detail) -> SaleReply<'static>
-    ensures { Gives result (unread_event name.now (moment_of now) detail) }
+pub(crate) fn reject_without_header(
+    name: &Ident<40>,
+    now: i64,
+    detail: Detail,
+) -> SaleReply<'static>
+    ensures { IsSameReply result (reject_of_rules name.now (moment_of now) detail) }
 {
-    rejected(&constant("0"), name, now, detail)
+    reject(&constant("0"), name, now, detail)
 }
 
 /// Whether some output asks for a response.
@@ -141,7 +145,7 @@ fn none_shown(outputs: &[Output]) -> ArrayVec<Shown, 16>
 /// The answer to a Display, where an output asks for one.
 pub(crate) fn display_answer(header: &Header, outputs: &[Output]) -> Option<SaleReply<'static>>
     requires { length outputs.now ≤ 16 }
-    ensures { Says result (if some_asks outputs.now then Some (Displayed (header_of_reply header.now) (map shown_of outputs.now)) else None) }
+    ensures { AreSameReplies result (if some_asks outputs.now then Some (Displayed (header_of_reply header.now) (map shown_of outputs.now)) else None) }
 {
     if !asks_response(outputs) {
         return None;
@@ -158,7 +162,7 @@ pub(crate) fn printed(
     qualifier: &Ident<40>,
     verdict: Verdict,
 ) -> SaleReply<'static>
-    ensures { Gives result (Printed (header_of_reply header.now) qualifier.now verdict) }
+    ensures { IsSameReply result (Printed (header_of_reply header.now) qualifier.now verdict) }
 {
     SaleReply::Print {
         header: reply_header(header),
@@ -169,7 +173,7 @@ pub(crate) fn printed(
 
 /// The answer to a Display with a member that is absent or of another form: one output stands for all.
 fn malformed_display(header: &Header, path: Ident<100>) -> SaleReply<'static>
-    ensures { Gives result (Displayed (header_of_reply header.now) (no_output path ∷ [])) }
+    ensures { IsSameReply result (Displayed (header_of_reply header.now) (no_output path ∷ [])) }
 {
     let mut outputs = ArrayVec::new();
     outputs.push(Shown {
@@ -185,11 +189,11 @@ fn malformed_display(header: &Header, path: Ident<100>) -> SaleReply<'static>
 
 /// The answer to a body in which the member at this path is absent or of another form.
 pub(crate) fn malformed_answer(now: i64, header: &Header, path: Ident<100>) -> SaleReply<'static>
-    ensures { Gives result (malformed_reply (moment_of now) header.now path) }
+    ensures { IsSameReply result (malformed_reply (moment_of now) header.now path) }
 {
     let category = header.category.as_bytes();
     if category == b"Abort".as_slice() {
-        return rejected(&header.sale, &header.poi, now, Detail::Body(path));
+        return reject(&header.sale, &header.poi, now, Detail::Body(path));
     }
     if category == b"Display".as_slice() {
         return malformed_display(header, path);

@@ -1,17 +1,17 @@
 //! The answer to a message of a till.
 ghost use Rattle.std.specs.Prelude.{◌⊎◌, ◌≤◌, Option, IfOk, length};
 ghost use Rattle.gw_base.specs.Moment.{moment_of};
-ghost use Rattle.json_text.specs.View.{view};
+ghost use Rattle.json_text.specs.ValueOf.{value_of};
 ghost use Rattle.sale_reply.specs.declared.reply.Detail.TheVariants.{Json as AJson};
 ghost use Rattle.json_text.specs.Canonical.{canonical};
 ghost use Rattle.sale_reply.specs.Limits.{IsPrintRequest};
 ghost use Rattle.sale_reply.specs.Reply.{tree_of};
 ghost use Rattle.gw_rules.specs.Reply.{Reply};
-ghost use Rattle.gw_rules.specs.Answers.{AnswersMessage, AnswersFault, request_answer as answer_to_request, fault_answer as answer_to_fault, unread as unread_event};
-ghost use Rattle.gw_core.specs.Told.{Gives, Says, IsTold, HasFewOutputs, HasRoom};
+ghost use Rattle.gw_rules.specs.Replies.{RepliesToMessage, RepliesToFault, request_reply as answer_to_request, fault_reply as answer_to_fault, reject as reject_of_rules};
+ghost use Rattle.gw_core.specs.ReplyOf.{IsSameReply, AreSameReplies, IsReplyTo, HasFewOutputs, HasRoom};
 
 use crate::refusal::{
-    display_answer, malformed_answer, printed, refusal, refused, rejected, unread,
+    display_answer, malformed_answer, printed, refusal, refused, reject, reject_without_header,
 };
 use gw_base::{Condition, Ident};
 use json_text::{Json, JsonFault, ReadError};
@@ -22,7 +22,7 @@ use std::alloc::{AllocError, Global};
 /// The answer to a request: no terminal is configured, no payment is known and none waits.
 fn request_answer(now: i64, header: &Header, request: &SaleRequest) -> Option<SaleReply<'static>>
     requires { HasFewOutputs request.now }
-    ensures { Says result (answer_to_request (moment_of now) header.now request.now) }
+    ensures { AreSameReplies result (answer_to_request (moment_of now) header.now request.now) }
 {
     match request {
         SaleRequest::Display(outputs) => display_answer(header, outputs.as_slice()),
@@ -30,7 +30,7 @@ fn request_answer(now: i64, header: &Header, request: &SaleRequest) -> Option<Sa
             let verdict = refusal(Condition::UnavailableDevice);
             Some(printed(header, qualifier, verdict))
         }
-        SaleRequest::Abort(_) => Some(rejected(&header.sale, &header.poi, now, Detail::Abort)),
+        SaleRequest::Abort(_) => Some(reject(&header.sale, &header.poi, now, Detail::Abort)),
         SaleRequest::Status(_) => Some(refused(header, Condition::NotFound)),
         SaleRequest::Login
         | SaleRequest::Logout
@@ -43,10 +43,10 @@ fn request_answer(now: i64, header: &Header, request: &SaleRequest) -> Option<Sa
 
 /// The answer to a tree that is no message, by its first fault.
 fn fault_answer(name: &Ident<40>, now: i64, fault: SaleFault) -> SaleReply<'static>
-    ensures { Gives result (answer_to_fault name.now (moment_of now) fault) }
+    ensures { IsSameReply result (answer_to_fault name.now (moment_of now) fault) }
 {
     match fault {
-        SaleFault::NoHeader { path } => unread(name, now, Detail::Header(path)),
+        SaleFault::NoHeader { path } => reject_without_header(name, now, Detail::Header(path)),
         SaleFault::Missing { header, path } | SaleFault::Wrong { header, path } => {
             malformed_answer(now, &header, path)
         }
@@ -61,7 +61,7 @@ fn tree_answer(
     now: i64,
     json: &Json,
 ) -> Result<Option<SaleReply<'static>>, AllocError>
-    ensures { IfOk result (λ told. (answer : Option Reply) × (AnswersMessage (moment_of now) (view json.now) answer ⊎ AnswersFault name.now (moment_of now) (view json.now) answer) × Says told answer) }
+    ensures { IfOk result (λ given. (answer : Option Reply) × (RepliesToMessage (moment_of now) (value_of json.now) answer ⊎ RepliesToFault name.now (moment_of now) (value_of json.now) answer) × AreSameReplies given answer) }
 {
     match read_message(alloc, json) {
         Ok(Incoming::Request(header, request)) => Ok(request_answer(now, &header, &request)),
@@ -73,9 +73,9 @@ fn tree_answer(
 
 /// The answer to bytes that are no text.
 fn no_text_answer(name: &Ident<40>, now: i64, fault: JsonFault) -> SaleReply<'static>
-    ensures { Gives result (unread_event name.now (moment_of now) (AJson fault)) }
+    ensures { IsSameReply result (reject_of_rules name.now (moment_of now) (AJson fault)) }
 {
-    unread(name, now, Detail::Json(fault))
+    reject_without_header(name, now, Detail::Json(fault))
 }
 
 /// The answer to a message.
@@ -85,7 +85,7 @@ fn message_answer(
     now: i64,
     message: &[u8],
 ) -> Result<Option<SaleReply<'static>>, AllocError>
-    ensures { IfOk result (λ told. IsTold name.now (moment_of now) message.now told) }
+    ensures { IfOk result (λ given. IsReplyTo name.now (moment_of now) message.now given) }
 {
     match json_text::read(alloc, message) {
         Ok(json) => tree_answer(alloc, name, now, &json),
@@ -94,7 +94,7 @@ fn message_answer(
     }
 }
 
-/// What a till is told of a message, by a gateway of this name at this moment; `None` where nothing is told.
+/// The reply to a message of a till, by a gateway of this name at this moment; `None` where there is none.
 ///
 /// The message is that of a frame, without its length.
 pub fn answer(
@@ -103,7 +103,7 @@ pub fn answer(
     now: i64,
     message: &[u8],
 ) -> Result<Option<SaleReply<'static>>, AllocError>
-    ensures told { IfOk result (λ told. IsTold name.now (moment_of now) message.now told) }
+    ensures reply { IfOk result (λ given. IsReplyTo name.now (moment_of now) message.now given) }
     ensures fits { IfOk result HasRoom }
 {
     match message_answer(alloc, name, now, message) {

@@ -1,4 +1,4 @@
--- Courses one behind the other, and the outside along a course.
+-- Courses one after the other, and the outside along a course.
 use Rattle.std.proofs.Common.{◌≡◌, List, [], ◌∷◌, ◌++◌, refl, sym, ◌∙◌, ap}
 use Rattle.std.specs.Prelude.{true, false, map}
 use Rattle.gw_site.specs.Outside.{outside_after, outside_from, outside_of}
@@ -16,9 +16,9 @@ pub course-append : (v : View) (xs ys : List Move) → IsCourse v xs → IsCours
 course-append v [] ys h k = k
 course-append v (x ∷ xs) ys h k = (h.0, course-append (after v x) xs ys h.1 k)
 
-pub course-front : (v : View) (xs ys : List Move) → IsCourse v (xs ++ ys) → IsCourse v xs
-course-front v [] ys h = tt
-course-front v (x ∷ xs) ys h = (h.0, course-front (after v x) xs ys h.1)
+pub course-prefix : (v : View) (xs ys : List Move) → IsCourse v (xs ++ ys) → IsCourse v xs
+course-prefix v [] ys h = tt
+course-prefix v (x ∷ xs) ys h = (h.0, course-prefix (after v x) xs ys h.1)
 
 pub turns_of-append : (xs ys : List Move) → turns_of (xs ++ ys) ≡ turns_of xs ++ turns_of ys
 turns_of-append [] ys = refl
@@ -41,9 +41,9 @@ pub quiet-append : (xs ys : List Turn) → IsQuiet xs → IsQuiet ys → IsQuiet
 quiet-append [] ys h k = k
 quiet-append (x ∷ xs) ys h k = (h.0, quiet-append xs ys h.1 k)
 
-pub quiet-front : (xs ys : List Turn) → IsQuiet (xs ++ ys) → IsQuiet xs
-quiet-front [] ys h = tt
-quiet-front (x ∷ xs) ys h = (h.0, quiet-front xs ys h.1)
+pub quiet-prefix : (xs ys : List Turn) → IsQuiet (xs ++ ys) → IsQuiet xs
+quiet-prefix [] ys h = tt
+quiet-prefix (x ∷ xs) ys h = (h.0, quiet-prefix xs ys h.1)
 
 -- a lawful log goes on by more allowed moves
 pub stands-more : (log : List Turn) (v : View) (moves : List Move) → Stands log v → IsCourse v moves → Stands (log ++ turns_of moves) (view_from v moves)

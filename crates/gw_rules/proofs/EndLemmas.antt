@@ -3,7 +3,7 @@ use Rattle.std.proofs.Common.{◌≡◌, ◌+◌, ◌≤◌, List, [], ◌∷◌
 use Rattle.std.specs.Prelude.{◌⊎◌}
 use Rattle.gw_site.specs.declared.turn.Turn.{Turn}
 use Rattle.gw_site.specs.declared.turn.Turn.TheVariants.{Start, OpenFailed, Polled, Opened, HeardTill, Closed, HeardPt, Lost, Stopped, Linked, LinkFailed, SentTill, SentPt, CutTill, CutPt, Wrote, Synced, DiskFailed, Crash}
-use Rattle.gw_rules.specs.Scene.{Call, Standing, Resting, Opening, Refusing, AtPoll, Serving, Over, Broken, View, IsRunning, busy}
+use Rattle.gw_rules.specs.Scene.{Call, Stage, Resting, Opening, Refusing, AtPoll, Serving, Over, Broken, View, IsRunning, busy}
 use Rattle.gw_rules.specs.View.{Move, Begin, Take, after, after_turn, view_from, at_first}
 use Rattle.gw_rules.specs.Lawful.{AllowedTurn, Allowed, IsCourse, turns_of, Stands, IsNext}
 use Rattle.gw_rules.specs.Plays.{IsStopped}
@@ -42,10 +42,10 @@ polls-most log v s = let h = polls-from at_first s.course in rw (← s.view_is, 
 
 -- where the run is over, no call is owed
 abbrev pub OverCalm : View → Type 0
-OverCalm v = v.scene.standing ≡ Over → v.calls ≡ []
+OverCalm v = v.scene.stage ≡ Over → v.calls ≡ []
 
 -- nothing that follows a poll ends a run
-busy-over : (s : Standing) → busy s ≡ Over → s ≡ Over
+busy-over : (s : Stage) → busy s ≡ Over → s ≡ Over
 busy-over Resting e = e
 busy-over Opening e = absurd (let h : Opening ≡ Over = e in cc)
 busy-over Refusing e = e
@@ -54,15 +54,15 @@ busy-over Serving e = e
 busy-over Over e = e
 busy-over Broken e = e
 
-running-over : (s : Standing) → IsRunning s → s ≡ Over → ⊥
+running-over : (s : Stage) → IsRunning s → s ≡ Over → ⊥
 running-over s h e = subst IsRunning e h
 
 -- a call that is owed rules out that the run is over
-next-over : (v : View) (call : Call) → OverCalm v → IsNext v call → busy v.scene.standing ≡ Over → ⊥
-next-over v call calm next e = let a : v.calls ≡ [] = calm (busy-over v.scene.standing e) in let b : v.calls ≡ call ∷ next.0 = next.1 in cc
+next-over : (v : View) (call : Call) → OverCalm v → IsNext v call → busy v.scene.stage ≡ Over → ⊥
+next-over v call calm next e = let a : v.calls ≡ [] = calm (busy-over v.scene.stage e) in let b : v.calls ≡ call ∷ next.0 = next.1 in cc
 
 -- the turn by which a run is over is Stopped
-pub over-turn : (v : View) (turn : Turn) → OverCalm v → AllowedTurn v turn → (after_turn v turn).scene.standing ≡ Over → (turn ≡ Stopped) × ((after_turn v turn).calls ≡ [])
+pub over-turn : (v : View) (turn : Turn) → OverCalm v → AllowedTurn v turn → (after_turn v turn).scene.stage ≡ Over → (turn ≡ Stopped) × ((after_turn v turn).calls ≡ [])
 over-turn v (Start setup) calm ok e = absurd (let h : Opening ≡ Over = e in cc)
 over-turn v OpenFailed calm ok e = absurd (let h : Resting ≡ Over = e in cc)
 over-turn v (Polled now) calm ok e = absurd (let h : AtPoll ≡ Over = e in cc)
@@ -85,10 +85,10 @@ over-turn v Synced calm ok e = absurd (next-over v _ calm ok e)
 over-turn v DiskFailed calm ok e = absurd (let h : Broken ≡ Over = e in cc)
 over-turn v (Crash file) calm ok e = absurd (let h : Resting ≡ Over = e in cc)
 
-pub over-begin : (v : View) (calls : List Call) → Allowed v (Begin calls) → busy v.scene.standing ≡ Over → ⊥
-over-begin v calls ok e = running-over v.scene.standing ok.2.running (busy-over v.scene.standing e)
+pub over-begin : (v : View) (calls : List Call) → Allowed v (Begin calls) → busy v.scene.stage ≡ Over → ⊥
+over-begin v calls ok e = running-over v.scene.stage ok.2.running (busy-over v.scene.stage e)
 
-over-from : (v : View) (moves : List Move) → OverCalm v → IsCourse v moves → (view_from v moves).scene.standing ≡ Over → ((v.scene.standing ≡ Over) × (turns_of moves ≡ [])) ⊎ IsStopped (turns_of moves)
+over-from : (v : View) (moves : List Move) → OverCalm v → IsCourse v moves → (view_from v moves).scene.stage ≡ Over → ((v.scene.stage ≡ Over) × (turns_of moves ≡ [])) ⊎ IsStopped (turns_of moves)
 over-from v [] calm h e = inl (e, refl)
 over-from v (Begin calls ∷ moves) calm h e = elim (over-from (after v (Begin calls)) moves (λ o. absurd (over-begin v calls h.0 o)) h.1 e)
     [ inl o ↦ absurd (over-begin v calls h.0 o.0) | inr ends ↦ inr ends ]
@@ -96,6 +96,6 @@ over-from v (Take turn ∷ moves) calm h e = elim (over-from (after_turn v turn)
     [ inl o ↦ inr ([], rw ((over-turn v turn calm h.0 o.0).0, o.1) refl) | inr ends ↦ inr (turn ∷ ends.0, ap (λ rest. turn ∷ rest) ends.1) ]
 
 -- where the run is over, the log ends with Stopped
-pub over-ends : (log : List Turn) (v : View) → Stands log v → v.scene.standing ≡ Over → IsStopped log
-over-ends log v s e = subst IsStopped s.log_is (elim (over-from at_first s.course (λ o. absurd (let h : Resting ≡ Over = o in cc)) s.lawful (ap (λ (w : View). w.scene.standing) s.view_is ∙ e))
+pub over-ends : (log : List Turn) (v : View) → Stands log v → v.scene.stage ≡ Over → IsStopped log
+over-ends log v s e = subst IsStopped s.log_is (elim (over-from at_first s.course (λ o. absurd (let h : Resting ≡ Over = o in cc)) s.lawful (ap (λ (w : View). w.scene.stage) s.view_is ∙ e))
     [ inl o ↦ absurd (let h : Resting ≡ Over = o.0 in cc) | inr ends ↦ ends ])

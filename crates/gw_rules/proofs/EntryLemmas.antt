@@ -17,8 +17,8 @@ use Rattle.hex.specs.Hex.{decode_of}
 use Rattle.gw_base.specs.Ident.{IsPrintable}
 use Rattle.gw_base.specs.Moment.{last_moment}
 use Rattle.gw_site.specs.Turns.{IsCount}
-use Rattle.sale_frame.specs.Frame.{frame}
-use Rattle.gw_rules.specs.Script.{Event, Open, Close, Say, Tick, At, Poll, Entry, Blank, Naming, Playing, Split, at_line, entry_of, hex_piece, is_blank, is_name, is_visible, name_line, number, numbered, parts_line, poll_line, said_piece, spelled, split_at_space, with_first, worded}
+use Rattle.sale_frame.specs.Grammar.{frame}
+use Rattle.gw_rules.specs.Script.{Event, Open, Close, Say, Tick, At, Poll, Entry, Blank, Naming, Playing, WordAndRest, at_line, entry_of, hex_chunk, is_blank, is_name, is_visible, name_line, number, numbered, parts_line, poll_line, said_chunk, spelled, split_at_space, with_first_of_word, worded}
 use Rattle.gw_rules.specs.Grammar.{IsEntry, IsOfTill, SpellsLine, SpellsEvent}
 use Rattle.gw_rules.proofs.NumberLemmas.{decimal_number}
 
@@ -43,17 +43,17 @@ is_word word text e = (bytes_eq-Decides word text).0 e
 
 -- ---- words
 
-split_later : (byte : ℕ) (text : List ℕ) (split : Option Split) (found : Split) → ((s : Split) → split ≡ Some s → text ≡ s.word ++ 32 ∷ s.rest) → with_first byte split ≡ Some found → byte ∷ text ≡ found.word ++ 32 ∷ found.rest
+split_later : (byte : ℕ) (text : List ℕ) (split : Option WordAndRest) (found : WordAndRest) → ((s : WordAndRest) → split ≡ Some s → text ≡ s.word ++ 32 ∷ s.rest) → with_first_of_word byte split ≡ Some found → byte ∷ text ≡ found.word ++ 32 ∷ found.rest
 split_later byte text None found later e = none_some found e
 split_later byte text (Some split) found later e =
-    subst (λ (s : Split). byte ∷ text ≡ s.word ++ 32 ∷ s.rest) (some_is (record split { word = byte ∷ split.word }) found e) (ap (λ rest. byte ∷ rest) (later split refl))
+    subst (λ (s : WordAndRest). byte ∷ text ≡ s.word ++ 32 ∷ s.rest) (some_is (record split { word = byte ∷ split.word }) found e) (ap (λ rest. byte ∷ rest) (later split refl))
 
 -- what is split at a space has one there
-split_is : (text : List ℕ) (found : Split) → split_at_space text ≡ Some found → text ≡ found.word ++ 32 ∷ found.rest
+split_is : (text : List ℕ) (found : WordAndRest) → split_at_space text ≡ Some found → text ≡ found.word ++ 32 ∷ found.rest
 split_is [] found e = none_some found e
 split_is (byte ∷ text) found e = elim (eqb_tells byte 32) [
   | inl here ↦ (let first : Some (record { word = []; rest = text }) ≡ Some found = rw here.0 at e in
-      subst (λ (s : Split). byte ∷ text ≡ s.word ++ 32 ∷ s.rest) (some_is (record { word = []; rest = text }) found first) (ap (λ b. b ∷ text) here.1))
+      subst (λ (s : WordAndRest). byte ∷ text ≡ s.word ++ 32 ∷ s.rest) (some_is (record { word = []; rest = text }) found first) (ap (λ b. b ∷ text) here.1))
   | inr later ↦ split_later byte text (split_at_space text) found (split_is text) (rw later.0 at e)
 ]
 
@@ -62,7 +62,7 @@ split_digits : (digits rest : List ℕ) → AllDigits 10 digits → split_at_spa
 split_digits [] rest all = refl
 split_digits (digit ∷ digits) rest all = elim (eqb_tells digit 32) [
   | inl space ↦ absurd (let range = digit_from_value digit all.0 in let e = space.1 in omega arith)
-  | inr other ↦ rw other.0 (ap (with_first digit) (split_digits digits rest all.1))
+  | inr other ↦ rw other.0 (ap (with_first_of_word digit) (split_digits digits rest all.1))
 ]
 
 pub split_decimal : (n : ℕ) (rest : List ℕ) → n < 2 ^ 64 → split_at_space (decimal n ++ 32 ∷ rest) ≡ Some (record { word = decimal n; rest = rest })
@@ -117,30 +117,30 @@ close_spells rest (Some till) read event e =
     let w = decimal_number rest till read in
     subst (λ e. SpellsEvent e (codes "close" ++ 32 ∷ rest)) (some_is (Close till) event e) (w.small, ap (λ r. codes "close" ++ 32 ∷ r) w.is)
 
--- a till's number stands in front of what it sends
-of_till : (word rest : List ℕ) (split : Split) (till : ℕ) → split_at_space rest ≡ Some split → number split.word ≡ Some till → IsOfTill word till split.rest (word ++ 32 ∷ rest)
+-- a till's number stands before what it sends
+of_till : (word rest : List ℕ) (split : WordAndRest) (till : ℕ) → split_at_space rest ≡ Some split → number split.word ≡ Some till → IsOfTill word till split.rest (word ++ 32 ∷ rest)
 of_till word rest split till parts read =
     let w = decimal_number split.word till read in
     (w.small, ap (λ r. word ++ 32 ∷ r) (split_is rest split parts ∙ ap (λ n. n ++ 32 ∷ split.rest) w.is))
 
-bytes_sent : (till : ℕ) (read : Result (List ℕ) FromHexError) (event : Event) → hex_piece till read ≡ Some event → (bytes : List ℕ) × (read ≡ Ok bytes) × IsCount (length bytes) × (Say till bytes ≡ event)
+bytes_sent : (till : ℕ) (read : Result (List ℕ) FromHexError) (event : Event) → hex_chunk till read ≡ Some event → (bytes : List ℕ) × (read ≡ Ok bytes) × IsCount (length bytes) × (Say till bytes ≡ event)
 bytes_sent till (Ok bytes) event e =
     let k = kept (nat_le 1 (length bytes) && nat_le (length bytes) 4096) (Say till bytes) event e in
     let p = and_parts (nat_le 1 (length bytes)) (nat_le (length bytes) 4096) k.0 in
     (bytes, refl, (leb-true 1 (length bytes) p.0, leb-true (length bytes) 4096 p.1), k.1)
 bytes_sent till (Err fault) event e = none_some event e
 
-till_numbered : (rest : List ℕ) (split : Split) (till : Option ℕ) → split_at_space rest ≡ Some split → number split.word ≡ till → IfEvent (codes "till" ++ 32 ∷ rest) (option_and_then (λ till. hex_piece till (decode_of split.rest)) till)
+till_numbered : (rest : List ℕ) (split : WordAndRest) (till : Option ℕ) → split_at_space rest ≡ Some split → number split.word ≡ till → IfEvent (codes "till" ++ 32 ∷ rest) (option_and_then (λ till. hex_chunk till (decode_of split.rest)) till)
 till_numbered rest split None parts read event e = none_some event e
 till_numbered rest split (Some till) parts read event e =
     let (bytes, decoded, count, is) = bytes_sent till (decode_of split.rest) event e in
     subst (λ e. SpellsEvent e (codes "till" ++ 32 ∷ rest)) is (inl (split.rest, of_till (codes "till") rest split till parts read, decoded, count))
 
-till_spells : (rest : List ℕ) (split : Option Split) → split_at_space rest ≡ split → IfEvent (codes "till" ++ 32 ∷ rest) (numbered (λ till hex. hex_piece till (decode_of hex)) split)
+till_spells : (rest : List ℕ) (split : Option WordAndRest) → split_at_space rest ≡ split → IfEvent (codes "till" ++ 32 ∷ rest) (numbered (λ till hex. hex_chunk till (decode_of hex)) split)
 till_spells rest None parts event e = none_some event e
 till_spells rest (Some split) parts event e = till_numbered rest split (number split.word) parts refl event e
 
-say_numbered : (rest : List ℕ) (split : Split) (till : Option ℕ) → split_at_space rest ≡ Some split → number split.word ≡ till → IfEvent (codes "say" ++ 32 ∷ rest) (option_and_then (λ till. said_piece till split.rest) till)
+say_numbered : (rest : List ℕ) (split : WordAndRest) (till : Option ℕ) → split_at_space rest ≡ Some split → number split.word ≡ till → IfEvent (codes "say" ++ 32 ∷ rest) (option_and_then (λ till. said_chunk till split.rest) till)
 say_numbered rest split None parts read event e = none_some event e
 say_numbered rest split (Some till) parts read event e =
     let said = split.rest in
@@ -148,7 +148,7 @@ say_numbered rest split (Some till) parts read event e =
     let p = and_parts (nat_le 1 (length said)) (nat_le (length said) 4092) k.0 in
     subst (λ e. SpellsEvent e (codes "say" ++ 32 ∷ rest)) k.1 (inr (said, of_till (codes "say") rest split till parts read, refl, leb-true 1 (length said) p.0, leb-true (length said) 4092 p.1))
 
-say_spells : (rest : List ℕ) (split : Option Split) → split_at_space rest ≡ split → IfEvent (codes "say" ++ 32 ∷ rest) (numbered said_piece split)
+say_spells : (rest : List ℕ) (split : Option WordAndRest) → split_at_space rest ≡ split → IfEvent (codes "say" ++ 32 ∷ rest) (numbered said_chunk split)
 say_spells rest None parts event e = none_some event e
 say_spells rest (Some split) parts event e = say_numbered rest split (number split.word) parts refl event e
 
@@ -178,7 +178,7 @@ worded_spells word rest entry e =
       ]
     ]
 
-parts_spell : (text : List ℕ) (split : Option Split) (entry : Entry) → split_at_space text ≡ split → parts_line split ≡ Some entry → SpellsLine entry text
+parts_spell : (text : List ℕ) (split : Option WordAndRest) (entry : Entry) → split_at_space text ≡ split → parts_line split ≡ Some entry → SpellsLine entry text
 parts_spell text None entry parts e = none_some entry e
 parts_spell text (Some split) entry parts e = subst (SpellsLine entry) (sym (split_is text split parts)) (worded_spells split.word split.rest entry e)
 

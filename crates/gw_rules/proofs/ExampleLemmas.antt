@@ -11,10 +11,10 @@ use lib.Utf8.{encode}
 use Rattle.gw_base.specs.Ident.{IsIdent, IsPrintable}
 use Rattle.gw_base.specs.Setup.{IsPt, IsSetup}
 use Rattle.json_text.specs.Tree.{Tree, null, boolean, number, string, array, object, Members, no_members, member, names}
-use Rattle.json_text.specs.Spelling.{Spells, IsNew, AreDistinct}
+use Rattle.json_text.specs.Grammar.{Spells, IsNew, AreDistinct}
 use Rattle.json_text.specs.Spellable.{IsSpellableAt, HaveSpellable}
 use Rattle.json_text.specs.Canonical.{canonical}
-use Rattle.json_text.proofs.Written.{spellable_written}
+use Rattle.json_text.proofs.CanonicalLemmas.{spellable_written}
 use Rattle.sale_values.specs.declared.header.Header.{Header}
 use Rattle.sale_values.specs.declared.names.Class.TheVariants.{Service}
 use Rattle.sale_values.specs.declared.names.Kind.TheVariants.{Request}
@@ -23,31 +23,31 @@ use Rattle.sale_values.specs.declared.request.Reference.{Reference}
 use Rattle.sale_values.specs.declared.request.SaleRequest.TheVariants as requests
 use Rattle.sale_msg.specs.declared.category.Category.TheVariants as categories
 use Rattle.sale_msg.specs.Form.{IsLetter}
-use Rattle.sale_msg.specs.Path.{value_at}
+use Rattle.sale_msg.specs.Path.{tree_at}
 use Rattle.sale_msg.specs.Table.{rows_of, part_rows}
 use Rattle.sale_msg.specs.Flaw.{IsMet, AreMet}
-use Rattle.sale_msg.specs.Message.{IsMessage, TellsHeader, Asks, parts_of}
-use Rattle.sale_values.specs.Members.{text_member, only}
-use Rattle.sale_reply.specs.Reply.{message, header_tree, result_tree}
-use Rattle.sale_frame.specs.Frame.{frame, IsMessage as IsFrameMessage}
-use Rattle.sale_frame.specs.Reading.{reading_of}
+use Rattle.sale_msg.specs.Grammar.{IsTillMessage, HeaderHolds, Asks, parts_of}
+use Rattle.sale_values.specs.MemberShapes.{text_member, only}
+use Rattle.sale_reply.specs.Reply.{message_tree, header_tree, result_tree}
+use Rattle.sale_frame.specs.Grammar.{frame, IsPayload as IsFrameMessage}
+use Rattle.sale_frame.specs.Decode.{decode_frames}
 use Rattle.sale_frame.proofs.FrameLemmas.{length-frame}
-use Rattle.gw_site.specs.Outside.{is_open}
+use Rattle.gw_site.specs.Outside.{is_connected}
 use Rattle.gw_site.specs.declared.turn.Turn.{Turn}
 use Rattle.gw_site.specs.declared.turn.Turn.TheVariants.{Start, Polled, Opened, HeardTill, SentTill, Stopped}
-use Rattle.gw_rules.specs.Reply.{Reply, tree}
+use Rattle.gw_rules.specs.Reply.{Reply, reply_tree}
 use Rattle.gw_rules.specs.Scene.{Call, Tell, Message, View}
-use Rattle.gw_rules.specs.Answers.{Answers}
-use Rattle.gw_rules.specs.Owes.{Owes, MessageOwes, told, reading_items}
+use Rattle.gw_rules.specs.Replies.{RepliesTo}
+use Rattle.gw_rules.specs.Owes.{Owes, MessageOwes, reply_calls, reading_items}
 use Rattle.gw_rules.specs.View.{Move, Begin, Take, after, after_turn, view_from, at_first, items_behind}
 use Rattle.gw_rules.specs.Lawful.{AllowedTurn, IsCourse, turns_of, IsLawful}
 use Rattle.gw_rules.specs.Script.{Open, Say, Poll, Script, script_of, script_setup}
 use Rattle.gw_rules.specs.Plays.{PlaysLines, PlaysRead, IsRunRead}
-use Rattle.gw_rules.specs.Example.{request, reply, not_found, status_log, status_course, status_script, opened_log, asked_log, StatusIsLawful, StatusIsOfScript, StatusHasText, UnaskedReply, PollBeforeReply}
+use Rattle.gw_rules.specs.Example.{status_request, status_reply, not_found, status_log, status_course, status_script, opened_log, asked_log, StatusIsLawful, StatusIsOfScript, StatusHasText, UnaskedReply, PollBeforeReply}
 use Rattle.gw_rules.proofs.CourseLemmas.{takes, turns_of-takes, course-append}
 use Rattle.gw_rules.proofs.ReadingLemmas.{items-message}
-use Rattle.gw_rules.proofs.AnswerLemmas.{answers-one}
-use Rattle.gw_rules.proofs.FrontLemmas.{Along, resting-clear, front-lawful}
+use Rattle.gw_rules.proofs.ReplyLemmas.{answers-one}
+use Rattle.gw_rules.proofs.PrefixLemmas.{Along, resting-clear, prefix-lawful}
 
 -- ---- a tree of objects and texts is tested by computing
 
@@ -87,7 +87,7 @@ no-true : false ≡ true → ⊥
 no-true e = cc
 
 mutual
-  spellable-tree : (d : ℕ) (tree : Tree) → is_spellable d tree ≡ true → IsSpellableAt d tree
+  spellable-tree : (d : ℕ) (reply_tree : Tree) → is_spellable d reply_tree ≡ true → IsSpellableAt d reply_tree
   spellable-tree d null e = tt
   spellable-tree d (boolean b) e = tt
   spellable-tree d (number text) e = absurd (no-true e)
@@ -128,15 +128,15 @@ asked_body = object
 abbrev asked_tree : Tree
 asked_tree = only (codes "SaleToPOIRequest") asked_body
 
-request-canonical : request ≡ canonical asked_tree
-unfolding request
+request-canonical : status_request ≡ canonical asked_tree
+unfolding status_request
 request-canonical = refl
 
 request-spellable : is_spellable 0 asked_tree ≡ true
 unfolding is_utf8 chars encode
 request-spellable = refl
 
-request-spelled : Spells asked_tree request
+request-spelled : Spells asked_tree status_request
 request-spelled = subst (Spells asked_tree) (sym request-canonical) (spellable_written asked_tree (spellable-tree 0 asked_tree request-spellable))
 
 abbrev asked : Header
@@ -205,24 +205,24 @@ category-letters = All-from_recursion IsLetter (codes "TransactionStatus") (
   ),
 )
 
-header-told : TellsHeader asked_body asked
-unfolding value_at
-header-told = record { class = refl; category = refl; kind = refl; service = refl; device = refl; sale = refl; poi = refl }
+header-observed : HeaderHolds asked_body asked
+unfolding tree_at
+header-observed = record { class = refl; category = refl; kind = refl; service = refl; device = refl; sale = refl; poi = refl }
 
 body-met : AreMet (rows_of categories.TransactionStatus) asked_body
-unfolding IsMet value_at
+unfolding IsMet tree_at
 body-met = (one-digit 49 (omega arith) (omega arith), (refl, (refl, tt)))
 
 part-met : All (AreMet (part_rows categories.TransactionStatus)) (parts_of categories.TransactionStatus asked_body)
-unfolding IsMet value_at
+unfolding IsMet tree_at
 part-met = All-from_recursion (AreMet (part_rows categories.TransactionStatus)) (asked_reference ∷ []) ((one-digit 57 (omega arith) (omega arith), (tt, (tt, tt))), tt)
 
 asks-for : Asks asked_body (requests.Status (Some asked_for))
-unfolding value_at
+unfolding tree_at
 asks-for = (asked_reference, refl, record { service = refl; sale = refl; poi = refl })
 
-request-read : IsMessage asked_tree (incoming.Request asked (requests.Status (Some asked_for)))
-unfolding IsMet value_at
+request-read : IsTillMessage asked_tree (incoming.Request asked (requests.Status (Some asked_for)))
+unfolding IsMet tree_at
 request-read = (
   asked_body,
   record {
@@ -245,7 +245,7 @@ request-read = (
             ),
           ),
         );
-        told = header-told;
+        values = header-observed;
       };
       kind = refl;
     };
@@ -255,26 +255,26 @@ request-read = (
   },
 )
 
-request-answered : (name : List ℕ) (moment : ℕ) → Answers name moment request (Some not_found)
+request-answered : (name : List ℕ) (moment : ℕ) → RepliesTo name moment status_request (Some not_found)
 request-answered name moment = inl (record { tree = asked_tree; spelled = request-spelled; is = inl (record { incoming = incoming.Request asked (requests.Status (Some asked_for)); read = request-read; is = refl }) })
 
-reply-is : reply ≡ canonical (tree not_found)
-unfolding reply message header_tree result_tree
+reply-is : status_reply ≡ canonical (reply_tree not_found)
+unfolding status_reply message_tree header_tree result_tree
 reply-is = refl
 
-request-length : length request ≡ 260
-unfolding request
+request-length : length status_request ≡ 260
+unfolding status_request
 request-length = refl
 
-request-message : IsFrameMessage request
+request-message : IsFrameMessage status_request
 request-message = rw request-length (omega arith, omega arith)
 
-frame-length : (message : List ℕ) → length (frame message) ≡ 4 + length message
-frame-length message = let k = length-frame message [] in let z : length (frame message ++ []) ≡ length (frame message) = ap length (append-nil (frame message)) in omega arith
+frame-length : (message_tree : List ℕ) → length (frame message_tree) ≡ 4 + length message_tree
+frame-length message_tree = let k = length-frame message_tree [] in let z : length (frame message_tree ++ []) ≡ length (frame message_tree) = ap length (append-nil (frame message_tree)) in omega arith
 
 -- one whole frame brings its message
-items-frame : (till : ℕ) (message : List ℕ) → IsFrameMessage message → reading_items till (reading_of (frame message)) ≡ Message till message ∷ []
-items-frame till message h = ap (λ b. reading_items till (reading_of b)) (sym (append-nil (frame message))) ∙ items-message till message [] h
+items-frame : (till : ℕ) (message_tree : List ℕ) → IsFrameMessage message_tree → reading_items till (decode_frames (frame message_tree)) ≡ Message till message_tree ∷ []
+items-frame till message_tree h = ap (λ b. reading_items till (decode_frames b)) (sym (append-nil (frame message_tree))) ∙ items-message till message_tree [] h
 
 -- ---- the setup of scripts
 
@@ -309,29 +309,29 @@ along : (log : List Turn) → IsLawful log → Along at_first log
 along log (v, s) = record { moves = s.course; turns_are = s.log_is; lawful = s.lawful }
 
 -- while a message of a till that is there waits for its answer, no poll comes
-message-first : (v : View) (till : ℕ) (message : List ℕ) (reply : Reply) (now : ℤ) → ((name : List ℕ) (moment : ℕ) → Answers name moment message (Some reply)) → is_open v.scene.outside.tills till ≡ true → v.items ≡ Message till message ∷ [] → Along v (Polled now ∷ []) → ⊥
-message-first v till message reply now answered there waits x = by_moves x.moves x.turns_are x.lawful
+message-first : (v : View) (till : ℕ) (message_tree : List ℕ) (status_reply : Reply) (now : ℤ) → ((name : List ℕ) (moment : ℕ) → RepliesTo name moment message_tree (Some status_reply)) → is_connected v.scene.outside.tills till ≡ true → v.items ≡ Message till message_tree ∷ [] → Along v (Polled now ∷ []) → ⊥
+message-first v till message_tree status_reply now answered there waits x = by_moves x.moves x.turns_are x.lawful
   where
-    owes_one : (calls : List Call) → MessageOwes true v.scene till message calls → calls ≡ [] → ⊥
+    owes_one : (calls : List Call) → MessageOwes true v.scene till message_tree calls → calls ≡ [] → ⊥
     owes_one calls x f =
-        let same : x.answer ≡ Some reply = answers-one x.setup.name v.scene.outside.moment message x.answer (Some reply) x.answers (answered x.setup.name v.scene.outside.moment) in
-        let n : Tell till reply ∷ [] ≡ [] = sym (x.is ∙ ap (told till) same) ∙ f in cc
+        let same : x.answer ≡ Some status_reply = answers-one x.setup.name v.scene.outside.moment message_tree x.answer (Some status_reply) x.answers (answered x.setup.name v.scene.outside.moment) in
+        let n : Tell till status_reply ∷ [] ≡ [] = sym (x.is ∙ ap (reply_calls till) same) ∙ f in cc
 
     by_moves : (moves : List Move) → turns_of moves ≡ Polled now ∷ [] → IsCourse v moves → ⊥
     by_moves [] e h = (let n : [] ≡ Polled now ∷ [] = e in cc)
     by_moves (Begin calls ∷ moves) e h =
         let (item, items, b) = h.0 in
-        let n : Message till message ∷ [] ≡ item ∷ items = sym waits ∙ b.first in
-        let heads : item ≡ Message till message = cc in
+        let n : Message till message_tree ∷ [] ≡ item ∷ items = sym waits ∙ b.first in
+        let heads : item ≡ Message till message_tree = cc in
         let tails : items_behind v.items ≡ [] = ap items_behind waits in
-        let owes = subst (λ b. MessageOwes b v.scene till message calls) there (subst (λ i. Owes v.scene i calls) heads b.owes) in
+        let owes = subst (λ b. MessageOwes b v.scene till message_tree calls) there (subst (λ i. Owes v.scene i calls) heads b.owes) in
         let next = take-next (after v (Begin calls)) (Polled now) [] tails (record { moves = moves; turns_are = e; lawful = h.1 }) in
         owes_one calls owes next.0.calls
     by_moves (Take first ∷ moves) e h =
         let n : first ∷ turns_of moves ≡ Polled now ∷ [] = e in
         let heads : first ≡ Polled now = cc in
         let ok : AllowedTurn v (Polled now) = subst (λ t. AllowedTurn v t) heads h.0 in
-        let m : Message till message ∷ [] ≡ [] = sym waits ∙ ok.items in
+        let m : Message till message_tree ∷ [] ≡ [] = sym waits ∙ ok.items in
         cc
 
 -- ---- the logs
@@ -340,8 +340,8 @@ message-first v till message reply now answered there waits x = by_moves x.moves
 abbrev asked_view : View
 asked_view = view_from at_first (takes asked_log)
 
-request-waits : asked_view.items ≡ Message 1 request ∷ []
-request-waits = ap (λ items. items ++ []) (items-frame 1 request request-message)
+request-waits : asked_view.items ≡ Message 1 status_request ∷ []
+request-waits = ap (λ items. items ++ []) (items-frame 1 status_request request-message)
 
 asked-course : IsCourse at_first (takes asked_log)
 asked-course = (
@@ -352,7 +352,7 @@ asked-course = (
       (refl, omega arith),
       (
         record { running = tt; calls = refl; items = refl },
-        ((record { polled = refl; open_is = refl }, rw (frame-length request, request-length) (omega arith, omega arith)), tt),
+        ((record { polled = refl; open_is = refl }, rw (frame-length status_request, request-length) (omega arith, omega arith)), tt),
       ),
     ),
   ),
@@ -362,11 +362,11 @@ asked-lawful : IsLawful asked_log
 asked-lawful = (asked_view, record { course = takes asked_log; log_is = turns_of-takes asked_log; lawful = asked-course; view_is = refl })
 
 abbrev replied_course : List Move
-replied_course = Begin (Tell 1 not_found ∷ []) ∷ Take (SentTill 1 (frame reply) true) ∷ Take (Polled (pos 0)) ∷ Take Stopped ∷ []
+replied_course = Begin (Tell 1 not_found ∷ []) ∷ Take (SentTill 1 (frame status_reply) true) ∷ Take (Polled (pos 0)) ∷ Take Stopped ∷ []
 
 replied-lawful : IsCourse asked_view replied_course
 replied-lawful = (
-  (Message 1 request, [], record { running = tt; idle = refl; first = request-waits; owes = record { setup = script_setup None; setup_is = refl; answer = Some not_found; answers = request-answered (script_setup None).name 0; is = refl } }),
+  (Message 1 status_request, [], record { running = tt; idle = refl; first = request-waits; owes = record { setup = script_setup None; setup_is = refl; answer = Some not_found; answers = request-answered (script_setup None).name 0; is = refl } }),
   ((not_found, ([], refl), ap frame reply-is), (record { running = tt; calls = refl; items = ap items_behind request-waits }, (refl, tt))),
 )
 
@@ -375,10 +375,10 @@ status-lawful = record { takes = refl; lawful = course-append at_first (takes as
 
 -- the script that was read
 abbrev status_read : Script
-status_read = record { name = None; lines = Poll (Open 1) ∷ Poll (Say 1 (frame request)) ∷ [] }
+status_read = record { name = None; lines = Poll (Open 1) ∷ Poll (Say 1 (frame status_request)) ∷ [] }
 
 script-read : script_of status_script ≡ Ok status_read
-unfolding request is_utf8 chars encode
+unfolding status_request is_utf8 chars encode
 script-read = refl
 
 status-plays : PlaysLines status_read.lines status_log
@@ -389,26 +389,26 @@ status-of-script = record {
   lawful = (view_from at_first status_course, record { course = status_course; log_is = refl; lawful = status-lawful.lawful; view_is = refl });
   plays = subst (λ read. PlaysRead read status_log) (sym script-read) status-plays;
   one_run = subst (λ read. IsRunRead read status_log) (sym script-read) (_, refl, (refl, (refl, (refl, (refl, (refl, (refl, (refl, tt))))))));
-  stopped = (Start (script_setup None) ∷ Polled (pos 0) ∷ Opened 1 ∷ Polled (pos 0) ∷ HeardTill 1 (frame request) ∷ SentTill 1 (frame reply) true ∷ Polled (pos 0) ∷ [], refl);
+  stopped = (Start (script_setup None) ∷ Polled (pos 0) ∷ Opened 1 ∷ Polled (pos 0) ∷ HeardTill 1 (frame status_request) ∷ SentTill 1 (frame status_reply) true ∷ Polled (pos 0) ∷ [], refl);
 }
 
 pub status-has-text : StatusHasText
-unfolding request reply digits
+unfolding status_request status_reply digits
 status-has-text = refl
 
 pub unasked-reply : UnaskedReply
 unasked-reply = record {
-  before = front-lawful opened_log asked_log (Polled (pos 0) ∷ HeardTill 1 (frame request) ∷ [], refl) asked-lawful;
+  before = prefix-lawful opened_log asked_log (Polled (pos 0) ∷ HeardTill 1 (frame status_request) ∷ [], refl) asked-lawful;
   behind = λ lawful.
       let a = take-next at_first (Start (script_setup None)) _ refl (along _ lawful) in
       let b = take-next _ (Polled (pos 0)) _ refl a.1 in
       let c = take-next _ (Opened 1) _ refl b.1 in
-      let d = take-next _ (SentTill 1 (frame reply) true) _ refl c.1 in
+      let d = take-next _ (SentTill 1 (frame status_reply) true) _ refl c.1 in
       none_next d.0.0 d.0.1.0 d.0.1.1;
 }
   where
-    none_next : (reply : Reply) (calls : List Call) → [] ≡ Tell 1 reply ∷ calls → ⊥
-    none_next reply calls e = cc
+    none_next : (status_reply : Reply) (calls : List Call) → [] ≡ Tell 1 status_reply ∷ calls → ⊥
+    none_next status_reply calls e = cc
 
 pub poll-before-reply : PollBeforeReply
 poll-before-reply = record {
@@ -418,6 +418,6 @@ poll-before-reply = record {
       let b = take-next _ (Polled (pos 0)) _ refl a.1 in
       let c = take-next _ (Opened 1) _ refl b.1 in
       let d = take-next _ (Polled (pos 0)) _ refl c.1 in
-      let e = take-next _ (HeardTill 1 (frame request)) _ refl d.1 in
-      message-first asked_view 1 request not_found (pos 0) request-answered refl request-waits e.1;
+      let e = take-next _ (HeardTill 1 (frame status_request)) _ refl d.1 in
+      message-first asked_view 1 status_request not_found (pos 0) request-answered refl request-waits e.1;
 }

@@ -7,7 +7,7 @@ use Rattle.gw_base.specs.declared.setup.Setup.{Setup}
 use Rattle.gw_site.specs.Outside.{Outside, outside_after, outside_from, nothing_yet}
 use Rattle.gw_site.specs.declared.turn.Turn.{Turn}
 use Rattle.gw_site.specs.declared.turn.Turn.TheVariants.{Start, OpenFailed, Polled, Opened, HeardTill, Closed, HeardPt, Lost, Stopped, Linked, LinkFailed, SentTill, SentPt, CutTill, CutPt, Wrote, Synced, DiskFailed, Crash}
-use Rattle.gw_rules.specs.Script.{Event, Open, Close, Say, Tick, Line, At, Poll, Script, script_of, script_setup}
+use Rattle.gw_rules.specs.Script.{Event, Open, Close, Say, Tick, PlayedLine, At, Poll, Script, script_of, script_setup}
 use Rattle.gw_rules.specs.Lawful.{IsLawful, IsQuiet}
 use Rattle.gw_rules.specs.Plays.{Play, applies, brings, met, play_after, Fits, PlaysFrom, rests, begins, PlaysLines, PlaysRead, IsStopped, IsRunWith}
 use Rattle.gw_rules.specs.ByLines.{IsSkipped, IsCall, IsPlayed, GoesBy, GoesByScript, Timed, timed, last_moment_of, AreSomeOf, event_of, poll_of}
@@ -46,28 +46,28 @@ plays_it o event not = by_test (applies o event) refl
 record Tail (turns : List Turn) : Type 0 where
   quiet : IsQuiet turns
   ends : IsStopped turns
-  only : (front rest : List Turn) → turns ≡ front ++ Stopped ∷ rest → rest ≡ []
+  only : (prefix rest : List Turn) → turns ≡ prefix ++ Stopped ∷ rest → rest ≡ []
 
 stops_later : (turn : Turn) (turns : List Turn) → (turn ≡ Stopped → ⊥) → IsStopped (turn ∷ turns) → IsStopped turns
 stops_later turn turns other ([], e) = absurd (other (let n : turn ∷ turns ≡ Stopped ∷ [] = e in cc))
-stops_later turn turns other (first ∷ front, e) = (front, let n : turn ∷ turns ≡ first ∷ (front ++ Stopped ∷ []) = e in cc)
+stops_later turn turns other (first ∷ prefix, e) = (prefix, let n : turn ∷ turns ≡ first ∷ (prefix ++ Stopped ∷ []) = e in cc)
 
 tail : (turn : Turn) (turns : List Turn) → (turn ≡ Stopped → ⊥) → Tail (turn ∷ turns) → Tail turns
 tail turn turns other t = record {
   quiet = t.quiet.1;
   ends = stops_later turn turns other t.ends;
-  only = λ front rest e. t.only (turn ∷ front) rest (ap (λ l. turn ∷ l) e);
+  only = λ prefix rest e. t.only (turn ∷ prefix) rest (ap (λ l. turn ∷ l) e);
 }
 
 no_tail : Tail [] → ⊥
 no_tail t = none t.ends.0 t.ends.1
   where
-    none : (front : List Turn) → [] ≡ front ++ Stopped ∷ [] → ⊥
+    none : (prefix : List Turn) → [] ≡ prefix ++ Stopped ∷ [] → ⊥
     none [] e = (let n : [] ≡ Stopped ∷ [] = e in cc)
-    none (turn ∷ front) e = (let n : [] ≡ turn ∷ (front ++ Stopped ∷ []) = e in cc)
+    none (turn ∷ prefix) e = (let n : [] ≡ turn ∷ (prefix ++ Stopped ∷ []) = e in cc)
 
 -- between two polls there are calls, and then comes a poll
-record Idles (o : Outside) (moment : ℤ) (lines : List Line) (turns : List Turn) : Type 0 where
+record Idles (o : Outside) (moment : ℤ) (lines : List PlayedLine) (turns : List Turn) : Type 0 where
   calls : List Turn
   now : ℤ
   rest : List Turn
@@ -77,7 +77,7 @@ record Idles (o : Outside) (moment : ℤ) (lines : List Line) (turns : List Turn
   plays : PlaysFrom (outside_after (outside_from o calls) (Polled now)) (met (outside_from o calls) moment lines) rest
   left : Tail rest
 
-call_first : (o : Outside) (moment : ℤ) (lines : List Line) (turn : Turn) (turns : List Turn) → IsCall turn → Idles (outside_after o turn) moment lines turns → Idles o moment lines (turn ∷ turns)
+call_first : (o : Outside) (moment : ℤ) (lines : List PlayedLine) (turn : Turn) (turns : List Turn) → IsCall turn → Idles (outside_after o turn) moment lines turns → Idles o moment lines (turn ∷ turns)
 call_first o moment lines turn turns is x = record {
   calls = turn ∷ x.calls;
   now = x.now;
@@ -92,7 +92,7 @@ call_first o moment lines turn turns is x = record {
 not_due : (turn : Turn) → [] ≡ turn ∷ [] → ⊥
 not_due turn e = cc
 
-idles : (turns : List Turn) (o : Outside) (moment : ℤ) (lines : List Line) → PlaysFrom o (rests moment lines) turns → Tail turns → Idles o moment lines turns
+idles : (turns : List Turn) (o : Outside) (moment : ℤ) (lines : List PlayedLine) → PlaysFrom o (rests moment lines) turns → Tail turns → Idles o moment lines turns
 idles [] o moment lines h t = absurd (no_tail t)
 idles (Start setup ∷ turns) o moment lines h t = absurd (let q : true ≡ false = t.quiet.0 in cc)
 idles (OpenFailed ∷ turns) o moment lines h t = absurd h.0
@@ -153,34 +153,34 @@ due_first o p event DiskFailed due fits = absurd fits
 due_first o p event (Crash file) due fits = absurd fits
 
 -- a poll that met this event
-abbrev meets : ℤ → List Line → Event → Play
+abbrev meets : ℤ → List PlayedLine → Event → Play
 meets moment lines event = record { lines = lines; moment = moment; due = brings event }
 
--- the turns behind the event
-record Brought (o : Outside) (moment : ℤ) (lines : List Line) (event : Event) (turns : List Turn) : Type 0 where
+-- the turns after the event
+record Brought (o : Outside) (moment : ℤ) (lines : List PlayedLine) (event : Event) (turns : List Turn) : Type 0 where
   rest : List Turn
   turns_are : turns ≡ brings event ++ rest
   plays : PlaysFrom (outside_from o (brings event)) (rests moment lines) rest
   left : Tail rest
 
 -- an event that has a turn
-record HasTurn (moment : ℤ) (lines : List Line) (event : Event) (turn : Turn) : Type 0 where
+record HasTurn (moment : ℤ) (lines : List PlayedLine) (event : Event) (turn : Turn) : Type 0 where
   brings_it : brings event ≡ turn ∷ []
   goes_on : (o : Outside) → play_after o (meets moment lines event) turn ≡ rests moment lines
   fits : (o : Outside) → Fits o (meets moment lines event) turn
   quiet : IsQuiet (turn ∷ [])
   other : turn ≡ Stopped → ⊥
 
-open_turn : (moment : ℤ) (lines : List Line) (till : ℕ) → HasTurn moment lines (Open till) (Opened till)
+open_turn : (moment : ℤ) (lines : List PlayedLine) (till : ℕ) → HasTurn moment lines (Open till) (Opened till)
 open_turn moment lines till = record { brings_it = refl; goes_on = λ o. refl; fits = λ o. refl; quiet = (refl, tt); other = λ e. cc }
 
-close_turn : (moment : ℤ) (lines : List Line) (till : ℕ) → HasTurn moment lines (Close till) (Closed till)
+close_turn : (moment : ℤ) (lines : List PlayedLine) (till : ℕ) → HasTurn moment lines (Close till) (Closed till)
 close_turn moment lines till = record { brings_it = refl; goes_on = λ o. refl; fits = λ o. refl; quiet = (refl, tt); other = λ e. cc }
 
-say_turn : (moment : ℤ) (lines : List Line) (till : ℕ) (bytes : List ℕ) → HasTurn moment lines (Say till bytes) (HeardTill till bytes)
+say_turn : (moment : ℤ) (lines : List PlayedLine) (till : ℕ) (bytes : List ℕ) → HasTurn moment lines (Say till bytes) (HeardTill till bytes)
 say_turn moment lines till bytes = record { brings_it = refl; goes_on = λ o. refl; fits = λ o. refl; quiet = (refl, tt); other = λ e. cc }
 
-turn_brought : (o : Outside) (moment : ℤ) (lines : List Line) (event : Event) (turn : Turn) (turns : List Turn) → HasTurn moment lines event turn → PlaysFrom o (meets moment lines event) turns → Tail turns → Brought o moment lines event turns
+turn_brought : (o : Outside) (moment : ℤ) (lines : List PlayedLine) (event : Event) (turn : Turn) (turns : List Turn) → HasTurn moment lines event turn → PlaysFrom o (meets moment lines event) turns → Tail turns → Brought o moment lines event turns
 turn_brought o moment lines event turn [] has h t = absurd (no_tail t)
 turn_brought o moment lines event turn (first ∷ turns) has h t =
     let same : first ≡ turn = due_first o (meets moment lines event) turn first has.brings_it h.0 in
@@ -191,7 +191,7 @@ turn_brought o moment lines event turn (first ∷ turns) has h t =
       left = tail first turns (λ e. has.other (sym same ∙ e)) t;
     }
 
-brought_first : (o : Outside) (moment : ℤ) (lines : List Line) (event : Event) (turns : List Turn) → PlaysFrom o (meets moment lines event) turns → Tail turns → Brought o moment lines event turns
+brought_first : (o : Outside) (moment : ℤ) (lines : List PlayedLine) (event : Event) (turns : List Turn) → PlaysFrom o (meets moment lines event) turns → Tail turns → Brought o moment lines event turns
 brought_first o moment lines (Open till) turns h t = turn_brought o moment lines (Open till) (Opened till) turns (open_turn moment lines till) h t
 brought_first o moment lines (Close till) turns h t = turn_brought o moment lines (Close till) (Closed till) turns (close_turn moment lines till) h t
 brought_first o moment lines (Say till bytes) turns h t = turn_brought o moment lines (Say till bytes) (HeardTill till bytes) turns (say_turn moment lines till bytes) h t
@@ -212,11 +212,11 @@ stop_only o moment (turn ∷ turns) h t =
     let none : turns ≡ [] = t.only [] turns (ap (λ f. f ∷ turns) same) in
     rw (same, none) refl
 
--- what the lines behind give, wherever they are reached
-abbrev LaterGoesBy : List Line → Type 0
+-- what the lines after give, wherever they are reached
+abbrev LaterGoesBy : List PlayedLine → Type 0
 LaterGoesBy lines = (o : Outside) (moment now : ℤ) (rest : List Turn) → now ≡ (met o moment lines).moment → PlaysFrom (outside_after o (Polled now)) (met o moment lines) rest → Tail rest → GoesBy o moment lines (Polled now ∷ rest)
 
-event_played : (event : Event) (lines : List Line) (o : Outside) (moment now : ℤ) (rest : List Turn) → Tail rest → LaterGoesBy lines → now ≡ moment → PlaysFrom (outside_after o (Polled now)) (meets moment lines event) rest → applies o event ≡ true
+event_played : (event : Event) (lines : List PlayedLine) (o : Outside) (moment now : ℤ) (rest : List Turn) → Tail rest → LaterGoesBy lines → now ≡ moment → PlaysFrom (outside_after o (Polled now)) (meets moment lines event) rest → applies o event ≡ true
     → IsPlayed o moment event (Polled now ∷ rest) (λ after later. GoesBy after moment lines later)
 event_played event lines o moment now rest t goes_on same plays test =
     let b = brought_first (outside_after o (Polled now)) moment lines event rest plays t in
@@ -233,15 +233,15 @@ event_played event lines o moment now rest t goes_on same plays test =
     }
 
 -- the play at a poll, by whether the line is skipped
-abbrev tested : Outside → ℤ → Event → List Line → Bool → Play
+abbrev tested : Outside → ℤ → Event → List PlayedLine → Bool → Play
 tested o moment event lines test = if test then meets moment lines event else met o moment lines
 
-by_test : (event : Event) (lines : List Line) (o : Outside) (moment now : ℤ) (rest : List Turn) → Tail rest → (test : Bool) → applies o event ≡ test → LaterGoesBy lines
+by_test : (event : Event) (lines : List PlayedLine) (o : Outside) (moment now : ℤ) (rest : List Turn) → Tail rest → (test : Bool) → applies o event ≡ test → LaterGoesBy lines
     → now ≡ (tested o moment event lines test).moment → PlaysFrom (outside_after o (Polled now)) (tested o moment event lines test) rest → GoesBy o moment (Poll event ∷ lines) (Polled now ∷ rest)
 by_test event lines o moment now rest t true test later e h = inr (event_played event lines o moment now rest t later e h test)
 by_test event lines o moment now rest t false test later e h = inl (skipped o event test, later o moment now rest e h t)
 
-goes_by : (lines : List Line) (o : Outside) (moment now : ℤ) (rest : List Turn) → now ≡ (met o moment lines).moment → PlaysFrom (outside_after o (Polled now)) (met o moment lines) rest → Tail rest → GoesBy o moment lines (Polled now ∷ rest)
+goes_by : (lines : List PlayedLine) (o : Outside) (moment now : ℤ) (rest : List Turn) → now ≡ (met o moment lines).moment → PlaysFrom (outside_after o (Polled now)) (met o moment lines) rest → Tail rest → GoesBy o moment lines (Polled now ∷ rest)
 goes_by [] o moment now rest e h t = rw (e, stop_only (outside_after o (Polled now)) moment rest h t) refl
 goes_by (At later ∷ lines) o moment now rest e h t = goes_by lines o later now rest e h t
 goes_by (Poll event ∷ lines) o moment now rest e h t =
@@ -249,8 +249,8 @@ goes_by (Poll event ∷ lines) o moment now rest e h t =
 
 -- ---- from the lines to the play
 
--- a poll here, and what plays on behind it
-record Played (o : Outside) (moment : ℤ) (lines : List Line) (turns : List Turn) : Type 0 where
+-- a poll here, and what plays on after it
+record Played (o : Outside) (moment : ℤ) (lines : List PlayedLine) (turns : List Turn) : Type 0 where
   now : ℤ
   rest : List Turn
   turns_are : turns ≡ Polled now ∷ rest
@@ -260,7 +260,7 @@ record Played (o : Outside) (moment : ℤ) (lines : List Line) (turns : List Tur
   ends : IsStopped rest
 
 stopped_more : (xs ys : List Turn) → IsStopped ys → IsStopped (xs ++ ys)
-stopped_more xs ys (front, e) = (xs ++ front, ap (λ l. xs ++ l) e ∙ sym (append_assoc xs front (Stopped ∷ [])))
+stopped_more xs ys (prefix, e) = (xs ++ prefix, ap (λ l. xs ++ l) e ∙ sym (append_assoc xs prefix (Stopped ∷ [])))
 
 call_fits : (o : Outside) (p : Play) (turn : Turn) → p.due ≡ [] → IsCall turn → Fits o p turn × (play_after o p turn ≡ p) × IsQuiet (turn ∷ [])
 call_fits o p (Start setup) idle is = absurd is
@@ -293,7 +293,7 @@ quiet_calls : (calls later : List Turn) → AreCalls calls → IsQuiet later →
 quiet_calls [] later are q = q
 quiet_calls (call ∷ calls) later are q = ((call_fits nothing_yet (begins []) call refl are.0).2.0, quiet_calls calls later are.1 q)
 
-event_plays : (o : Outside) (moment : ℤ) (lines : List Line) (event : Event) (later : List Turn) → PlaysFrom (outside_from o (brings event)) (rests moment lines) later → PlaysFrom o (meets moment lines event) (brings event ++ later)
+event_plays : (o : Outside) (moment : ℤ) (lines : List PlayedLine) (event : Event) (later : List Turn) → PlaysFrom (outside_from o (brings event)) (rests moment lines) later → PlaysFrom o (meets moment lines event) (brings event ++ later)
 event_plays o moment lines (Open till) later h = (refl, h)
 event_plays o moment lines (Close till) later h = (refl, h)
 event_plays o moment lines (Say till bytes) later h = (refl, h)
@@ -306,10 +306,10 @@ quiet_event (Say till bytes) later q = (refl, q)
 quiet_event Tick later q = q
 
 -- what plays at a poll plays before it
-plays_here : (o : Outside) (moment : ℤ) (lines : List Line) (turns : List Turn) → Played o moment lines turns → PlaysFrom o (rests moment lines) turns × IsQuiet turns × IsStopped turns
+plays_here : (o : Outside) (moment : ℤ) (lines : List PlayedLine) (turns : List Turn) → Played o moment lines turns → PlaysFrom o (rests moment lines) turns × IsQuiet turns × IsStopped turns
 plays_here o moment lines turns p = rw p.turns_are (((refl, p.now_is), p.plays), (refl, p.quiet), stopped_more (Polled p.now ∷ []) p.rest p.ends)
 
-played_back : (event : Event) (lines : List Line) (o : Outside) (moment : ℤ) (turns : List Turn) → (x : IsPlayed o moment event turns (λ after later. GoesBy after moment lines later))
+played_back : (event : Event) (lines : List PlayedLine) (o : Outside) (moment : ℤ) (turns : List Turn) → (x : IsPlayed o moment event turns (λ after later. GoesBy after moment lines later))
     → Played (outside_from o (Polled moment ∷ (brings event ++ x.calls))) moment lines x.later → Played o moment (Poll event ∷ lines) turns
 played_back event lines o moment turns x later =
     let test = plays_it o event x.not_skipped in
@@ -327,12 +327,12 @@ played_back event lines o moment turns x later =
       ends = stopped_more (brings event) (x.calls ++ x.later) (stopped_more x.calls x.later h.2);
     }
 
-skipped_back : (event : Event) (lines : List Line) (o : Outside) (moment : ℤ) (turns : List Turn) → IsSkipped o event → Played o moment lines turns → Played o moment (Poll event ∷ lines) turns
+skipped_back : (event : Event) (lines : List PlayedLine) (o : Outside) (moment : ℤ) (turns : List Turn) → IsSkipped o event → Played o moment lines turns → Played o moment (Poll event ∷ lines) turns
 skipped_back event lines o moment turns is p =
     let stands : met o moment (Poll event ∷ lines) ≡ met o moment lines = rw (skips o event is) refl in
     record { now = p.now; rest = p.rest; turns_are = p.turns_are; now_is = p.now_is ∙ ap (λ (q : Play). q.moment) (sym stands); plays = rw stands p.plays; quiet = p.quiet; ends = p.ends }
 
-plays_by : (lines : List Line) (o : Outside) (moment : ℤ) (turns : List Turn) → GoesBy o moment lines turns → Played o moment lines turns
+plays_by : (lines : List PlayedLine) (o : Outside) (moment : ℤ) (turns : List Turn) → GoesBy o moment lines turns → Played o moment lines turns
 plays_by [] o moment turns e = record { now = moment; rest = Stopped ∷ []; turns_are = e; now_is = refl; plays = (refl, tt); quiet = (refl, tt); ends = ([], refl) }
 plays_by (At now ∷ lines) o moment turns h =
     let p = plays_by lines o now turns h in
@@ -426,7 +426,7 @@ event_heard (Say till bytes) later = (refl, refl)
 event_heard Tick later = (refl, refl)
 
 -- what these lines give from this moment on
-record Gives (moment : ℤ) (lines : List Line) (turns : List Turn) : Type 0 where
+record Gives (moment : ℤ) (lines : List PlayedLine) (turns : List Turn) : Type 0 where
   played : List Timed
   of_lines : AreSomeOf played (timed moment lines)
   events : flat_map event_of turns ≡ flat_map (λ (line : Timed). brings line.event) played ++ Stopped ∷ []
@@ -436,7 +436,7 @@ some_more : (these : List Timed) (other : Timed) (those : List Timed) → AreSom
 some_more [] other those h = tt
 some_more (first ∷ these) other those h = inr h
 
-gives_event : (o : Outside) (moment : ℤ) (event : Event) (lines : List Line) (turns : List Turn) → (x : IsPlayed o moment event turns (λ after later. GoesBy after moment lines later)) → Gives moment lines x.later → Gives moment (Poll event ∷ lines) turns
+gives_event : (o : Outside) (moment : ℤ) (event : Event) (lines : List PlayedLine) (turns : List Turn) → (x : IsPlayed o moment event turns (λ after later. GoesBy after moment lines later)) → Gives moment lines x.later → Gives moment (Poll event ∷ lines) turns
 gives_event o moment event lines turns x later =
     let line : Timed = record { moment = moment; event = event } in
     let heard = event_heard event (x.calls ++ x.later) in
@@ -448,7 +448,7 @@ gives_event o moment event lines turns x later =
       moments = ap (flat_map poll_of) x.turns_are ∙ ap (λ l. moment ∷ l) (heard.1 ∙ silent.1 ∙ later.moments);
     }
 
-gives : (lines : List Line) (o : Outside) (moment : ℤ) (turns : List Turn) → GoesBy o moment lines turns → Gives moment lines turns
+gives : (lines : List PlayedLine) (o : Outside) (moment : ℤ) (turns : List Turn) → GoesBy o moment lines turns → Gives moment lines turns
 gives [] o moment turns e = record { played = []; of_lines = tt; events = ap (flat_map event_of) e; moments = ap (flat_map poll_of) e }
 gives (At now ∷ lines) o moment turns h = let g = gives lines o now turns h in record { played = g.played; of_lines = g.of_lines; events = g.events; moments = g.moments }
 gives (Poll event ∷ lines) o moment turns (inl (is, h)) =

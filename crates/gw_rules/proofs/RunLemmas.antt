@@ -5,12 +5,12 @@ use Rattle.gw_base.specs.Setup.{IsSetup}
 use Rattle.gw_base.specs.declared.setup.Setup.{Setup}
 use Rattle.gw_site.specs.declared.turn.Turn.{Turn}
 use Rattle.gw_site.specs.declared.turn.Turn.TheVariants.{Start, OpenFailed, Crash}
-use Rattle.gw_site.specs.Seen.{Seen, GrowsWhole, AddedWhole}
+use Rattle.gw_site.specs.Observed.{Observed, GrowsWhole, AddedWhole}
 use Rattle.gw_site.specs.Turns.{OpenTurns}
 use Rattle.gw_rules.specs.Scene.{View, Resting, Broken}
 use Rattle.gw_rules.specs.View.{Move, Take, view_from, after_turn}
 use Rattle.gw_rules.specs.Lawful.{IsCourse, turns_of, Stands, IsClear, IsQuiet}
-use Rattle.gw_rules.specs.Keeps.{Keeps, Ran, Runs, IsStarted, IsBegun, IsRun, JustBegun}
+use Rattle.gw_rules.specs.Triple.{Triple, Ran, RunTriple, IsStarted, IsBegun, IsRun, JustBegun}
 use Rattle.gw_rules.proofs.CourseLemmas.{quiet-append, stands-more, stands-outside}
 
 -- a call of a site whose turns are allowed and have this shape
@@ -22,7 +22,7 @@ pub record RunLeads (turns : List Turn) (v : View) (Shape : List Turn → Type 0
   pub some : turns ≡ [] → ⊥
   pub owed : Q (view_from v moves)
 
-nothing-ran : (before : List Turn) (v : View) (new : Seen) (Shape : List Turn → Type 0) (Q : View → Type 0) → new.dark ≡ true → new.log ≡ Some (before ++ []) → Stands before v → Shape [] → Ran before new Shape Q
+nothing-ran : (before : List Turn) (v : View) (new : Observed) (Shape : List Turn → Type 0) (Q : View → Type 0) → new.dark ≡ true → new.log ≡ Some (before ++ []) → Stands before v → Shape [] → Ran before new Shape Q
 nothing-ran before v new Shape Q n_is l stands shape = record {
   view = v;
   added = [];
@@ -33,7 +33,7 @@ nothing-ran before v new Shape Q n_is l stands shape = record {
   owed = λ e. absurd (let h : true ≡ false = sym n_is ∙ e in cc);
 }
 
-all-ran : (before turns : List Turn) (v : View) (new : Seen) (Shape : List Turn → Type 0) (Q : View → Type 0) → new.log ≡ Some (before ++ turns) → Stands before v → RunLeads turns v Shape Q → Ran before new Shape Q
+all-ran : (before turns : List Turn) (v : View) (new : Observed) (Shape : List Turn → Type 0) (Q : View → Type 0) → new.log ≡ Some (before ++ turns) → Stands before v → RunLeads turns v Shape Q → Ran before new Shape Q
 all-ran before turns v new Shape Q l stands x = record {
   view = view_from v x.moves;
   added = turns;
@@ -44,7 +44,7 @@ all-ran before turns v new Shape Q l stands x = record {
   owed = λ e. x.owed;
 }
 
-ran-by : (before turns added : List Turn) (v : View) (new : Seen) (Shape : List Turn → Type 0) (Q : View → Type 0) (d n : Bool) → new.dark ≡ n → AddedWhole d n turns added → new.log ≡ Some (before ++ added) → Stands before v →
+ran-by : (before turns added : List Turn) (v : View) (new : Observed) (Shape : List Turn → Type 0) (Q : View → Type 0) (d n : Bool) → new.dark ≡ n → AddedWhole d n turns added → new.log ≡ Some (before ++ added) → Stands before v →
     Shape [] → RunLeads turns v Shape Q → Ran before new Shape Q
 ran-by before turns added v new Shape Q true true n_is a l stands none x = nothing-ran before v new Shape Q n_is (rw a at l) stands none
 ran-by before turns added v new Shape Q true false n_is a l stands none x = absurd a
@@ -52,13 +52,13 @@ ran-by before turns added v new Shape Q false true n_is (inl a) l stands none x 
 ran-by before turns added v new Shape Q false true n_is (inr a) l stands none x = all-ran before turns v new Shape Q (rw a at l) stands x
 ran-by before turns added v new Shape Q false false n_is a l stands none x = all-ran before turns v new Shape Q (rw a at l) stands x
 
-open-runs : (old new : Seen) (Call : List Turn → List Turn → Type 0) (Shape : List Turn → Type 0) (Q : View → Type 0) → GrowsWhole old new Call → Shape [] →
-    ((before turns : List Turn) (v : View) → Stands before v → IsClear v → Call before turns → RunLeads turns v Shape Q) → Runs old new Shape Q
+open-runs : (old new : Observed) (Call : List Turn → List Turn → Type 0) (Shape : List Turn → Type 0) (Q : View → Type 0) → GrowsWhole old new Call → Shape [] →
+    ((before turns : List Turn) (v : View) → Stands before v → IsClear v → Call before turns → RunLeads turns v Shape Q) → RunTriple old new Shape Q
 open-runs old new Call Shape Q grows none step = record {
-  told = λ before v e stands clear.
-      let x = grows.told before e in
+  observed = λ before v e stands clear.
+      let x = grows.observed before e in
       ran-by before x.0 x.1 v new Shape Q old.dark new.dark refl x.3 x.4 stands none (step before x.0 v stands clear x.2);
-  untold = grows.untold;
+  unobserved = grows.unobserved;
   origin = grows.origin;
 }
 
@@ -72,7 +72,7 @@ started-leads E setup formed before turns v stands clear (inl e) = record {
   lawful = ((clear, formed), tt);
   shape = inr ([], tt, inl e);
   some = λ n. (let h : Start setup ∷ [] ≡ [] = sym e ∙ n in absurd cc);
-  owed = ((after_turn v (Start setup)).scene, refl, record { setup_is = refl; standing = refl; tills = refl; polls = refl });
+  owed = ((after_turn v (Start setup)).scene, refl, record { setup_is = refl; stage = refl; tills = refl; polls = refl });
 }
 started-leads E setup formed before turns v stands clear (inr x) =
     let v2 = after_turn v (Crash x.0) in
@@ -82,15 +82,15 @@ started-leads E setup formed before turns v stands clear (inr x) =
       lawful = (rw (stands-outside before v stands) x.1, ((resting-clear, formed), tt));
       shape = inr ([], tt, inr (x.0, x.2));
       some = λ n. (let h : Crash x.0 ∷ Start setup ∷ [] ≡ [] = sym x.2 ∙ n in absurd cc);
-      owed = ((after_turn v2 (Start setup)).scene, refl, record { setup_is = refl; standing = refl; tills = refl; polls = refl });
+      owed = ((after_turn v2 (Start setup)).scene, refl, record { setup_is = refl; stage = refl; tills = refl; polls = refl });
     }
 
 -- a run begins
-pub opened-runs : (E : Type 0) (setup : Setup) (old new : Seen) → IsSetup setup → GrowsWhole old new (OpenTurns {E = E} setup (Ok tt)) → Runs old new (IsBegun setup) (JustBegun setup)
+pub opened-runs : (E : Type 0) (setup : Setup) (old new : Observed) → IsSetup setup → GrowsWhole old new (OpenTurns {E = E} setup (Ok tt)) → RunTriple old new (IsBegun setup) (JustBegun setup)
 opened-runs E setup old new formed grows = open-runs old new _ _ _ grows (inl refl) (λ before turns v stands clear call. started-leads E setup formed before turns v stands clear call)
 
 -- a run doesn't begin
-pub failed-runs : {E : Type 0} (f : E) (setup : Setup) (old new : Seen) → GrowsWhole old new (OpenTurns setup (Err f)) → Runs old new (IsRun setup) (λ v. v.scene.standing ≡ Resting)
+pub failed-runs : {E : Type 0} (f : E) (setup : Setup) (old new : Observed) → GrowsWhole old new (OpenTurns setup (Err f)) → RunTriple old new (IsRun setup) (λ v. v.scene.stage ≡ Resting)
 failed-runs f setup old new grows = open-runs old new _ _ _ grows (inl refl) (λ before turns v stands clear call. record {
   moves = Take OpenFailed ∷ [];
   turns_are = sym call;
@@ -107,11 +107,11 @@ begun-more setup turns more (run, quiet, inr x) q = (run ++ more, quiet-append r
 none-more : (turns more : List Turn) → turns ≡ [] → more ≡ [] → turns ++ more ≡ []
 none-more turns more e f = rw (e, f) refl
 
-ran-then : (before : List Turn) (b c : Seen) (setup : Setup) (Q R : View → Type 0) (x : Ran before b (IsBegun setup) Q) → Keeps b c Q R → (s : IsBegun setup x.added) → Ran before c (IsBegun setup) R
+ran-then : (before : List Turn) (b c : Observed) (setup : Setup) (Q R : View → Type 0) (x : Ran before b (IsBegun setup) Q) → Triple b c Q R → (s : IsBegun setup x.added) → Ran before c (IsBegun setup) R
 ran-then before b c setup Q R x k (inl e) =
     nothing-ran before x.view c (IsBegun setup) R (k.stays (x.none e)) (k.still (x.none e) ∙ x.log_is ∙ ap (λ t. Some (before ++ t)) e) (rw (e, append-nil) at x.lawful) (inl refl)
 ran-then before b c setup Q R x k (inr s) =
-    let y = k.told (before ++ x.added) x.view x.log_is x.lawful x.owed in
+    let y = k.observed (before ++ x.added) x.view x.log_is x.lawful x.owed in
     record {
       view = view_from x.view y.moves;
       added = x.added ++ turns_of y.moves;
@@ -127,10 +127,10 @@ ran-then before b c setup Q R x k (inr s) =
     some_turns setup turns more (run, quiet, inr x) e = let h : Crash x.0 ∷ (Start setup ∷ run ++ more) ≡ [] = ap (λ t. t ++ more) (sym x.1) ∙ e in absurd cc
 
 -- a run that has begun goes on by more calls
-pub runs-then : (a b c : Seen) (setup : Setup) (Q R : View → Type 0) → Runs a b (IsBegun setup) Q → Keeps b c Q R → Runs a c (IsBegun setup) R
+pub runs-then : (a b c : Observed) (setup : Setup) (Q R : View → Type 0) → RunTriple a b (IsBegun setup) Q → Triple b c Q R → RunTriple a c (IsBegun setup) R
 runs-then a b c setup Q R x k = record {
-  told = λ before v e stands clear. let r = x.told before v e stands clear in ran-then before b c setup Q R r k r.shape;
-  untold = λ e. k.untold (x.untold e);
+  observed = λ before v e stands clear. let r = x.observed before v e stands clear in ran-then before b c setup Q R r k r.shape;
+  unobserved = λ e. k.unobserved (x.unobserved e);
   origin = k.origin ∙ x.origin;
 }
 
@@ -139,11 +139,11 @@ begun_run setup turns (inl e) = inl e
 begun_run setup turns (inr s) = inr (inr s)
 
 -- a run that has begun is a run
-pub begun-runs : (a b : Seen) (setup : Setup) (Q R : View → Type 0) → ((v : View) → Q v → R v) → Runs a b (IsBegun setup) Q → Runs a b (IsRun setup) R
+pub begun-runs : (a b : Observed) (setup : Setup) (Q R : View → Type 0) → ((v : View) → Q v → R v) → RunTriple a b (IsBegun setup) Q → RunTriple a b (IsRun setup) R
 begun-runs a b setup Q R f x = record {
-  told = λ before v e stands clear.
-      let r = x.told before v e stands clear in
+  observed = λ before v e stands clear.
+      let r = x.observed before v e stands clear in
       record { view = r.view; added = r.added; log_is = r.log_is; lawful = r.lawful; shape = begun_run setup r.added r.shape; none = r.none; owed = λ d. f r.view (r.owed d) };
-  untold = x.untold;
+  unobserved = x.unobserved;
   origin = x.origin;
 }

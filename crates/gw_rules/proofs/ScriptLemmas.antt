@@ -1,9 +1,9 @@
--- A script is read as what its lines make, and the first wrong line is told exactly where they make none.
+-- A script is read as what its lines make, and the first wrong line is reported exactly where they make none.
 use Rattle.std.proofs.Common.{◌≡◌, ℕ, zero, suc, ◌+◌, ◌-◌, ◌<◌, List, [], ◌∷◌, ◌++◌, length, take, refl, sym, ◌∙◌, ap, arith, append_assoc, append-nil}
 use Rattle.std.specs.Option.{option_to_list}
 use Rattle.std.specs.Prelude.{Option, Some, None, option_and_then, Ok, Err}
-use Rattle.gw_rules.specs.Script.{Line, Script, Entry, Blank, Naming, Playing, entry_of, goes_on, no_lines, script_from, split_lines, with_entry}
-use Rattle.gw_rules.specs.Grammar.{AreEntries, AreScript, IsFirstWrong, NamesComeFirst, ReadsScripts, lines_of, names_of}
+use Rattle.gw_rules.specs.Script.{PlayedLine, Script, Entry, Blank, Naming, Playing, entry_of, script_goes_on, no_lines, script_from, split_lines, with_entry}
+use Rattle.gw_rules.specs.Grammar.{AreEntries, AreScript, IsFirstWrong, NamesComeFirst, ReadsScripts, played_lines, script_names}
 use Rattle.gw_rules.proofs.EntryLemmas.{entry_spelled}
 use Rattle.gw_rules.proofs.EntryReadLemmas.{entry_read}
 
@@ -61,37 +61,37 @@ texts_taken script (entry ∷ entries) (text ∷ texts) are = rw (entry_read ent
 
 -- ---- what entries make of a script
 
--- no name comes behind a line that is played
-abbrev OnlyFirst : List Line → List Entry → Type 0
+-- no name comes after a line that is played
+abbrev OnlyFirst : List PlayedLine → List Entry → Type 0
 OnlyFirst [] entries = NamesComeFirst entries
-OnlyFirst (line ∷ lines) entries = names_of entries ≡ []
+OnlyFirst (line ∷ lines) entries = script_names entries ≡ []
 
 -- the entries make this script of one with this name and these lines
-record Makes (name : Option (List ℕ)) (lines : List Line) (entries : List Entry) (result : Script) : Type 0 where
-  names : option_to_list name ++ names_of entries ≡ option_to_list result.name
+record Makes (name : Option (List ℕ)) (lines : List PlayedLine) (entries : List Entry) (result : Script) : Type 0 where
+  names : option_to_list name ++ script_names entries ≡ option_to_list result.name
   first : OnlyFirst lines entries
-  all : lines ++ lines_of entries ≡ result.lines
+  all : lines ++ played_lines entries ≡ result.lines
 
-abbrev so_far : Option (List ℕ) → List Line → Script
+abbrev so_far : Option (List ℕ) → List PlayedLine → Script
 so_far name lines = record { name = name; lines = lines }
 
-none_left : (lines : List Line) → OnlyFirst lines []
+none_left : (lines : List PlayedLine) → OnlyFirst lines []
 none_left [] = tt
 none_left (line ∷ lines) = refl
 
-skip_blank : (lines : List Line) (entries : List Entry) → OnlyFirst lines entries → OnlyFirst lines (Blank ∷ entries)
+skip_blank : (lines : List PlayedLine) (entries : List Entry) → OnlyFirst lines entries → OnlyFirst lines (Blank ∷ entries)
 skip_blank [] entries h = h
 skip_blank (line ∷ lines) entries h = h
 
-behind_blank : (lines : List Line) (entries : List Entry) → OnlyFirst lines (Blank ∷ entries) → OnlyFirst lines entries
+behind_blank : (lines : List PlayedLine) (entries : List Entry) → OnlyFirst lines (Blank ∷ entries) → OnlyFirst lines entries
 behind_blank [] entries h = h
 behind_blank (line ∷ lines) entries h = h
 
-before_line : (lines : List Line) (line : Line) (entries : List Entry) → OnlyFirst (lines ++ line ∷ []) entries → OnlyFirst lines (Playing line ∷ entries)
+before_line : (lines : List PlayedLine) (line : PlayedLine) (entries : List Entry) → OnlyFirst (lines ++ line ∷ []) entries → OnlyFirst lines (Playing line ∷ entries)
 before_line [] line entries h = h
 before_line (first ∷ lines) line entries h = h
 
-behind_line : (lines : List Line) (line : Line) (entries : List Entry) → OnlyFirst lines (Playing line ∷ entries) → OnlyFirst (lines ++ line ∷ []) entries
+behind_line : (lines : List PlayedLine) (line : PlayedLine) (entries : List Entry) → OnlyFirst lines (Playing line ∷ entries) → OnlyFirst (lines ++ line ∷ []) entries
 behind_line [] line entries h = h
 behind_line (first ∷ lines) line entries h = h
 
@@ -101,7 +101,7 @@ some_is x a e = cc
 none_some : {A B : Type 0} (a : A) → None ≡ Some a → B
 none_some a e = absurd (cc)
 
-made : (name : Option (List ℕ)) (lines : List Line) (entries : List Entry) (result : Script) → with_entries (so_far name lines) entries ≡ Some result → Makes name lines entries result
+made : (name : Option (List ℕ)) (lines : List PlayedLine) (entries : List Entry) (result : Script) → with_entries (so_far name lines) entries ≡ Some result → Makes name lines entries result
 made name lines [] result e =
     let same : so_far name lines ≡ result = some_is (so_far name lines) result e in
     record {
@@ -119,7 +119,7 @@ made None [] (Naming name ∷ entries) result e =
     record { names = later.names; first = later.first; all = later.all }
 made name lines (Playing line ∷ entries) result e =
     let later = made name (lines ++ line ∷ []) entries result e in
-    record { names = later.names; first = before_line lines line entries later.first; all = sym (append_assoc lines (line ∷ []) (lines_of entries)) ∙ later.all }
+    record { names = later.names; first = before_line lines line entries later.first; all = sym (append_assoc lines (line ∷ []) (played_lines entries)) ∙ later.all }
 
 name_is : (name other : Option (List ℕ)) → option_to_list name ≡ option_to_list other → name ≡ other
 name_is None None e = refl
@@ -131,17 +131,17 @@ two_names : (first second : List ℕ) (names : List (List ℕ)) (name : Option (
 two_names first second names None e = let h : first ∷ second ∷ names ≡ [] = e in cc
 two_names first second names (Some name) e = let h : first ∷ second ∷ names ≡ name ∷ [] = e in cc
 
-makes : (name : Option (List ℕ)) (lines : List Line) (entries : List Entry) (result : Script) → Makes name lines entries result → with_entries (so_far name lines) entries ≡ Some result
+makes : (name : Option (List ℕ)) (lines : List PlayedLine) (entries : List Entry) (result : Script) → Makes name lines entries result → with_entries (so_far name lines) entries ≡ Some result
 makes name lines [] result m =
     let n = name_is name result.name (sym (append-nil (option_to_list name)) ∙ m.names) in
     let l = sym (append-nil lines) ∙ m.all in
     ap Some (ap (λ n. so_far n lines) n ∙ ap (so_far result.name) l)
 makes name lines (Blank ∷ entries) result m = makes name lines entries result (record { names = m.names; first = behind_blank lines entries m.first; all = m.all })
-makes (Some old) lines (Naming name ∷ entries) result m = absurd (two_names old name (names_of entries) result.name m.names)
-makes None (line ∷ lines) (Naming name ∷ entries) result m = absurd (let h : name ∷ names_of entries ≡ [] = m.first in cc)
+makes (Some old) lines (Naming name ∷ entries) result m = absurd (two_names old name (script_names entries) result.name m.names)
+makes None (line ∷ lines) (Naming name ∷ entries) result m = absurd (let h : name ∷ script_names entries ≡ [] = m.first in cc)
 makes None [] (Naming name ∷ entries) result m = makes (Some name) [] entries result (record { names = m.names; first = m.first; all = m.all })
 makes name lines (Playing line ∷ entries) result m =
-    makes name (lines ++ line ∷ []) entries result (record { names = m.names; first = behind_line lines line entries m.first; all = append_assoc lines (line ∷ []) (lines_of entries) ∙ m.all })
+    makes name (lines ++ line ∷ []) entries result (record { names = m.names; first = behind_line lines line entries m.first; all = append_assoc lines (line ∷ []) (played_lines entries) ∙ m.all })
 
 -- the lines of these texts make a script exactly where they all may stand there
 texts_script : (texts : List (List ℕ)) (script : Script) → with_texts no_lines texts ≡ Some script → AreScript texts script
@@ -159,7 +159,7 @@ ok_texts : (script : Script) (number : ℕ) (texts : List (List ℕ)) (result : 
 ok_texts script number [] result e = (let h : Ok script ≡ Ok result = e in let k : script ≡ result = cc in ap Some k)
 ok_texts script number (text ∷ texts) result e = by_step (with_text script text) (λ more. ok_texts more (number + 1) texts result) e
   where
-    by_step : (step : Option Script) → ((more : Script) → script_from more (number + 1) texts ≡ Ok result → with_texts more texts ≡ Some result) → goes_on step number (λ more. script_from more (number + 1) texts) ≡ Ok result → option_and_then (λ more. with_texts more texts) step ≡ Some result
+    by_step : (step : Option Script) → ((more : Script) → script_from more (number + 1) texts ≡ Ok result → with_texts more texts ≡ Some result) → script_goes_on step number (λ more. script_from more (number + 1) texts) ≡ Ok result → option_and_then (λ more. with_texts more texts) step ≡ Some result
     by_step None later e = absurd (let h : Err number ≡ Ok result = e in cc)
     by_step (Some more) later e = later more e
 
@@ -167,7 +167,7 @@ texts_ok : (script : Script) (number : ℕ) (texts : List (List ℕ)) (result : 
 texts_ok script number [] result e = ap Ok (some_is script result e)
 texts_ok script number (text ∷ texts) result e = by_step (with_text script text) (λ more. texts_ok more (number + 1) texts result) e
   where
-    by_step : (step : Option Script) → ((more : Script) → with_texts more texts ≡ Some result → script_from more (number + 1) texts ≡ Ok result) → option_and_then (λ more. with_texts more texts) step ≡ Some result → goes_on step number (λ more. script_from more (number + 1) texts) ≡ Ok result
+    by_step : (step : Option Script) → ((more : Script) → with_texts more texts ≡ Some result → script_from more (number + 1) texts ≡ Ok result) → option_and_then (λ more. with_texts more texts) step ≡ Some result → script_goes_on step number (λ more. script_from more (number + 1) texts) ≡ Ok result
     by_step None later e = none_some result e
     by_step (Some more) later e = later more e
 
@@ -187,7 +187,7 @@ err_texts : (script : Script) (number : ℕ) (texts : List (List ℕ)) (wrong : 
 err_texts script number [] wrong e = absurd (let h : Ok script ≡ Err wrong = e in cc)
 err_texts script number (text ∷ texts) wrong e = by_step (with_text script text) refl (λ more. err_texts more (number + 1) texts wrong) e
   where
-    by_step : (step : Option Script) → with_text script text ≡ step → ((more : Script) → script_from more (number + 1) texts ≡ Err wrong → WrongAt more (number + 1) texts wrong) → goes_on step number (λ more. script_from more (number + 1) texts) ≡ Err wrong → WrongAt script number (text ∷ texts) wrong
+    by_step : (step : Option Script) → with_text script text ≡ step → ((more : Script) → script_from more (number + 1) texts ≡ Err wrong → WrongAt more (number + 1) texts wrong) → script_goes_on step number (λ more. script_from more (number + 1) texts) ≡ Err wrong → WrongAt script number (text ∷ texts) wrong
     by_step None step later e =
         let h : Err number ≡ Err wrong = e in
         let same : number ≡ wrong = cc in

@@ -4,24 +4,24 @@ use Rattle.std.proofs.lemmas.Bool.{and_from, and_parts, le-leb, leb-true}
 use Rattle.std.specs.Prelude.{nat_le}
 use Rattle.std.specs.List.{AllByRecursion, list_all}
 use Rattle.hex.specs.Hex.{encode_lower}
-use Rattle.sale_frame.specs.Frame.{frame}
-use Rattle.sale_frame.specs.Reading.{is_frame}
-use Rattle.sale_frame.proofs.ReadingLemmas.{frame_passes, is_framed}
-use Rattle.gw_rules.specs.LogText.{is_printable, is_shown_frame, shown}
+use Rattle.sale_frame.specs.Grammar.{frame}
+use Rattle.sale_frame.specs.Decode.{is_frame}
+use Rattle.sale_frame.proofs.DecodeLemmas.{frame_passes, is_framed}
+use Rattle.gw_rules.specs.LogText.{is_space_or_visible, is_shown_frame, till_bytes_text}
 use Rattle.gw_rules.specs.Laws.{ShowsFrame, ShowsBytes}
 
 abbrev ArePrintable : List ℕ → Type 0
 ArePrintable bytes = AllByRecursion (λ byte. (32 ≤ byte) × (byte ≤ 126)) bytes
 
-printable_passes : (bytes : List ℕ) → ArePrintable bytes → list_all is_printable bytes ≡ true
+printable_passes : (bytes : List ℕ) → ArePrintable bytes → list_all is_space_or_visible bytes ≡ true
 printable_passes [] all = refl
 printable_passes (byte ∷ bytes) all =
-    and_from (is_printable byte) (list_all is_printable bytes) (and_from (nat_le 32 byte) (nat_le byte 126) (le-leb 32 byte all.0.0) (le-leb byte 126 all.0.1)) (printable_passes bytes all.1)
+    and_from (is_space_or_visible byte) (list_all is_space_or_visible bytes) (and_from (nat_le 32 byte) (nat_le byte 126) (le-leb 32 byte all.0.0) (le-leb byte 126 all.0.1)) (printable_passes bytes all.1)
 
-passes_printable : (bytes : List ℕ) → list_all is_printable bytes ≡ true → ArePrintable bytes
+passes_printable : (bytes : List ℕ) → list_all is_space_or_visible bytes ≡ true → ArePrintable bytes
 passes_printable [] test = tt
 passes_printable (byte ∷ bytes) test =
-    let parts = and_parts (is_printable byte) (list_all is_printable bytes) test in
+    let parts = and_parts (is_space_or_visible byte) (list_all is_space_or_visible bytes) test in
     let limits = and_parts (nat_le 32 byte) (nat_le byte 126) parts.0 in
     ((leb-true 32 byte limits.0, leb-true byte 126 limits.1), passes_printable bytes parts.1)
 
@@ -33,9 +33,9 @@ shows-frame message is =
 pub shows-bytes : ShowsBytes
 shows-bytes bytes small other = by_test (is_shown_frame bytes) refl
   where
-    by_test : (test : Bool) → is_shown_frame bytes ≡ test → shown bytes ≡ encode_lower bytes
+    by_test : (test : Bool) → is_shown_frame bytes ≡ test → till_bytes_text bytes ≡ encode_lower bytes
     by_test true test =
-        let parts = and_parts (is_frame bytes) (list_all is_printable (drop 4 bytes)) test in
+        let parts = and_parts (is_frame bytes) (list_all is_space_or_visible (drop 4 bytes)) test in
         let framed = is_framed bytes small parts.0 in
         absurd (other (drop 4 bytes) (record { is_message = framed.0; printable = passes_printable (drop 4 bytes) parts.1 }) framed.1)
     by_test false test = rw test refl

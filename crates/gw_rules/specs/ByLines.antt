@@ -1,17 +1,17 @@
 -- A log beside its script, line by line, in the words of the script's table.
 use Rattle.std.specs.Prelude.{◌≡◌, ◌⊎◌, ◌<◌, ℤ, pos, true, false, List, [], ◌∷◌, ◌++◌, map}
 use Rattle.std.specs.List.{AllByRecursion, flat_map}
-use Rattle.gw_site.specs.Outside.{Outside, outside_from, outside_of, is_open}
+use Rattle.gw_site.specs.Outside.{Outside, outside_from, outside_of, is_connected}
 use Rattle.gw_site.specs.declared.turn.Turn.{Turn}
 use Rattle.gw_site.specs.declared.turn.Turn.TheVariants.{Start, OpenFailed, Polled, Opened, HeardTill, Closed, HeardPt, Lost, Stopped, Linked, LinkFailed, SentTill, SentPt, CutTill, CutPt, Wrote, Synced, DiskFailed, Crash}
-use Rattle.gw_rules.specs.Script.{Event, Open, Close, Say, Tick, Line, At, Poll, Script, script_setup}
+use Rattle.gw_rules.specs.Script.{Event, Open, Close, Say, Tick, PlayedLine, At, Poll, Script, script_setup}
 use Rattle.gw_rules.specs.Plays.{brings}
 
 -- the line is skipped: the number of the till that opens isn't above all that opened in this run, or the till that closes or sends isn't there
 abbrev pub IsSkipped : Outside → Event → Type 0
 IsSkipped o (Open till) = till < o.next_till
-IsSkipped o (Close till) = is_open o.tills till ≡ false
-IsSkipped o (Say till bytes) = is_open o.tills till ≡ false
+IsSkipped o (Close till) = is_connected o.tills till ≡ false
+IsSkipped o (Say till bytes) = is_connected o.tills till ≡ false
 IsSkipped o Tick = ⊥
 
 -- the turn is that of a call which the gateway made and which didn't fail
@@ -36,7 +36,7 @@ IsCall Synced = Unit {0}
 IsCall DiskFailed = ⊥
 IsCall (Crash file) = ⊥
 
--- a line that isn't skipped gives a poll at the moment that is set, its event, and behind it the calls of the gateway; from there the log goes on
+-- a line that isn't skipped gives a poll at the moment that is set, its event, and after it the calls of the gateway; from there the log goes on
 pub record IsPlayed (o : Outside) (moment : ℤ) (event : Event) (turns : List Turn) (GoesOn : Outside → List Turn → Type 0) : Type 0 where
   pub calls : List Turn
   pub later : List Turn
@@ -45,8 +45,8 @@ pub record IsPlayed (o : Outside) (moment : ℤ) (event : Event) (turns : List T
   pub turns_are : turns ≡ Polled moment ∷ (brings event ++ (calls ++ later))
   pub goes_on : GoesOn (outside_from o (Polled moment ∷ (brings event ++ calls))) later
 
--- From this outside and this moment on, these lines give these turns: behind the last line a poll that brings the stop; an `at` line sets the moment; any other is skipped or played.
-abbrev pub GoesBy : Outside → ℤ → List Line → List Turn → Type 0
+-- From this outside and this moment on, these lines give these turns: after the last line a poll that brings the stop; an `at` line sets the moment; any other is skipped or played.
+abbrev pub GoesBy : Outside → ℤ → List PlayedLine → List Turn → Type 0
 GoesBy o moment [] turns = turns ≡ Polled moment ∷ Stopped ∷ []
 GoesBy o moment (At now ∷ lines) turns = GoesBy o now lines turns
 GoesBy o moment (Poll event ∷ lines) turns = (IsSkipped o event × GoesBy o moment lines turns) ⊎ IsPlayed o moment event turns (λ after later. GoesBy after moment lines later)
@@ -64,14 +64,14 @@ pub record Timed : Type 0 where
   pub moment : ℤ
   pub event : Event
 
--- the lines that poll, each with the moment of the last `at` line in front of it
-abbrev pub timed : ℤ → List Line → List Timed
+-- the lines that poll, each with the moment of the last `at` line before it
+abbrev pub timed : ℤ → List PlayedLine → List Timed
 timed moment [] = []
 timed moment (At now ∷ lines) = timed now lines
 timed moment (Poll event ∷ lines) = record { moment = moment; event = event } ∷ timed moment lines
 
 -- the moment of the last `at` line
-abbrev pub last_moment_of : ℤ → List Line → ℤ
+abbrev pub last_moment_of : ℤ → List PlayedLine → ℤ
 last_moment_of moment [] = moment
 last_moment_of moment (At now ∷ lines) = last_moment_of now lines
 last_moment_of moment (Poll event ∷ lines) = last_moment_of moment lines
@@ -126,8 +126,8 @@ poll_of Synced = []
 poll_of DiskFailed = []
 poll_of (Crash file) = []
 
--- The polls and events of the log are those of some of the script's lines, in their order, each poll at the moment of the last `at` line in front; behind them comes a poll at the moment of the last `at` line of all, which brings the stop.
-pub record HasEventsOf (lines : List Line) (log : List Turn) : Type 0 where
+-- The polls and events of the log are those of some of the script's lines, in their order, each poll at the moment of the last `at` line before it; after them comes a poll at the moment of the last `at` line of all, which brings the stop.
+pub record HasEventsOf (lines : List PlayedLine) (log : List Turn) : Type 0 where
   pub played : List Timed
   pub of_lines : AreSomeOf played (timed (pos 0) lines)
   pub events : flat_map event_of log ≡ flat_map (λ (line : Timed). brings line.event) played ++ Stopped ∷ []

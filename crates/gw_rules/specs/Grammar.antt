@@ -7,8 +7,8 @@ use Rattle.hex.specs.Hex.{decode_of}
 use Rattle.gw_base.specs.Ident.{IsIdent}
 use Rattle.gw_base.specs.Moment.{last_moment}
 use Rattle.gw_site.specs.Turns.{IsCount}
-use Rattle.sale_frame.specs.Frame.{frame}
-use Rattle.gw_rules.specs.Script.{Event, Open, Close, Say, Tick, Line, At, Poll, Script, Entry, Blank, Naming, Playing, script_of, split_lines}
+use Rattle.sale_frame.specs.Grammar.{frame}
+use Rattle.gw_rules.specs.Script.{Event, Open, Close, Say, Tick, PlayedLine, At, Poll, Script, Entry, Blank, Naming, Playing, script_of, split_lines}
 
 -- the text is this word, a space, and this
 abbrev pub IsWorded : List ℕ → List ℕ → List ℕ → Type 0
@@ -27,14 +27,14 @@ abbrev pub SpellsBytes : ℕ → List ℕ → List ℕ → Type 0
 SpellsBytes till bytes text = (hex : List ℕ) × IsOfTill (codes "till") till hex text × (decode_of hex ≡ Ok bytes) × IsCount (length bytes)
 
 -- `say T TEXT`: 1 to 4,092 bytes, which are framed
-abbrev pub SpellsText : ℕ → List ℕ → List ℕ → Type 0
-SpellsText till bytes text = (said : List ℕ) × IsOfTill (codes "say") till said text × (bytes ≡ frame said) × (1 ≤ length said) × (length said ≤ 4092)
+abbrev pub SpellsSaid : ℕ → List ℕ → List ℕ → Type 0
+SpellsSaid till bytes text = (said : List ℕ) × IsOfTill (codes "say") till said text × (bytes ≡ frame said) × (1 ≤ length said) × (length said ≤ 4092)
 
 -- what the text of a line that polls brings
 abbrev pub SpellsEvent : Event → List ℕ → Type 0
 SpellsEvent (Open till) text = IsNumbered (codes "open") till text
 SpellsEvent (Close till) text = IsNumbered (codes "close") till text
-SpellsEvent (Say till bytes) text = SpellsBytes till bytes text ⊎ SpellsText till bytes text
+SpellsEvent (Say till bytes) text = SpellsBytes till bytes text ⊎ SpellsSaid till bytes text
 SpellsEvent Tick text = text ≡ codes "tick"
 
 -- what the text of a line is: one row for each form
@@ -56,33 +56,33 @@ AreEntries (entry ∷ entries) [] = ⊥
 AreEntries (entry ∷ entries) (text ∷ texts) = IsEntry entry text × AreEntries entries texts
 
 -- the names that the lines give
-abbrev pub names_of : List Entry → List (List ℕ)
-names_of [] = []
-names_of (Blank ∷ entries) = names_of entries
-names_of (Naming name ∷ entries) = name ∷ names_of entries
-names_of (Playing line ∷ entries) = names_of entries
+abbrev pub script_names : List Entry → List (List ℕ)
+script_names [] = []
+script_names (Blank ∷ entries) = script_names entries
+script_names (Naming name ∷ entries) = name ∷ script_names entries
+script_names (Playing line ∷ entries) = script_names entries
 
 -- the lines that are played
-abbrev pub lines_of : List Entry → List Line
-lines_of [] = []
-lines_of (Blank ∷ entries) = lines_of entries
-lines_of (Naming name ∷ entries) = lines_of entries
-lines_of (Playing line ∷ entries) = line ∷ lines_of entries
+abbrev pub played_lines : List Entry → List PlayedLine
+played_lines [] = []
+played_lines (Blank ∷ entries) = played_lines entries
+played_lines (Naming name ∷ entries) = played_lines entries
+played_lines (Playing line ∷ entries) = line ∷ played_lines entries
 
 -- names stand before all lines that are played
 abbrev pub NamesComeFirst : List Entry → Type 0
 NamesComeFirst [] = Unit {0}
 NamesComeFirst (Blank ∷ entries) = NamesComeFirst entries
 NamesComeFirst (Naming name ∷ entries) = NamesComeFirst entries
-NamesComeFirst (Playing line ∷ entries) = names_of entries ≡ []
+NamesComeFirst (Playing line ∷ entries) = script_names entries ≡ []
 
 -- these texts make the script: one name at most, before the lines that are played
 pub record AreScript (texts : List (List ℕ)) (script : Script) : Type 0 where
   pub entries : List Entry
   pub spelled : AreEntries entries texts
-  pub name : names_of entries ≡ option_to_list script.name
+  pub name : script_names entries ≡ option_to_list script.name
   pub first : NamesComeFirst entries
-  pub lines : lines_of entries ≡ script.lines
+  pub lines : played_lines entries ≡ script.lines
 
 -- line number of the texts is the first that is wrong: the lines before it make a script, and with it they make none
 pub record IsFirstWrong (number : ℕ) (texts : List (List ℕ)) : Type 0 where

@@ -1,23 +1,23 @@
 -- A log plays a script: its events, moments and failures are those of the script's lines.
 use Rattle.std.specs.Prelude.{◌≡◌, ℕ, ℤ, pos, nat_le, Bool, true, if◌then◌else◌, List, [], ◌∷◌, ◌++◌, Result, Ok, Err}
 use Rattle.gw_base.specs.declared.setup.Setup.{Setup}
-use Rattle.gw_site.specs.Outside.{Outside, outside_after, nothing_yet, is_open}
+use Rattle.gw_site.specs.Outside.{Outside, outside_after, nothing_yet, is_connected}
 use Rattle.gw_site.specs.declared.turn.Turn.{Turn}
 use Rattle.gw_site.specs.declared.turn.Turn.TheVariants.{Start, OpenFailed, Polled, Opened, HeardTill, Closed, HeardPt, Lost, Stopped, Linked, LinkFailed, SentTill, SentPt, CutTill, CutPt, Wrote, Synced, DiskFailed, Crash}
-use Rattle.gw_rules.specs.Script.{Event, Open, Close, Say, Tick, Line, At, Poll, Script, script_of, script_setup}
+use Rattle.gw_rules.specs.Script.{Event, Open, Close, Say, Tick, PlayedLine, At, Poll, Script, script_of, script_setup}
 use Rattle.gw_rules.specs.Lawful.{IsLawful, IsQuiet}
 
 -- where a script stands: the lines that are left, the moment of the last `at` line passed, and the event that a poll has met and not yet brought
 pub record Play : Type 0 where
-  pub lines : List Line
+  pub lines : List PlayedLine
   pub moment : ℤ
   pub due : List Turn
 
 -- the event isn't skipped: a till opens with a number above all of the run, and closes or sends bytes where it is open
 abbrev pub applies : Outside → Event → Bool
 applies o (Open till) = nat_le o.next_till till
-applies o (Close till) = is_open o.tills till
-applies o (Say till bytes) = is_open o.tills till
+applies o (Close till) = is_connected o.tills till
+applies o (Say till bytes) = is_connected o.tills till
 applies o Tick = true
 
 -- the turn of an event, where it has one
@@ -27,8 +27,8 @@ brings (Close till) = Closed till ∷ []
 brings (Say till bytes) = HeardTill till bytes ∷ []
 brings Tick = []
 
--- a poll meets the first event that isn't skipped, and the end behind the last line; the `at` lines before it set the moment
-abbrev pub met : Outside → ℤ → List Line → Play
+-- a poll meets the first event that isn't skipped, and the end after the last line; the `at` lines before it set the moment
+abbrev pub met : Outside → ℤ → List PlayedLine → Play
 met o moment [] = record { lines = []; moment = moment; due = Stopped ∷ [] }
 met o moment (At now ∷ lines) = met o now lines
 met o moment (Poll event ∷ lines) = if applies o event then record { lines = lines; moment = moment; due = brings event } else met o moment lines
@@ -98,39 +98,39 @@ abbrev pub PlaysFrom : Outside → Play → List Turn → Type 0
 PlaysFrom o p [] = Unit {0}
 PlaysFrom o p (turn ∷ turns) = Fits o p turn × PlaysFrom (outside_after o turn) (play_after o p turn) turns
 
--- where the script stands after more turns
+-- Inner: where the script stands after more turns
 abbrev pub play_from : Outside → Play → List Turn → Play
 play_from o p [] = p
 play_from o p (turn ∷ turns) = play_from (outside_after o turn) (play_after o p turn) turns
 
 -- between two calls
-abbrev pub rests : ℤ → List Line → Play
+abbrev pub rests : ℤ → List PlayedLine → Play
 rests moment lines = record { lines = lines; moment = moment; due = [] }
 
 -- before the first turn; the moment begins at 0
-abbrev pub begins : List Line → Play
+abbrev pub begins : List PlayedLine → Play
 begins lines = rests (pos 0) lines
 
--- where these lines stand after the log
-abbrev pub play_of : List Line → List Turn → Play
+-- Inner: where these lines stand after the log
+abbrev pub play_of : List PlayedLine → List Turn → Play
 play_of lines log = play_from nothing_yet (begins lines) log
 
--- the log plays these lines, or a front of them
-abbrev pub PlaysLines : List Line → List Turn → Type 0
+-- the log plays these lines, or a prefix of them
+abbrev pub PlaysLines : List PlayedLine → List Turn → Type 0
 PlaysLines lines log = PlaysFrom nothing_yet (begins lines) log
 
--- the log plays the script that was read, or a front of it; none plays a text that is no script
+-- the log plays the script that was read, or a prefix of it; none plays a text that is no script
 abbrev pub PlaysRead : Result Script ℕ → List Turn → Type 0
 PlaysRead (Ok script) log = PlaysLines script.lines log
 PlaysRead (Err number) log = ⊥
 
--- the log plays the script of this text, or a front of it
+-- the log plays the script of this text, or a prefix of it
 abbrev pub Plays : List ℕ → List Turn → Type 0
 Plays text log = PlaysRead (script_of text) log
 
 -- the log ends where the script was read to its end
 abbrev pub IsStopped : List Turn → Type 0
-IsStopped log = (front : List Turn) × (log ≡ front ++ Stopped ∷ [])
+IsStopped log = (prefix : List Turn) × (log ≡ prefix ++ Stopped ∷ [])
 
 -- one run with this setup
 abbrev pub IsRunWith : Setup → List Turn → Type 0

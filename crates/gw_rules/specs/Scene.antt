@@ -5,18 +5,18 @@ use Rattle.gw_site.specs.Outside.{Outside}
 use Rattle.gw_rules.specs.Reply.{Reply}
 
 -- who is at the other end of a line: a till or a terminal, by its number
-pub data Peer : Type 0 where
-  Till : ℕ → Peer
-  Pt : ℕ → Peer
+pub data ConnectionOf : Type 0 where
+  Till : ℕ → ConnectionOf
+  Pt : ℕ → ConnectionOf
 
 -- a call of the site that is owed, by what it says and not by its bytes
 pub data Call : Type 0 where
-  -- tell the till this
+  -- send the till this reply
   Tell : ℕ → Reply → Call
   -- send these bytes to the terminal
   Order : ℕ → List ℕ → Call
   -- cut the line
-  Cut : Peer → Call
+  Cut : ConnectionOf → Call
   -- connect the terminal
   Link : ℕ → Call
   -- write these bytes at this place of the file
@@ -34,38 +34,38 @@ pub data Item : Type 0 where
   Unframed : ℕ → Item
 
 -- how far the run is
-pub data Standing : Type 0 where
+pub data Stage : Type 0 where
   -- there is no run
-  Resting : Standing
+  Resting : Stage
   -- the journal is opened, and the run goes on
-  Opening : Standing
+  Opening : Stage
   -- the journal is opened, and refused once its calls are made
-  Refusing : Standing
+  Refusing : Stage
   -- the site was polled, and its event may come
-  AtPoll : Standing
+  AtPoll : Stage
   -- an event is handled
-  Serving : Standing
+  Serving : Stage
   -- the run has ended
-  Over : Standing
+  Over : Stage
   -- a call on the disk has failed
-  Broken : Standing
+  Broken : Stage
 
 -- the outside, the setup of the run, how far the run is, whether the last turn was a write, and the polls of the run
 pub record Scene : Type 0 where
   pub outside : Outside
   pub setup : Option Setup
-  pub standing : Standing
+  pub stage : Stage
   pub wrote : Bool
   pub polls : ℕ
 
--- the scene, the calls that are owed now, in order, and the items that come behind them
+-- the scene, the calls that are owed now, in order, and the items that come after them
 pub record View : Type 0 where
   pub scene : Scene
   pub calls : List Call
   pub items : List Item
 
 -- a run goes on
-abbrev pub IsRunning : Standing → Type 0
+abbrev pub IsRunning : Stage → Type 0
 IsRunning Resting = ⊥
 IsRunning Opening = Unit {0}
 IsRunning Refusing = ⊥
@@ -75,7 +75,7 @@ IsRunning Over = ⊥
 IsRunning Broken = ⊥
 
 -- once anything follows a poll but its event, there is none
-abbrev pub busy : Standing → Standing
+abbrev pub busy : Stage → Stage
 busy Resting = Resting
 busy Opening = Opening
 busy Refusing = Refusing

@@ -1,4 +1,4 @@
--- The grammar of scripts, as a function from a text to the script or the number of the first line of another form; `Grammar` says the same by a row for each form.
+-- The grammar of scripts, as a function from a text to the script or the number of the first line of another form; `Grammar` is the relation, a row for each form.
 use Rattle.std.specs.Prelude.{ℕ, ℤ, pos, ◌+◌, ◌-◌, ◌*◌, ◌^◌, Bool, true, false, nat_lt, nat_le, ◌==◌, ◌&&◌, ◌||◌, not, if◌then◌else◌, List, [], ◌∷◌, ◌++◌, Option, Some, None, is_some, unwrap_or, option_map, option_and_then, Result, Ok, Err, codes, bytes_eq, length}
 use Rattle.std.specs.List.{list_all}
 use Rattle.std.specs.Str.{is_utf8}
@@ -6,7 +6,7 @@ use Rattle.hex.specs.declared.error.FromHexError.{FromHexError}
 use Rattle.hex.specs.Hex.{decode_of}
 use Rattle.gw_base.specs.Moment.{last_moment}
 use Rattle.gw_base.specs.declared.setup.Setup.{Setup}
-use Rattle.sale_frame.specs.Frame.{frame}
+use Rattle.sale_frame.specs.Grammar.{frame}
 
 -- what a poll brings
 pub data Event : Type 0 where
@@ -20,16 +20,16 @@ pub data Event : Type 0 where
   Tick : Event
 
 -- a line that is played
-pub data Line : Type 0 where
+pub data PlayedLine : Type 0 where
   -- the moment of later polls, in seconds; no poll
-  At : ℤ → Line
+  At : ℤ → PlayedLine
   -- a poll that brings this
-  Poll : Event → Line
+  Poll : Event → PlayedLine
 
 -- a script: the gateway's name, where the script gives it, and the lines that are played
 pub record Script : Type 0 where
   pub name : Option (List ℕ)
-  pub lines : List Line
+  pub lines : List PlayedLine
 
 -- what one line of the text is
 pub data Entry : Type 0 where
@@ -38,7 +38,7 @@ pub data Entry : Type 0 where
   -- the setup line that gives the gateway's name
   Naming : List ℕ → Entry
   -- a line that is played
-  Playing : Line → Entry
+  Playing : PlayedLine → Entry
 
 -- the most bytes that a script may have
 abbrev pub script_limit : ℕ
@@ -61,7 +61,7 @@ is_empty (first ∷ rest) = false
 abbrev pub is_digit : ℕ → Bool
 is_digit byte = nat_le 48 byte && nat_le byte 57
 
--- the value of more decimal digits behind those of n, below 2^64
+-- the value of more decimal digits after those of n, below 2^64
 abbrev pub more_digits : ℕ → List ℕ → Option ℕ
 more_digits n [] = Some n
 more_digits n (digit ∷ digits) = if is_digit digit && nat_lt (n * 10 + (digit - 48)) (2 ^ 64) then more_digits (n * 10 + (digit - 48)) digits else None
@@ -71,20 +71,20 @@ abbrev pub number : List ℕ → Option ℕ
 number [] = None
 number (digit ∷ digits) = if (digit == 48) && not (is_empty digits) then None else more_digits 0 (digit ∷ digits)
 
--- a word, and what stands behind the one space that ends it
-pub record Split : Type 0 where
+-- a word, and what stands after the one space that ends it
+pub record WordAndRest : Type 0 where
   pub word : List ℕ
   pub rest : List ℕ
 
--- the same split with one byte more at the front of its word
-abbrev pub with_first : ℕ → Option Split → Option Split
-with_first byte None = None
-with_first byte (Some split) = Some (record split { word = byte ∷ split.word })
+-- a split with one byte more at the beginning of its word
+abbrev pub with_first_of_word : ℕ → Option WordAndRest → Option WordAndRest
+with_first_of_word byte None = None
+with_first_of_word byte (Some split) = Some (record split { word = byte ∷ split.word })
 
 -- the text split at its first space, where it has one
-abbrev pub split_at_space : List ℕ → Option Split
+abbrev pub split_at_space : List ℕ → Option WordAndRest
 split_at_space [] = None
-split_at_space (byte ∷ text) = if byte == 32 then Some (record { word = []; rest = text }) else with_first byte (split_at_space text)
+split_at_space (byte ∷ text) = if byte == 32 then Some (record { word = []; rest = text }) else with_first_of_word byte (split_at_space text)
 
 -- printable ASCII but the space
 abbrev pub is_visible : ℕ → Bool
@@ -108,36 +108,36 @@ abbrev pub poll_line : Option Event → Option Entry
 poll_line event = option_map (λ event. Playing (Poll event)) event
 
 -- the till sends these bytes, 1 to so many
-abbrev pub piece : ℕ → ℕ → List ℕ → List ℕ → Option Event
-piece till most sent bytes = if nat_le 1 (length sent) && nat_le (length sent) most then Some (Say till bytes) else None
+abbrev pub chunk : ℕ → ℕ → List ℕ → List ℕ → Option Event
+chunk till most sent bytes = if nat_le 1 (length sent) && nat_le (length sent) most then Some (Say till bytes) else None
 
 -- 1 to 4,096 bytes in hexadecimal
-abbrev pub hex_piece : ℕ → Result (List ℕ) FromHexError → Option Event
-hex_piece till (Ok bytes) = piece till 4096 bytes bytes
-hex_piece till (Err fault) = None
+abbrev pub hex_chunk : ℕ → Result (List ℕ) FromHexError → Option Event
+hex_chunk till (Ok bytes) = chunk till 4096 bytes bytes
+hex_chunk till (Err fault) = None
 
 -- a text of 1 to 4,092 bytes, which is framed
-abbrev pub said_piece : ℕ → List ℕ → Option Event
-said_piece till text = piece till 4092 text (frame text)
+abbrev pub said_chunk : ℕ → List ℕ → Option Event
+said_chunk till text = chunk till 4092 text (frame text)
 
--- a till's number, and what stands behind the space that ends it
-abbrev pub numbered : (ℕ → List ℕ → Option Event) → Option Split → Option Event
+-- a till's number, and what stands after the space that ends it
+abbrev pub numbered : (ℕ → List ℕ → Option Event) → Option WordAndRest → Option Event
 numbered sends None = None
 numbered sends (Some split) = option_and_then (λ till. sends till split.rest) (number split.word)
 
--- the line of a first word and of what stands behind its space
+-- the line of a first word and of what stands after its space
 abbrev pub worded : List ℕ → List ℕ → Option Entry
 worded word rest =
     if bytes_eq word (codes "name") then name_line rest
     else if bytes_eq word (codes "at") then at_line (number rest)
     else if bytes_eq word (codes "open") then poll_line (option_map Open (number rest))
     else if bytes_eq word (codes "close") then poll_line (option_map Close (number rest))
-    else if bytes_eq word (codes "till") then poll_line (numbered (λ till hex. hex_piece till (decode_of hex)) (split_at_space rest))
-    else if bytes_eq word (codes "say") then poll_line (numbered said_piece (split_at_space rest))
+    else if bytes_eq word (codes "till") then poll_line (numbered (λ till hex. hex_chunk till (decode_of hex)) (split_at_space rest))
+    else if bytes_eq word (codes "say") then poll_line (numbered said_chunk (split_at_space rest))
     else None
 
 -- the line of a text by its first word; a text without a space has none
-abbrev pub parts_line : Option Split → Option Entry
+abbrev pub parts_line : Option WordAndRest → Option Entry
 parts_line None = None
 parts_line (Some split) = worded split.word split.rest
 
@@ -154,15 +154,15 @@ spelled text = if is_blank text then Some Blank else if bytes_eq text (codes "ti
 abbrev pub entry_of : List ℕ → Option Entry
 entry_of text = if is_utf8 text then spelled text else None
 
--- the same texts with one byte more at the front of the first
-abbrev pub with_front : ℕ → List (List ℕ) → List (List ℕ)
-with_front byte [] = (byte ∷ []) ∷ []
-with_front byte (text ∷ texts) = (byte ∷ text) ∷ texts
+-- these texts with one byte more at the beginning of the first
+abbrev pub with_prefix : ℕ → List (List ℕ) → List (List ℕ)
+with_prefix byte [] = (byte ∷ []) ∷ []
+with_prefix byte (text ∷ texts) = (byte ∷ text) ∷ texts
 
 -- the texts that line ends close; the last one may lack its line end
 abbrev pub split_lines : List ℕ → List (List ℕ)
 split_lines [] = []
-split_lines (byte ∷ bytes) = if byte == 10 then [] ∷ split_lines bytes else with_front byte (split_lines bytes)
+split_lines (byte ∷ bytes) = if byte == 10 then [] ∷ split_lines bytes else with_prefix byte (split_lines bytes)
 
 -- before the first line
 abbrev pub no_lines : Script
@@ -175,14 +175,14 @@ with_entry script (Naming name) = if is_some script.name || not (is_empty script
 with_entry script (Playing line) = Some (record script { lines = script.lines ++ line ∷ [] })
 
 -- what comes of the script so far, and the number of the line where none can be made with it
-abbrev pub goes_on : Option Script → ℕ → (Script → Result Script ℕ) → Result Script ℕ
-goes_on None number next = Err number
-goes_on (Some script) number next = next script
+abbrev pub script_goes_on : Option Script → ℕ → (Script → Result Script ℕ) → Result Script ℕ
+script_goes_on None number next = Err number
+script_goes_on (Some script) number next = next script
 
--- the script with the lines of these texts behind its own, of which the first has this number
+-- the script with the lines of these texts after its own, of which the first has this number
 abbrev pub script_from : Script → ℕ → List (List ℕ) → Result Script ℕ
 script_from script number [] = Ok script
-script_from script number (text ∷ texts) = goes_on (option_and_then (with_entry script) (entry_of text)) number (λ more. script_from more (number + 1) texts)
+script_from script number (text ∷ texts) = script_goes_on (option_and_then (with_entry script) (entry_of text)) number (λ more. script_from more (number + 1) texts)
 
 -- the script of a text, or the number of the first line of another form, counted from 1 over all lines
 abbrev pub script_of : List ℕ → Result Script ℕ

@@ -4,7 +4,7 @@ use Rattle.gw_base.specs.declared.setup.Setup.{Setup}
 use Rattle.gw_site.specs.Outside.{outside_after, nothing_yet, heard_on}
 use Rattle.gw_site.specs.declared.turn.Turn.{Turn}
 use Rattle.gw_site.specs.declared.turn.Turn.TheVariants.{Start, OpenFailed, Polled, Opened, HeardTill, Closed, HeardPt, Lost, Stopped, Linked, LinkFailed, SentTill, SentPt, CutTill, CutPt, Wrote, Synced, DiskFailed, Crash}
-use Rattle.gw_rules.specs.Scene.{Peer, Till, Pt, Call, Tell, Order, Cut, Link, Write, Sync, Item, Standing, Resting, Opening, Refusing, AtPoll, Serving, Over, Broken, Scene, View, busy}
+use Rattle.gw_rules.specs.Scene.{ConnectionOf, Till, Pt, Call, Tell, Order, Cut, Link, Write, Sync, Item, Stage, Resting, Opening, Refusing, AtPoll, Serving, Over, Broken, Scene, View, busy}
 use Rattle.gw_rules.specs.Owes.{opened_items, heard_items, due_items}
 
 -- the calls with which a run opens the journal, and whether it is refused then
@@ -17,34 +17,34 @@ abbrev pub opening : Setup → List ℕ → Opens
 opening setup file = record { calls = []; refused = false }
 
 -- how far a run is while its journal is opened, by whether it is refused then
-abbrev pub opening_standing : Bool → Standing
+abbrev pub opening_standing : Bool → Stage
 opening_standing true = Refusing
 opening_standing false = Opening
 
--- the calls behind the first
+-- the calls after the first
 abbrev pub later : List Call → List Call
 later [] = []
 later (call ∷ calls) = calls
 
 -- a turn between two runs, or the first of a run
-abbrev pub fresh : Scene → Turn → Option Setup → Standing → Scene
-fresh scene turn setup standing = record { outside = outside_after scene.outside turn; setup = setup; standing = standing; wrote = false; polls = 0 }
+abbrev pub fresh : Scene → Turn → Option Setup → Stage → Scene
+fresh scene turn setup stage = record { outside = outside_after scene.outside turn; setup = setup; stage = stage; wrote = false; polls = 0 }
 
 -- one poll more
 abbrev pub polled : Scene → Turn → Scene
-polled scene turn = record scene { outside = outside_after scene.outside turn; standing = AtPoll; wrote = false; polls = scene.polls + 1 }
+polled scene turn = record scene { outside = outside_after scene.outside turn; stage = AtPoll; wrote = false; polls = scene.polls + 1 }
 
 -- the event of the poll has come
 abbrev pub serving : Scene → Turn → Scene
-serving scene turn = record scene { outside = outside_after scene.outside turn; standing = Serving; wrote = false }
+serving scene turn = record scene { outside = outside_after scene.outside turn; stage = Serving; wrote = false }
 
 -- a call was made
 abbrev pub called : Scene → Turn → Bool → Scene
-called scene turn wrote = record scene { outside = outside_after scene.outside turn; standing = busy scene.standing; wrote = wrote }
+called scene turn wrote = record scene { outside = outside_after scene.outside turn; stage = busy scene.stage; wrote = wrote }
 
 -- the run has ended
-abbrev pub ended : Scene → Turn → Standing → Scene
-ended scene turn standing = record scene { outside = outside_after scene.outside turn; standing = standing; wrote = false }
+abbrev pub ended : Scene → Turn → Stage → Scene
+ended scene turn stage = record scene { outside = outside_after scene.outside turn; stage = stage; wrote = false }
 
 -- these items, and then what is due
 abbrev pub handling : Scene → List Item → View
@@ -55,7 +55,7 @@ abbrev pub made : View → Turn → View
 made v turn = record v { scene = called v.scene turn false; calls = later v.calls }
 
 -- the call sends on this line
-abbrev pub sends_on : Peer → Call → Bool
+abbrev pub sends_on : ConnectionOf → Call → Bool
 sends_on (Till till) (Tell other reply) = till == other
 sends_on (Till till) (Order pt bytes) = false
 sends_on (Till till) (Cut peer) = false
@@ -70,7 +70,7 @@ sends_on (Pt pt) (Write at bytes) = false
 sends_on (Pt pt) Sync = false
 
 -- a send has failed: the cut of its line is owed at once, and no further send on it
-abbrev pub unsent : View → Turn → Peer → View
+abbrev pub unsent : View → Turn → ConnectionOf → View
 unsent v turn peer = record v { scene = called v.scene turn false; calls = Cut peer ∷ filter (λ call. not (sends_on peer call)) (later v.calls) }
 
 -- the view after one more turn, by the view before it; where the turn isn't allowed this says nothing
@@ -102,14 +102,14 @@ pub data Move : Type 0 where
   Begin : List Call → Move
   Take : Turn → Move
 
--- the items behind the first
+-- the items after the first
 abbrev pub items_behind : List Item → List Item
 items_behind [] = []
 items_behind (item ∷ items) = items
 
 -- an item that begins after a poll says that the poll brought nothing
 abbrev pub begun : View → List Call → View
-begun v calls = record { scene = record v.scene { standing = busy v.scene.standing; wrote = false }; calls = calls; items = items_behind v.items }
+begun v calls = record { scene = record v.scene { stage = busy v.scene.stage; wrote = false }; calls = calls; items = items_behind v.items }
 
 -- the view after one more move
 abbrev pub after : View → Move → View
@@ -123,4 +123,4 @@ view_from v (move ∷ moves) = view_from (after v move) moves
 
 -- before the first turn
 abbrev pub at_first : View
-at_first = record { scene = record { outside = nothing_yet; setup = None; standing = Resting; wrote = false; polls = 0 }; calls = []; items = [] }
+at_first = record { scene = record { outside = nothing_yet; setup = None; stage = Resting; wrote = false; polls = 0 }; calls = []; items = [] }

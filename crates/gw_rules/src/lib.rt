@@ -3,7 +3,7 @@
 
 ghost use Rattle.gw_rules.specs.Example.{PollBeforeReply, StatusHasText, StatusIsLawful, StatusIsOfScript, UnaskedReply};
 ghost use Rattle.gw_rules.specs.Grammar.{ReadsScripts};
-ghost use Rattle.gw_rules.specs.Laws.{FindsBad, FrontIsLawful, HeardOwes, LogGoesByLines, LogHasEvents, LogHasScript, OneLog, RestartIsLawful, ShowsBytes, ShowsFrame};
+ghost use Rattle.gw_rules.specs.Laws.{FindsBad, PrefixIsLawful, HeardOwes, LogGoesByLines, LogHasEvents, LogHasScript, OneLog, RestartIsLawful, ShowsBytes, ShowsFrame};
 
 /// What a till's newly heard bytes owe is, in order, an item for each message that they newly complete, by the frames of
 /// all bytes heard before and of all bytes heard with them, and then one more exactly where no frame can follow.
@@ -17,9 +17,9 @@ pub fn law_crash()
     ensures restart { RestartIsLawful }
 {}
 
-/// Each front of a lawful log is lawful.
-pub fn law_front()
-    ensures front { FrontIsLawful }
+/// Each prefix of a lawful log is lawful.
+pub fn law_prefix()
+    ensures prefix { PrefixIsLawful }
 {}
 
 /// At most one lawful log plays a script in one run to its end.
@@ -29,14 +29,14 @@ pub fn law_one_log()
 
 /// The log of a script is a lawful log that goes by the script's lines, in their order: each is skipped where it names a
 /// till that isn't there, or opens a number that isn't above those before, and else gives a poll at the moment of the last
-/// `at` line and its event; behind the last line comes the stop.
+/// `at` line and its event; after the last line comes the stop.
 pub fn law_plays()
     ensures lines { LogGoesByLines }
     ensures events { LogHasEvents }
     ensures script { LogHasScript }
 {}
 
-/// A text is read as the script that its lines make, and exactly where they make none the first wrong line is told.
+/// A text is read as the script that its lines make, and exactly where they make none the first wrong line is reported.
 pub fn law_scripts()
     ensures reads { ReadsScripts }
 {}

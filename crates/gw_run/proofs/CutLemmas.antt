@@ -4,7 +4,7 @@ use Rattle.std.proofs.Math.Numerals.{one-add, add-one}
 use Rattle.std.proofs.lemmas.Bool.Decides.{eqb_tells, nat_tests}
 use Rattle.std.specs.Prelude.{Bool, ◌==◌, nat_lt, if◌then◌else◌, Some, None, position}
 use Rattle.std.specs.List.{position_or_len}
-use Rattle.gw_rules.specs.Script.{split_lines, with_front}
+use Rattle.gw_rules.specs.Script.{split_lines, with_prefix}
 
 -- the place of the first byte of this value, or the length
 abbrev pub place_of : ℕ → List ℕ → ℕ
@@ -16,7 +16,7 @@ place_here byte first bytes e = rw e refl
 pub place_later : (byte first : ℕ) (bytes : List ℕ) → (first == byte) ≡ false → place_of byte (first ∷ bytes) ≡ 1 + place_of byte bytes
 place_later byte first bytes e = rw e refl
 
--- a place one further on, behind a byte more in front
+-- a place one further on, after a byte more before it
 pub take_later : (byte n : ℕ) (bytes : List ℕ) → take (1 + n) (byte ∷ bytes) ≡ byte ∷ take n bytes
 take_later byte n bytes = rw one-add refl
 
@@ -27,7 +27,7 @@ lines_later : (byte : ℕ) (bytes : List ℕ) → (byte == 10) ≡ false → spl
     split_lines (byte ∷ bytes) ≡ take (place_of 10 (byte ∷ bytes)) (byte ∷ bytes) ∷ split_lines (drop (place_of 10 (byte ∷ bytes) + 1) (byte ∷ bytes))
 lines_later byte bytes e before =
     let n = place_of 10 bytes in
-    rw (place_later 10 byte bytes e, take_later byte n bytes, drop_later byte n bytes, e) (ap (with_front byte) before)
+    rw (place_later 10 byte bytes e, take_later byte n bytes, drop_later byte n bytes, e) (ap (with_prefix byte) before)
 
 lines_here : (byte : ℕ) (bytes : List ℕ) → (byte == 10) ≡ true →
     split_lines (byte ∷ bytes) ≡ take (place_of 10 (byte ∷ bytes)) (byte ∷ bytes) ∷ split_lines (drop (place_of 10 (byte ∷ bytes) + 1) (byte ∷ bytes))
@@ -41,7 +41,7 @@ lines_whole : (byte : ℕ) (bytes : List ℕ) → length (byte ∷ bytes) ≤ pl
 lines_whole byte [] le = elim (eqb_tells byte 10) [ inl e ↦ absurd (omega (arith, place_here 10 byte [] e.0)) | inr e ↦ rw e.0 refl ]
 lines_whole byte (next ∷ bytes) le = elim (eqb_tells byte 10) [
   | inl e ↦ absurd (omega (arith, place_here 10 byte (next ∷ bytes) e.0))
-  | inr e ↦ rw e.0 (ap (with_front byte) (lines_whole next bytes (omega (arith, place_later 10 byte (next ∷ bytes) e.0))))
+  | inr e ↦ rw e.0 (ap (with_prefix byte) (lines_whole next bytes (omega (arith, place_later 10 byte (next ∷ bytes) e.0))))
 ]
 
 -- what the answer of `position` says of the place

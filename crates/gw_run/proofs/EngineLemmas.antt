@@ -3,30 +3,30 @@ use Rattle.std.proofs.Common.{◌≡◌, ℕ, ◌+◌, ◌<◌, List, [], ◌∷
 use Rattle.std.specs.Prelude.{ℤ, map, Option, Some, None, ◌==◌, if◌then◌else◌, Bool, true, false}
 use Rattle.gw_base.specs.Moment.{moment_of}
 use Rattle.gw_base.specs.declared.setup.Setup.{Setup}
-use Rattle.gw_site.specs.Outside.{Outside, Line, outside_after, is_open, without}
+use Rattle.gw_site.specs.Outside.{Outside, Connection, outside_after, is_connected, without}
 use Rattle.gw_site.specs.declared.turn.Turn.{Turn}
 use Rattle.gw_site.specs.declared.turn.Turn.TheVariants.{SentTill, CutTill}
-use Rattle.gw_site.specs.Seen.{Seen, Grows}
+use Rattle.gw_site.specs.Observed.{Observed, Grows}
 use Rattle.gw_site.specs.Turns.{IsTurn}
-use Rattle.sale_frame.specs.Frame.{frame, IsMessage, IsUnfinished, IsBad}
-use Rattle.sale_frame.specs.Reading.{reading_of, Reading}
-use Rattle.gw_rules.specs.Scene.{Till as ATill, Call, Tell, Cut, Item, Message, Unframed, Scene, View, Standing, Resting, Opening, Refusing, AtPoll, Serving, Over, Broken, IsRunning, busy}
+use Rattle.sale_frame.specs.Grammar.{frame, IsPayload, IsIncompleteFrame, IsBadLength}
+use Rattle.sale_frame.specs.Decode.{decode_frames, DecodedFrames}
+use Rattle.gw_rules.specs.Scene.{Till as ATill, Call, Tell, Cut, Item, Message, Unframed, Scene, View, Stage, Resting, Opening, Refusing, AtPoll, Serving, Over, Broken, IsRunning, busy}
 use Rattle.sale_reply.specs.declared.reply.SaleReply.{SaleReply}
 use Rattle.sale_reply.specs.Reply.{tree_of}
-use Rattle.gw_rules.specs.Reply.{Reply, tree, told_bytes}
-use Rattle.gw_rules.specs.Answers.{Answers}
-use Rattle.gw_rules.specs.Owes.{reading_items, is_unframed, Owes, MessageOwes, told}
+use Rattle.gw_rules.specs.Reply.{Reply, reply_tree, reply_bytes}
+use Rattle.gw_rules.specs.Replies.{RepliesTo}
+use Rattle.gw_rules.specs.Owes.{reading_items, is_unframed, Owes, MessageOwes, reply_calls}
 use Rattle.gw_rules.specs.View.{called, begun, at_first}
-use Rattle.gw_rules.specs.Lawful.{Begins}
-use Rattle.gw_rules.specs.Keeps.{Keeps, Owing}
-use Rattle.gw_rules.proofs.KeepsLemmas.{keeps-refl, keeps-then, keeps-weaker, keeps-after, keeps-before, keeps-frame, keeps-some, begin-keeps}
+use Rattle.gw_rules.specs.Lawful.{BeginsItem}
+use Rattle.gw_rules.specs.Triple.{Triple, Owing}
+use Rattle.gw_rules.proofs.TripleLemmas.{keeps-refl, keeps-then, keeps-weaker, keeps-after, keeps-before, keeps-frame, keeps-some, begin-keeps}
 use Rattle.gw_rules.proofs.CallLemmas.{cut-till-keeps}
 use Rattle.gw_rules.proofs.ReadingLemmas.{items-waiting, items-unframed, items-message, reading-message, reading-waiting, unfinished-waits}
-use Rattle.gw_core.specs.Told.{Says}
-use Rattle.gw_run.specs.Answered.{TakesMessage}
-use Rattle.gw_run.specs.Turns.{IsIn, InRun, BeforeTill, Delivered}
+use Rattle.gw_core.specs.ReplyOf.{AreSameReplies}
+use Rattle.gw_run.specs.NextMessage.{TakesMessage}
+use Rattle.gw_run.specs.Round.{IsIn, InRun, BeforeTill, Delivered}
 
-running-busy : (s : Standing) → IsRunning s → IsRunning (busy s)
+running-busy : (s : Stage) → IsRunning s → IsRunning (busy s)
 running-busy Resting r = r
 running-busy Opening r = tt
 running-busy Refusing r = r
@@ -37,29 +37,29 @@ running-busy Broken r = r
 
 -- an item has begun
 abbrev pub begun_scene : Scene → Scene
-begun_scene scene = record scene { standing = busy scene.standing; wrote = false }
+begun_scene scene = record scene { stage = busy scene.stage; wrote = false }
 
 begun-in : (setup : Setup) (polls : ℕ) (o : Outside) (scene : Scene) → IsIn setup polls o scene → IsIn setup polls o (begun_scene scene)
-begun-in setup polls o scene f = record { setup_is = f.setup_is; running = running-busy scene.standing f.running; polls_are = f.polls_are; outside_is = f.outside_is }
+begun-in setup polls o scene f = record { setup_is = f.setup_is; running = running-busy scene.stage f.running; polls_are = f.polls_are; outside_is = f.outside_is }
 
 pub called-in : (setup : Setup) (polls : ℕ) (o : Outside) (scene : Scene) (turn : Turn) → IsIn setup polls o scene → IsIn setup polls (outside_after o turn) (called scene turn false)
-called-in setup polls o scene turn f = record { setup_is = f.setup_is; running = running-busy scene.standing f.running; polls_are = f.polls_are; outside_is = ap (λ p. outside_after p turn) f.outside_is }
+called-in setup polls o scene turn f = record { setup_is = f.setup_is; running = running-busy scene.stage f.running; polls_are = f.polls_are; outside_is = ap (λ p. outside_after p turn) f.outside_is }
 
-without-closed : (lines : List Line) (number : ℕ) → is_open (without lines number) number ≡ false
+without-closed : (lines : List Connection) (number : ℕ) → is_connected (without lines number) number ≡ false
 without-closed [] number = refl
 without-closed (line ∷ lines) number = by_test (line.number == number) refl (without-closed lines number)
   where
-    by_test : (test : Bool) → (line.number == number) ≡ test → is_open (without lines number) number ≡ false → is_open (without (line ∷ lines) number) number ≡ false
+    by_test : (test : Bool) → (line.number == number) ≡ test → is_connected (without lines number) number ≡ false → is_connected (without (line ∷ lines) number) number ≡ false
     by_test true e h = rw e h
     by_test false e h = rw (e, e) h
 
 -- the items of a till that is gone owe nothing
-module _ (setup : Setup) (polls : ℕ) (o : Outside) (till : ℕ) (closed : is_open o.tills till ≡ false) (s : Seen) where
+module _ (setup : Setup) (polls : ℕ) (o : Outside) (till : ℕ) (closed : is_connected o.tills till ≡ false) (s : Observed) where
   pass : (item : Item) (items : List Item) → ((scene : Scene) → scene.outside ≡ o → Owes scene item []) →
-      Keeps s s (InRun setup polls o (item ∷ items)) (InRun setup polls o items)
+      Triple s s (InRun setup polls o (item ∷ items)) (InRun setup polls o items)
   pass item items owes = begin-keeps s (InRun setup polls o (item ∷ items)) [] (InRun setup polls o items) step
     where
-      step : (v : View) → InRun setup polls o (item ∷ items) v → (item : Item) × (items' : List Item) × Begins v item items' [] × InRun setup polls o items (begun v [])
+      step : (v : View) → InRun setup polls o (item ∷ items) v → (item : Item) × (items' : List Item) × BeginsItem v item items' [] × InRun setup polls o items (begun v [])
       step v (scene, is, f) = (
         item,
         items,
@@ -73,14 +73,14 @@ module _ (setup : Setup) (polls : ℕ) (o : Outside) (till : ℕ) (closed : is_o
   uncut : (scene : Scene) → scene.outside ≡ o → Owes scene (Unframed till) []
   uncut scene e = rw (e, closed) refl
 
-  pass-messages : (messages : List (List ℕ)) (items : List Item) → Keeps s s (InRun setup polls o (map (Message till) messages ++ items)) (InRun setup polls o items)
+  pass-messages : (messages : List (List ℕ)) (items : List Item) → Triple s s (InRun setup polls o (map (Message till) messages ++ items)) (InRun setup polls o items)
   pass-messages [] items = keeps-refl s _
   pass-messages (message ∷ messages) items = keeps-then s s s _ _ _ (pass (Message till message) (map (Message till) messages ++ items) (unanswered message)) (pass-messages messages items)
 
-  pub pass-all : (reading : Reading) → Keeps s s (InRun setup polls o (reading_items till reading)) (InRun setup polls o [])
+  pub pass-all : (reading : DecodedFrames) → Triple s s (InRun setup polls o (reading_items till reading)) (InRun setup polls o [])
   pass-all reading = keeps-then s s s _ _ _ (pass-messages reading.messages _) (by_test (is_unframed reading.rest))
     where
-      by_test : (test : Bool) → Keeps s s (InRun setup polls o (if test then Unframed till ∷ [] else [])) (InRun setup polls o [])
+      by_test : (test : Bool) → Triple s s (InRun setup polls o (if test then Unframed till ∷ [] else [])) (InRun setup polls o [])
       by_test true = pass (Unframed till) [] uncut
       by_test false = keeps-refl s _
 
@@ -89,27 +89,27 @@ abbrev pub Pending : Setup → ℕ → Outside → List Call → List Item → V
 Pending setup polls o calls items v = (scene : Scene) × Owing scene calls items v × IsIn setup polls o scene
 
 -- what is kept for each scene is kept for some
-pub pending-keeps : (a b : Seen) (setup : Setup) (polls : ℕ) (o : Outside) (calls : List Call) (items : List Item) (Q : Scene → View → Type 0) →
-    ((scene : Scene) → Keeps a b (Owing scene calls items) (Q scene)) → Keeps a b (Pending setup polls o calls items) (λ v. (scene : Scene) × Q scene v × IsIn setup polls o scene)
+pub pending-keeps : (a b : Observed) (setup : Setup) (polls : ℕ) (o : Outside) (calls : List Call) (items : List Item) (Q : Scene → View → Type 0) →
+    ((scene : Scene) → Triple a b (Owing scene calls items) (Q scene)) → Triple a b (Pending setup polls o calls items) (λ v. (scene : Scene) × Q scene v × IsIn setup polls o scene)
 pending-keeps a b setup polls o calls items Q k =
     keeps-before a b (Pending setup polls o calls items) (λ v. (scene : Scene) × (Owing scene calls items v × IsIn setup polls o scene)) _ (λ v p. (p.0, (p.1, p.2)))
     (keeps-some a b (λ scene v. Owing scene calls items v × IsIn setup polls o scene) _ at_first.scene
     (λ scene. keeps-after a b _ _ _ (keeps-frame a b _ _ (IsIn setup polls o scene) (k scene)) (λ v q. (scene, q.0, q.1))))
 
 -- less than a frame waits
-pub serve-waiting : (s : Seen) (setup : Setup) (polls : ℕ) (o : Outside) (now : ℤ) (till : ℕ) (bytes : List ℕ) → IsUnfinished bytes →
-    Keeps s s (BeforeTill setup polls o now till bytes) (InRun setup polls o [])
+pub serve-waiting : (s : Observed) (setup : Setup) (polls : ℕ) (o : Outside) (now : ℤ) (till : ℕ) (bytes : List ℕ) → IsIncompleteFrame bytes →
+    Triple s s (BeforeTill setup polls o now till bytes) (InRun setup polls o [])
 serve-waiting s setup polls o now till bytes h = keeps-before s s _ _ _ (λ v p. (rw (items-waiting till bytes h) at p.0)) (keeps-refl s (InRun setup polls o []))
 
-pub waiting-rest : (bytes : List ℕ) → IsUnfinished bytes → bytes ≡ (reading_of bytes).rest
-waiting-rest bytes h = ap (λ (r : Reading). r.rest) (sym (reading-waiting bytes (unfinished-waits bytes h)))
+pub waiting-rest : (bytes : List ℕ) → IsIncompleteFrame bytes → bytes ≡ (decode_frames bytes).rest
+waiting-rest bytes h = ap (λ (r : DecodedFrames). r.rest) (sym (reading-waiting bytes (unfinished-waits bytes h)))
 
 -- the first item begins, and by a fact that is known owes these calls
-pub begin-first : (s : Seen) (setup : Setup) (polls : ℕ) (o : Outside) (item : Item) (items : List Item) (calls : List Call) (A : Type 0) → (A → (scene : Scene) → IsIn setup polls o scene → Owes scene item calls) →
-    Keeps s s (λ v. InRun setup polls o (item ∷ items) v × A) (λ v. Pending setup polls o calls items v × A)
+pub begin-first : (s : Observed) (setup : Setup) (polls : ℕ) (o : Outside) (item : Item) (items : List Item) (calls : List Call) (A : Type 0) → (A → (scene : Scene) → IsIn setup polls o scene → Owes scene item calls) →
+    Triple s s (λ v. InRun setup polls o (item ∷ items) v × A) (λ v. Pending setup polls o calls items v × A)
 begin-first s setup polls o item items calls A owes = begin-keeps s (λ v. InRun setup polls o (item ∷ items) v × A) calls _ step
   where
-    step : (v : View) → (InRun setup polls o (item ∷ items) v × A) → (item : Item) × (items' : List Item) × Begins v item items' calls × (Pending setup polls o calls items (begun v calls) × A)
+    step : (v : View) → (InRun setup polls o (item ∷ items) v × A) → (item : Item) × (items' : List Item) × BeginsItem v item items' calls × (Pending setup polls o calls items (begun v calls) × A)
     step v ((scene, is, f), a) = (
       item,
       items,
@@ -119,11 +119,11 @@ begin-first s setup polls o item items calls A owes = begin-keeps s (λ v. InRun
 
 -- the till is there at this moment
 abbrev pub IsHere : Outside → ℤ → ℕ → Type 0
-IsHere o now till = (is_open o.tills till ≡ true) × (o.moment ≡ moment_of now)
+IsHere o now till = (is_connected o.tills till ≡ true) × (o.moment ≡ moment_of now)
 
 -- bytes that begin no frame are followed by the cut
-pub serve-unframed : (a b : Seen) (setup : Setup) (polls : ℕ) (o : Outside) (now : ℤ) (till : ℕ) (bytes : List ℕ) → IsBad bytes → Grows a b (IsTurn (CutTill till)) →
-    Keeps a b (BeforeTill setup polls o now till bytes) (InRun setup polls (outside_after o (CutTill till)) [])
+pub serve-unframed : (a b : Observed) (setup : Setup) (polls : ℕ) (o : Outside) (now : ℤ) (till : ℕ) (bytes : List ℕ) → IsBadLength bytes → Grows a b (IsTurn (CutTill till)) →
+    Triple a b (BeforeTill setup polls o now till bytes) (InRun setup polls (outside_after o (CutTill till)) [])
 serve-unframed a b setup polls o now till bytes bad grows =
     keeps-then a a b _ _ _
     (keeps-before a a (BeforeTill setup polls o now till bytes) (λ v. InRun setup polls o (Unframed till ∷ []) v × IsHere o now till) _ (λ v p. ((rw (items-unframed till bytes bad) at p.0), (p.1, p.2)))
@@ -136,79 +136,79 @@ open-owes : (test : Bool) → test ≡ true → (scene : Scene) (till : ℕ) (me
 open-owes true e scene till message calls h = h
 open-owes false e scene till message calls h = absurd (let f : false ≡ true = e in cc)
 
-answered : (setup : Setup) (polls : ℕ) (o : Outside) (now : ℤ) (till : ℕ) (name message : List ℕ) (answer : Option Reply) → setup.name ≡ name → Answers name (moment_of now) message answer → IsHere o now till →
-    (scene : Scene) → IsIn setup polls o scene → Owes scene (Message till message) (told till answer)
+answered : (setup : Setup) (polls : ℕ) (o : Outside) (now : ℤ) (till : ℕ) (name message : List ℕ) (answer : Option Reply) → setup.name ≡ name → RepliesTo name (moment_of now) message answer → IsHere o now till →
+    (scene : Scene) → IsIn setup polls o scene → Owes scene (Message till message) (reply_calls till answer)
 answered setup polls o now till name message answer named answers here scene f =
     let moment : moment_of now ≡ scene.outside.moment = sym here.1 ∙ sym (ap (λ (p : Outside). p.moment) f.outside_is) in
-    let at : Answers setup.name scene.outside.moment message answer = subst (λ m. Answers setup.name m message answer) moment (subst (λ n. Answers n (moment_of now) message answer) (sym named) answers) in
-    open-owes (is_open scene.outside.tills till) (ap (λ (p : Outside). is_open p.tills till) f.outside_is ∙ here.0) scene till message (told till answer)
+    let at : RepliesTo setup.name scene.outside.moment message answer = subst (λ m. RepliesTo setup.name m message answer) moment (subst (λ n. RepliesTo n (moment_of now) message answer) (sym named) answers) in
+    open-owes (is_connected scene.outside.tills till) (ap (λ (p : Outside). is_connected p.tills till) f.outside_is ∙ here.0) scene till message (reply_calls till answer)
     (record { setup = setup; setup_is = f.setup_is; answer = answer; answers = at; is = refl })
 
 -- a message has begun, and its answer is owed
-begin-message : (s : Seen) (setup : Setup) (polls : ℕ) (o : Outside) (now : ℤ) (till : ℕ) (name old new message : List ℕ) (answer : Option Reply) → setup.name ≡ name → IsMessage message → old ≡ frame message ++ new → Answers name (moment_of now) message answer →
-    Keeps s s (BeforeTill setup polls o now till old) (λ v. Pending setup polls o (told till answer) (reading_items till (reading_of new)) v × IsHere o now till)
+begin-message : (s : Observed) (setup : Setup) (polls : ℕ) (o : Outside) (now : ℤ) (till : ℕ) (name old new message : List ℕ) (answer : Option Reply) → setup.name ≡ name → IsPayload message → old ≡ frame message ++ new → RepliesTo name (moment_of now) message answer →
+    Triple s s (BeforeTill setup polls o now till old) (λ v. Pending setup polls o (reply_calls till answer) (reading_items till (decode_frames new)) v × IsHere o now till)
 begin-message s setup polls o now till name old new message answer named lawful taken answers =
-    keeps-before s s (BeforeTill setup polls o now till old) (λ v. InRun setup polls o (Message till message ∷ reading_items till (reading_of new)) v × IsHere o now till) _
+    keeps-before s s (BeforeTill setup polls o now till old) (λ v. InRun setup polls o (Message till message ∷ reading_items till (decode_frames new)) v × IsHere o now till) _
     (λ v p. ((rw (taken, items-message till message new lawful) at p.0), (p.1, p.2)))
-    (begin-first s setup polls o (Message till message) (reading_items till (reading_of new)) (told till answer) (IsHere o now till)
+    (begin-first s setup polls o (Message till message) (reading_items till (decode_frames new)) (reply_calls till answer) (IsHere o now till)
     (λ here scene f. answered setup polls o now till name message answer named answers here scene f))
 
--- a message to which nothing is told
-pub serve-silent : (s : Seen) (setup : Setup) (polls : ℕ) (o : Outside) (now : ℤ) (till : ℕ) (name old new : List ℕ) → setup.name ≡ name → TakesMessage name (moment_of now) None old new →
-    Keeps s s (BeforeTill setup polls o now till old) (BeforeTill setup polls o now till new)
+-- a message without a reply
+pub serve-silent : (s : Observed) (setup : Setup) (polls : ℕ) (o : Outside) (now : ℤ) (till : ℕ) (name old new : List ℕ) → setup.name ≡ name → TakesMessage name (moment_of now) None old new →
+    Triple s s (BeforeTill setup polls o now till old) (BeforeTill setup polls o now till new)
 serve-silent s setup polls o now till name old new named t = by_answer t.answers.0 t.answers.1 t.answers.2
   where
-    by_answer : (answer : Option Reply) → Answers name (moment_of now) t.message answer → Says None answer → Keeps s s (BeforeTill setup polls o now till old) (BeforeTill setup polls o now till new)
+    by_answer : (answer : Option Reply) → RepliesTo name (moment_of now) t.message answer → AreSameReplies None answer → Triple s s (BeforeTill setup polls o now till old) (BeforeTill setup polls o now till new)
     by_answer None answers says = keeps-after s s _ _ _ (begin-message s setup polls o now till name old new t.message None named t.lawful t.taken answers) (λ v q. (q.0, q.1.0, q.1.1))
     by_answer (Some reply) answers says = absurd says
 
 -- a message was answered
-pub serve-answered : (a b : Seen) (setup : Setup) (polls : ℕ) (o : Outside) (now : ℤ) (till : ℕ) (name : List ℕ) (reply : SaleReply) (old new : List ℕ) → setup.name ≡ name → TakesMessage name (moment_of now) (Some reply) old new →
-    ((answer : Reply) → tree_of reply ≡ tree answer → (scene : Scene) (items : List Item) → Keeps a b (Owing scene (Tell till answer ∷ []) items) (Delivered true scene till (told_bytes answer) items)) →
-    Keeps a b (BeforeTill setup polls o now till old) (BeforeTill setup polls o now till new)
+pub serve-answered : (a b : Observed) (setup : Setup) (polls : ℕ) (o : Outside) (now : ℤ) (till : ℕ) (name : List ℕ) (reply : SaleReply) (old new : List ℕ) → setup.name ≡ name → TakesMessage name (moment_of now) (Some reply) old new →
+    ((answer : Reply) → tree_of reply ≡ reply_tree answer → (scene : Scene) (items : List Item) → Triple a b (Owing scene (Tell till answer ∷ []) items) (Delivered true scene till (reply_bytes answer) items)) →
+    Triple a b (BeforeTill setup polls o now till old) (BeforeTill setup polls o now till new)
 serve-answered a b setup polls o now till name reply old new named t tells = by_answer t.answers.0 t.answers.1 t.answers.2
   where
     items : List Item
-    items = reading_items till (reading_of new)
+    items = reading_items till (decode_frames new)
 
-    by_answer : (answer : Option Reply) → Answers name (moment_of now) t.message answer → Says (Some reply) answer → Keeps a b (BeforeTill setup polls o now till old) (BeforeTill setup polls o now till new)
+    by_answer : (answer : Option Reply) → RepliesTo name (moment_of now) t.message answer → AreSameReplies (Some reply) answer → Triple a b (BeforeTill setup polls o now till old) (BeforeTill setup polls o now till new)
     by_answer None answers says = absurd says
     by_answer (Some answer) answers says =
         keeps-then a a b _ _ _ (begin-message a setup polls o now till name old new t.message (Some answer) named t.lawful t.taken answers)
         (keeps-after a b _ _ _
         (keeps-frame a b _ _ (IsHere o now till) (pending-keeps a b setup polls o (Tell till answer ∷ []) items _ (λ scene. tells answer says.0 scene items)))
-        (λ v (q : ((scene : Scene) × Delivered true scene till (told_bytes answer) items v × IsIn setup polls o scene) × IsHere o now till).
-        ((called q.0.0 (SentTill till (told_bytes answer) true) false, q.0.1, called-in setup polls o q.0.0 (SentTill till (told_bytes answer) true) q.0.2), q.1.0, q.1.1)))
+        (λ v (q : ((scene : Scene) × Delivered true scene till (reply_bytes answer) items v × IsIn setup polls o scene) × IsHere o now till).
+        ((called q.0.0 (SentTill till (reply_bytes answer) true) false, q.0.1, called-in setup polls o q.0.0 (SentTill till (reply_bytes answer) true) q.0.2), q.1.0, q.1.1)))
 
-cut-closed : (o : Outside) (till : ℕ) → is_open (outside_after o (CutTill till)).tills till ≡ false
+cut-closed : (o : Outside) (till : ℕ) → is_connected (outside_after o (CutTill till)).tills till ≡ false
 cut-closed o till = without-closed o.tills till
 
 -- an answer wasn't taken, and the till was cut
-pub serve-unsent : (a b : Seen) (setup : Setup) (polls : ℕ) (o : Outside) (now : ℤ) (till : ℕ) (name : List ℕ) (reply : SaleReply) (old new : List ℕ) → setup.name ≡ name → TakesMessage name (moment_of now) (Some reply) old new →
-    ((answer : Reply) → tree_of reply ≡ tree answer → (scene : Scene) (items : List Item) → Keeps a b (Owing scene (Tell till answer ∷ []) items) (Delivered false scene till (told_bytes answer) items)) →
-    Keeps a b (BeforeTill setup polls o now till old) (InRun setup polls (outside_after o (CutTill till)) [])
+pub serve-unsent : (a b : Observed) (setup : Setup) (polls : ℕ) (o : Outside) (now : ℤ) (till : ℕ) (name : List ℕ) (reply : SaleReply) (old new : List ℕ) → setup.name ≡ name → TakesMessage name (moment_of now) (Some reply) old new →
+    ((answer : Reply) → tree_of reply ≡ reply_tree answer → (scene : Scene) (items : List Item) → Triple a b (Owing scene (Tell till answer ∷ []) items) (Delivered false scene till (reply_bytes answer) items)) →
+    Triple a b (BeforeTill setup polls o now till old) (InRun setup polls (outside_after o (CutTill till)) [])
 serve-unsent a b setup polls o now till name reply old new named t tells = by_answer t.answers.0 t.answers.1 t.answers.2
   where
     items : List Item
-    items = reading_items till (reading_of new)
+    items = reading_items till (decode_frames new)
 
-    by_answer : (answer : Option Reply) → Answers name (moment_of now) t.message answer → Says (Some reply) answer → Keeps a b (BeforeTill setup polls o now till old) (InRun setup polls (outside_after o (CutTill till)) [])
+    by_answer : (answer : Option Reply) → RepliesTo name (moment_of now) t.message answer → AreSameReplies (Some reply) answer → Triple a b (BeforeTill setup polls o now till old) (InRun setup polls (outside_after o (CutTill till)) [])
     by_answer None answers says = absurd says
     by_answer (Some answer) answers says =
         keeps-then a b b _ _ _
         (keeps-then a a b _ _ _ (begin-message a setup polls o now till name old new t.message (Some answer) named t.lawful t.taken answers)
         (keeps-weaker a b _ _ _ _ (λ v p. p.0)
-        (λ v (q : (scene : Scene) × Delivered false scene till (told_bytes answer) items v × IsIn setup polls o scene). (
+        (λ v (q : (scene : Scene) × Delivered false scene till (reply_bytes answer) items v × IsIn setup polls o scene). (
           called (called q.0 (SentTill till q.1.0 false) false) (CutTill till) false,
           q.1.1,
           called-in setup polls o (called q.0 (SentTill till q.1.0 false) false) (CutTill till) (called-in setup polls o q.0 (SentTill till q.1.0 false) q.2),
         ))
         (pending-keeps a b setup polls o (Tell till answer ∷ []) items _ (λ scene. tells answer says.0 scene items))))
-        (pass-all setup polls (outside_after o (CutTill till)) till (cut-closed o till) b (reading_of new))
+        (pass-all setup polls (outside_after o (CutTill till)) till (cut-closed o till) b (decode_frames new))
 
 -- what the reader holds is less then, and ends in the same rest
-pub takes-less : (name : List ℕ) (told : Option SaleReply) (old new : List ℕ) (moment : ℕ) → TakesMessage name moment told old new → (length new < length old) × ((reading_of new).rest ≡ (reading_of old).rest)
-takes-less name told old new moment t =
+pub takes-less : (name : List ℕ) (reply_calls : Option SaleReply) (old new : List ℕ) (moment : ℕ) → TakesMessage name moment reply_calls old new → (length new < length old) × ((decode_frames new).rest ≡ (decode_frames old).rest)
+takes-less name reply_calls old new moment t =
     let l : length old ≡ length (frame t.message) + length new = ap length t.taken ∙ length-append (frame t.message) new in
     let m : length (frame t.message) ≡ 4 + length t.message = omega arith in
-    (omega (arith, t.lawful), sym (ap (λ b. (reading_of b).rest) t.taken ∙ ap (λ (r : Reading). r.rest) (reading-message t.message new t.lawful)))
+    (omega (arith, t.lawful), sym (ap (λ b. (decode_frames b).rest) t.taken ∙ ap (λ (r : DecodedFrames). r.rest) (reading-message t.message new t.lawful)))

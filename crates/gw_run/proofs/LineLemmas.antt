@@ -6,25 +6,25 @@ use Rattle.std.proofs.lemmas.Str.Pattern.{IsSplitOnceResult, split_once_first}
 use Rattle.std.specs.Borrow.{Bor}
 use Rattle.std.specs.Prelude.{Bool, Option, Some, None, MatchOption}
 use Rattle.std.specs.Str.{IsUtf8, is_utf8}
-use Rattle.gw_rules.specs.Script.{Split, split_at_space, with_first}
+use Rattle.gw_rules.specs.Script.{WordAndRest, split_at_space, with_first_of_word}
 use Rattle.gw_run.proofs.CutLemmas.{place_of, place_here, place_later, take_later, drop_later}
 
 -- the two parts of a text at this place
-abbrev pub parts_at : ℕ → List ℕ → Split
+abbrev pub parts_at : ℕ → List ℕ → WordAndRest
 parts_at place text = record { word = take place text; rest = drop (place + 1) text }
 
 space_cut : (text : List ℕ) → place_of 32 text < length text → split_at_space text ≡ Some (parts_at (place_of 32 text) text)
 space_cut [] lt = absurd (omega arith)
 space_cut (byte ∷ text) lt = elim (eqb_tells byte 32) [
   | inl e ↦ rw (place_here 32 byte text e.0, e.0) refl
-  | inr e ↦ rw (place_later 32 byte text e.0, take_later byte (place_of 32 text) text, drop_later byte (place_of 32 text) text, e.0) (ap (with_first byte) (space_cut text (omega (arith, place_later 32 byte text e.0))))
+  | inr e ↦ rw (place_later 32 byte text e.0, take_later byte (place_of 32 text) text, drop_later byte (place_of 32 text) text, e.0) (ap (with_first_of_word byte) (space_cut text (omega (arith, place_later 32 byte text e.0))))
 ]
 
 space_none : (text : List ℕ) → length text ≤ place_of 32 text → split_at_space text ≡ None
 space_none [] le = refl
 space_none (byte ∷ text) le = elim (eqb_tells byte 32) [
   | inl e ↦ absurd (omega (arith, place_here 32 byte text e.0))
-  | inr e ↦ rw e.0 (ap (with_first byte) (space_none text (omega (arith, place_later 32 byte text e.0))))
+  | inr e ↦ rw e.0 (ap (with_first_of_word byte) (space_none text (omega (arith, place_later 32 byte text e.0))))
 ]
 
 -- `split_once` at a space splits as the grammar does

@@ -1,11 +1,11 @@
 -- Playing the lines of a script, one turn after the other.
 use Rattle.std.proofs.Common.{◌≡◌, ℕ, List, [], ◌∷◌, ◌++◌, refl, sym, ◌∙◌, ap, append_assoc, subst}
 use Rattle.std.specs.Prelude.{ℤ, Bool, true, false, if◌then◌else◌, ◌||◌, ◌==◌, map, Option, Some, None}
-use Rattle.gw_site.specs.Outside.{Outside, Line as OpenedLine, is_open, new_line, outside_after, outside_from, outside_of, nothing_yet}
+use Rattle.gw_site.specs.Outside.{Outside, Connection as OpenedLine, is_connected, new_connection, outside_after, outside_from, outside_of, nothing_yet}
 use Rattle.gw_site.specs.declared.turn.Turn.{Turn}
 use Rattle.gw_site.specs.declared.turn.Turn.TheVariants.{Polled}
 use Rattle.gw_rules.specs.Plays.{Play, Fits, PlaysFrom, PlaysLines, applies, begins, brings, met, play_after, play_from, play_of, rests}
-use Rattle.gw_rules.specs.Script.{Event, Open, Close, Say, Tick, Line, At, Poll}
+use Rattle.gw_rules.specs.Script.{Event, Open, Close, Say, Tick, PlayedLine, At, Poll}
 use Rattle.gw_run.specs.PlayerMet.{MayCome}
 use Rattle.gw_run.specs.PlayerTills.{next_after, numbers_of, outside_with}
 
@@ -17,14 +17,14 @@ plays_from-append : (o : Outside) (p : Play) (xs ys : List Turn) → PlaysFrom o
 plays_from-append o p [] ys h k = k
 plays_from-append o p (x ∷ xs) ys h k = (h.0, plays_from-append (outside_after o x) (play_after o p x) xs ys h.1 k)
 
-play_of_more : (lines : List Line) (log : List Turn) (turn : Turn) → play_of lines (log ++ turn ∷ []) ≡ play_after (outside_of log) (play_of lines log) turn
+play_of_more : (lines : List PlayedLine) (log : List Turn) (turn : Turn) → play_of lines (log ++ turn ∷ []) ≡ play_after (outside_of log) (play_of lines log) turn
 play_of_more lines log turn = play_from-append nothing_yet (begins lines) log (turn ∷ [])
 
-plays_more : (lines : List Line) (log : List Turn) (turn : Turn) → PlaysLines lines log → Fits (outside_of log) (play_of lines log) turn → PlaysLines lines (log ++ turn ∷ [])
+plays_more : (lines : List PlayedLine) (log : List Turn) (turn : Turn) → PlaysLines lines log → Fits (outside_of log) (play_of lines log) turn → PlaysLines lines (log ++ turn ∷ [])
 plays_more lines log turn h f = plays_from-append nothing_yet (begins lines) log (turn ∷ []) h (f, tt)
 
 -- a log goes on by one turn that fits
-pub turn_played : (lines : List Line) (log new : List Turn) (turn : Turn) (p q : Play) → PlaysLines lines log → play_of lines log ≡ p → Fits (outside_of log) p turn → play_after (outside_of log) p turn ≡ q → new ≡ log ++ turn ∷ [] →
+pub turn_played : (lines : List PlayedLine) (log new : List Turn) (turn : Turn) (p q : Play) → PlaysLines lines log → play_of lines log ≡ p → Fits (outside_of log) p turn → play_after (outside_of log) p turn ≡ q → new ≡ log ++ turn ∷ [] →
     PlaysLines lines new × (play_of lines new ≡ q)
 turn_played lines log new turn p q plays stands fits after is =
     (rw is (plays_more lines log turn plays (rw stands fits)), rw is (play_of_more lines log turn ∙ ap (λ p. play_after (outside_of log) p turn) stands ∙ after))
@@ -44,7 +44,7 @@ brings_event (Close till) = (λ o p due. (due, refl), refl)
 brings_event (Say till bytes) = (λ o p due. (due, refl), refl)
 brings_event Tick = tt
 
-met_event : (o : Outside) (moment : ℤ) (lines : List Line) → AreEvent (met o moment lines).due
+met_event : (o : Outside) (moment : ℤ) (lines : List PlayedLine) → AreEvent (met o moment lines).due
 met_event o moment [] = (λ o p due. (due, refl), refl)
 met_event o moment (At now ∷ lines) = met_event o now lines
 met_event o moment (Poll event ∷ lines) = by_test (applies o event) (met_event o moment lines)
@@ -54,7 +54,7 @@ met_event o moment (Poll event ∷ lines) = by_test (applies o event) (met_event
     by_test false later = later
 
 -- a log goes on by a poll and what it has met
-module _ (lines from rest : List Line) (moment now : ℤ) (log new : List Turn) (plays : PlaysLines lines log) (stands : play_of lines log ≡ rests moment from) where
+module _ (lines from rest : List PlayedLine) (moment now : ℤ) (log new : List Turn) (plays : PlaysLines lines log) (stands : play_of lines log ≡ rests moment from) where
   abbrev Met : List Turn → Type 0
   Met due = met (outside_of log) moment from ≡ record { lines = rest; moment = now; due = due }
 
@@ -72,7 +72,7 @@ module _ (lines from rest : List Line) (moment now : ℤ) (log new : List Turn) 
   pub poll_played : (due : List Turn) → Met due → new ≡ log ++ Polled now ∷ due → PlaysLines lines new × (play_of lines new ≡ rests now rest)
   poll_played due meets is = by_due due (subst AreEvent (ap (λ (p : Play). p.due) meets) (met_event (outside_of log) moment from)) meets is
 
-there_by_number : (lines : List OpenedLine) (till : ℕ) → is_open lines till ≡ is_open (map new_line (numbers_of lines)) till
+there_by_number : (lines : List OpenedLine) (till : ℕ) → is_connected lines till ≡ is_connected (map new_connection (numbers_of lines)) till
 there_by_number [] till = refl
 there_by_number (line ∷ lines) till = ap (λ rest. (line.number == till) || rest) (there_by_number lines till)
 
@@ -90,7 +90,7 @@ module _ (o : Outside) (tills : List ℕ) (opened : Option ℕ) (t : numbers_of 
   applies_with (Say till bytes) = rw (← t) (there_by_number o.tills till)
   applies_with Tick = refl
 
-  pub met_with : (moment : ℤ) (lines : List Line) → met o moment lines ≡ met held moment lines
+  pub met_with : (moment : ℤ) (lines : List PlayedLine) → met o moment lines ≡ met held moment lines
   met_with moment [] = refl
   met_with moment (At now ∷ lines) = met_with now lines
   met_with moment (Poll event ∷ lines) = chosen_alike (applies o event) (applies held event) (record { lines = lines; moment = moment; due = brings event }) (met o moment lines) (met held moment lines) (applies_with event) (met_with moment lines)

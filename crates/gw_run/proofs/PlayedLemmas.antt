@@ -2,28 +2,29 @@
 use Rattle.std.proofs.Common.{◌≡◌, ℕ, ◌<◌, List, [], ◌∷◌, ◌++◌, length, refl, sym, ◌∙◌, ap, subst, arith, append_assoc, inl, inr, true, false}
 use Rattle.std.specs.Prelude.{◌⊎◌, Bool, not, Option, Some, Result, Ok, Err}
 use Rattle.gw_base.specs.declared.setup.Setup.{Setup}
-use Rattle.gw_site.specs.Seen.{Seen, IsFront}
+use Rattle.gw_bytes.specs.Bytes.{IsPrefix}
+use Rattle.gw_site.specs.Observed.{Observed}
 use Rattle.gw_site.specs.Outside.{Outside, outside_after, nothing_yet}
 use Rattle.gw_site.specs.declared.turn.Turn.{Turn}
 use Rattle.gw_site.specs.declared.turn.Turn.TheVariants.{Start, Stopped}
 use Rattle.gw_rules.specs.Scene.{View, Resting, Broken}
 use Rattle.gw_rules.specs.Lawful.{IsClear, IsQuiet, Stands}
 use Rattle.gw_rules.specs.View.{at_first}
-use Rattle.gw_rules.specs.Keeps.{IsRun, Runs, Ran}
+use Rattle.gw_rules.specs.Triple.{IsRun, RunTriple, Ran}
 use Rattle.gw_rules.specs.LogText.{log_text}
 use Rattle.gw_rules.specs.Plays.{Play, Plays, PlaysFrom, PlaysRead, PlaysLines, play_after, begins, IsOneRun, IsRunRead, IsRunWith, IsStopped}
-use Rattle.gw_rules.specs.Script.{Line, Script, script_of, script_setup}
+use Rattle.gw_rules.specs.Script.{PlayedLine, Script, script_of, script_setup}
 use Rattle.gw_rules.proofs.EndLemmas.{over-ends, polls-most}
-use Rattle.gw_rules.proofs.FrontLemmas.{front-lawful}
+use Rattle.gw_rules.proofs.PrefixLemmas.{prefix-lawful}
 use Rattle.gw_run.specs.Top.{IsAtMostOneRun, IsInput, Writes, tail_of}
-use Rattle.gw_run.specs.Replay.{GivesName, IsFresh, IsPlayOf, TellsLines, IsToldEnd, IsPlayEnd, NamesLine, PlayOut, PlayWritten}
-use Rattle.gw_run.specs.Turns.{EndedBy}
+use Rattle.gw_run.specs.Replay.{GivesName, IsFresh, IsPlayOf, WritesTail, IsReportedEnd, IsPlayEnd, NamesLine, PlayOut, PlayWritten}
+use Rattle.gw_run.specs.Round.{EndedBy}
 use Rattle.gw_run.specs.declared.engine.Ended.TheVariants.{Done}
 use Rattle.gw_run.specs.declared.ending.Ending.{Ending}
-use Rattle.gw_run.specs.declared.ending.Ending.TheVariants.{Played, Words, Long, Line as AtLine, Input, Memory, Cut}
+use Rattle.gw_run.specs.declared.ending.Ending.TheVariants.{Played, Words, Long, Line as AtLine, Input, Memory, OutputFailed}
 
 -- what one run of the engine adds, where it plays a script, is one run or nothing
-run-lines : (setup : Setup) (lines : List Line) (log : List Turn) → PlaysLines lines log → IsRun setup log → (log ≡ []) ⊎ IsRunWith setup log
+run-lines : (setup : Setup) (lines : List PlayedLine) (log : List Turn) → PlaysLines lines log → IsRun setup log → (log ≡ []) ⊎ IsRunWith setup log
 run-lines setup lines log plays (inl none) = inl none
 run-lines setup lines log plays (inr (inl failed)) = absurd ((subst (λ l. PlaysLines lines l) failed plays).0)
 run-lines setup lines log plays (inr (inr (run, quiet, inl start))) = inr (run, start, quiet)
@@ -39,44 +40,44 @@ run-read read script log e plays run = by_run (run-lines (script_setup script.na
 pub run-once : (text : List ℕ) (name : Option (List ℕ)) (log : List Turn) → GivesName text name → Plays text log → IsRun (script_setup name) log → IsAtMostOneRun text log
 run-once text name log gives plays run = run-read (script_of text) (record { name = name; lines = gives.0 }) log gives.1 plays run
 
-front-from : (o : Outside) (p : Play) (front rest : List Turn) → PlaysFrom o p (front ++ rest) → PlaysFrom o p front
-front-from o p [] rest h = tt
-front-from o p (turn ∷ front) rest h = (h.0, front-from (outside_after o turn) (play_after o p turn) front rest h.1)
+prefix-from : (o : Outside) (p : Play) (prefix rest : List Turn) → PlaysFrom o p (prefix ++ rest) → PlaysFrom o p prefix
+prefix-from o p [] rest h = tt
+prefix-from o p (turn ∷ prefix) rest h = (h.0, prefix-from (outside_after o turn) (play_after o p turn) prefix rest h.1)
 
-front-read : (read : Result Script ℕ) (front rest : List Turn) → PlaysRead read (front ++ rest) → PlaysRead read front
-front-read (Ok script) front rest h = front-from nothing_yet (begins script.lines) front rest h
-front-read (Err number) front rest h = h
+prefix-read : (read : Result Script ℕ) (prefix rest : List Turn) → PlaysRead read (prefix ++ rest) → PlaysRead read prefix
+prefix-read (Ok script) prefix rest h = prefix-from nothing_yet (begins script.lines) prefix rest h
+prefix-read (Err number) prefix rest h = h
 
--- a front of a play is a play
-plays-front : (script : List ℕ) (front log : List Turn) → IsFront front log → Plays script log → Plays script front
-plays-front script front log (rest, e) h = front-read (script_of script) front rest (subst (λ l. Plays script l) e h)
+-- a prefix of a play is a play
+plays-prefix : (script : List ℕ) (prefix log : List Turn) → IsPrefix prefix log → Plays script log → Plays script prefix
+plays-prefix script prefix log (rest, e) h = prefix-read (script_of script) prefix rest (subst (λ l. Plays script l) e h)
 
-quiet-front : (front rest : List Turn) → IsQuiet (front ++ rest) → IsQuiet front
-quiet-front [] rest h = tt
-quiet-front (turn ∷ front) rest h = (h.0, quiet-front front rest h.1)
+quiet-prefix : (prefix rest : List Turn) → IsQuiet (prefix ++ rest) → IsQuiet prefix
+quiet-prefix [] rest h = tt
+quiet-prefix (turn ∷ prefix) rest h = (h.0, quiet-prefix prefix rest h.1)
 
-run-front : (setup : Setup) (turn : Turn) (front rest log : List Turn) → log ≡ turn ∷ (front ++ rest) → IsRunWith setup log → IsRunWith setup (turn ∷ front)
-run-front setup turn front rest log e (run, start, quiet) =
-    let n : turn ∷ (front ++ rest) ≡ Start setup ∷ run = sym e ∙ start in
+run-prefix : (setup : Setup) (turn : Turn) (prefix rest log : List Turn) → log ≡ turn ∷ (prefix ++ rest) → IsRunWith setup log → IsRunWith setup (turn ∷ prefix)
+run-prefix setup turn prefix rest log e (run, start, quiet) =
+    let n : turn ∷ (prefix ++ rest) ≡ Start setup ∷ run = sym e ∙ start in
     let heads : turn ≡ Start setup = cc in
-    let tails : front ++ rest ≡ run = cc in
-    (front, ap (λ t. t ∷ front) heads, quiet-front front rest (subst IsQuiet (sym tails) quiet))
+    let tails : prefix ++ rest ≡ run = cc in
+    (prefix, ap (λ t. t ∷ prefix) heads, quiet-prefix prefix rest (subst IsQuiet (sym tails) quiet))
 
-read-front : (read : Result Script ℕ) (turn : Turn) (front rest log : List Turn) → log ≡ turn ∷ (front ++ rest) → IsRunRead read log → IsRunRead read (turn ∷ front)
-read-front (Ok script) turn front rest log e one = run-front (script_setup script.name) turn front rest log e one
-read-front (Err number) turn front rest log e one = one
+read-prefix : (read : Result Script ℕ) (turn : Turn) (prefix rest log : List Turn) → log ≡ turn ∷ (prefix ++ rest) → IsRunRead read log → IsRunRead read (turn ∷ prefix)
+read-prefix (Ok script) turn prefix rest log e one = run-prefix (script_setup script.name) turn prefix rest log e one
+read-prefix (Err number) turn prefix rest log e one = one
 
-one-front : (text : List ℕ) (front rest log : List Turn) → log ≡ front ++ rest → IsAtMostOneRun text log → IsAtMostOneRun text front
-one-front text [] rest log e h = inl refl
-one-front text (turn ∷ front) rest log e (inl none) = absurd (let n : [] ≡ turn ∷ (front ++ rest) = sym none ∙ e in cc)
-one-front text (turn ∷ front) rest log e (inr one) = inr (read-front (script_of text) turn front rest log e one)
+one-prefix : (text : List ℕ) (prefix rest log : List Turn) → log ≡ prefix ++ rest → IsAtMostOneRun text log → IsAtMostOneRun text prefix
+one-prefix text [] rest log e h = inl refl
+one-prefix text (turn ∷ prefix) rest log e (inl none) = absurd (let n : [] ≡ turn ∷ (prefix ++ rest) = sym none ∙ e in cc)
+one-prefix text (turn ∷ prefix) rest log e (inr one) = inr (read-prefix (script_of text) turn prefix rest log e one)
 
--- a front of what was played is played in part
-pub part-front : (script : List ℕ) (whole : Bool) (front log : List Turn) → IsFront front log → IsPlayOf script whole log → IsPlayOf script false front
-part-front script whole front log f p = record {
-  lawful = front-lawful front log f p.lawful;
-  plays = plays-front script front log f p.plays;
-  one_run = one-front script front f.0 log f.1 p.one_run;
+-- a prefix of what was played is played in part
+pub part-prefix : (script : List ℕ) (whole : Bool) (prefix log : List Turn) → IsPrefix prefix log → IsPlayOf script whole log → IsPlayOf script false prefix
+part-prefix script whole prefix log f p = record {
+  lawful = prefix-lawful prefix log f p.lawful;
+  plays = plays-prefix script prefix log f p.plays;
+  one_run = one-prefix script prefix f.0 log f.1 p.one_run;
   stopped = λ e. absurd (let n : false ≡ true = e in cc);
 }
 
@@ -92,13 +93,13 @@ written-of Long input text h = h
 written-of (AtLine line) input text h = h
 written-of Input input text h = h
 written-of Memory input text h = h
-written-of Cut input text h = absurd h
+written-of OutputFailed input text h = absurd h
 
 one-run-of : (text : List ℕ) (log : List Turn) → IsAtMostOneRun text log → IsStopped log → IsOneRun text log
-one-run-of text log (inl none) (front, e) = absurd (none-stops front (sym none ∙ e)) where
-  none-stops : (front : List Turn) → [] ≡ front ++ Stopped ∷ [] → ⊥
+one-run-of text log (inl none) (prefix, e) = absurd (none-stops prefix (sym none ∙ e)) where
+  none-stops : (prefix : List Turn) → [] ≡ prefix ++ Stopped ∷ [] → ⊥
   none-stops [] h = cc
-  none-stops (turn ∷ front) h = cc
+  none-stops (turn ∷ prefix) h = cc
 one-run-of text log (inr one) s = one
 
 -- what is written of a log that was played whole
@@ -115,22 +116,22 @@ whole-text script input log i p = record {
 pub part-text : (script : List ℕ) (input : Option (List ℕ)) (whole : Bool) (log : List Turn) → IsInput input script → IsPlayOf script whole log → Writes Memory input (log_text log ++ tail_of Memory)
 part-text script input whole log i p = inr (record { script = script; log = log; input_is = i; lawful = p.lawful; plays = p.plays; one_run = p.one_run; is = refl })
 
-front-front : (text added tail : List ℕ) → IsFront added tail → IsFront (text ++ added) (text ++ tail)
-front-front text added tail (rest, e) = (rest, ap (λ t. text ++ t) e ∙ sym (append_assoc text added rest))
+prefix-prefix : (text added tail : List ℕ) → IsPrefix added tail → IsPrefix (text ++ added) (text ++ tail)
+prefix-prefix text added tail (rest, e) = (rest, ap (λ t. text ++ t) e ∙ sym (append_assoc text added rest))
 
--- the lines behind a text, told in full or in part
-pub told-behind : (ending result : Ending) (input : Option (List ℕ)) (text added : List ℕ)
-    → (NamesLine ending → ⊥) → IsPlayEnd ending → Writes ending input (text ++ tail_of ending) → TellsLines ending result added → PlayOut result input (text ++ added)
-told-behind ending result input text added never end w (inl (same, all)) = rw (same, all) (written-of ending input (text ++ tail_of ending) w)
-told-behind ending result input text added never end w (inr (inl (m, names, a))) = absurd (never names)
-told-behind ending result input text added never end w (inr (inr (cut, (told, inl same, front)))) = rw cut (record {
+-- the lines after a text, written in full or in part
+pub observed-behind : (ending result : Ending) (input : Option (List ℕ)) (text added : List ℕ)
+    → (NamesLine ending → ⊥) → IsPlayEnd ending → Writes ending input (text ++ tail_of ending) → WritesTail ending result added → PlayOut result input (text ++ added)
+observed-behind ending result input text added never end w (inl (same, all)) = rw (same, all) (written-of ending input (text ++ tail_of ending) w)
+observed-behind ending result input text added never end w (inr (inl (m, names, a))) = absurd (never names)
+observed-behind ending result input text added never end w (inr (inr (cut, (observed, inl same, prefix)))) = rw cut (record {
   ending = ending;
   whole = text ++ tail_of ending;
   end = end;
   writes = w;
-  front = front-front text added (tail_of ending) (rw same at front);
+  prefix = prefix-prefix text added (tail_of ending) (rw same at prefix);
 })
-told-behind ending result input text added never end w (inr (inr (cut, (told, inr other, front)))) = absurd (never other.1)
+observed-behind ending result input text added never end w (inr (inr (cut, (observed, inr other, prefix)))) = absurd (never other.1)
 
 played-line : NamesLine Played → ⊥
 played-line (line, e) = cc
@@ -138,29 +139,29 @@ played-line (line, e) = cc
 memory-line : NamesLine Memory → ⊥
 memory-line (line, e) = cc
 
--- the log was written, and the lines behind it
-pub log-told : (script : List ℕ) (whole : Bool) (ending result : Ending) (log : List Turn) (first added : List ℕ)
-    → ((whole ≡ true) × (ending ≡ Played)) ⊎ (ending ≡ Memory) → IsPlayOf script whole log → first ≡ log_text log → TellsLines ending result added → PlayWritten script result (first ++ added)
-log-told script whole ending result log first added (inl (w, e)) p f t = λ input i.
-    subst (λ l. PlayOut result input (l ++ added)) (sym f) (told-behind Played result input (log_text log) added played-line tt (whole-text script input log i (rw w at p)) (rw e at t))
-log-told script whole ending result log first added (inr e) p f t = λ input i.
-    subst (λ l. PlayOut result input (l ++ added)) (sym f) (told-behind Memory result input (log_text log) added memory-line tt (part-text script input whole log i p) (rw e at t))
+-- the log was written, and the lines after it
+pub log-observed : (script : List ℕ) (whole : Bool) (ending result : Ending) (log : List Turn) (first added : List ℕ)
+    → ((whole ≡ true) × (ending ≡ Played)) ⊎ (ending ≡ Memory) → IsPlayOf script whole log → first ≡ log_text log → WritesTail ending result added → PlayWritten script result (first ++ added)
+log-observed script whole ending result log first added (inl (w, e)) p f t = λ input i.
+    subst (λ l. PlayOut result input (l ++ added)) (sym f) (observed-behind Played result input (log_text log) added played-line tt (whole-text script input log i (rw w at p)) (rw e at t))
+log-observed script whole ending result log first added (inr e) p f t = λ input i.
+    subst (λ l. PlayOut result input (l ++ added)) (sym f) (observed-behind Memory result input (log_text log) added memory-line tt (part-text script input whole log i p) (rw e at t))
 
--- a front of the log's text was written, and then no more
-pub log-cut : (script : List ℕ) (whole : Bool) (log : List Turn) (added : List ℕ) → IsPlayOf script whole log → IsFront added (log_text log) → PlayWritten script Cut added
+-- a prefix of the log's text was written, and then no more
+pub log-cut : (script : List ℕ) (whole : Bool) (log : List Turn) (added : List ℕ) → IsPlayOf script whole log → IsPrefix added (log_text log) → PlayWritten script OutputFailed added
 log-cut script whole log added p (rest, e) = λ input i. record {
   ending = Memory;
   whole = log_text log ++ tail_of Memory;
   end = tt;
   writes = part-text script input whole log i p;
-  front = (rest ++ tail_of Memory, ap (λ t. t ++ tail_of Memory) e ∙ append_assoc added rest (tail_of Memory));
+  prefix = (rest ++ tail_of Memory, ap (λ t. t ++ tail_of Memory) e ∙ append_assoc added rest (tail_of Memory));
 }
 
 -- a play ends so
-pub told-play-end : (ending result : Ending) → IsPlayEnd ending → IsToldEnd ending result → IsPlayEnd result
-told-play-end ending result h (inl same) = rw same h
-told-play-end ending result h (inr (inl (memory, names))) = rw memory tt
-told-play-end ending result h (inr (inr cut)) = rw cut tt
+pub observed-play-end : (ending result : Ending) → IsPlayEnd ending → IsReportedEnd ending result → IsPlayEnd result
+observed-play-end ending result h (inl same) = rw same h
+observed-play-end ending result h (inr (inl (memory, names))) = rw memory tt
+observed-play-end ending result h (inr (inr cut)) = rw cut tt
 
 first-clear : IsClear at_first
 first-clear e = let n : Resting ≡ Broken = e in cc
@@ -171,15 +172,15 @@ first-stands = record { course = []; log_is = refl; lawful = tt; view_is = refl 
 some-log : {xs ys : List Turn} → Some xs ≡ Some ys → xs ≡ ys
 some-log e = cc
 
-module _ (old new : Seen) (script : List ℕ) (name : Option (List ℕ)) (gives : GivesName script name) (log : List Turn) (Q : View → Type 0) (fresh : IsFresh old script) (runs : Runs old new (IsRun (script_setup name)) Q) (e : new.log ≡ Some log) (plays : Plays new.origin log) where
+module _ (old new : Observed) (script : List ℕ) (name : Option (List ℕ)) (gives : GivesName script name) (log : List Turn) (Q : View → Type 0) (fresh : IsFresh old script) (runs : RunTriple old new (IsRun (script_setup name)) Q) (e : new.log ≡ Some log) (plays : Plays new.origin log) where
   ran : Ran [] new (IsRun (script_setup name)) Q
-  ran = runs.told [] at_first (ap (λ (s : Seen). s.log) fresh) first-stands first-clear
+  ran = runs.observed [] at_first (ap (λ (s : Observed). s.log) fresh) first-stands first-clear
 
   added-is : ran.added ≡ log
   added-is = some-log (sym ran.log_is ∙ e)
 
   here : Plays script log
-  here = subst (λ origin. Plays origin log) (runs.origin ∙ ap (λ (s : Seen). s.origin) fresh) plays
+  here = subst (λ origin. Plays origin log) (runs.origin ∙ ap (λ (s : Observed). s.origin) fresh) plays
 
   stands : Stands log ran.view
   stands = subst (λ l. Stands l ran.view) added-is ran.lawful
@@ -194,7 +195,7 @@ module _ (old new : Seen) (script : List ℕ) (name : Option (List ℕ)) (gives 
   }
 
 -- after a run that came to its end
-pub ran-whole : (old new : Seen) (script : List ℕ) (name : Option (List ℕ)) → GivesName script name → (log : List Turn) (most : ℕ) → IsFresh old script → Runs old new (IsRun (script_setup name)) (EndedBy Done most) → new.log ≡ Some log → Plays new.origin log → length log < most → (short : Bool) → short ≡ new.dark → IsPlayOf script (not short) log
+pub ran-whole : (old new : Observed) (script : List ℕ) (name : Option (List ℕ)) → GivesName script name → (log : List Turn) (most : ℕ) → IsFresh old script → RunTriple old new (IsRun (script_setup name)) (EndedBy Done most) → new.log ≡ Some log → Plays new.origin log → length log < most → (dark : Bool) → dark ≡ new.dark → IsPlayOf script (not dark) log
 ran-whole old new script name gives log most fresh runs e plays few true s = ran-play old new script name gives log (EndedBy Done most) fresh runs e plays
 ran-whole old new script name gives log most fresh runs e plays few false s =
     let r = ran old new script name gives log (EndedBy Done most) fresh runs e plays in

@@ -2,7 +2,7 @@
 use Rattle.std.proofs.Common.{◌≡◌, ℕ, List, [], ◌∷◌, ◌++◌, refl, sym, ◌∙◌, ap, take}
 use Rattle.std.specs.Prelude.{ℤ, Bool, true, false, ◌||◌, ◌==◌, not, map, filter, Option}
 use Rattle.std.specs.List.{list_any}
-use Rattle.gw_site.specs.Outside.{Line, Outside, hears, is_open, new_line, outside_after, outside_from, outside_of, without}
+use Rattle.gw_site.specs.Outside.{Connection, Outside, hears, is_connected, new_connection, outside_after, outside_from, outside_of, without}
 use Rattle.gw_site.specs.Turns.{event_turns}
 use Rattle.gw_site.specs.declared.site.What.{What}
 use Rattle.gw_site.specs.declared.site.What.TheVariants.{TillOpened, TillBytes, TillClosed, PtBytes, PtClosed, Nothing, Stopped as Stop}
@@ -13,17 +13,17 @@ use Rattle.gw_base.specs.declared.setup.Setup.{Setup}
 use Rattle.gw_run.specs.PlayerTills.{numbers_of, next_after, tills_after, opened_after}
 
 -- a till is there where its number is held
-pub open_there : (tills : List ℕ) (till : ℕ) → is_open (map new_line tills) till ≡ list_any (λ other. other == till) tills
+pub open_there : (tills : List ℕ) (till : ℕ) → is_connected (map new_connection tills) till ≡ list_any (λ other. other == till) tills
 open_there [] till = refl
 open_there (other ∷ tills) till = ap (λ rest. (other == till) || rest) (open_there tills till)
 
 -- one more till is there
-pub numbers_more : (lines : List Line) (till : ℕ) → numbers_of (lines ++ new_line till ∷ []) ≡ numbers_of lines ++ till ∷ []
+pub numbers_more : (lines : List Connection) (till : ℕ) → numbers_of (lines ++ new_connection till ∷ []) ≡ numbers_of lines ++ till ∷ []
 numbers_more [] till = refl
 numbers_more (line ∷ lines) till = ap (λ rest. line.number ∷ rest) (numbers_more lines till)
 
 -- what is heard makes no difference to who is there
-pub numbers_hears : (lines : List Line) (till : ℕ) (bytes : List ℕ) → numbers_of (hears lines till bytes) ≡ numbers_of lines
+pub numbers_hears : (lines : List Connection) (till : ℕ) (bytes : List ℕ) → numbers_of (hears lines till bytes) ≡ numbers_of lines
 numbers_hears [] till bytes = refl
 numbers_hears (line ∷ lines) till bytes = by_test (line.number == till) refl (numbers_hears lines till bytes)
   where
@@ -32,7 +32,7 @@ numbers_hears (line ∷ lines) till bytes = by_test (line.number == till) refl (
     by_test false t later = rw t (ap (λ rest. line.number ∷ rest) later)
 
 -- a till is gone
-pub numbers_without : (lines : List Line) (till : ℕ) → numbers_of (without lines till) ≡ filter (λ other. not (other == till)) (numbers_of lines)
+pub numbers_without : (lines : List Connection) (till : ℕ) → numbers_of (without lines till) ≡ filter (λ other. not (other == till)) (numbers_of lines)
 numbers_without [] till = refl
 numbers_without (line ∷ lines) till = by_test (line.number == till) refl (numbers_without lines till)
   where
@@ -41,9 +41,9 @@ numbers_without (line ∷ lines) till = by_test (line.number == till) refl (numb
     by_test false t later = rw t (ap (λ rest. line.number ∷ rest) later)
 
 -- a turn was added where the player isn't dark after it
-pub was_added : {P Q : Type 0} (result short : Bool) → (result ≡ true → P) → (result ≡ false → (short ≡ true) × Q) → short ≡ false → P
-was_added true short added refused lit = added refl
-was_added false short added refused lit = absurd (let h : true ≡ false = sym (refused refl).0 ∙ lit in cc)
+pub was_added : {P Q : Type 0} (result dark : Bool) → (result ≡ true → P) → (result ≡ false → (dark ≡ true) × Q) → dark ≡ false → P
+was_added true dark added refused lit = added refl
+was_added false dark added refused lit = absurd (let h : true ≡ false = sym (refused refl).0 ∙ lit in cc)
 
 -- a turn by which no till opens or goes
 pub turn_tills : (log new : List Turn) (turn : Turn) → ((o : Outside) → ((outside_after o turn).tills ≡ o.tills) × ((outside_after o turn).next_till ≡ o.next_till)) → new ≡ log ++ turn ∷ [] →

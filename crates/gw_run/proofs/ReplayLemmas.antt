@@ -1,12 +1,12 @@
 -- What a replay has written, and why it ended so.
 use Rattle.std.proofs.Common.{◌≡◌, ℕ, ◌≤◌, List, length, refl, sym, ◌∙◌, ap, arith, inl, inr}
 use Rattle.std.specs.Prelude.{◌⊎◌, Option, Some, None, Ok, Err}
-use Rattle.gw_site.specs.Seen.{IsFront}
+use Rattle.gw_bytes.specs.Bytes.{IsPrefix}
 use Rattle.gw_rules.specs.Script.{Script, script_limit, script_of}
-use Rattle.gw_run.specs.Top.{Stream, Cause, HasRisen, IfTold, IsAccepted, IsReadWhole, IsScript, IsScriptLeft, Writes, WritesFront, Written, status_of, tail_of}
-use Rattle.gw_run.specs.Replay.{IsInputFault, IsInputRead, IsPlayEnd, TellsLines, IsToldEnd, NamesLine, PlayOut}
+use Rattle.gw_run.specs.Top.{Stream, Cause, HasRisen, IfBytesObserved, IsAccepted, IsReadWhole, IsScript, IsScriptLeft, Writes, WritesPrefix, Written, status_of, tail_of}
+use Rattle.gw_run.specs.Replay.{IsInputFault, IsInputRead, IsPlayEnd, WritesTail, IsReportedEnd, NamesLine, PlayOut}
 use Rattle.gw_run.specs.declared.ending.Ending.{Ending}
-use Rattle.gw_run.specs.declared.ending.Ending.TheVariants.{Played, Words, Long, Line as AtLine, Input, Memory, Cut}
+use Rattle.gw_run.specs.declared.ending.Ending.TheVariants.{Played, Words, Long, Line as AtLine, Input, Memory, OutputFailed}
 
 -- an end in which nothing but its lines is written
 abbrev pub IsFault : Ending → Type 0
@@ -16,7 +16,7 @@ IsFault Long = Unit {0}
 IsFault (AtLine line) = Unit {0}
 IsFault Input = Unit {0}
 IsFault Memory = Unit {0}
-IsFault Cut = ⊥
+IsFault OutputFailed = ⊥
 
 lines-written : (ending : Ending) (words : List (List ℕ)) (input out : Stream) → IsFault ending → Written ending words input out (tail_of ending)
 lines-written Words words input out h = refl
@@ -25,7 +25,7 @@ lines-written (AtLine line) words input out h = refl
 lines-written Input words input out h = refl
 lines-written Memory words input out h = inl refl
 lines-written Played words input out h = absurd h
-lines-written Cut words input out h = absurd h
+lines-written OutputFailed words input out h = absurd h
 
 lines-whole : (ending : Ending) (input : Option (List ℕ)) → IsFault ending → Writes ending input (tail_of ending)
 lines-whole Words input h = refl
@@ -34,41 +34,41 @@ lines-whole (AtLine line) input h = refl
 lines-whole Input input h = refl
 lines-whole Memory input h = inl refl
 lines-whole Played input h = absurd h
-lines-whole Cut input h = absurd h
+lines-whole OutputFailed input h = absurd h
 
-lines-front : (ending : Ending) (words : List (List ℕ)) (input out : Stream) (added : List ℕ)
-    → IsFault ending → Cause ending words input out → IsFront added (tail_of ending) → WritesFront words input out added
-lines-front ending words input out added h cause front = record { ending = ending; whole = tail_of ending; cause = cause; writes = lines-whole ending input.before h; front = front }
+lines-prefix : (ending : Ending) (words : List (List ℕ)) (input out : Stream) (added : List ℕ)
+    → IsFault ending → Cause ending words input out → IsPrefix added (tail_of ending) → WritesPrefix words input out added
+lines-prefix ending words input out added h cause prefix = record { ending = ending; whole = tail_of ending; cause = cause; writes = lines-whole ending input.before h; prefix = prefix }
 
 words-line : NamesLine Words → ⊥
 words-line (line, e) = cc
 
 -- the lines of a fault that words accepted may meet, in full or in part
-pub fault-told : (ending result : Ending) (words : List (List ℕ)) (input out : Stream) (added : List ℕ)
-    → IsFault ending → IsAccepted words → Cause ending words input out → TellsLines ending result added → Written result words input out added
-fault-told ending result words input out added h acc cause (inl (same, all)) = rw (same, all) (lines-written ending words input out h)
-fault-told ending result words input out added h acc cause (inr (inl (m, names, a))) = rw m (inl a)
-fault-told ending result words input out added h acc cause (inr (inr (cut, (told, inl same, front)))) = rw cut (lines-front ending words input out added h cause (rw same at front))
-fault-told ending result words input out added h acc cause (inr (inr (cut, (told, inr other, front)))) = rw cut (lines-front Memory words input out added tt acc (rw other.0 at front))
+pub fault-observed : (ending result : Ending) (words : List (List ℕ)) (input out : Stream) (added : List ℕ)
+    → IsFault ending → IsAccepted words → Cause ending words input out → WritesTail ending result added → Written result words input out added
+fault-observed ending result words input out added h acc cause (inl (same, all)) = rw (same, all) (lines-written ending words input out h)
+fault-observed ending result words input out added h acc cause (inr (inl (m, names, a))) = rw m (inl a)
+fault-observed ending result words input out added h acc cause (inr (inr (cut, (observed, inl same, prefix)))) = rw cut (lines-prefix ending words input out added h cause (rw same at prefix))
+fault-observed ending result words input out added h acc cause (inr (inr (cut, (observed, inr other, prefix)))) = rw cut (lines-prefix Memory words input out added tt acc (rw other.0 at prefix))
 
 -- the lines for refused words, in full or in part
-pub words-told : (result : Ending) (words : List (List ℕ)) (input out : Stream) (added : List ℕ)
-    → (IsAccepted words → ⊥) → TellsLines Words result added → Written result words input out added
-words-told result words input out added never (inl (same, all)) = rw (same, all) refl
-words-told result words input out added never (inr (inl (m, names, a))) = absurd (words-line names)
-words-told result words input out added never (inr (inr (cut, (told, inl same, front)))) = rw cut (lines-front Words words input out added tt never (rw same at front))
-words-told result words input out added never (inr (inr (cut, (told, inr other, front)))) = absurd (words-line other.1)
+pub words-observed : (result : Ending) (words : List (List ℕ)) (input out : Stream) (added : List ℕ)
+    → (IsAccepted words → ⊥) → WritesTail Words result added → Written result words input out added
+words-observed result words input out added never (inl (same, all)) = rw (same, all) refl
+words-observed result words input out added never (inr (inl (m, names, a))) = absurd (words-line names)
+words-observed result words input out added never (inr (inr (cut, (observed, inl same, prefix)))) = rw cut (lines-prefix Words words input out added tt never (rw same at prefix))
+words-observed result words input out added never (inr (inr (cut, (observed, inr other, prefix)))) = absurd (words-line other.1)
 
--- the cause of the end that is told is that of the end, or the want of memory, or a failed write
-pub told-cause : (ending result : Ending) (words : List (List ℕ)) (input out : Stream)
-    → IsAccepted words → Cause ending words input out → (result ≡ Cut → HasRisen out) → IsToldEnd ending result → Cause result words input out
-told-cause ending result words input out acc cause cut (inl same) = rw same cause
-told-cause ending result words input out acc cause cut (inr (inl (memory, names))) = rw memory acc
-told-cause ending result words input out acc cause cut (inr (inr e)) = rw e (cut e)
+-- the cause of the end that is reported is that of the end, or no memory, or a failed write
+pub observed-cause : (ending result : Ending) (words : List (List ℕ)) (input out : Stream)
+    → IsAccepted words → Cause ending words input out → (result ≡ OutputFailed → HasRisen out) → IsReportedEnd ending result → Cause result words input out
+observed-cause ending result words input out acc cause cut (inl same) = rw same cause
+observed-cause ending result words input out acc cause cut (inr (inl (memory, names))) = rw memory acc
+observed-cause ending result words input out acc cause cut (inr (inr e)) = rw e (cut e)
 
 -- the cause of the end where the words are refused
 pub words-cause : (result : Ending) (words : List (List ℕ)) (input out : Stream)
-    → (IsAccepted words → ⊥) → (result ≡ Cut → HasRisen out) → IsToldEnd Words result → Cause result words input out
+    → (IsAccepted words → ⊥) → (result ≡ OutputFailed → HasRisen out) → IsReportedEnd Words result → Cause result words input out
 words-cause result words input out never cut (inl same) = rw same never
 words-cause result words input out never cut (inr (inl (memory, names))) = absurd (words-line names)
 words-cause result words input out never cut (inr (inr e)) = rw e (cut e)
@@ -79,24 +79,24 @@ is-script text all script e few reads = (few, (script, ap script_of (sym e) ∙ 
 
 -- the cause of a play's end
 pub play-cause : (result : Ending) (words : List (List ℕ)) (input out : Stream)
-    → IsAccepted words → IsReadWhole input IsScript → (result ≡ Cut → HasRisen out) → IsPlayEnd result → Cause result words input out
+    → IsAccepted words → IsReadWhole input IsScript → (result ≡ OutputFailed → HasRisen out) → IsPlayEnd result → Cause result words input out
 play-cause Played words input out acc read cut end = (acc, read)
 play-cause Memory words input out acc read cut end = acc
-play-cause Cut words input out acc read cut end = cut refl
+play-cause OutputFailed words input out acc read cut end = cut refl
 play-cause Words words input out acc read cut end = absurd end
 play-cause Long words input out acc read cut end = absurd end
 play-cause (AtLine line) words input out acc read cut end = absurd end
 play-cause Input words input out acc read cut end = absurd end
 
-front-cause : (ending : Ending) (words : List (List ℕ)) (input out : Stream) (text : List ℕ)
+prefix-cause : (ending : Ending) (words : List (List ℕ)) (input out : Stream) (text : List ℕ)
     → IsAccepted words → IsReadWhole input IsScript → IsPlayEnd ending → Writes ending input.before text → Cause ending words input out
-front-cause Played words input out text acc read end w = (acc, read)
-front-cause Memory words input out text acc read end w = acc
-front-cause Cut words input out text acc read end w = absurd w
-front-cause Words words input out text acc read end w = absurd end
-front-cause Long words input out text acc read end w = absurd end
-front-cause (AtLine line) words input out text acc read end w = absurd end
-front-cause Input words input out text acc read end w = absurd end
+prefix-cause Played words input out text acc read end w = (acc, read)
+prefix-cause Memory words input out text acc read end w = acc
+prefix-cause OutputFailed words input out text acc read end w = absurd w
+prefix-cause Words words input out text acc read end w = absurd end
+prefix-cause Long words input out text acc read end w = absurd end
+prefix-cause (AtLine line) words input out text acc read end w = absurd end
+prefix-cause Input words input out text acc read end w = absurd end
 
 -- what a replay writes in a play
 pub play-written : (result : Ending) (words : List (List ℕ)) (input out : Stream) (text : List ℕ)
@@ -107,12 +107,12 @@ play-written Long words input out text acc read w = w
 play-written (AtLine line) words input out text acc read w = w
 play-written Input words input out text acc read w = w
 play-written Memory words input out text acc read w = w
-play-written Cut words input out text acc read w = record {
+play-written OutputFailed words input out text acc read w = record {
   ending = w.ending;
   whole = w.whole;
-  cause = front-cause w.ending words input out w.whole acc read w.end w.writes;
+  cause = prefix-cause w.ending words input out w.whole acc read w.end w.writes;
   writes = w.writes;
-  front = w.front;
+  prefix = w.prefix;
 }
 
 -- a fault of the reading has its lines alone
@@ -123,41 +123,41 @@ input-fault Memory h = tt
 input-fault Played h = absurd h
 input-fault Words h = absurd h
 input-fault (AtLine line) h = absurd h
-input-fault Cut h = absurd h
+input-fault OutputFailed h = absurd h
 
 -- the cause of a fault of the reading
 pub input-cause : (fault : Ending) (words : List (List ℕ)) (input out : Stream)
-    → IsAccepted words → IsInputFault fault → (fault ≡ Input → HasRisen input) → IfTold input.before (λ all. IsInputRead (Err fault) all input.after) → Cause fault words input out
+    → IsAccepted words → IsInputFault fault → (fault ≡ Input → HasRisen input) → IfBytesObserved input.before (λ all. IsInputRead (Err fault) all input.after) → Cause fault words input out
 input-cause Long words input out acc h rose long = (acc, long)
 input-cause Input words input out acc h rose long = (acc, rose refl, long)
 input-cause Memory words input out acc h rose long = acc
 input-cause Played words input out acc h rose long = absurd h
 input-cause Words words input out acc h rose long = absurd h
 input-cause (AtLine line) words input out acc h rose long = absurd h
-input-cause Cut words input out acc h rose long = absurd h
+input-cause OutputFailed words input out acc h rose long = absurd h
 
-play-end : (ending result : Ending) → IsPlayEnd ending → IsToldEnd ending result → IsPlayEnd result
+play-end : (ending result : Ending) → IsPlayEnd ending → IsReportedEnd ending result → IsPlayEnd result
 play-end ending result h (inl same) = rw same h
 play-end ending result h (inr (inl (memory, names))) = rw memory tt
 play-end ending result h (inr (inr e)) = rw e tt
 
 -- where the input is a script and no reading failed, the reading can only want memory
 pub input-complete : (fault result : Ending) (input left : Option (List ℕ)) (input_rose : Type 0)
-    → IsInputFault fault → (fault ≡ Input → input_rose) → IfTold input (λ all. IsInputRead (Err fault) all left) → IsScriptLeft input → (input_rose → ⊥) → IsToldEnd fault result → IsPlayEnd result
-input-complete Long result None left input_rose h rose long script calm told = absurd script
-input-complete Long result (Some bytes) left input_rose h rose long script calm told = absurd (let a = (long bytes refl).long in let b = script.0 in omega arith)
-input-complete Input result input left input_rose h rose long script calm told = absurd (calm (rose refl))
-input-complete Memory result input left input_rose h rose long script calm told = play-end Memory result tt told
-input-complete Played result input left input_rose h rose long script calm told = absurd h
-input-complete Words result input left input_rose h rose long script calm told = absurd h
-input-complete (AtLine line) result input left input_rose h rose long script calm told = absurd h
-input-complete Cut result input left input_rose h rose long script calm told = absurd h
+    → IsInputFault fault → (fault ≡ Input → input_rose) → IfBytesObserved input (λ all. IsInputRead (Err fault) all left) → IsScriptLeft input → (input_rose → ⊥) → IsReportedEnd fault result → IsPlayEnd result
+input-complete Long result None left input_rose h rose long script calm observed = absurd script
+input-complete Long result (Some bytes) left input_rose h rose long script calm observed = absurd (let a = (long bytes refl).long in let b = script.0 in omega arith)
+input-complete Input result input left input_rose h rose long script calm observed = absurd (calm (rose refl))
+input-complete Memory result input left input_rose h rose long script calm observed = play-end Memory result tt observed
+input-complete Played result input left input_rose h rose long script calm observed = absurd h
+input-complete Words result input left input_rose h rose long script calm observed = absurd h
+input-complete (AtLine line) result input left input_rose h rose long script calm observed = absurd h
+input-complete OutputFailed result input left input_rose h rose long script calm observed = absurd h
 
 -- a play's end in which no write has failed
-pub status-end : (ending : Ending) (out_rose : Type 0) (status : ℕ) → status ≡ status_of ending → IsPlayEnd ending → (ending ≡ Cut → out_rose) → (out_rose → ⊥) → (status ≡ 0) ⊎ (status ≡ 71)
+pub status-end : (ending : Ending) (out_rose : Type 0) (status : ℕ) → status ≡ status_of ending → IsPlayEnd ending → (ending ≡ OutputFailed → out_rose) → (out_rose → ⊥) → (status ≡ 0) ⊎ (status ≡ 71)
 status-end Played out_rose status s h cut calm = inl s
 status-end Memory out_rose status s h cut calm = inr s
-status-end Cut out_rose status s h cut calm = absurd (calm (cut refl))
+status-end OutputFailed out_rose status s h cut calm = absurd (calm (cut refl))
 status-end Words out_rose status s h cut calm = absurd h
 status-end Long out_rose status s h cut calm = absurd h
 status-end (AtLine line) out_rose status s h cut calm = absurd h

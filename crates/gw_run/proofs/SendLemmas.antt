@@ -2,22 +2,22 @@
 use Rattle.std.proofs.Common.{◌≡◌, List, [], ◌∷◌, ℕ, subst}
 use Rattle.std.specs.Prelude.{Ok, Err, true, false}
 use Rattle.gw_site.specs.declared.turn.Turn.TheVariants.{SentTill, CutTill}
-use Rattle.gw_site.specs.Seen.{Seen, Grows}
+use Rattle.gw_site.specs.Observed.{Observed, Grows}
 use Rattle.gw_site.specs.Turns.{IsTurn, SentTillTurns}
-use Rattle.gw_rules.specs.Reply.{Reply, told_bytes}
+use Rattle.gw_rules.specs.Reply.{Reply, reply_bytes}
 use Rattle.gw_rules.specs.Scene.{Till as ATill, Tell, Cut, Item, Scene}
 use Rattle.gw_rules.specs.View.{called}
-use Rattle.gw_rules.specs.Keeps.{Keeps, Owing}
-use Rattle.gw_rules.proofs.KeepsLemmas.{keeps-then, keeps-after, keeps-some}
+use Rattle.gw_rules.specs.Triple.{Triple, Owing}
+use Rattle.gw_rules.proofs.TripleLemmas.{keeps-then, keeps-after, keeps-some}
 use Rattle.gw_rules.proofs.CallLemmas.{cut-till-keeps, tell-keeps}
-use Rattle.gw_run.specs.Turns.{Delivered}
+use Rattle.gw_run.specs.Round.{Delivered}
 
-pub delivered : (E : Type 0) (a b : Seen) (done : Unit {0}) (till : ℕ) (bytes : List ℕ) (reply : Reply) → bytes ≡ told_bytes reply → Grows a b (SentTillTurns {E = E} till bytes (Ok done)) → (scene : Scene) (items : List Item) →
-    Keeps a b (Owing scene (Tell till reply ∷ []) items) (Delivered true scene till (told_bytes reply) items)
+pub delivered : (E : Type 0) (a b : Observed) (done : Unit {0}) (till : ℕ) (bytes : List ℕ) (reply : Reply) → bytes ≡ reply_bytes reply → Grows a b (SentTillTurns {E = E} till bytes (Ok done)) → (scene : Scene) (items : List Item) →
+    Triple a b (Owing scene (Tell till reply ∷ []) items) (Delivered true scene till (reply_bytes reply) items)
 delivered E a b done till bytes reply is grows scene items = tell-keeps scene [] items a b {E = E} till reply (Ok done) (subst (λ bytes. Grows a b (SentTillTurns {E = E} till bytes (Ok done))) is grows)
 
-pub undelivered : {E : Type 0} (a b c : Seen) (failed : E) (till : ℕ) (bytes : List ℕ) (reply : Reply) → bytes ≡ told_bytes reply → Grows a b (SentTillTurns till bytes (Err failed)) → Grows b c (IsTurn (CutTill till)) → (scene : Scene) (items : List Item) →
-    Keeps a c (Owing scene (Tell till reply ∷ []) items) (Delivered false scene till (told_bytes reply) items)
+pub undelivered : {E : Type 0} (a b c : Observed) (failed : E) (till : ℕ) (bytes : List ℕ) (reply : Reply) → bytes ≡ reply_bytes reply → Grows a b (SentTillTurns till bytes (Err failed)) → Grows b c (IsTurn (CutTill till)) → (scene : Scene) (items : List Item) →
+    Triple a c (Owing scene (Tell till reply ∷ []) items) (Delivered false scene till (reply_bytes reply) items)
 undelivered a b c failed till bytes reply is sent cut scene items =
     keeps-then a b c _ _ _ (tell-keeps scene [] items a b till reply (Err failed) (subst (λ bytes. Grows a b (SentTillTurns till bytes (Err failed))) is sent))
     (keeps-some b c (λ (taken : List ℕ) v. Owing (called scene (SentTill till taken false) false) (Cut (ATill till) ∷ []) items v) _ []

@@ -1,4 +1,4 @@
--- What a poll of a player meets and brings.
+-- Inner: what a poll of a player meets and brings.
 use Rattle.std.specs.Prelude.{◌≡◌, ℕ, true, List, [], ◌∷◌, Option, Some, None}
 use Rattle.std.specs.Option.{option_to_list}
 use Rattle.gw_site.specs.Outside.{Outside}
@@ -7,7 +7,7 @@ use Rattle.gw_site.specs.declared.turn.Turn.{Turn}
 use Rattle.gw_site.specs.declared.turn.Turn.TheVariants.{Stopped}
 use Rattle.gw_rules.specs.Script.{Event}
 use Rattle.gw_rules.specs.Plays.{applies, brings}
-use Rattle.gw_run.specs.declared.player.met.Brought.{Brought}
+use Rattle.gw_run.specs.declared.player.next_event.Brought.{Brought}
 
 -- the turns of the event that a poll has met, or of the end
 abbrev pub due_of : Option Event → List Turn

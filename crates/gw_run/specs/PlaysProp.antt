@@ -1,11 +1,11 @@
--- What is a proposition of plays.
+-- Inner: what is a proposition of plays.
 use Rattle.std.specs.Prelude.{List, [], ◌∷◌}
 use Rattle.std.proofs.Props.{props}
 use Rattle.gw_site.specs.Outside.{Outside, outside_after, nothing_yet}
 use Rattle.gw_site.specs.declared.turn.Turn.{Turn}
 use Rattle.gw_site.specs.declared.turn.Turn.TheVariants.{Start, OpenFailed, Polled, Opened, HeardTill, Closed, HeardPt, Lost, Stopped, Linked, LinkFailed, SentTill, SentPt, CutTill, CutPt, Wrote, Synced, DiskFailed, Crash}
 use Rattle.gw_rules.specs.Plays.{Play, Fits, PlaysFrom, PlaysLines, play_after, begins}
-use Rattle.gw_rules.specs.Script.{Line}
+use Rattle.gw_rules.specs.Script.{PlayedLine}
 
 -- that a turn fits is a proposition
 fits_prop : (o : Outside) (p : Play) (turn : Turn) → IsProp (Fits o p turn)
@@ -35,5 +35,5 @@ plays_from_prop o p [] = hlevel props
 plays_from_prop o p (turn ∷ turns) = hlevel (props, fits_prop o p turn, plays_from_prop (outside_after o turn) (play_after o p turn) turns)
 
 -- playing lines is a proposition
-pub plays_prop : (lines : List Line) (turns : List Turn) → IsProp (PlaysLines lines turns)
+pub plays_prop : (lines : List PlayedLine) (turns : List Turn) → IsProp (PlaysLines lines turns)
 plays_prop lines turns = plays_from_prop nothing_yet (begins lines) turns

@@ -1,14 +1,15 @@
--- How a replay and a play end, and what they write.
+-- Inner: how a replay and a play end, and what they write.
 use Rattle.std.specs.Prelude.{◌≡◌, ◌⊎◌, ℕ, ◌≤◌, List, [], Bool, true, false, Option, Some, Result, Ok, Err, length}
 use Rattle.std.specs.Global.{Vec}
-use Rattle.gw_site.specs.Seen.{Seen, IsFront}
+use Rattle.gw_bytes.specs.Bytes.{IsPrefix}
+use Rattle.gw_site.specs.Observed.{Observed}
 use Rattle.gw_site.specs.declared.turn.Turn.{Turn}
 use Rattle.gw_rules.specs.Lawful.{IsLawful}
-use Rattle.gw_rules.specs.Script.{Line, script_of, script_limit}
+use Rattle.gw_rules.specs.Script.{PlayedLine, script_of, script_limit}
 use Rattle.gw_rules.specs.Plays.{Plays, IsStopped}
 use Rattle.gw_run.specs.Top.{Stream, Cause, Written, Writes, IsAccepted, IsAtMostOneRun, IsInput, IsReadWithin, IsScriptTooLong, tail_of}
 use Rattle.gw_run.specs.declared.ending.Ending.{Ending}
-use Rattle.gw_run.specs.declared.ending.Ending.TheVariants.{Played, Words, Long, Line as AtLine, Input, Memory, Cut}
+use Rattle.gw_run.specs.declared.ending.Ending.TheVariants.{Played, Words, Long, Line as AtLine, Input, Memory, OutputFailed}
 
 -- what is written of a replay by its end
 abbrev pub ReplayWritten : Stream → Stream → Ending → List ℕ → Type 0
@@ -26,15 +27,15 @@ IsPlayEnd Long = ⊥
 IsPlayEnd (AtLine line) = ⊥
 IsPlayEnd Input = ⊥
 IsPlayEnd Memory = Unit {0}
-IsPlayEnd Cut = Unit {0}
+IsPlayEnd OutputFailed = Unit {0}
 
--- what is written of a play where a write has failed: a front of what another of its ends may write
-pub record PlayFront (input : Option (List ℕ)) (text : List ℕ) : Type 0 where
+-- what is written of a play where a write has failed: a prefix of what another of its ends may write
+pub record PlayPrefix (input : Option (List ℕ)) (text : List ℕ) : Type 0 where
   pub ending : Ending
   pub whole : List ℕ
   pub end : IsPlayEnd ending
   pub writes : Writes ending input whole
-  pub front : IsFront text whole
+  pub prefix : IsPrefix text whole
 
 -- what is written by the end of a play
 abbrev pub PlayOut : Ending → Option (List ℕ) → List ℕ → Type 0
@@ -44,7 +45,7 @@ PlayOut Long input text = Writes Long input text
 PlayOut (AtLine line) input text = Writes (AtLine line) input text
 PlayOut Input input text = Writes Input input text
 PlayOut Memory input text = Writes Memory input text
-PlayOut Cut input text = PlayFront input text
+PlayOut OutputFailed input text = PlayPrefix input text
 
 -- what is written of a play of this script by its end
 abbrev pub PlayWritten : List ℕ → Ending → List ℕ → Type 0
@@ -52,13 +53,13 @@ PlayWritten script ending text = (input : Option (List ℕ)) → IsInput input s
 
 -- the text is a script that gives this name, or none
 abbrev pub GivesName : List ℕ → Option (List ℕ) → Type 0
-GivesName text name = (lines : List Line) × (script_of text ≡ Ok (record { name = name; lines = lines }))
+GivesName text name = (lines : List PlayedLine) × (script_of text ≡ Ok (record { name = name; lines = lines }))
 
 -- nothing was played of the script, and no call has failed
-abbrev pub IsFresh : Seen → List ℕ → Type 0
-IsFresh seen script = seen ≡ record { log = Some []; faults = 0; dark = false; origin = script }
+abbrev pub IsFresh : Observed → List ℕ → Type 0
+IsFresh observed script = observed ≡ record { log = Some []; faults = 0; dark = false; origin = script }
 
--- the log is lawful, and plays a front of the script in one run at most; or all of it, in one run
+-- the log is lawful, and plays a prefix of the script in one run at most; or all of it, in one run
 pub record IsPlayOf (script : List ℕ) (whole : Bool) (log : List Turn) : Type 0 where
   pub lawful : IsLawful log
   pub plays : Plays script log
@@ -69,16 +70,16 @@ pub record IsPlayOf (script : List ℕ) (whole : Bool) (log : List Turn) : Type 
 abbrev pub NamesLine : Ending → Type 0
 NamesLine ending = (line : ℕ) × (ending ≡ AtLine line)
 
--- the lines of an end are told: all of them, or those of wanting memory where the fault line could not be made, or a front of either
-abbrev pub TellsLines : Ending → Ending → List ℕ → Type 0
-TellsLines ending result added =
+-- the lines of an end are written: all of them, or those of an end without memory where the fault line could not be made, or a prefix of either
+abbrev pub WritesTail : Ending → Ending → List ℕ → Type 0
+WritesTail ending result added =
     ((result ≡ ending) × (added ≡ tail_of ending))
     ⊎ (((result ≡ Memory) × NamesLine ending × (added ≡ tail_of Memory))
-    ⊎ ((result ≡ Cut) × ((told : Ending) × ((told ≡ ending) ⊎ ((told ≡ Memory) × NamesLine ending)) × IsFront added (tail_of told))))
+    ⊎ ((result ≡ OutputFailed) × ((reported : Ending) × ((reported ≡ ending) ⊎ ((reported ≡ Memory) × NamesLine ending)) × IsPrefix added (tail_of reported))))
 
--- what is told in the end: the end itself, or the want of memory for its fault line, or that a write failed
-abbrev pub IsToldEnd : Ending → Ending → Type 0
-IsToldEnd ending result = (result ≡ ending) ⊎ (((result ≡ Memory) × NamesLine ending) ⊎ (result ≡ Cut))
+-- what is reported in the end: the end itself, or that there was no memory for its fault line, or that a write failed
+abbrev pub IsReportedEnd : Ending → Ending → Type 0
+IsReportedEnd ending result = (result ≡ ending) ⊎ (((result ≡ Memory) × NamesLine ending) ⊎ (result ≡ OutputFailed))
 
 -- what the reading of the input gives: all of it, or its fault
 abbrev pub IsInputRead : Result (Vec ℕ) Ending → List ℕ → Option (List ℕ) → Type 0
@@ -95,4 +96,4 @@ IsInputFault Long = Unit {0}
 IsInputFault (AtLine line) = ⊥
 IsInputFault Input = Unit {0}
 IsInputFault Memory = Unit {0}
-IsInputFault Cut = ⊥
+IsInputFault OutputFailed = ⊥

@@ -1,6 +1,6 @@
--- What the reader of scripts answers.
+-- Inner: what the reader of scripts answers.
 use Rattle.std.specs.Prelude.{◌≡◌, ℕ, ◌<◌, ◌≤◌, Bool, true, false, List, map, Option, Some, None, Err, length}
-use Rattle.gw_rules.specs.Script.{Event, Open, Close, Say, Tick, Line, At, Poll, Script, Entry, Blank, Naming, Playing, script_limit, script_of}
+use Rattle.gw_rules.specs.Script.{Event, Open, Close, Say, Tick, PlayedLine, At, Poll, Script, Entry, Blank, Naming, Playing, script_limit, script_of}
 use Rattle.gw_run.specs.declared.line.Script.{Script as ReadScript}
 use Rattle.gw_run.specs.declared.line.ScriptLine.{ScriptLine}
 use Rattle.gw_run.specs.declared.line.ScriptLine.TheVariants.{At as AtLine, Poll as PollLine}
@@ -12,33 +12,33 @@ use Rattle.gw_run.specs.declared.script.ScriptFault.{ScriptFault}
 use Rattle.gw_run.specs.declared.script.ScriptFault.TheVariants.{Long, Line as AtNumber, Memory}
 
 -- what a poll brings, as the grammar sees it
-abbrev pub event_seen : ScriptEvent → Event
-event_seen (OpenEvent till) = Open till
-event_seen (CloseEvent till) = Close till
-event_seen (SayEvent till piece) = Say till piece.bytes
-event_seen TickEvent = Tick
+abbrev pub event_value : ScriptEvent → Event
+event_value (OpenEvent till) = Open till
+event_value (CloseEvent till) = Close till
+event_value (SayEvent till chunk) = Say till chunk.bytes
+event_value TickEvent = Tick
 
 -- a line, as the grammar sees it
-abbrev pub line_seen : ScriptLine → Line
-line_seen (AtLine moment) = At moment
-line_seen (PollLine event) = Poll (event_seen event)
+abbrev pub line_value : ScriptLine → PlayedLine
+line_value (AtLine moment) = At moment
+line_value (PollLine event) = Poll (event_value event)
 
 -- a script, as the grammar sees it
-abbrev pub script_seen : ReadScript → Script
-script_seen script = record { name = script.name; lines = map line_seen script.lines.items }
+abbrev pub script_value : ReadScript → Script
+script_value script = record { name = script.name; lines = map line_value script.lines.items }
 
 -- what one line of the text is, as the grammar sees it
-abbrev pub entry_seen : ReadEntry → Entry
-entry_seen BlankEntry = Blank
-entry_seen (NamingEntry name) = Naming name
-entry_seen (PlayingEntry line) = Playing (line_seen line)
+abbrev pub entry_value : ReadEntry → Entry
+entry_value BlankEntry = Blank
+entry_value (NamingEntry name) = Naming name
+entry_value (PlayingEntry line) = Playing (line_value line)
 
 -- where a line was added the script has become this one, and where none may stand there, there is none
 abbrev pub IsAdded : Bool → Option Script → Script → Type 0
 IsAdded true next new = next ≡ Some new
 IsAdded false next new = next ≡ None
 
--- what a fault tells of the script; want of memory tells nothing
+-- what a fault says of the script; without memory it says nothing
 abbrev pub IsFaultOf : List ℕ → ScriptFault → Type 0
 IsFaultOf bytes Long = script_limit < length bytes
 IsFaultOf bytes (AtNumber line) = (length bytes ≤ script_limit) × (script_of bytes ≡ Err line)

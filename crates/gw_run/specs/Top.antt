@@ -1,15 +1,15 @@
 -- How the top call ends, and what it writes.
 use Rattle.std.specs.Prelude.{◌≡◌, ◌⊎◌, ℕ, ◌+◌, ◌<◌, ◌≤◌, List, [], ◌∷◌, ◌++◌, Option, Some, None, Ok, Err, codes, length}
 use Rattle.std.specs.Fmt.{decimal}
-use Rattle.gw_site.specs.Causes.{Rose}
-use Rattle.gw_site.specs.Seen.{IsFront}
+use Rattle.gw_site.specs.Failures.{Rose}
+use Rattle.gw_bytes.specs.Bytes.{IsPrefix}
 use Rattle.gw_site.specs.declared.turn.Turn.{Turn}
 use Rattle.gw_rules.specs.Lawful.{IsLawful}
 use Rattle.gw_rules.specs.Script.{Script, script_of, script_limit}
 use Rattle.gw_rules.specs.Plays.{Plays, IsLogOf, IsOneRun}
 use Rattle.gw_rules.specs.LogText.{log_text}
 use Rattle.gw_run.specs.declared.ending.Ending.{Ending}
-use Rattle.gw_run.specs.declared.ending.Ending.TheVariants.{Played, Words, Long, Line as AtLine, Input, Memory, Cut}
+use Rattle.gw_run.specs.declared.ending.Ending.TheVariants.{Played, Words, Long, Line as AtLine, Input, Memory, OutputFailed}
 
 -- the words are accepted: the single word `replay`
 abbrev pub IsAccepted : List (List ℕ) → Type 0
@@ -23,7 +23,7 @@ status_of Long = 65
 status_of (AtLine line) = 65
 status_of Input = 66
 status_of Memory = 71
-status_of Cut = 73
+status_of OutputFailed = 73
 
 -- the fault line, where there is one, and the status line
 abbrev pub tail_of : Ending → List ℕ
@@ -33,11 +33,11 @@ tail_of Long = codes "script long\nstatus 65\n"
 tail_of (AtLine line) = codes "script " ++ (decimal line ++ codes "\nstatus 65\n")
 tail_of Input = codes "input\nstatus 66\n"
 tail_of Memory = codes "memory\nstatus 71\n"
-tail_of Cut = []
+tail_of OutputFailed = []
 
 -- a stream before a call and after it
 pub record Stream : Type 0 where
-  -- its bytes before the call, where it tells them: those to be read, or those written
+  -- its bytes before the call, where they are observed: those to be read, or those written
   pub before : Option (List ℕ)
   -- its bytes after the call: those left to be read, or those written
   pub after : Option (List ℕ)
@@ -50,9 +50,9 @@ pub record Stream : Type 0 where
 abbrev pub HasRisen : Stream → Type 0
 HasRisen stream = Rose stream.faults_before stream.faults_after
 
--- a fact of the bytes of a stream, where it tells them
-abbrev pub IfTold : Option (List ℕ) → (List ℕ → Type 0) → Type 0
-IfTold told P = (bytes : List ℕ) → told ≡ Some bytes → P bytes
+-- a fact of the bytes of a stream, where they are observed
+abbrev pub IfBytesObserved : Option (List ℕ) → (List ℕ → Type 0) → Type 0
+IfBytesObserved observed P = (bytes : List ℕ) → observed ≡ Some bytes → P bytes
 
 -- a script of the grammar
 abbrev pub IsScript : List ℕ → Type 0
@@ -62,7 +62,7 @@ IsScript text = (length text ≤ script_limit) × ((script : Script) × (script_
 abbrev pub IsWrongAt : ℕ → List ℕ → Type 0
 IsWrongAt line text = (length text ≤ script_limit) × (script_of text ≡ Err line)
 
--- what was read of the text is above the limit, and no further than a piece beyond it
+-- what was read of the text is above the limit, and no further than a chunk beyond it
 pub record IsScriptTooLong (text : List ℕ) (left : Option (List ℕ)) : Type 0 where
   pub rest : List ℕ
   pub left_is : left ≡ Some rest
@@ -79,21 +79,21 @@ pub record IsReadWithin (text : List ℕ) (left : Option (List ℕ)) : Type 0 wh
 
 -- the input was read to its end, and its text is such
 abbrev pub IsReadWhole : Stream → (List ℕ → Type 0) → Type 0
-IsReadWhole input P = IfTold input.before (λ text. (input.after ≡ Some []) × P text)
+IsReadWhole input P = IfBytesObserved input.before (λ text. (input.after ≡ Some []) × P text)
 
 -- the cause of each end, by the words, the input and the output
 abbrev pub Cause : Ending → List (List ℕ) → Stream → Stream → Type 0
 Cause Played words input out = IsAccepted words × IsReadWhole input IsScript
 Cause Words words input out = ¬ IsAccepted words
-Cause Long words input out = IsAccepted words × IfTold input.before (λ text. IsScriptTooLong text input.after)
+Cause Long words input out = IsAccepted words × IfBytesObserved input.before (λ text. IsScriptTooLong text input.after)
 Cause (AtLine line) words input out = IsAccepted words × IsReadWhole input (IsWrongAt line)
-Cause Input words input out = IsAccepted words × HasRisen input × IfTold input.before (λ text. IsReadWithin text input.after)
+Cause Input words input out = IsAccepted words × HasRisen input × IfBytesObserved input.before (λ text. IsReadWithin text input.after)
 Cause Memory words input out = IsAccepted words
-Cause Cut words input out = HasRisen out
+Cause OutputFailed words input out = HasRisen out
 
 -- the script is the one that was read
 abbrev pub IsInput : Option (List ℕ) → List ℕ → Type 0
-IsInput input script = IfTold input (λ bytes. script ≡ bytes)
+IsInput input script = IfBytesObserved input (λ bytes. script ≡ bytes)
 
 -- the text of the log of the script that was read, which was played to its end
 pub record IsPlayedWhole (input : Option (List ℕ)) (text : List ℕ) : Type 0 where
@@ -107,8 +107,8 @@ pub record IsPlayedWhole (input : Option (List ℕ)) (text : List ℕ) : Type 0 
 abbrev pub IsAtMostOneRun : List ℕ → List Turn → Type 0
 IsAtMostOneRun script log = (log ≡ []) ⊎ IsOneRun script log
 
--- the text of a lawful log that plays a front of the script that was read, before memory was wanting
-pub record IsCutShort (input : Option (List ℕ)) (text : List ℕ) : Type 0 where
+-- the text of a lawful log that plays a prefix of the script that was read, before memory was refused
+pub record IsPlayedInPart (input : Option (List ℕ)) (text : List ℕ) : Type 0 where
   pub script : List ℕ
   pub log : List Turn
   pub input_is : IsInput input script
@@ -124,16 +124,16 @@ Writes Words input text = text ≡ tail_of Words
 Writes Long input text = text ≡ tail_of Long
 Writes (AtLine line) input text = text ≡ tail_of (AtLine line)
 Writes Input input text = text ≡ tail_of Input
-Writes Memory input text = (text ≡ tail_of Memory) ⊎ IsCutShort input text
-Writes Cut input text = ⊥
+Writes Memory input text = (text ≡ tail_of Memory) ⊎ IsPlayedInPart input text
+Writes OutputFailed input text = ⊥
 
--- what is written where a write has failed: a front of what another end writes whose cause holds
-pub record WritesFront (words : List (List ℕ)) (input out : Stream) (text : List ℕ) : Type 0 where
+-- what is written where a write has failed: a prefix of what another end writes whose cause holds
+pub record WritesPrefix (words : List (List ℕ)) (input out : Stream) (text : List ℕ) : Type 0 where
   pub ending : Ending
   pub whole : List ℕ
   pub cause : Cause ending words input out
   pub writes : Writes ending input.before whole
-  pub front : IsFront text whole
+  pub prefix : IsPrefix text whole
 
 -- what is written by the end of the call
 abbrev pub Written : Ending → List (List ℕ) → Stream → Stream → List ℕ → Type 0
@@ -143,16 +143,16 @@ Written Long words input out text = Writes Long input.before text
 Written (AtLine line) words input out text = Writes (AtLine line) input.before text
 Written Input words input out text = Writes Input input.before text
 Written Memory words input out text = Writes Memory input.before text
-Written Cut words input out text = WritesFront words input out text
+Written OutputFailed words input out text = WritesPrefix words input out text
 
--- the call has ended so: its status, the cause, and what was written, where the sink tells it
+-- the call has ended so: its status, the cause, and what was written, where it is observed
 pub record IsEnded (status : ℕ) (words : List (List ℕ)) (input out : Stream) : Type 0 where
   pub ending : Ending
   pub status_is : status ≡ status_of ending
   pub cause : Cause ending words input out
-  pub output : IfTold out.before (λ written. (text : List ℕ) × (out.after ≡ Some (written ++ text)) × Written ending words input out text)
+  pub output : IfBytesObserved out.before (λ written. (text : List ℕ) × (out.after ≡ Some (written ++ text)) × Written ending words input out text)
 
--- the source tells what is left in it, and that is a script
+-- what is left in the source is observed, and is a script
 abbrev pub IsScriptLeft : Option (List ℕ) → Type 0
 IsScriptLeft None = ⊥
 IsScriptLeft (Some bytes) = IsScript bytes

@@ -15,10 +15,10 @@ pub enum Ending {
     Line(u32),
     /// The input could not be read: 66.
     Input,
-    /// Memory was wanting: 71.
+    /// Memory was refused: 71.
     Memory,
     /// The output could not be written: 73.
-    Cut,
+    OutputFailed,
 }
 
 impl Ending {
@@ -32,7 +32,7 @@ impl Ending {
             Ending::Long | Ending::Line(_) => 65,
             Ending::Input => 66,
             Ending::Memory => 71,
-            Ending::Cut => 73,
+            Ending::OutputFailed => 73,
         }
     }
 }

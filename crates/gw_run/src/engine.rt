@@ -3,34 +3,32 @@ ghost use Rattle.std.specs.Prelude.{◌≡◌, ◌≢◌, ◌≤◌, ◌<◌, �
 ghost use Rattle.gw_base.specs.Setup.{IsSetup};
 ghost use Rattle.gw_base.specs.Moment.{moment_of};
 ghost use Rattle.gw_base.specs.declared.setup.Setup.{Setup};
-ghost use Rattle.gw_site.specs.Causes.{Rose};
+ghost use Rattle.gw_site.specs.Failures.{Rose};
 ghost use Rattle.gw_site.specs.Outside.{Outside};
 ghost use Rattle.gw_site.specs.Turns.{IsWithinBuf};
 ghost use Rattle.json_text.specs.Canonical.{canonical};
 ghost use Rattle.sale_reply.specs.Reply.{tree_of};
-ghost use Rattle.gw_rules.specs.Reply.{Reply, tree, told_bytes};
+ghost use Rattle.gw_rules.specs.Reply.{Reply, reply_tree, reply_bytes};
 ghost use Rattle.gw_rules.specs.Scene.{Scene, Item, Tell};
-ghost use Rattle.gw_rules.specs.Keeps.{Keeps, Runs, IsRun, Owing, JustBegun};
-ghost use Rattle.gw_run.specs.Answered.{IsNextOf};
-ghost use Rattle.gw_run.specs.Turns.{BeforeTill, AfterTill, ReadsOn, Delivered, BeforePiece, BeforeOpen, IsBetweenTurns, IsPolled, AfterTurn, EndedBy};
+ghost use Rattle.gw_rules.specs.Triple.{Triple, RunTriple, IsRun, Owing, JustBegun};
+ghost use Rattle.gw_run.specs.NextMessage.{IsNextOf};
+ghost use Rattle.gw_run.specs.Round.{BeforeTill, AfterTill, ReadsOn, Delivered, BeforeChunk, BeforeOpen, IsBetweenRounds, IsPolled, AfterRound, EndedBy};
 
 use crate::tills::{Till, drop_till, open_till, place_of};
 use gw_base::{Ident, Setup};
+use gw_bytes::MOST_TILLS;
 use gw_core::answer;
 use gw_site::{Failed, Polled, Site, What};
 use sale_frame::FrameReader;
 use sale_reply::{Out, SaleReply, write_reply};
 use std::alloc::{AllocError, Global};
 
-/// The most tills that may be there at once.
-const MOST_TILLS: usize = 64;
-
-/// What the bytes in front of a reader are.
+/// What the first bytes of a reader are.
 #[derive(Drop)]
 pub(crate) enum Next {
     /// Less than a frame.
     Waiting,
-    /// A message, of which this is told.
+    /// A message, and the reply to it.
     Message(Option<SaleReply<'static>>),
     /// Bytes that begin no frame.
     Unframed,
@@ -49,7 +47,7 @@ pub(crate) enum Served {
 
 /// How a turn ended.
 #[derive(Clone, Copy)]
-pub(crate) enum Turned {
+pub(crate) enum RoundEnd {
     Went,
     Stopped,
 }
@@ -64,7 +62,7 @@ pub(crate) enum Ended {
     NoMemory,
 }
 
-/// What the bytes in front of a reader are, and what is told of them where they are a message.
+/// What the first bytes of a reader are, and the reply where they are a message.
 fn next_message(
     alloc: Global,
     name: &Ident<40>,
@@ -80,13 +78,13 @@ fn next_message(
     }
 }
 
-/// Tells a till, and cuts its line where that fails. True where it was told.
+/// Sends a reply to a till, and cuts its connection where that fails. True where it was sent.
 fn tell<S: Site>(site: &mut S, till: u64, reply: &SaleReply<'_>, out: &mut Out) -> bool
     requires { length (canonical (tree_of reply.now)) ≤ 65536 }
-    ensures keeps { (answer : Reply) → tree_of reply.now ≡ tree answer → (scene : Scene) (items : List Item) → Keeps (S.seen site.old) (S.seen site.new)
+    ensures keeps { (answer : Reply) → tree_of reply.now ≡ reply_tree answer → (scene : Scene) (items : List Item) → Triple (S.observed site.old) (S.observed site.new)
         (Owing scene (Tell till answer ∷ []) items)
-        (Delivered result scene till (told_bytes answer) items) }
-    ensures later { (S.seen site.old).faults ≤ (S.seen site.new).faults }
+        (Delivered result scene till (reply_bytes answer) items) }
+    ensures later { (S.observed site.old).faults ≤ (S.observed site.new).faults }
 {
     write_reply(reply, out);
     match site.send_till(till, out.as_bytes()) {
@@ -98,7 +96,7 @@ fn tell<S: Site>(site: &mut S, till: u64, reply: &SaleReply<'_>, out: &mut Out) 
     }
 }
 
-/// Serves what stands in front of a till's reader.
+/// Serves what is first in a till's reader.
 fn serve_next<S: Site>(
     alloc: Global,
     name: &Ident<40>,
@@ -108,11 +106,11 @@ fn serve_next<S: Site>(
     out: &mut Out,
     site: &mut S,
 ) -> Result<Served, AllocError>
-    ensures keeps { (setup : Setup) (polls : ℕ) (o : Outside) → setup.name ≡ name.now → Keeps (S.seen site.old) (S.seen site.new)
+    ensures keeps { (setup : Setup) (polls : ℕ) (o : Outside) → setup.name ≡ name.now → Triple (S.observed site.old) (S.observed site.new)
         (BeforeTill setup polls o now till reader.old)
         (AfterTill result setup polls o now till reader.new) }
     ensures reader { IfOk result (λ served. ReadsOn served reader.old reader.new) }
-    ensures later { (S.seen site.old).faults ≤ (S.seen site.new).faults }
+    ensures later { (S.observed site.old).faults ≤ (S.observed site.new).faults }
 {
     match next_message(alloc, name, now, reader)? {
         Next::Waiting => Ok(Served::Waiting),
@@ -141,12 +139,12 @@ fn serve<S: Site>(
     out: &mut Out,
     site: &mut S,
 ) -> Result<Served, AllocError>
-    ensures keeps { (setup : Setup) (polls : ℕ) (o : Outside) → setup.name ≡ name.now → Keeps (S.seen site.old) (S.seen site.new)
+    ensures keeps { (setup : Setup) (polls : ℕ) (o : Outside) → setup.name ≡ name.now → Triple (S.observed site.old) (S.observed site.new)
         (BeforeTill setup polls o now till reader.old)
         (AfterTill result setup polls o now till reader.new) }
     ensures reader { IfOk result (λ served. ReadsOn served reader.old reader.new) }
     ensures whole { result ≢ Ok Served.More }
-    ensures later { (S.seen site.old).faults ≤ (S.seen site.new).faults }
+    ensures later { (S.observed site.old).faults ≤ (S.observed site.new).faults }
 {
     loop {
         match serve_next(alloc, name, now, till, reader, out, site) {
@@ -159,7 +157,7 @@ fn serve<S: Site>(
 }
 
 /// Serves a till whose line has brought these bytes.
-fn read_piece<S: Site>(
+fn read_chunk<S: Site>(
     alloc: Global,
     name: &Ident<40>,
     now: i64,
@@ -169,13 +167,13 @@ fn read_piece<S: Site>(
     bytes: &[u8],
 ) -> Result<Served, AllocError>
     requires { length bytes.now ≤ 4096 }
-    ensures keeps { (setup : Setup) (polls : ℕ) (o : Outside) → setup.name ≡ name.now → Keeps (S.seen site.old) (S.seen site.new)
+    ensures keeps { (setup : Setup) (polls : ℕ) (o : Outside) → setup.name ≡ name.now → Triple (S.observed site.old) (S.observed site.new)
         (BeforeTill setup polls o now till.old.number (till.old.reader ++ bytes.now))
         (AfterTill result setup polls o now till.old.number till.new.reader) }
     ensures reader { IfOk result (λ served. ReadsOn served (till.old.reader ++ bytes.now) till.new.reader) }
     ensures whole { result ≢ Ok Served.More }
     ensures number { till.new.number ≡ till.old.number }
-    ensures later { (S.seen site.old).faults ≤ (S.seen site.new).faults }
+    ensures later { (S.observed site.old).faults ≤ (S.observed site.new).faults }
 {
     let number = till.number;
     match till.reader.feed(alloc, bytes) {
@@ -194,25 +192,25 @@ fn on_bytes<S: Site>(
     site: &mut S,
     number: u64,
     bytes: &[u8],
-) -> Result<Turned, AllocError>
+) -> Result<RoundEnd, AllocError>
     requires { length bytes.now ≤ 4096 }
-    ensures keeps { (setup : Setup) (polls : ℕ) → setup.name ≡ name.now → Keeps (S.seen site.old) (S.seen site.new)
-        (BeforePiece setup tills.old.items polls now number bytes.now)
-        (AfterTurn result setup tills.new.items polls) }
-    ensures went { result ≢ Ok Turned.Stopped }
-    ensures later { (S.seen site.old).faults ≤ (S.seen site.new).faults }
+    ensures keeps { (setup : Setup) (polls : ℕ) → setup.name ≡ name.now → Triple (S.observed site.old) (S.observed site.new)
+        (BeforeChunk setup tills.old.items polls now number bytes.now)
+        (AfterRound result setup tills.new.items polls) }
+    ensures went { result ≢ Ok RoundEnd.Stopped }
+    ensures later { (S.observed site.old).faults ≤ (S.observed site.new).faults }
 {
     let at = match place_of(tills, number) {
         Some(at) => at,
-        None => return Ok(Turned::Went),
+        None => return Ok(RoundEnd::Went),
     };
-    match read_piece(alloc, name, now, &mut tills[at], out, site, bytes) {
+    match read_chunk(alloc, name, now, &mut tills[at], out, site, bytes) {
         Ok(Served::Gone) => {
             drop_till(tills, number);
-            Ok(Turned::Went)
+            Ok(RoundEnd::Went)
         }
-        Ok(Served::Waiting) => Ok(Turned::Went),
-        Ok(Served::More) => Ok(Turned::Went),
+        Ok(Served::Waiting) => Ok(RoundEnd::Went),
+        Ok(Served::More) => Ok(RoundEnd::Went),
         Err(AllocError) => Err(AllocError),
     }
 }
@@ -223,23 +221,23 @@ fn on_open<S: Site>(
     tills: &mut Vec<Till>,
     site: &mut S,
     number: u64,
-) -> Result<Turned, AllocError>
-    ensures keeps { (setup : Setup) (polls : ℕ) → Keeps (S.seen site.old) (S.seen site.new)
+) -> Result<RoundEnd, AllocError>
+    ensures keeps { (setup : Setup) (polls : ℕ) → Triple (S.observed site.old) (S.observed site.new)
         (BeforeOpen setup tills.old.items polls number)
-        (AfterTurn result setup tills.new.items polls) }
-    ensures went { result ≢ Ok Turned.Stopped }
-    ensures later { (S.seen site.old).faults ≤ (S.seen site.new).faults }
+        (AfterRound result setup tills.new.items polls) }
+    ensures went { result ≢ Ok RoundEnd.Stopped }
+    ensures later { (S.observed site.old).faults ≤ (S.observed site.new).faults }
 {
     match place_of(tills, number) {
-        Some(_) => return Ok(Turned::Went),
+        Some(_) => return Ok(RoundEnd::Went),
         None => {}
     }
     if tills.len() >= MOST_TILLS {
         site.cut_till(number);
-        return Ok(Turned::Went);
+        return Ok(RoundEnd::Went);
     }
     match open_till(alloc, tills, number) {
-        Ok(()) => Ok(Turned::Went),
+        Ok(()) => Ok(RoundEnd::Went),
         Err(AllocError) => Err(AllocError),
     }
 }
@@ -254,41 +252,41 @@ fn on_event<S: Site>(
     tills: &mut Vec<Till>,
     out: &mut Out,
     site: &mut S,
-) -> Result<Turned, AllocError>
+) -> Result<RoundEnd, AllocError>
     requires { IsWithinBuf what }
-    ensures keeps { (setup : Setup) (polls : ℕ) → setup.name ≡ name.now → Keeps (S.seen site.old) (S.seen site.new)
+    ensures keeps { (setup : Setup) (polls : ℕ) → setup.name ≡ name.now → Triple (S.observed site.old) (S.observed site.new)
         (IsPolled setup tills.old.items polls now what buf.now)
-        (AfterTurn result setup tills.new.items (polls + 1)) }
-    ensures later { (S.seen site.old).faults ≤ (S.seen site.new).faults }
+        (AfterRound result setup tills.new.items (polls + 1)) }
+    ensures later { (S.observed site.old).faults ≤ (S.observed site.new).faults }
 {
     match what {
-        What::Stopped => Ok(Turned::Stopped),
+        What::Stopped => Ok(RoundEnd::Stopped),
         What::TillOpened(number) => on_open(alloc, tills, site, number),
         What::TillBytes(number, count) => {
             on_bytes(alloc, name, now, tills, out, site, number, &buf[..count])
         }
         What::TillClosed(number) => {
             drop_till(tills, number);
-            Ok(Turned::Went)
+            Ok(RoundEnd::Went)
         }
-        What::PtBytes(_, _) => Ok(Turned::Went),
-        What::PtClosed(_) => Ok(Turned::Went),
-        What::Nothing => Ok(Turned::Went),
+        What::PtBytes(_, _) => Ok(RoundEnd::Went),
+        What::PtClosed(_) => Ok(RoundEnd::Went),
+        What::Nothing => Ok(RoundEnd::Went),
     }
 }
 
 /// One poll, and what its event brings.
-fn turn<S: Site>(
+fn round<S: Site>(
     alloc: Global,
     name: &Ident<40>,
     tills: &mut Vec<Till>,
     out: &mut Out,
     site: &mut S,
-) -> Result<Turned, AllocError>
-    ensures keeps { (setup : Setup) (polls : ℕ) → setup.name ≡ name.now → Keeps (S.seen site.old) (S.seen site.new)
-        (IsBetweenTurns setup tills.old.items polls)
-        (AfterTurn result setup tills.new.items (polls + 1)) }
-    ensures later { (S.seen site.old).faults ≤ (S.seen site.new).faults }
+) -> Result<RoundEnd, AllocError>
+    ensures keeps { (setup : Setup) (polls : ℕ) → setup.name ≡ name.now → Triple (S.observed site.old) (S.observed site.new)
+        (IsBetweenRounds setup tills.old.items polls)
+        (AfterRound result setup tills.new.items (polls + 1)) }
+    ensures later { (S.observed site.old).faults ≤ (S.observed site.new).faults }
 {
     let mut buf = [0; 4096];
     let Polled { now, what } = site.poll(&mut buf);
@@ -296,10 +294,10 @@ fn turn<S: Site>(
 }
 
 /// The turns of a run, at most so many.
-fn turns<S: Site>(alloc: Global, name: &Ident<40>, site: &mut S, most: u64) -> Ended
-    ensures keeps { (setup : Setup) → setup.name ≡ name.now → Keeps (S.seen site.old) (S.seen site.new) (JustBegun setup) (EndedBy result most) }
+fn rounds<S: Site>(alloc: Global, name: &Ident<40>, site: &mut S, most: u64) -> Ended
+    ensures keeps { (setup : Setup) → setup.name ≡ name.now → Triple (S.observed site.old) (S.observed site.new) (JustBegun setup) (EndedBy result most) }
     ensures opened { result ≢ Ended.NotOpened }
-    ensures later { (S.seen site.old).faults ≤ (S.seen site.new).faults }
+    ensures later { (S.observed site.old).faults ≤ (S.observed site.new).faults }
 {
     let mut out = match Out::new(alloc) {
         Ok(out) => out,
@@ -307,9 +305,9 @@ fn turns<S: Site>(alloc: Global, name: &Ident<40>, site: &mut S, most: u64) -> E
     };
     let mut tills = Vec::new(alloc);
     for made in 0..most {
-        match turn(alloc, name, &mut tills, &mut out, site) {
-            Ok(Turned::Went) => {}
-            Ok(Turned::Stopped) => return Ended::Done,
+        match round(alloc, name, &mut tills, &mut out, site) {
+            Ok(RoundEnd::Went) => {}
+            Ok(RoundEnd::Stopped) => return Ended::Done,
             Err(AllocError) => return Ended::NoMemory,
         }
     }
@@ -319,12 +317,12 @@ fn turns<S: Site>(alloc: Global, name: &Ident<40>, site: &mut S, most: u64) -> E
 /// One run over a site, of at most so many polls.
 pub(crate) fn run_once<S: Site>(alloc: Global, setup: &Setup, site: &mut S, most: u64) -> Ended
     requires { IsSetup setup.now }
-    ensures lawful { Runs (S.seen site.old) (S.seen site.new) (IsRun setup.now) (EndedBy result most) }
-    ensures opened { result ≡ Ended.NotOpened → Rose (S.seen site.old).faults (S.seen site.new).faults }
-    ensures later { (S.seen site.old).faults ≤ (S.seen site.new).faults }
+    ensures lawful { RunTriple (S.observed site.old) (S.observed site.new) (IsRun setup.now) (EndedBy result most) }
+    ensures opened { result ≡ Ended.NotOpened → Rose (S.observed site.old).faults (S.observed site.new).faults }
+    ensures later { (S.observed site.old).faults ≤ (S.observed site.new).faults }
 {
     match site.open(setup) {
-        Ok(()) => turns(alloc, &setup.name, site, most),
+        Ok(()) => rounds(alloc, &setup.name, site, most),
         Err(Failed) => Ended::NotOpened,
     }
 }

@@ -3,19 +3,19 @@
 
 mod ending;
 mod engine;
+mod last_lines;
 mod line;
 mod player;
+mod program;
 mod replay;
 mod script;
-mod tail;
 mod text;
 mod tills;
-mod top_call;
 
 pub use ending::Ending;
 pub use gw_rules::law_crash;
+pub use program::top;
 pub use text::{Unwritten, write_log};
-pub use top_call::top;
 
 #[cfg(test)]
 mod message_tests;

@@ -28,27 +28,27 @@ pub(crate) enum ScriptEvent {
     /// The till of this number closes it.
     Close(u64),
     /// Bytes of the till of this number come.
-    Say(u64, Piece),
+    Say(u64, Chunk),
     /// Nothing.
     Tick,
 }
 
 /// What a till sends at once: 1 to 4,096 bytes.
 #[derive(Debug, Drop)]
-pub(crate) struct Piece {
+pub(crate) struct Chunk {
     bytes: Bytes,
     pub ghost within: { IsCount (length bytes) },
 }
 
-impl Piece {
+impl Chunk {
     ghost use Rattle.std.specs.Prelude.{◌≡◌};
 
-    /// A piece of these bytes.
-    pub(crate) fn new(bytes: Bytes) -> Piece
+    /// A chunk of these bytes.
+    pub(crate) fn new(bytes: Bytes) -> Chunk
         requires { IsCount (length bytes) }
         ensures { result.bytes ≡ bytes }
     {
-        Piece { bytes }
+        Chunk { bytes }
     }
 
     /// The bytes.

@@ -1,4 +1,4 @@
-//! Rows of messages: what a till is told of each, by a gateway without terminals.
+//! Rows of messages: what a till gets for each, by a gateway without terminals.
 use crate::script_tests::played;
 use std::alloc::{AllocError, Global};
 use std::str;
@@ -14,10 +14,10 @@ const DISPLAY: &str =
 const UNAVAILABLE: &str =
     "{\"Response\":{\"Result\":\"Failure\",\"ErrorCondition\":\"UnavailableDevice\"}}";
 
-/// The log of a till that opens, says these lines' worth of bytes and is told this, without the last line.
-fn log(alloc: Global, message: &str, told: &str) -> Result<String, AllocError> {
+/// The log of a till that opens, says these lines' worth of bytes and gets this, without the last line.
+fn log(alloc: Global, message: &str, expected: &str) -> Result<String, AllocError> {
     format!(in alloc;
-        "start\nat 0\nopen 1\nat 0\ntill 1 in '{message}\n{told}at 0\nstop\nstatus 0\n"
+        "start\nat 0\nopen 1\nat 0\ntill 1 in '{message}\n{expected}at 0\nstop\nstatus 0\n"
     )
 }
 
@@ -48,11 +48,11 @@ fn reject(alloc: Global, sale: &str, poi: &str, details: &str) -> Result<String,
     )
 }
 
-/// Whether the log of a till that opens and says one message has this line behind it, or none.
-fn is_told(alloc: Global, message: &str, told: &str) -> Result<bool, AllocError> {
+/// Whether the log of a till that opens and says one message has this line after it, or none.
+fn gets(alloc: Global, message: &str, expected: &str) -> Result<bool, AllocError> {
     let script = format!(in alloc; "open 1\nsay 1 {message}\n")?;
     let (status, written) = played(alloc, script.as_bytes())?;
-    let log = log(alloc, message, told)?;
+    let log = log(alloc, message, expected)?;
     Ok(status == 0 && written.as_slice() == log.as_bytes())
 }
 
@@ -109,8 +109,8 @@ fn requests(rt: HostRuntime) -> Result<(), Fail> {
     ];
     for (category, body, class, answer) in rows {
         let message = request(rt.alloc(), category, body)?;
-        let told = reply(rt.alloc(), class, category, answer)?;
-        assert!(rt; is_told(rt.alloc(), &message, &told)?, "of {message}");
+        let expected = reply(rt.alloc(), class, category, answer)?;
+        assert!(rt; gets(rt.alloc(), &message, &expected)?, "of {message}");
     }
     Ok(())
 }
@@ -132,8 +132,8 @@ fn amounts(rt: HostRuntime) -> Result<(), Fail> {
     for (amount, answer) in rows {
         let body = format!(in rt.alloc(); "{PAYMENT}{amount}}}}}}}")?;
         let message = request(rt.alloc(), "Payment", &body)?;
-        let told = reply(rt.alloc(), "Service", "Payment", answer)?;
-        assert!(rt; is_told(rt.alloc(), &message, &told)?, "of {message}");
+        let expected = reply(rt.alloc(), "Service", "Payment", answer)?;
+        assert!(rt; gets(rt.alloc(), &message, &expected)?, "of {message}");
     }
     Ok(())
 }
@@ -148,16 +148,16 @@ fn displays(rt: HostRuntime) -> Result<(), Fail> {
     let answer =
         "{\"OutputResult\":[{\"Device\":\"CustomerDisplay\",\"InfoQualify\":\"Display\",\"Response\":{\"Result\":\"Failure\",\
         \"ErrorCondition\":\"UnavailableDevice\"}}]}";
-    let told = reply(rt.alloc(), "Device", "Display", answer)?;
-    assert!(rt; is_told(rt.alloc(), &message, &told)?, "of {message}");
+    let expected = reply(rt.alloc(), "Device", "Display", answer)?;
+    assert!(rt; gets(rt.alloc(), &message, &expected)?, "of {message}");
     let silent = format!(in rt.alloc(); "{DISPLAY},\"ResponseRequiredFlag\":false}}}}")?;
     let message = request(rt.alloc(), "Display", &silent)?;
-    assert!(rt; is_told(rt.alloc(), &message, "")?, "of {message}");
+    assert!(rt; gets(rt.alloc(), &message, "")?, "of {message}");
     Ok(())
 }
 
 #[test]
-fn rejected_and_silent(rt: HostRuntime) -> Result<(), Fail> {
+fn rejects_and_silence(rt: HostRuntime) -> Result<(), Fail> {
     let deep = "[[[[[[[[[[[[[[[[[[[[[[[[[[[[[[[[[";
     let rows = [
         ("{}", "header SaleToPOIRequest"),
@@ -167,8 +167,8 @@ fn rejected_and_silent(rt: HostRuntime) -> Result<(), Fail> {
         ("{\"a\":1,\"a\":2}", "json Repeated 9"),
     ];
     for (message, details) in rows {
-        let told = reject(rt.alloc(), "0", "GATEWAY", details)?;
-        assert!(rt; is_told(rt.alloc(), message, &told)?, "of {message}");
+        let expected = reject(rt.alloc(), "0", "GATEWAY", details)?;
+        assert!(rt; gets(rt.alloc(), message, &expected)?, "of {message}");
     }
     let rows = [
         ("{\"MessageReference\":{\"ServiceID\":\"1\"}}", "abort"),
@@ -176,13 +176,13 @@ fn rejected_and_silent(rt: HostRuntime) -> Result<(), Fail> {
     ];
     for (body, details) in rows {
         let message = request(rt.alloc(), "Abort", body)?;
-        let told = reject(rt.alloc(), "S1", "T1", details)?;
-        assert!(rt; is_told(rt.alloc(), &message, &told)?, "of {message}");
+        let expected = reject(rt.alloc(), "S1", "T1", details)?;
+        assert!(rt; gets(rt.alloc(), &message, &expected)?, "of {message}");
     }
     let silent =
         "{\"SaleToPOIRequest\":{\"MessageHeader\":{\"MessageClass\":\"Event\",\"MessageCategory\":\"Event\",\
         \"MessageType\":\"Notification\",\"SaleID\":\"S1\",\"POIID\":\"T1\"}}}";
-    assert!(rt; is_told(rt.alloc(), silent, "")?, "of {silent}");
+    assert!(rt; gets(rt.alloc(), silent, "")?, "of {silent}");
     Ok(())
 }
 
@@ -193,10 +193,10 @@ fn a_frame_cut_after_each_byte(rt: HostRuntime) -> Result<(), Fail> {
         script.push_str(&format!(in rt.alloc(); "till 1 {byte:02x}\n")?)?;
     }
     let (status, written) = played(rt.alloc(), script.as_bytes())?;
-    let told = reject(rt.alloc(), "0", "GATEWAY", "header SaleToPOIRequest")?;
+    let expected = reject(rt.alloc(), "0", "GATEWAY", "header SaleToPOIRequest")?;
     let log = format!(in rt.alloc();
         "start\nat 0\nopen 1\nat 0\ntill 1 in 00\nat 0\ntill 1 in 00\nat 0\ntill 1 in 00\n\
-        at 0\ntill 1 in 02\nat 0\ntill 1 in 7b\nat 0\ntill 1 in 7d\n{told}at 0\nstop\nstatus 0\n"
+        at 0\ntill 1 in 02\nat 0\ntill 1 in 7b\nat 0\ntill 1 in 7d\n{expected}at 0\nstop\nstatus 0\n"
     )?;
     assert_eq!(rt; str::from_utf8(written.as_slice())?, log.as_str());
     assert_eq!(rt; status, 0);
@@ -204,7 +204,7 @@ fn a_frame_cut_after_each_byte(rt: HostRuntime) -> Result<(), Fail> {
 }
 
 #[test]
-fn pieces(rt: HostRuntime) -> Result<(), Fail> {
+fn chunks(rt: HostRuntime) -> Result<(), Fail> {
     let rows = [
         ("000000027b7d", "'{}", "header SaleToPOIRequest", ""),
         (
@@ -215,15 +215,15 @@ fn pieces(rt: HostRuntime) -> Result<(), Fail> {
         ),
         ("0000000322ff22", "0000000322ff22", "json BadUtf8 1", ""),
     ];
-    for (piece, shown, details, cut) in rows {
-        let script = format!(in rt.alloc(); "open 1\ntill 1 {piece}\n")?;
+    for (chunk, shown, details, cut) in rows {
+        let script = format!(in rt.alloc(); "open 1\ntill 1 {chunk}\n")?;
         let (status, written) = played(rt.alloc(), script.as_bytes())?;
-        let told = reject(rt.alloc(), "0", "GATEWAY", details)?;
+        let expected = reject(rt.alloc(), "0", "GATEWAY", details)?;
         let log = format!(in rt.alloc();
-            "start\nat 0\nopen 1\nat 0\ntill 1 in {shown}\n{told}{cut}at 0\nstop\nstatus 0\n"
+            "start\nat 0\nopen 1\nat 0\ntill 1 in {shown}\n{expected}{cut}at 0\nstop\nstatus 0\n"
         )?;
         assert_eq!(rt; str::from_utf8(written.as_slice())?, log.as_str());
-        assert_eq!(rt; status, 0, "of {piece}");
+        assert_eq!(rt; status, 0, "of {chunk}");
     }
     Ok(())
 }

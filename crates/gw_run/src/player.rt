@@ -1,20 +1,20 @@
 //! A site in memory, which plays a script.
 ghost use Rattle.std.specs.Prelude.{◌≡◌, ◌≤◌, ◌∷◌, ◌++◌, [], ℤ, List, Ok, Some, true, false, not, ◌==◌, filter, IfOk, OnOk, OnErr};
-ghost use Rattle.gw_site.specs.Causes.{HasCause, Rose};
+ghost use Rattle.gw_site.specs.Failures.{HasCause, Rose};
 ghost use Rattle.gw_site.specs.Outside.{Outside, outside_of, outside_after};
 ghost use Rattle.gw_site.specs.declared.turn.Turn.{Turn as ATurn};
 ghost use Rattle.gw_rules.specs.Plays.{Play, Fits, Plays, play_after, rests};
-ghost use Rattle.gw_rules.specs.Script.{Line, script_of};
-ghost use Rattle.gw_run.specs.ScriptRead.{script_seen};
+ghost use Rattle.gw_rules.specs.Script.{PlayedLine, script_of};
+ghost use Rattle.gw_run.specs.ScriptRead.{script_value};
 ghost use Rattle.gw_run.specs.PlayerTills.{numbers_of, next_after, tills_after, opened_after};
 
-mod met;
+mod next_event;
 mod played;
 
 use crate::line::Script;
 use gw_base::{Bytes, Setup};
 use gw_site::{Failed, Polled, Site, Turn, What};
-use met::bring;
+use next_event::bring;
 use played::Played;
 use std::alloc::{AllocError, Global};
 
@@ -22,8 +22,8 @@ use std::alloc::{AllocError, Global};
 /// its log.
 ///
 /// A poll meets the first line that polls and applies: a till opens with a number above all of its run, and closes or
-/// says something while it is there. It passes the lines in front of it, and has the moment of the last `at` line among
-/// all lines passed. Behind the last line it stops. Where memory is refused the player is dark, and its log ends there.
+/// says something while it is there. It passes the lines before it, and has the moment of the last `at` line among
+/// all lines passed. After the last line it stops. Where memory is refused the player is dark, and its log ends there.
 ///
 /// It keeps no journal, and has no disk: a call on the disk fails, and the player is dark.
 #[derive(Drop)]
@@ -35,8 +35,8 @@ pub(crate) struct Player<'a> {
     /// The till of the run that opened last.
     opened: Option<u64>,
     faults: u64,
-    ghost tills_are: { play.short ≡ false → numbers_of (outside_of play.log.items).tills ≡ tills.items },
-    ghost next_is: { play.short ≡ false → (outside_of play.log.items).next_till ≡ next_after opened },
+    ghost tills_are: { play.dark ≡ false → numbers_of (outside_of play.log.items).tills ≡ tills.items },
+    ghost next_is: { play.dark ≡ false → (outside_of play.log.items).next_till ≡ next_after opened },
 }
 
 /// One more fault; the count stays at its last value.
@@ -87,12 +87,12 @@ fn follow(tills: &mut Vec<u64>, opened: &mut Option<u64>, what: What) -> bool
 }
 
 impl<'a> Player<'a> {
-    ghost use Rattle.gw_run.specs.Player.{player_seen};
+    ghost use Rattle.gw_run.specs.Player.{player_observed};
 
     /// A player of this script, which the text was read as.
     pub(crate) fn new(alloc: Global, script: &'a [u8], read: Script) -> Player<'a>
-        requires { script_of script.now ≡ Ok (script_seen read) }
-        ensures { player_seen result ≡ record { log = Some []; faults = 0; dark = false; origin = script.now } }
+        requires { script_of script.now ≡ Ok (script_value read) }
+        ensures { player_observed result ≡ record { log = Some []; faults = 0; dark = false; origin = script.now } }
     {
         Player {
             alloc,
@@ -105,21 +105,21 @@ impl<'a> Player<'a> {
 
     /// What went in and out.
     pub(crate) fn log(&self) -> &[Turn]
-        ensures { (player_seen self.now).log ≡ Some result.now }
+        ensures { (player_observed self.now).log ≡ Some result.now }
     {
         &self.play.log
     }
 
     /// Whether the player is dark: memory was refused, or a call on the disk was made.
-    pub(crate) fn is_short(&self) -> bool
-        ensures { result ≡ (player_seen self.now).dark }
+    pub(crate) fn is_dark(&self) -> bool
+        ensures { result ≡ (player_observed self.now).dark }
     {
-        self.play.short
+        self.play.dark
     }
 
-    /// The log plays the script, or a front of it.
+    /// The log plays the script, or a prefix of it.
     pub(crate) fn played(&self)
-        ensures { (log : List ATurn) → (player_seen self.now).log ≡ Some log → Plays (player_seen self.now).origin log }
+        ensures { (log : List ATurn) → (player_observed self.now).log ≡ Some log → Plays (player_observed self.now).origin log }
     {
         let _ = self.play.at;
     }
@@ -137,11 +137,11 @@ impl<'a> Player<'a> {
     fn fail(&mut self) -> Failed
         ensures rose { Rose self.old.faults self.new.faults }
         ensures later { self.old.faults ≤ self.new.faults }
-        ensures short { self.new.play.short ≡ true }
+        ensures dark { self.new.play.dark ≡ true }
         ensures log { self.new.play.log.items ≡ self.old.play.log.items }
         ensures script { self.new.play.script.now ≡ self.old.play.script.now }
     {
-        self.play.shorten();
+        self.play.darken();
         self.count();
         Failed
     }
@@ -150,7 +150,7 @@ impl<'a> Player<'a> {
     fn stop(&mut self) -> Polled
         ensures what { result.what ≡ What.Stopped }
         ensures later { self.old.faults ≤ self.new.faults }
-        ensures short { self.new.play.short ≡ true }
+        ensures dark { self.new.play.dark ≡ true }
         ensures log { self.new.play.log.items ≡ self.old.play.log.items }
         ensures script { self.new.play.script.now ≡ self.old.play.script.now }
     {
@@ -170,11 +170,11 @@ impl<'a> Player<'a> {
 
     /// Adds the turn of a call, by which no till opens or goes.
     fn call(&mut self, turn: Turn) -> Result<(), Failed>
-        requires fits { (o : Outside) (moment : ℤ) (lines : List Line) → Fits o (rests moment lines) turn }
+        requires fits { (o : Outside) (moment : ℤ) (lines : List PlayedLine) → Fits o (rests moment lines) turn }
         requires stays { (o : Outside) (p : Play) → play_after o p turn ≡ p }
         requires tills { (o : Outside) → ((outside_after o turn).tills ≡ o.tills) × ((outside_after o turn).next_till ≡ o.next_till) }
-        ensures ok { OnOk result ((self.old.play.short ≡ false) × (self.new.play.short ≡ false) × (self.new.play.log.items ≡ self.old.play.log.items ++ turn ∷ [])) }
-        ensures err { OnErr result ((self.new.play.short ≡ true) × (self.new.play.log.items ≡ self.old.play.log.items)) }
+        ensures ok { OnOk result ((self.old.play.dark ≡ false) × (self.new.play.dark ≡ false) × (self.new.play.log.items ≡ self.old.play.log.items ++ turn ∷ [])) }
+        ensures err { OnErr result ((self.new.play.dark ≡ true) × (self.new.play.log.items ≡ self.old.play.log.items)) }
         ensures script { self.new.play.script.now ≡ self.old.play.script.now }
         ensures cause { HasCause self.old.faults self.new.faults result }
     {
@@ -188,9 +188,9 @@ impl<'a> Player<'a> {
 }
 
 impl Site for Player<'_> {
-    ghost use Rattle.gw_run.specs.Player.{player_seen};
+    ghost use Rattle.gw_run.specs.Player.{player_observed};
 
-    ghost seen = { player_seen };
+    ghost observed = { player_observed };
 
     fn open(&mut self, setup: &Setup) -> Result<(), Failed> {
         match copied(setup) {
@@ -208,7 +208,7 @@ impl Site for Player<'_> {
     }
 
     fn poll(&mut self, buf: &mut [u8; 4096]) -> Polled {
-        if self.play.short {
+        if self.play.dark {
             return self.stopped();
         }
         let found = self.play.found(&self.tills, self.opened);

@@ -1,18 +1,18 @@
 //! The play of a script, and what it writes.
 ghost use Rattle.std.specs.Prelude.{◌≡◌, ◌≢◌, ◌⊎◌, ◌≤◌, true, List, ℕ, Ok, IsTrue};
-ghost use Rattle.gw_site.specs.Causes.{Rose};
-ghost use Rattle.gw_site.specs.Seen.{Tells};
+ghost use Rattle.gw_site.specs.Failures.{Rose};
+ghost use Rattle.gw_site.specs.Observed.{IfObserved};
 ghost use Rattle.gw_rules.specs.Script.{default_name, script_of, script_setup};
 ghost use Rattle.gw_run.specs.LogWritten.{Adds};
-ghost use Rattle.gw_run.specs.Player.{player_seen};
+ghost use Rattle.gw_run.specs.Player.{player_observed};
 ghost use Rattle.gw_run.specs.Replay.{GivesName, IsFresh, IsPlayEnd, IsPlayOf, PlayWritten};
-ghost use Rattle.gw_run.specs.ScriptRead.{script_seen};
+ghost use Rattle.gw_run.specs.ScriptRead.{script_value};
 
 use crate::ending::Ending;
 use crate::engine::{Ended, run_once};
+use crate::last_lines::tell;
 use crate::line::Script;
 use crate::player::Player;
-use crate::tail::tell;
 use crate::text::{Unwritten, write_log};
 use gw_base::{Ident, Pts, Setup, Text};
 use gw_site::{Sink, Turn};
@@ -40,15 +40,15 @@ fn script_setup(alloc: Global, name: Option<Ident<40>>) -> Setup
     }
 }
 
-/// Plays a script that gives this name from its first line. False where memory was wanting.
+/// Plays a script that gives this name from its first line. False where memory was refused.
 fn run_script(alloc: Global, name: Option<Ident<40>>, player: &mut Player) -> bool
-    ensures log { (script : List ℕ) → GivesName script name → IsFresh (player_seen player.old) script → Tells (player_seen player.new) (IsPlayOf script result) }
+    ensures log { (script : List ℕ) → GivesName script name → IsFresh (player_observed player.old) script → IfObserved (player_observed player.new) (IsPlayOf script result) }
 {
     let setup = script_setup(alloc, name);
     let ended = run_once(alloc, &setup, player, u64::MAX);
     player.played();
     match ended {
-        Ended::Done => !player.is_short(),
+        Ended::Done => !player.is_dark(),
         Ended::NotOpened | Ended::NoMemory => false,
     }
 }
@@ -57,7 +57,7 @@ fn run_script(alloc: Global, name: Option<Ident<40>>, player: &mut Player) -> bo
 fn play_ending(whole: bool) -> Ending
     ensures which { ((whole ≡ true) × (result ≡ Ending.Played)) ⊎ (result ≡ Ending.Memory) }
     ensures end { IsPlayEnd result }
-    ensures told { result ≢ Ending.Cut }
+    ensures whole { result ≢ Ending.OutputFailed }
 {
     if whole {
         Ending::Played
@@ -66,27 +66,27 @@ fn play_ending(whole: bool) -> Ending
     }
 }
 
-/// Writes the text of the log and the lines behind it.
+/// Writes the text of the log and the lines after it.
 fn write_play<O: Sink>(alloc: Global, log: &[Turn], whole: bool, out: &mut O) -> Ending
     ensures written { (script : List ℕ) → IsPlayOf script whole log.now → Adds (O.written out.old) (O.written out.new) (PlayWritten script result) }
     ensures end { IsPlayEnd result }
-    ensures cut { result ≡ Ending.Cut → Rose (O.faults out.old) (O.faults out.new) }
+    ensures cut { result ≡ Ending.OutputFailed → Rose (O.faults out.old) (O.faults out.new) }
     ensures later { O.faults out.old ≤ O.faults out.new }
 {
     let ending = play_ending(whole);
     match write_log(alloc, log, out) {
         Ok(()) => tell(alloc, ending, out),
         Err(Unwritten::Memory) => tell(alloc, Ending::Memory, out),
-        Err(Unwritten::Sink) => Ending::Cut,
+        Err(Unwritten::Sink) => Ending::OutputFailed,
     }
 }
 
 /// Plays a script, which the text was read as, and writes its log.
 pub(crate) fn play<O: Sink>(alloc: Global, text: &[u8], script: Script, out: &mut O) -> Ending
-    requires { script_of text.now ≡ Ok (script_seen script) }
+    requires { script_of text.now ≡ Ok (script_value script) }
     ensures written { Adds (O.written out.old) (O.written out.new) (PlayWritten text.now result) }
     ensures end { IsPlayEnd result }
-    ensures cut { result ≡ Ending.Cut → Rose (O.faults out.old) (O.faults out.new) }
+    ensures cut { result ≡ Ending.OutputFailed → Rose (O.faults out.old) (O.faults out.new) }
     ensures later { O.faults out.old ≤ O.faults out.new }
 {
     let name = script.name;

@@ -3,25 +3,20 @@ ghost use Rattle.std.specs.Prelude.{◌≡◌, ◌<◌, ◌≤◌, ◌↔◌, �
 ghost use Rattle.std.specs.List.{list_all};
 ghost use Rattle.std.specs.Result.{result_ok};
 ghost use Rattle.hex.specs.Hex.{decode_of};
-ghost use Rattle.sale_frame.specs.Frame.{IsMessageLength, frame};
-ghost use Rattle.gw_rules.specs.Script.{script_limit, script_of, split_lines, entry_of, spelled, is_blank, worded, poll_line, numbered, said_piece, hex_piece, split_at_space, at_line, name_line, is_visible, number, with_entry, Naming, Playing};
-ghost use Rattle.gw_run.specs.ScriptRead.{entry_seen, event_seen, line_seen, script_seen, IsAdded, IsFaultOf};
+ghost use Rattle.sale_frame.specs.Grammar.{IsPayloadLength, frame};
+ghost use Rattle.gw_rules.specs.Script.{script_limit, script_of, split_lines, entry_of, spelled, is_blank, worded, poll_line, numbered, said_chunk, hex_chunk, split_at_space, at_line, name_line, is_visible, number, with_entry, Naming, Playing};
+ghost use Rattle.gw_run.specs.ScriptRead.{entry_value, event_value, line_value, script_value, IsAdded, IsFaultOf};
 
-use crate::line::{Piece, Script, ScriptEvent, ScriptLine};
+use crate::line::{Chunk, Script, ScriptEvent, ScriptLine};
 use gw_base::{Bytes, Ident, LAST_MOMENT};
+use gw_bytes::{LONGEST_CHUNK, LONGEST_SCRIPT};
 use hex::FromHexError;
 use sale_frame::frame_length;
 use std::alloc::{AllocError, AllocFailed, Global};
 use std::str;
 
-/// The most bytes of a script.
-pub(crate) const SCRIPT_LIMIT: usize = 4_194_304;
-
 /// The most bytes of a said text.
 const SAID_LIMIT: usize = 4_092;
-
-/// The most bytes that a till sends at once.
-const PIECE_LIMIT: usize = 4_096;
 
 /// What one line of the text is.
 #[derive(Drop)]
@@ -90,7 +85,7 @@ fn are_visible(bytes: &[u8]) -> bool
 
 /// The line that `name` and this rest spell.
 fn name_line(word: &str) -> Option<ReadEntry>
-    ensures { option_map entry_seen result ≡ name_line word.now }
+    ensures { option_map entry_value result ≡ name_line word.now }
 {
     if !are_visible(word.as_bytes()) {
         return None;
@@ -100,7 +95,7 @@ fn name_line(word: &str) -> Option<ReadEntry>
 
 /// The line that `at` and this rest spell.
 fn at_line(rest: &str) -> Option<ReadEntry>
-    ensures { option_map entry_seen result ≡ at_line (number rest.now) }
+    ensures { option_map entry_value result ≡ at_line (number rest.now) }
 {
     let moment = number(rest)?;
     if moment > LAST_MOMENT as u64 {
@@ -111,7 +106,7 @@ fn at_line(rest: &str) -> Option<ReadEntry>
 
 /// A message in its frame.
 fn framed(alloc: Global, message: &[u8]) -> Result<Bytes, AllocError>
-    requires { IsMessageLength (length message.now) }
+    requires { IsPayloadLength (length message.now) }
     ensures { IfOk result (λ bytes. bytes ≡ frame message.now) }
 {
     let length = frame_length(message.len());
@@ -123,13 +118,13 @@ fn framed(alloc: Global, message: &[u8]) -> Result<Bytes, AllocError>
 
 /// What a till says, where the text has a length that may be said.
 fn said(alloc: Global, till: u64, text: &str) -> Result<Option<ScriptEvent>, AllocError>
-    ensures { IfOk result (λ event. option_map event_seen event ≡ said_piece till text.now) }
+    ensures { IfOk result (λ event. option_map event_value event ≡ said_chunk till text.now) }
 {
     if text.is_empty() || text.len() > SAID_LIMIT {
         return Ok(None);
     }
     let bytes = framed(alloc, text.as_bytes())?;
-    Ok(Some(ScriptEvent::Say(till, Piece::new(bytes))))
+    Ok(Some(ScriptEvent::Say(till, Chunk::new(bytes))))
 }
 
 /// The bytes of a hexadecimal text.
@@ -145,11 +140,11 @@ fn decoded(alloc: Global, text: &str) -> Result<Option<Bytes>, AllocError>
 
 /// The bytes that a till sends, where they may be sent at once.
 fn sent(alloc: Global, till: u64, text: &str) -> Result<Option<ScriptEvent>, AllocError>
-    ensures { IfOk result (λ event. option_map event_seen event ≡ hex_piece till (decode_of text.now)) }
+    ensures { IfOk result (λ event. option_map event_value event ≡ hex_chunk till (decode_of text.now)) }
 {
     match decoded(alloc, text)? {
-        Some(bytes) if (1..=PIECE_LIMIT).contains(&bytes.as_slice().len()) => {
-            Ok(Some(ScriptEvent::Say(till, Piece::new(bytes))))
+        Some(bytes) if (1..=LONGEST_CHUNK).contains(&bytes.as_slice().len()) => {
+            Ok(Some(ScriptEvent::Say(till, Chunk::new(bytes))))
         }
         _ => Ok(None),
     }
@@ -157,7 +152,7 @@ fn sent(alloc: Global, till: u64, text: &str) -> Result<Option<ScriptEvent>, All
 
 /// The event that `till` and this rest spell.
 fn till_event(alloc: Global, rest: &str) -> Result<Option<ScriptEvent>, AllocError>
-    ensures { IfOk result (λ event. option_map event_seen event ≡ numbered (λ till hex. hex_piece till (decode_of hex)) (split_at_space rest.now)) }
+    ensures { IfOk result (λ event. option_map event_value event ≡ numbered (λ till hex. hex_chunk till (decode_of hex)) (split_at_space rest.now)) }
 {
     let Some((word, hex)) = rest.split_once(' ') else {
         return Ok(None);
@@ -170,7 +165,7 @@ fn till_event(alloc: Global, rest: &str) -> Result<Option<ScriptEvent>, AllocErr
 
 /// The event that `say` and this rest spell.
 fn say_event(alloc: Global, rest: &str) -> Result<Option<ScriptEvent>, AllocError>
-    ensures { IfOk result (λ event. option_map event_seen event ≡ numbered said_piece (split_at_space rest.now)) }
+    ensures { IfOk result (λ event. option_map event_value event ≡ numbered said_chunk (split_at_space rest.now)) }
 {
     let Some((word, text)) = rest.split_once(' ') else {
         return Ok(None);
@@ -183,14 +178,14 @@ fn say_event(alloc: Global, rest: &str) -> Result<Option<ScriptEvent>, AllocErro
 
 /// The line of a poll that brings this.
 fn poll_line(event: Option<ScriptEvent>) -> Option<ReadEntry>
-    ensures { option_map entry_seen result ≡ poll_line (option_map event_seen event) }
+    ensures { option_map entry_value result ≡ poll_line (option_map event_value event) }
 {
     Some(ReadEntry::Playing(ScriptLine::Poll(event?)))
 }
 
-/// The line of a first word and of what stands behind its space.
+/// The line of a first word and of what comes after its space.
 fn worded(alloc: Global, word: &str, rest: &str) -> Result<Option<ReadEntry>, AllocError>
-    ensures { IfOk result (λ entry. option_map entry_seen entry ≡ worded word.now rest.now) }
+    ensures { IfOk result (λ entry. option_map entry_value entry ≡ worded word.now rest.now) }
 {
     if word == "name" {
         Ok(name_line(rest))
@@ -221,7 +216,7 @@ fn is_blank(text: &[u8]) -> bool
 
 /// The line that a text spells.
 fn spelled(alloc: Global, text: &str) -> Result<Option<ReadEntry>, AllocError>
-    ensures { IfOk result (λ entry. option_map entry_seen entry ≡ spelled text.now) }
+    ensures { IfOk result (λ entry. option_map entry_value entry ≡ spelled text.now) }
 {
     if is_blank(text.as_bytes()) {
         return Ok(Some(ReadEntry::Blank));
@@ -237,7 +232,7 @@ fn spelled(alloc: Global, text: &str) -> Result<Option<ReadEntry>, AllocError>
 
 /// The line that these bytes spell.
 fn entry_of(alloc: Global, text: &[u8]) -> Result<Option<ReadEntry>, AllocError>
-    ensures { IfOk result (λ entry. option_map entry_seen entry ≡ entry_of text.now) }
+    ensures { IfOk result (λ entry. option_map entry_value entry ≡ entry_of text.now) }
 {
     match str::from_utf8(text) {
         Ok(text) => spelled(alloc, text),
@@ -247,7 +242,7 @@ fn entry_of(alloc: Global, text: &[u8]) -> Result<Option<ReadEntry>, AllocError>
 
 /// Gives the script its name. False where it has one, or lines that are played.
 fn add_name(script: &mut Script, name: Ident<40>) -> bool
-    ensures { IsAdded result (with_entry (script_seen script.old) (Naming name)) (script_seen script.new) }
+    ensures { IsAdded result (with_entry (script_value script.old) (Naming name)) (script_value script.new) }
 {
     if script.name.is_some() || !script.lines.is_empty() {
         return false;
@@ -258,7 +253,7 @@ fn add_name(script: &mut Script, name: Ident<40>) -> bool
 
 /// Adds a line that is played to the script.
 fn add_line(script: &mut Script, line: ScriptLine) -> Result<(), AllocError>
-    ensures { OnOk result (with_entry (script_seen script.old) (Playing (line_seen line)) ≡ Some (script_seen script.new)) }
+    ensures { OnOk result (with_entry (script_value script.old) (Playing (line_value line)) ≡ Some (script_value script.new)) }
 {
     script.lines.push(line)?;
     Ok(())
@@ -266,7 +261,7 @@ fn add_line(script: &mut Script, line: ScriptLine) -> Result<(), AllocError>
 
 /// Adds a line to the script. False where it may not stand there.
 fn add_entry(script: &mut Script, entry: ReadEntry) -> Result<bool, AllocError>
-    ensures { IfOk result (λ added. IsAdded added (with_entry (script_seen script.old) (entry_seen entry)) (script_seen script.new)) }
+    ensures { IfOk result (λ added. IsAdded added (with_entry (script_value script.old) (entry_value entry)) (script_value script.new)) }
 {
     match entry {
         ReadEntry::Blank => Ok(true),
@@ -280,7 +275,7 @@ fn add_entry(script: &mut Script, entry: ReadEntry) -> Result<bool, AllocError>
 
 /// Adds the line that these bytes spell to the script. False where they spell none that may stand there.
 fn add_text(alloc: Global, script: &mut Script, text: &[u8]) -> Result<bool, AllocError>
-    ensures { IfOk result (λ added. IsAdded added (option_and_then (with_entry (script_seen script.old)) (entry_of text.now)) (script_seen script.new)) }
+    ensures { IfOk result (λ added. IsAdded added (option_and_then (with_entry (script_value script.old)) (entry_of text.now)) (script_value script.new)) }
 {
     match entry_of(alloc, text)? {
         Some(entry) => add_entry(script, entry),
@@ -295,7 +290,7 @@ fn line_end(bytes: &[u8]) -> Option<usize>
     bytes.iter().position(|byte| *byte == b'\n')
 }
 
-/// The first text, and the bytes behind its line end.
+/// The first text, and the bytes after its line end.
 fn first_text(bytes: &[u8]) -> (&[u8], &[u8])
     requires { 0 < length bytes.now }
     ensures texts { split_lines bytes.now ≡ result.0.now ∷ split_lines result.1.now }
@@ -315,16 +310,16 @@ fn first_text(bytes: &[u8]) -> (&[u8], &[u8])
 /// zeros; N is a moment of at most 253,370,764,800. NAME is one word of 1 to 40 bytes of printable ASCII. HEX has 1 to
 /// 4,096 bytes in hexadecimal. TEXT is the rest of the line, of 1 to 4,092 bytes, which the till sends in a frame.
 pub(crate) fn read_script(alloc: Global, bytes: &[u8]) -> Result<Script, ScriptFault>
-    ensures ok { IfOk result (λ script. script_of bytes.now ≡ Ok (script_seen script)) }
+    ensures ok { IfOk result (λ script. script_of bytes.now ≡ Ok (script_value script)) }
     ensures within { OnOk result (length bytes.now ≤ script_limit) }
     ensures fault { IfErr result (IsFaultOf bytes.now) }
 
-    // Exactly then, but that memory may be wanting before the line is reached.
+    // Exactly then, but that memory may be refused before the line is reached.
     ensures long { IsErrOf result ScriptFault.Long ↔ (script_limit < length bytes.now) }
     ensures line { (line : ℕ) → IsFaultOf bytes.now (ScriptFault.Line line)
         → IsErrOf result (ScriptFault.Line line) ⊎ IsErrOf result ScriptFault.Memory }
 {
-    if bytes.len() > SCRIPT_LIMIT {
+    if bytes.len() > LONGEST_SCRIPT {
         return Err(ScriptFault::Long);
     }
     let mut script = Script {

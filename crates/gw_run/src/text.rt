@@ -2,26 +2,20 @@
 ghost use Rattle.std.specs.Prelude.{◌≡◌, ◌≤◌, ◌++◌, ◌∷◌, [], drop, string_bytes, codes, if◌then◌else◌, IsErrOf, OnOk, Some, None};
 ghost use Rattle.std.specs.Option.{option_copied};
 ghost use Rattle.std.specs.List.{list_all};
-ghost use Rattle.sale_frame.specs.Reading.{is_frame};
 ghost use Rattle.hex.specs.Hex.{encode_lower};
-ghost use Rattle.gw_site.specs.Causes.{Rose};
+ghost use Rattle.gw_site.specs.Failures.{Rose};
 ghost use Rattle.gw_site.specs.declared.turn.Turn.TheVariants.{SentTill, SentPt};
-ghost use Rattle.gw_rules.specs.LogText.{is_printable, is_shown_frame, shown, taken, log_text, turn_text};
+ghost use Rattle.gw_rules.specs.LogText.{is_space_or_visible, is_shown_frame, till_bytes_text, taken, log_text, turn_text};
 ghost use Rattle.gw_run.specs.LogWritten.{Adds, LogWritten};
 
 use gw_base::Bytes;
 use gw_site::{Failed, Sink, Turn};
+use sale_frame::framed_message;
 use std::alloc::{AllocError, Global};
 use std::str;
 
 /// As many bytes of lines are written at once, or more.
-const PIECE: usize = 65_536;
-
-/// The size of a frame's length.
-const LENGTH_SIZE: usize = 4;
-
-/// The greatest length of a message, in bytes.
-const MESSAGE_MAX: usize = 65_536;
+const CHUNK: usize = 65_536;
 
 /// Why a log was not written whole.
 #[derive(Clone, Copy, Debug, PartialEq, Eq)]
@@ -51,28 +45,16 @@ impl From<Failed> for Unwritten {
     }
 }
 
-/// The message of one whole frame.
-fn framed_message(bytes: &[u8]) -> Option<&[u8]>
-    ensures { option_copied result ≡ (if is_frame bytes.now then Some (drop 4 bytes.now) else None) }
-{
-    let (length, message) = bytes.split_first_chunk::<LENGTH_SIZE>()?;
-    let length = u32::from_be_bytes(*length) as usize;
-    if length == 0 || length > MESSAGE_MAX || length != message.len() {
-        return None;
-    }
-    Some(message)
-}
-
-fn is_printable(byte: u8) -> bool
-    ensures { result ≡ is_printable byte }
+fn is_space_or_visible(byte: u8) -> bool
+    ensures { result ≡ is_space_or_visible byte }
 {
     (b' '..=b'~').contains(&byte)
 }
 
 fn are_printable(bytes: &[u8]) -> bool
-    ensures { result ≡ list_all is_printable bytes.now }
+    ensures { result ≡ list_all is_space_or_visible bytes.now }
 {
-    bytes.iter().all(|byte| is_printable(*byte))
+    bytes.iter().all(|byte| is_space_or_visible(*byte))
 }
 
 /// The message of one whole frame, where it is printable ASCII.
@@ -97,7 +79,7 @@ fn push_hex(alloc: Global, lines: &mut String, bytes: &[u8]) -> Result<(), Alloc
 
 /// Appends bytes of a till.
 fn push_shown(alloc: Global, lines: &mut String, bytes: &[u8]) -> Result<(), AllocError>
-    ensures { OnOk result (string_bytes lines.new ≡ string_bytes lines.old ++ shown bytes.now) }
+    ensures { OnOk result (string_bytes lines.new ≡ string_bytes lines.old ++ till_bytes_text bytes.now) }
 {
     match shown_message(bytes) {
         Some(message) => write!(lines, "'{message}"),
@@ -202,7 +184,7 @@ fn push_line(alloc: Global, lines: &mut String, turn: &Turn) -> Result<(), Alloc
 
 /// Writes the text of a log, a line for each turn.
 ///
-/// Where memory is wanting, the lines that were written are whole; where the sink fails, the last one may be cut.
+/// Where memory is refused, the lines that were written are whole; where the sink fails, the last one may be cut.
 pub fn write_log<O: Sink>(alloc: Global, log: &[Turn], out: &mut O) -> Result<(), Unwritten>
     ensures written { Adds (O.written out.old) (O.written out.new) (LogWritten log.now result) }
     ensures sink { IsErrOf result Unwritten.Sink → Rose (O.faults out.old) (O.faults out.new) }
@@ -211,7 +193,7 @@ pub fn write_log<O: Sink>(alloc: Global, log: &[Turn], out: &mut O) -> Result<()
     let mut lines = String::new(alloc);
     for turn in log {
         push_line(alloc, &mut lines, turn)?;
-        if lines.len() >= PIECE {
+        if lines.len() >= CHUNK {
             out.write(lines.as_bytes())?;
             lines.clear();
         }

@@ -1,4 +1,4 @@
--- Laws of what a log tells.
+-- Laws of the images of a log.
 use Rattle.std.specs.Prelude.{ℕ, List}
 use Rattle.gw_site.specs.declared.turn.Turn.{Turn}
 use Rattle.gw_site.specs.Outside.{outside_of}

@@ -1,8 +1,8 @@
-pub mod Causes
-pub mod Outside
+pub mod Failures
 pub mod Image
-pub mod Seen
-pub mod Turns
-pub mod Streams
-pub mod Memory
 pub mod Laws
+pub mod Memory
+pub mod Observed
+pub mod Outside
+pub mod Streams
+pub mod Turns

@@ -17,5 +17,5 @@ pub record Taking : Type 0 where
   pub faults : ℕ
 
 -- a failed write took nothing, or it is the call that fails and took at most so many of the bytes
-abbrev pub IsCutWrite : Taking → List ℕ → List ℕ → Type 0
-IsCutWrite old written bytes = (written ≡ old.written) ⊎ ((old.fails ≡ Some old.calls) × (written ≡ old.written ++ take old.taken bytes))
+abbrev pub IsPartialWrite : Taking → List ℕ → List ℕ → Type 0
+IsPartialWrite old written bytes = (written ≡ old.written) ⊎ ((old.fails ≡ Some old.calls) × (written ≡ old.written ++ take old.taken bytes))

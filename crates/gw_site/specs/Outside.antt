@@ -1,12 +1,12 @@
--- What a log tells of the outside: the moment, the lines and what was heard on them, and the file on the disk.
+-- What a log says of the outside: the moment, the connections and what was heard on them, and the file on the disk.
 use Rattle.std.specs.Prelude.{ℕ, ◌+◌, ◌-◌, Bool, not, ◌==◌, if◌then◌else◌, List, [], ◌∷◌, ◌++◌, length, take, drop, replicate, filter}
 use Rattle.std.specs.List.{list_any}
 use Rattle.gw_base.specs.Moment.{moment_of}
 use Rattle.gw_site.specs.declared.turn.Turn.{Turn}
 use Rattle.gw_site.specs.declared.turn.Turn.TheVariants.{Start, OpenFailed, Polled, Opened, HeardTill, Closed, HeardPt, Lost, Stopped, Linked, LinkFailed, SentTill, SentPt, CutTill, CutPt, Wrote, Synced, DiskFailed, Crash}
 
--- a line that is open, by its number, and all that was heard on it since it opened
-pub record Line : Type 0 where
+-- a connection that is open, by its number, and all that was heard on it since it opened
+pub record Connection : Type 0 where
   pub number : ℕ
   pub heard : List ℕ
 
@@ -20,9 +20,9 @@ pub record Outside : Type 0 where
   -- the moment of the run's last poll
   pub moment : ℕ
   -- the tills that are there
-  pub tills : List Line
+  pub tills : List Connection
   -- the terminals that are linked
-  pub links : List Line
+  pub links : List Connection
   -- the least number with which a till may open
   pub next_till : ℕ
   -- the file as a read gives it
@@ -32,37 +32,37 @@ pub record Outside : Type 0 where
   -- the ranges written since then
   pub written : List Range
 
--- the line of this number is open
-abbrev pub is_open : List Line → ℕ → Bool
-is_open lines number = list_any (λ (line : Line). line.number == number) lines
+-- the connection of this number is open
+abbrev pub is_connected : List Connection → ℕ → Bool
+is_connected connections number = list_any (λ (connection : Connection). connection.number == number) connections
 
--- the lines without that of this number
-abbrev pub without : List Line → ℕ → List Line
-without lines number = filter (λ (line : Line). not (line.number == number)) lines
+-- the connections without that of this number
+abbrev pub without : List Connection → ℕ → List Connection
+without connections number = filter (λ (connection : Connection). not (connection.number == number)) connections
 
--- a line on which nothing was heard yet
-abbrev pub new_line : ℕ → Line
-new_line number = record { number = number; heard = [] }
+-- a connection on which nothing was heard yet
+abbrev pub new_connection : ℕ → Connection
+new_connection number = record { number = number; heard = [] }
 
--- these bytes were heard on the line of this number
-abbrev pub hears : List Line → ℕ → List ℕ → List Line
+-- these bytes were heard on the connection of this number
+abbrev pub hears : List Connection → ℕ → List ℕ → List Connection
 hears [] number bytes = []
-hears (line ∷ lines) number bytes = if line.number == number then record line { heard = line.heard ++ bytes } ∷ lines else line ∷ hears lines number bytes
+hears (connection ∷ connections) number bytes = if connection.number == number then record connection { heard = connection.heard ++ bytes } ∷ connections else connection ∷ hears connections number bytes
 
--- what was heard on the line of this number since it opened; nothing where it isn't open
-abbrev pub heard_on : List Line → ℕ → List ℕ
+-- what was heard on the connection of this number since it opened; nothing where it isn't open
+abbrev pub heard_on : List Connection → ℕ → List ℕ
 heard_on [] number = []
-heard_on (line ∷ lines) number = if line.number == number then line.heard else heard_on lines number
+heard_on (connection ∷ connections) number = if connection.number == number then connection.heard else heard_on connections number
 
--- the file with bytes written at a place, over what is there and past its end; a gap is filled with zeros
+-- the file with bytes written at an offset, over what is there and past its end; a gap is filled with zeros
 abbrev pub overwrite : List ℕ → ℕ → List ℕ → List ℕ
 overwrite file at bytes = take at file ++ replicate (at - length file) 0 ++ bytes ++ drop (at + length bytes) file
 
--- so many bytes of the file from a place on, with zeros past its end
+-- so many bytes of the file from an offset on, with zeros past its end
 abbrev pub file_part : List ℕ → ℕ → ℕ → List ℕ
 file_part file at count = take count (drop at file) ++ replicate (count - length (drop at file)) 0
 
--- no run: no line is open, and no moment was polled
+-- no run: no connection is open, and no moment was polled
 abbrev pub no_run : Outside → Outside
 no_run o = record o { moment = 0; tills = []; links = []; next_till = 0 }
 
@@ -71,13 +71,13 @@ abbrev pub outside_after : Outside → Turn → Outside
 outside_after o (Start setup) = no_run o
 outside_after o OpenFailed = no_run o
 outside_after o (Polled now) = record o { moment = moment_of now }
-outside_after o (Opened till) = record o { tills = o.tills ++ new_line till ∷ []; next_till = till + 1 }
+outside_after o (Opened till) = record o { tills = o.tills ++ new_connection till ∷ []; next_till = till + 1 }
 outside_after o (HeardTill till bytes) = record o { tills = hears o.tills till bytes }
 outside_after o (Closed till) = record o { tills = without o.tills till }
 outside_after o (HeardPt pt bytes) = record o { links = hears o.links pt bytes }
 outside_after o (Lost pt) = record o { links = without o.links pt }
 outside_after o Stopped = o
-outside_after o (Linked pt) = record o { links = without o.links pt ++ new_line pt ∷ [] }
+outside_after o (Linked pt) = record o { links = without o.links pt ++ new_connection pt ∷ [] }
 outside_after o (LinkFailed pt) = o
 outside_after o (SentTill till bytes ok) = o
 outside_after o (SentPt pt bytes ok) = o

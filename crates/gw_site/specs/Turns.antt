@@ -1,8 +1,8 @@
 -- The turns of each call of a site, and what an event promises.
 use Rattle.std.specs.Prelude.{◌≡◌, ◌⊎◌, ℕ, ◌<◌, ◌≤◌, List, [], ◌∷◌, take, true, false, Result, Ok, Err}
-use Rattle.gw_site.specs.Outside.{Outside, is_open, outside_of}
+use Rattle.gw_site.specs.Outside.{Outside, is_connected, outside_of}
 use Rattle.gw_site.specs.Image.{Image}
-use Rattle.gw_site.specs.Seen.{IsFront}
+use Rattle.gw_bytes.specs.Bytes.{IsPrefix}
 use Rattle.gw_base.specs.declared.setup.Setup.{Setup}
 use Rattle.gw_site.specs.declared.turn.Turn.{Turn}
 use Rattle.gw_site.specs.declared.turn.Turn.TheVariants.{Start, OpenFailed, Polled, Opened, HeardTill, Closed, HeardPt, Lost, Stopped, Linked, LinkFailed, SentTill, SentPt, Wrote, Synced, DiskFailed, Crash}
@@ -10,7 +10,7 @@ use Rattle.gw_site.specs.declared.site.Polled.{Polled as Answer}
 use Rattle.gw_site.specs.declared.site.What.{What}
 use Rattle.gw_site.specs.declared.site.What.TheVariants.{TillOpened, TillBytes, TillClosed, PtBytes, PtClosed, Nothing, Stopped as Stop}
 
--- opening: a start, or the power failure that stands before it and leaves one of the files of the log before; or a failure
+-- opening: a start, or the power failure before it, which leaves an image of the log before, and a start; or a failure
 abbrev pub OpenTurns : {E : Type 0} → Setup → Result (Unit {0}) E → List Turn → List Turn → Type 0
 OpenTurns setup (Ok done) before turns = (turns ≡ Start setup ∷ []) ⊎ ((file : List ℕ) × Image (outside_of before) file × (turns ≡ Crash file ∷ Start setup ∷ []))
 OpenTurns setup (Err failed) before turns = turns ≡ OpenFailed ∷ []
@@ -43,25 +43,25 @@ IsWithinBuf (PtClosed pt) = Unit {0}
 IsWithinBuf Nothing = Unit {0}
 IsWithinBuf Stop = Unit {0}
 
--- what an event promises: a till opens with a number above all of this run, and everything else comes of a line that is open
+-- what an event promises: a till opens with a number above all of this run, and everything else comes of a connection that is open
 abbrev pub IsPromised : Outside → What → Type 0
 IsPromised o (TillOpened till) = o.next_till ≤ till
-IsPromised o (TillBytes till count) = is_open o.tills till ≡ true
-IsPromised o (TillClosed till) = is_open o.tills till ≡ true
-IsPromised o (PtBytes pt count) = is_open o.links pt ≡ true
-IsPromised o (PtClosed pt) = is_open o.links pt ≡ true
+IsPromised o (TillBytes till count) = is_connected o.tills till ≡ true
+IsPromised o (TillClosed till) = is_connected o.tills till ≡ true
+IsPromised o (PtBytes pt count) = is_connected o.links pt ≡ true
+IsPromised o (PtClosed pt) = is_connected o.links pt ≡ true
 IsPromised o Nothing = Unit {0}
 IsPromised o Stop = Unit {0}
 
--- a send to a till: all bytes, or where it failed a front of them
+-- a send to a till: all bytes, or where it failed a prefix of them
 abbrev pub SentTillTurns : {E : Type 0} → ℕ → List ℕ → Result (Unit {0}) E → List Turn → Type 0
 SentTillTurns till bytes (Ok done) turns = turns ≡ SentTill till bytes true ∷ []
-SentTillTurns till bytes (Err failed) turns = (sent : List ℕ) × IsFront sent bytes × (turns ≡ SentTill till sent false ∷ [])
+SentTillTurns till bytes (Err failed) turns = (sent : List ℕ) × IsPrefix sent bytes × (turns ≡ SentTill till sent false ∷ [])
 
--- a send to a terminal: all bytes, or where it failed a front of them
+-- a send to a terminal: all bytes, or where it failed a prefix of them
 abbrev pub SentPtTurns : {E : Type 0} → ℕ → List ℕ → Result (Unit {0}) E → List Turn → Type 0
 SentPtTurns pt bytes (Ok done) turns = turns ≡ SentPt pt bytes true ∷ []
-SentPtTurns pt bytes (Err failed) turns = (sent : List ℕ) × IsFront sent bytes × (turns ≡ SentPt pt sent false ∷ [])
+SentPtTurns pt bytes (Err failed) turns = (sent : List ℕ) × IsPrefix sent bytes × (turns ≡ SentPt pt sent false ∷ [])
 
 -- the making of a link
 abbrev pub LinkTurns : {E : Type 0} → ℕ → Result (Unit {0}) E → List Turn → Type 0
@@ -70,10 +70,10 @@ LinkTurns pt (Err failed) turns = turns ≡ LinkFailed pt ∷ []
 
 -- a look at the disk leaves a turn only where it failed
 abbrev pub DiskTurns : {T E : Type 0} → Result T E → List Turn → Type 0
-DiskTurns (Ok told) turns = turns ≡ []
+DiskTurns (Ok given) turns = turns ≡ []
 DiskTurns (Err failed) turns = turns ≡ DiskFailed ∷ []
 
--- a write, which stands in the log also where it failed
+-- a write, which is in the log also where it failed
 abbrev pub WroteTurns : {E : Type 0} → ℕ → List ℕ → Result (Unit {0}) E → List Turn → Type 0
 WroteTurns at bytes (Ok done) turns = turns ≡ Wrote at bytes ∷ []
 WroteTurns at bytes (Err failed) turns = turns ≡ Wrote at bytes ∷ DiskFailed ∷ []

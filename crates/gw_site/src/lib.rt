@@ -1,4 +1,4 @@
-//! What the gateway sees of the outside: one object for lines and disk, which may tell its log, and the streams of a program.
+//! What the gateway sees of the outside: one object for connections and disk, whose log a proof may observe, and the streams of a program.
 #![tactic(auto)]
 
 ghost use Rattle.gw_site.specs.Laws.{StableIsImage, FileIsImage, JunkIsImage};

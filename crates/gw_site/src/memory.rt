@@ -1,8 +1,8 @@
-//! Streams in memory, which tell their bytes and fail where they are told to.
+//! Streams in memory, whose bytes a proof observes, and of which one call fails where that is asked.
 ghost use Rattle.std.specs.Prelude.{◌≡◌, ◌≤◌, ◌↔◌, ◌⊎◌, ◌+◌, ◌++◌, IsErr, IfOk, OnErr, [], ◌-◌, length, take, drop, min, Some, List, ℕ};
-ghost use Rattle.gw_site.specs.Causes.{one_more, faults_after, HasCause};
-ghost use Rattle.gw_site.specs.Memory.{IsCutWrite};
-ghost use Rattle.gw_site.specs.Seen.{IsFront};
+ghost use Rattle.gw_site.specs.Failures.{one_more, faults_after, HasCause};
+ghost use Rattle.gw_site.specs.Memory.{IsPartialWrite};
+ghost use Rattle.gw_bytes.specs.Bytes.{IsPrefix};
 ghost use Rattle.gw_site.specs.Streams.{TakesFrom, EndsAt, AddsTo};
 
 use crate::{Failed, Sink, Source};
@@ -10,7 +10,7 @@ use gw_base::Bytes;
 use std::alloc::Global;
 use std::marker::Model;
 
-/// One more fault; the count stays at its last value.
+/// A count of failures after one more; it stays at its last value.
 fn risen(faults: u64) -> u64
     ensures exact { result ≡ one_more faults }
     ensures later { faults ≤ result }
@@ -18,7 +18,7 @@ fn risen(faults: u64) -> u64
     faults.saturating_add(1)
 }
 
-/// Puts the bytes at the front of the buffer.
+/// Makes these the first bytes of the buffer.
 fn fill(buf: &mut [u8; 4096], bytes: &[u8])
     requires { length bytes.now ≤ 4096 }
     ensures bytes { take (length bytes.now) buf.new ≡ bytes.now }
@@ -27,10 +27,10 @@ fn fill(buf: &mut [u8; 4096], bytes: &[u8])
     buf[..bytes.len()].copy_from_slice(bytes);
 }
 
-/// Puts as many bytes from a place on as the buffer holds at its front, and answers how many.
+/// Fills the buffer with the bytes from an offset on, as many as it holds, and returns how many.
 fn give(buf: &mut [u8; 4096], bytes: &[u8], at: usize) -> usize
     requires { at ≤ length bytes.now }
-    ensures front { drop at bytes.now ≡ take result buf.new ++ drop (at + result) bytes.now }
+    ensures prefix { drop at bytes.now ≡ take result buf.new ++ drop (at + result) bytes.now }
     ensures end { result ≡ 0 → drop at bytes.now ≡ [] }
     ensures within { at + result ≤ length bytes.now }
     ensures full { result ≡ min (length bytes.now - at) 4096 }
@@ -114,7 +114,7 @@ impl Source for MemSource {
 
 /// Takes at most so many of the bytes; without memory none.
 fn take_part(held: &mut Bytes, bytes: &[u8], most: usize)
-    ensures front { (part : List ℕ) × IsFront part bytes.now × (held.new ≡ held.old ++ part) }
+    ensures prefix { (part : List ℕ) × IsPrefix part bytes.now × (held.new ≡ held.old ++ part) }
     ensures most { (held.new ≡ held.old ++ take most bytes.now) ⊎ (held.new ≡ held.old) }
 {
     let count = most.min(bytes.len());
@@ -180,7 +180,7 @@ impl Sink for MemSink {
         ensures bytes { AddsTo (Some self.old.written) (Some self.new.written) bytes.now result }
         ensures cause { HasCause self.old.faults self.new.faults result }
         ensures failed { self.old.fails ≡ Some self.old.calls → IsErr result }
-        ensures part { OnErr result (IsCutWrite self.old self.new.written bytes.now) }
+        ensures part { OnErr result (IsPartialWrite self.old self.new.written bytes.now) }
         ensures faults { self.new.faults ≡ faults_after self.old.faults result }
         ensures calls { self.new.calls ≡ one_more self.old.calls }
         ensures fails { self.new.fails ≡ self.old.fails }
@@ -221,7 +221,7 @@ mod tests {
     }
 
     #[test]
-    fn a_sink_keeps_a_front_of_a_failed_write(rt: HostRuntime) -> Result<(), Fail> {
+    fn a_sink_keeps_a_prefix_of_a_failed_write(rt: HostRuntime) -> Result<(), Fail> {
         let mut sink = MemSink::new(rt.alloc(), Some(1), 2);
         assert_eq!(rt; sink.write(b"one"), Ok(()));
         assert_eq!(rt; sink.write(b"two"), Err(Failed));

@@ -1,11 +1,11 @@
 //! A site that isn't there.
 ghost use Rattle.std.specs.Prelude.{◌≡◌, pos, length, [], None, false};
-ghost use Rattle.gw_site.specs.Causes.{HasFailed};
+ghost use Rattle.gw_site.specs.Failures.{HasFailed};
 
 use crate::{Failed, Polled, Site, What};
 use gw_base::Setup;
 
-/// Every call that can fail fails, and a poll brings `Stopped` at the moment 0. It tells no log.
+/// Every call that can fail fails, and a poll brings `Stopped` at the moment 0. A proof observes no log of it.
 #[derive(Debug, Drop)]
 pub struct NoSite {
     faults: u64,
@@ -19,6 +19,7 @@ impl NoSite {
         NoSite { faults: 0 }
     }
 
+    /// Counts a failure and returns it.
     fn fail<T>(&mut self) -> Result<T, Failed>
         ensures { HasFailed self.old.faults self.new.faults result }
     {
@@ -36,7 +37,7 @@ impl Default for NoSite {
 }
 
 impl Site for NoSite {
-    ghost seen = { λ site. record { log = None; faults = site.faults; dark = false; origin = [] } };
+    ghost observed = { λ site. record { log = None; faults = site.faults; dark = false; origin = [] } };
 
     fn open(&mut self, _setup: &Setup) -> Result<(), Failed>
         ensures { HasFailed self.old.faults self.new.faults result }

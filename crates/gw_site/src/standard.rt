@@ -1,11 +1,13 @@
 //! A program's standard streams.
 ghost use Rattle.std.specs.Prelude.{◌≡◌, ◌≤◌, None, IfOk, length};
-ghost use Rattle.gw_site.specs.Causes.{faults_after, HasCause};
+ghost use Rattle.gw_site.specs.Failures.{faults_after, HasCause};
 
 use crate::{Failed, Sink, Source};
 use std::io::{ErrorKind, Print, Read};
 
 /// One read; where a signal interrupts it, it is made again.
+///
+/// The loop has an end only so that the function has one: no program is interrupted 2^64 times.
 fn read_on<R: Read>(reader: &mut R, buf: &mut [u8; 4096]) -> Result<usize, Failed>
     ensures bound { IfOk result (λ count. count ≤ 4096) }
     ensures buf { length buf.new ≡ 4096 }
@@ -23,7 +25,7 @@ fn read_on<R: Read>(reader: &mut R, buf: &mut [u8; 4096]) -> Result<usize, Faile
     Err(Failed)
 }
 
-/// A source over a reader, such as standard input. It tells nothing of content.
+/// A source over a reader, such as standard input. A proof observes nothing of its bytes.
 #[derive(Drop)]
 pub struct StdSource<R: Read + Drop> {
     reader: R,
@@ -60,7 +62,7 @@ impl<R: Read + Drop> Source for StdSource<R> {
     }
 }
 
-/// A sink over a writer that needs no `&mut`, such as standard output. It tells nothing of content.
+/// A sink over a writer that needs no `&mut`, such as standard output. A proof observes nothing of its bytes.
 #[derive(Drop)]
 pub struct StdSink<W: Print + Drop> {
     writer: W,

@@ -1,4 +1,4 @@
-//! What stands in a site's log.
+//! The entries of a site's log.
 ghost use Rattle.std.specs.Prelude.{◌≡◌};
 
 use gw_base::{Bytes, Setup};
@@ -10,14 +10,14 @@ pub enum Turn {
     /// A run begins with this setup.
     Start(Setup),
     OpenFailed,
-    /// The site was polled; the turn of what it brought, if it brought anything, stands behind.
+    /// The site was polled; the turn of what it brought, if it brought anything, comes next.
     Polled { now: i64 },
     Opened { till: u64 },
     HeardTill { till: u64, bytes: Bytes },
-    /// The till closed its line.
+    /// The till closed its connection.
     Closed { till: u64 },
     HeardPt { pt: u16, bytes: Bytes },
-    /// The terminal's line is lost.
+    /// The terminal's connection is lost.
     Lost { pt: u16 },
     /// The run is to end.
     Stopped,

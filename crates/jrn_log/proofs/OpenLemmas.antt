@@ -6,34 +6,34 @@ use Rattle.std.proofs.lemmas.Bool.{cases_lt, lt-leb, le-leb}
 use Rattle.std.specs.Prelude.{◌⊎◌, Result, Ok, Err}
 use Rattle.gw_site.specs.Outside.{Outside, overwrite, outside_after, outside_from, outside_of}
 use Rattle.gw_site.specs.Image.{Image}
-use Rattle.gw_site.specs.Seen.{Seen, Tells, Grows, GrowsBy, Added}
+use Rattle.gw_site.specs.Observed.{Observed, IfObserved, Grows, GrowsBy, Added}
 use Rattle.gw_site.specs.declared.turn.Turn.{Turn}
 use Rattle.gw_site.specs.declared.turn.Turn.TheVariants.{Wrote, Synced, DiskFailed}
 use Rattle.gw_site.proofs.OutsideLemmas.{outside_of-append}
 use Rattle.gw_site.proofs.OverwriteLemmas.{over_inside}
 use Rattle.jrn_log.specs.declared.fault.OpenFault.{OpenFault}
 use Rattle.jrn_log.specs.declared.fault.OpenFault.TheVariants.{Disk, TooLong, Cut, Memory}
-use Rattle.jrn_log.specs.Slots.{AreSlots, IsCut}
-use Rattle.jrn_log.specs.Stands.{Held, IsAtRest}
-use Rattle.jrn_log.specs.Calls.{first_gate, FaultTurns, FailedTurns, OpeningTurns}
-use Rattle.jrn_log.specs.Opening.{OpensWith, IsExactlyTooLong, IsExactlyCut}
+use Rattle.jrn_log.specs.Slots.{AreSlots, IsTruncatedSlot}
+use Rattle.jrn_log.specs.Journal.{JournalValue, IsAtRest}
+use Rattle.jrn_log.specs.JournalTurns.{first_gate, FaultTurns, FailedTurns, OpeningTurns}
+use Rattle.jrn_log.specs.Opening.{OpensWith, IsExactlyTooLong, IsExactlyTruncated}
 use Rattle.jrn_log.specs.Images.{OpeningImages}
-use Rattle.jrn_log.specs.Reading.{Sizes, NotSized, FaultSizes}
+use Rattle.jrn_log.specs.inner.FileReader.{Sizes, NotSized, FaultSizes}
 use Rattle.jrn_log.proofs.SlotLemmas.{end_closed, one_slots, short_slots, past_closed}
-use Rattle.jrn_log.proofs.FrontLemmas.{AllFronts, front_holds}
-use Rattle.jrn_log.proofs.GrowLemmas.{added_front, added_whole, synced_same, grows-then, grows-by, told_before, told_same}
-use Rattle.jrn_log.proofs.LeaveLemmas.{Rest}
+use Rattle.jrn_log.proofs.PrefixLemmas.{AllPrefixes, prefix_holds}
+use Rattle.jrn_log.proofs.SequenceLemmas.{added_prefix, added_whole, synced_same, grows-then, grows-by, told_before, told_same}
+use Rattle.jrn_log.proofs.ImageLemmas.{Rest}
 use Rattle.jrn_log.proofs.AppendLemmas.{at_rest}
-use Rattle.jrn_log.proofs.GrownLemmas.{RestsAt}
+use Rattle.jrn_log.proofs.AppendedLemmas.{RestsAt}
 
 -- the turns
 
-pub open_grows : (old mid new : Seen) (size : ℕ) → Grows old mid (λ turns. turns ≡ Synced ∷ []) → Grows mid new (λ turns. turns ≡ first_gate size) → Grows old new (λ turns. turns ≡ Synced ∷ first_gate size)
+pub open_grows : (old mid new : Observed) (size : ℕ) → Grows old mid (λ turns. turns ≡ Synced ∷ []) → Grows mid new (λ turns. turns ≡ first_gate size) → Grows old new (λ turns. turns ≡ Synced ∷ first_gate size)
 open_grows old mid new size x y = grows-then old mid new _ _ _ x y (λ p q e f. rw (e, f) refl)
 
-pub open_turns : {T : Type 0} (opened : T) (old new : Seen) (size : ℕ) → Tells old (λ log. size ≡ length (outside_of log).file) → Grows old new (λ turns. turns ≡ Synced ∷ first_gate size) →
+pub open_turns : {T : Type 0} (opened : T) (old new : Observed) (size : ℕ) → IfObserved old (λ log. size ≡ length (outside_of log).file) → Grows old new (λ turns. turns ≡ Synced ∷ first_gate size) →
     GrowsBy Added old new (λ before. OpeningTurns (outside_of before).file (Ok opened))
-open_turns opened old new size n x = grows-by old new _ _ x (λ log told turns e. e ∙ ap (λ k. Synced ∷ first_gate k) (n log told))
+open_turns opened old new size n x = grows-by old new _ _ x (λ log observed turns e. e ∙ ap (λ k. Synced ∷ first_gate k) (n log observed))
 
 fault_turns : (file : List ℕ) (fault : OpenFault) (size : ℕ) (p q : List Turn) → size ≡ length file → p ≡ Synced ∷ [] → FaultSizes size fault q → FaultTurns file fault (p ++ q)
 fault_turns file Disk size p q n e (inl f) = inr (inl (rw (e, f) refl))
@@ -42,19 +42,19 @@ fault_turns file (TooLong count) size p q n e f = rw (e, f) refl
 fault_turns file (Cut slot) size p q n e f = rw (e, f) refl
 fault_turns file Memory size p q n e f = rw (e, f) refl
 
--- a fault's turns behind a sync, whatever the file
+-- a fault's turns after a sync, whatever the file
 abbrev SyncThen : OpenFault → ℕ → List Turn → Type 0
 SyncThen fault size turns = (p : List Turn) × (q : List Turn) × (p ≡ Synced ∷ []) × FaultSizes size fault q × (turns ≡ p ++ q)
 
-pub open_fails : (fault : OpenFault) (old mid new : Seen) (size : ℕ) → Tells old (λ log. size ≡ length (outside_of log).file) → Grows old mid (λ turns. turns ≡ Synced ∷ []) → Grows mid new (FaultSizes size fault) →
+pub open_fails : (fault : OpenFault) (old mid new : Observed) (size : ℕ) → IfObserved old (λ log. size ≡ length (outside_of log).file) → Grows old mid (λ turns. turns ≡ Synced ∷ []) → Grows mid new (FaultSizes size fault) →
     GrowsBy Added old new (λ before. FaultTurns (outside_of before).file fault)
 open_fails fault old mid new size n x y = grows-by old new (SyncThen fault size) _ (grows-then old mid new _ _ _ x y (λ p q e f. (p, q, e, f, refl)))
-    (λ log told turns t. rw t.4 (fault_turns (outside_of log).file fault size t.0 t.1 (n log told) t.2 t.3))
+    (λ log observed turns t. rw t.4 (fault_turns (outside_of log).file fault size t.0 t.1 (n log observed) t.2 t.3))
 
 -- the answers
 
--- where the bodies of a file are known, and a gate follows them, it isn't cut
-not_cut : (slots : ℕ) (file : List ℕ) (bodies : List (List ℕ)) → Sizes slots file bodies → (slot : ℕ) → IsCut file slot → ⊥
+-- where the bodies of a file are known, and a gate follows them, it isn't truncated
+not_cut : (slots : ℕ) (file : List ℕ) (bodies : List (List ℕ)) → Sizes slots file bodies → (slot : ℕ) → IsTruncatedSlot file slot → ⊥
 not_cut slots file bodies s slot cut =
     let lt : slot < length bodies = (s.slots_are.exactly slot).0 cut.opened in
     let some = (cut.opened slot (omega arith)).0 in
@@ -62,16 +62,16 @@ not_cut slots file bodies s slot cut =
     let ends = cut.ends in
     omega arith
 
-pub ok_not_long : (slots : ℕ) (file : List ℕ) (bodies : List (List ℕ)) (opened : Held × List (List ℕ)) → Sizes slots file bodies → IsExactlyTooLong slots file (Ok opened)
+pub ok_not_long : (slots : ℕ) (file : List ℕ) (bodies : List (List ℕ)) (opened : JournalValue × List (List ℕ)) → Sizes slots file bodies → IsExactlyTooLong slots file (Ok opened)
 ok_not_long slots file bodies opened s settled count = (λ e. absurd (cc), λ h. absurd (s.fits h.1))
 
-pub ok_not_cut : (slots : ℕ) (file : List ℕ) (bodies : List (List ℕ)) (opened : Held × List (List ℕ)) → Sizes slots file bodies → IsExactlyCut slots file (Ok opened)
+pub ok_not_cut : (slots : ℕ) (file : List ℕ) (bodies : List (List ℕ)) (opened : JournalValue × List (List ℕ)) → Sizes slots file bodies → IsExactlyTruncated slots file (Ok opened)
 ok_not_cut slots file bodies opened s settled slot = (λ e. absurd (cc), λ h. absurd (not_cut slots file bodies s slot h.1))
 
-cut_place : (file : List ℕ) (slot : ℕ) → IsCut file slot → 256 * slot < length file
+cut_place : (file : List ℕ) (slot : ℕ) → IsTruncatedSlot file slot → 256 * slot < length file
 cut_place file slot cut = elim (cases_lt (256 * slot) (length file)) [ inl lt ↦ lt | inr le ↦ absurd (past_closed file slot le (cut.opened slot (omega arith))) ]
 
-one_cut : (file : List ℕ) (slot other : ℕ) → IsCut file slot → IsCut file other → slot ≡ other
+one_cut : (file : List ℕ) (slot other : ℕ) → IsTruncatedSlot file slot → IsTruncatedSlot file other → slot ≡ other
 one_cut file slot other a b = omega (arith, a.ends, b.ends, cut_place file slot a, cut_place file other b)
 
 pub fault_long : (slots : ℕ) (file : List ℕ) (fault : OpenFault) → NotSized slots file fault → IsExactlyTooLong slots file (Err fault)
@@ -80,10 +80,10 @@ fault_long slots file (TooLong size) n settled count = (λ e. (let h : size ≡ 
 fault_long slots file (Cut slot) n settled count = (λ e. absurd (cc), λ h. absurd (n.0 h.1))
 fault_long slots file Memory n settled count = absurd (settled tt)
 
-pub fault_cut : (slots : ℕ) (file : List ℕ) (fault : OpenFault) → NotSized slots file fault → IsExactlyCut slots file (Err fault)
+pub fault_cut : (slots : ℕ) (file : List ℕ) (fault : OpenFault) → NotSized slots file fault → IsExactlyTruncated slots file (Err fault)
 fault_cut slots file Disk n settled slot = absurd (settled tt)
 fault_cut slots file (TooLong size) n settled slot = (λ e. absurd (cc), λ h. absurd (h.0 n.1))
-fault_cut slots file (Cut place) n settled slot = (λ e. (n.0, let h : place ≡ slot = cc in subst (λ k. IsCut file k) h n.1), λ h. ap (λ k. Err (Cut k)) (one_cut file place slot n.1 h.1))
+fault_cut slots file (Cut offset) n settled slot = (λ e. (n.0, let h : offset ≡ slot = cc in subst (λ k. IsTruncatedSlot file k) h n.1), λ h. ap (λ k. Err (Cut k)) (one_cut file offset slot n.1 h.1))
 fault_cut slots file Memory n settled slot = absurd (settled tt)
 
 -- what is left
@@ -127,16 +127,16 @@ opened_rest before after slots size bodies e n s = elim (cases_lt 1 size) [ inl 
         let x = (at_rest after _ [] (ap (λ log. outside_of log) whole ∙ outside_of-append before (Synced ∷ Wrote 0 (0 ∷ []) ∷ Synced ∷ [])) (short_rest (outside_of before) le')).0 in
         subst (λ bs. IsAtRest after (length bs)) (sym (no_bodies (outside_of before).file bodies s.slots_are le')) x
 
-pub opened_rests : (old new : Seen) (slots size : ℕ) (bodies : List (List ℕ)) → Grows old new (λ turns. turns ≡ Synced ∷ first_gate size) → Tells old (λ log. size ≡ length (outside_of log).file) → Tells old (λ log. Sizes slots (outside_of log).file bodies) → RestsAt (length bodies) new
+pub opened_rests : (old new : Observed) (slots size : ℕ) (bodies : List (List ℕ)) → Grows old new (λ turns. turns ≡ Synced ∷ first_gate size) → IfObserved old (λ log. size ≡ length (outside_of log).file) → IfObserved old (λ log. Sizes slots (outside_of log).file bodies) → RestsAt (length bodies) new
 opened_rests old new slots size bodies x n s lit after tells =
     let b = told_before Added old new (λ before turns. turns ≡ Synced ∷ first_gate size) after x tells in
-    let a = x.told b.0 b.1 in
+    let a = x.observed b.0 b.1 in
     let grown : after ≡ b.0 ++ Synced ∷ first_gate size = told_same new after (b.0 ++ a.1) tells a.4 ∙ ap (λ xs. b.0 ++ xs) (added_whole old.dark new.dark a.0 a.1 a.3 lit ∙ a.2) in
     opened_rest b.0 after slots size bodies grown (n b.0 b.1) (s b.0 b.1)
 
 -- the images
 
--- behind a sync, an image is the file
+-- after a sync, an image is the file
 synced_image : (o : Outside) (file : List ℕ) → Image (outside_after o Synced) file → file ≡ o.file
 synced_image o file image =
     let a = image.no_shorter in let b = image.no_longer in
@@ -155,24 +155,24 @@ sync_leaves o bodies s file image = rw (synced_image o file image) s
 short_leaves : (o : Outside) (bodies : List (List ℕ)) → bodies ≡ [] → length o.file ≤ 1 → (file : List ℕ) → Image o file → AreSlots file bodies
 short_leaves o bodies none le file image = let a = image.no_longer in rw none (short_slots file (omega arith))
 
-failed_fronts : (o : Outside) (bodies : List (List ℕ)) (turns : List Turn) → AreSlots o.file bodies → FailedTurns o.file turns → AllFronts (SyncLeaves o bodies) turns
-failed_fronts o bodies turns s (inl e) = rw e (nothing_leaves o bodies, λ made e. absurd (let h : DiskFailed ∷ [] ≡ Synced ∷ made = e in cc))
-failed_fronts o bodies turns s (inr (inl e)) = rw e (nothing_leaves o bodies, (λ made e. sync_leaves o bodies s, λ made e. sync_leaves o bodies s))
-failed_fronts o bodies turns s (inr (inr e)) =
+failed_prefixes : (o : Outside) (bodies : List (List ℕ)) (turns : List Turn) → AreSlots o.file bodies → FailedTurns o.file turns → AllPrefixes (SyncLeaves o bodies) turns
+failed_prefixes o bodies turns s (inl e) = rw e (nothing_leaves o bodies, λ made e. absurd (let h : DiskFailed ∷ [] ≡ Synced ∷ made = e in cc))
+failed_prefixes o bodies turns s (inr (inl e)) = rw e (nothing_leaves o bodies, (λ made e. sync_leaves o bodies s, λ made e. sync_leaves o bodies s))
+failed_prefixes o bodies turns s (inr (inr e)) =
     let none = no_bodies o.file bodies s e.0 in
     let le : length (overwrite o.file 0 (0 ∷ [])) ≤ 1 = (let n = short_over o.file e.0 in omega (arith, n)) in
     rw e.1 (nothing_leaves o bodies, (λ made e. sync_leaves o bodies s, (λ made e. short_leaves _ bodies none le, λ made e. short_leaves _ bodies none le)))
 
-synced_fronts : (o : Outside) (bodies : List (List ℕ)) (turns : List Turn) → AreSlots o.file bodies → turns ≡ Synced ∷ [] → AllFronts (SyncLeaves o bodies) turns
-synced_fronts o bodies turns s e = rw e (nothing_leaves o bodies, λ made e. sync_leaves o bodies s)
+synced_prefixes : (o : Outside) (bodies : List (List ℕ)) (turns : List Turn) → AreSlots o.file bodies → turns ≡ Synced ∷ [] → AllPrefixes (SyncLeaves o bodies) turns
+synced_prefixes o bodies turns s e = rw e (nothing_leaves o bodies, λ made e. sync_leaves o bodies s)
 
-gate_fronts : (o : Outside) (bodies : List (List ℕ)) (turns : List Turn) → AreSlots o.file bodies → turns ≡ Synced ∷ first_gate (length o.file) → AllFronts (SyncLeaves o bodies) turns
-gate_fronts o bodies turns s e = elim (cases_lt 1 (length o.file)) [ inl lt ↦ long lt | inr le ↦ short le ]
+gate_prefixes : (o : Outside) (bodies : List (List ℕ)) (turns : List Turn) → AreSlots o.file bodies → turns ≡ Synced ∷ first_gate (length o.file) → AllPrefixes (SyncLeaves o bodies) turns
+gate_prefixes o bodies turns s e = elim (cases_lt 1 (length o.file)) [ inl lt ↦ long lt | inr le ↦ short le ]
   where
-    long : 1 < length o.file → AllFronts (SyncLeaves o bodies) turns
-    long lt = let none : first_gate (length o.file) ≡ [] = rw (lt-leb (length o.file) 1 lt) refl in synced_fronts o bodies turns s (e ∙ ap (λ turns. Synced ∷ turns) none)
+    long : 1 < length o.file → AllPrefixes (SyncLeaves o bodies) turns
+    long lt = let none : first_gate (length o.file) ≡ [] = rw (lt-leb (length o.file) 1 lt) refl in synced_prefixes o bodies turns s (e ∙ ap (λ turns. Synced ∷ turns) none)
 
-    short : length o.file ≤ 1 → AllFronts (SyncLeaves o bodies) turns
+    short : length o.file ≤ 1 → AllPrefixes (SyncLeaves o bodies) turns
     short le =
         let none = no_bodies o.file bodies s le in
         let gate : first_gate (length o.file) ≡ Wrote 0 (0 ∷ []) ∷ Synced ∷ [] = rw (le-leb (length o.file) 1 le) refl in
@@ -180,33 +180,33 @@ gate_fronts o bodies turns s e = elim (cases_lt 1 (length o.file)) [ inl lt ↦ 
         let le' : length (overwrite o.file 0 (0 ∷ [])) ≤ 1 = (let n = short_over o.file le in omega (arith, n)) in
         rw whole (nothing_leaves o bodies, (λ made e. sync_leaves o bodies s, (λ made e. short_leaves _ bodies none le', λ made e. short_leaves _ bodies none le')))
 
-opening_fronts : {T : Type 0} (o : Outside) (bodies : List (List ℕ)) (result : Result T OpenFault) (turns : List Turn) → AreSlots o.file bodies → OpeningTurns o.file result turns → AllFronts (SyncLeaves o bodies) turns
-opening_fronts o bodies (Ok opened) turns s e = gate_fronts o bodies turns s e
-opening_fronts o bodies (Err fault) turns s e = by_fault fault e
+opening_prefixes : {T : Type 0} (o : Outside) (bodies : List (List ℕ)) (result : Result T OpenFault) (turns : List Turn) → AreSlots o.file bodies → OpeningTurns o.file result turns → AllPrefixes (SyncLeaves o bodies) turns
+opening_prefixes o bodies (Ok opened) turns s e = gate_prefixes o bodies turns s e
+opening_prefixes o bodies (Err fault) turns s e = by_fault fault e
   where
-    by_fault : (fault : OpenFault) → FaultTurns o.file fault turns → AllFronts (SyncLeaves o bodies) turns
-    by_fault Disk e = failed_fronts o bodies turns s e
-    by_fault (TooLong count) e = synced_fronts o bodies turns s e
-    by_fault (Cut slot) e = synced_fronts o bodies turns s e
-    by_fault Memory e = synced_fronts o bodies turns s e
+    by_fault : (fault : OpenFault) → FaultTurns o.file fault turns → AllPrefixes (SyncLeaves o bodies) turns
+    by_fault Disk e = failed_prefixes o bodies turns s e
+    by_fault (TooLong count) e = synced_prefixes o bodies turns s e
+    by_fault (Cut slot) e = synced_prefixes o bodies turns s e
+    by_fault Memory e = synced_prefixes o bodies turns s e
 
-pub opening_images : {T : Type 0} (result : Result T OpenFault) (old new : Seen) → GrowsBy Added old new (λ before. OpeningTurns (outside_of before).file result) →
-    Tells old (λ before. Tells new (λ after. (bodies : List (List ℕ)) → AreSlots (outside_of before).file bodies → OpeningImages before after bodies))
-opening_images result old new x before told after tells bodies s made rest e file image =
-    let a = x.told before told in
-    let f = added_front old.dark new.dark a.0 a.1 a.3 in
+pub opening_images : {T : Type 0} (result : Result T OpenFault) (old new : Observed) → GrowsBy Added old new (λ before. OpeningTurns (outside_of before).file result) →
+    IfObserved old (λ before. IfObserved new (λ after. (bodies : List (List ℕ)) → AreSlots (outside_of before).file bodies → OpeningImages before after bodies))
+opening_images result old new x before observed after tells bodies s made rest e file image =
+    let a = x.observed before observed in
+    let f = added_prefix old.dark new.dark a.0 a.1 a.3 in
     let grown : before ++ a.1 ≡ before ++ Synced ∷ (made ++ rest) = sym (told_same new after (before ++ a.1) tells a.4) ∙ e in
     let same : a.1 ≡ Synced ∷ (made ++ rest) = append_cancel_left before a.1 (Synced ∷ (made ++ rest)) grown in
     let parts : a.0 ≡ (Synced ∷ made) ++ (rest ++ f.0) = f.1 ∙ ap (λ xs. xs ++ f.0) same ∙ ap (λ xs. Synced ∷ xs) (append_assoc made rest f.0) in
-    front_holds (SyncLeaves (outside_of before) bodies) a.0 (Synced ∷ made) (rest ++ f.0) (opening_fronts (outside_of before) bodies result a.0 s a.2) parts made refl file (rw outside_of-append at image)
+    prefix_holds (SyncLeaves (outside_of before) bodies) a.0 (Synced ∷ made) (rest ++ f.0) (opening_prefixes (outside_of before) bodies result a.0 s a.2) parts made refl file (rw outside_of-append at image)
 
--- what is known of the file behind the sync was known before it
-pub sized_before : (old mid : Seen) (size : ℕ) (Q : List ℕ → Type 0) → Grows old mid (λ turns. turns ≡ Synced ∷ []) → Tells old (λ log. size ≡ length (outside_of log).file) → Tells mid (λ log. size ≡ length (outside_of log).file → Q (outside_of log).file) →
-    Tells old (λ log. Q (outside_of log).file)
+-- what is known of the file after the sync was known before it
+pub sized_before : (old mid : Observed) (size : ℕ) (Q : List ℕ → Type 0) → Grows old mid (λ turns. turns ≡ Synced ∷ []) → IfObserved old (λ log. size ≡ length (outside_of log).file) → IfObserved mid (λ log. size ≡ length (outside_of log).file → Q (outside_of log).file) →
+    IfObserved old (λ log. Q (outside_of log).file)
 sized_before old mid size Q x n h log e = synced_same old mid (λ file. size ≡ length file → Q file) x h log e (n log e)
 
-pub sync_fails : (old new : Seen) → Grows old new (λ turns. (turns ≡ DiskFailed ∷ []) ⊎ (turns ≡ Synced ∷ DiskFailed ∷ [])) → GrowsBy Added old new (λ before. FaultTurns (outside_of before).file Disk)
-sync_fails old new x = grows-by old new _ _ x (λ log told turns t. failed (outside_of log).file turns t)
+pub sync_fails : (old new : Observed) → Grows old new (λ turns. (turns ≡ DiskFailed ∷ []) ⊎ (turns ≡ Synced ∷ DiskFailed ∷ [])) → GrowsBy Added old new (λ before. FaultTurns (outside_of before).file Disk)
+sync_fails old new x = grows-by old new _ _ x (λ log observed turns t. failed (outside_of log).file turns t)
   where
     failed : (file : List ℕ) (turns : List Turn) → (turns ≡ DiskFailed ∷ []) ⊎ (turns ≡ Synced ∷ DiskFailed ∷ []) → FaultTurns file Disk turns
     failed file turns (inl e) = inl e

@@ -1,4 +1,4 @@
--- Slots that are read from a piece of a file.
+-- Slots that are read from a chunk of a file.
 use Rattle.std.proofs.Common.{◌≡◌, ℕ, ◌+◌, ◌*◌, ◌<◌, List, [], ◌∷◌, ◌++◌, length, get_or, take, drop, refl, sym, ◌∙◌, ap, arith}
 use Rattle.std.specs.Prelude.{Result, Ok, Err}
 use Rattle.gw_site.specs.Outside.{file_part}
@@ -7,25 +7,25 @@ use Rattle.jrn_log.specs.declared.fault.OpenFault.{OpenFault}
 use Rattle.jrn_log.specs.declared.fault.OpenFault.TheVariants.{Disk, TooLong, Cut, Memory}
 use Rattle.jrn_log.specs.declared.read.Taken.{Taken}
 use Rattle.jrn_log.specs.Slots.{AreSlots}
-use Rattle.jrn_log.specs.Reading.{Begins, Took, NotTook, Found, NotFound, LookTurns, FaultLooks, Reads}
+use Rattle.jrn_log.specs.inner.FileReader.{BeginsWithSlots, Took, NotTook, IsChunkRead, NoChunkRead, LookTurns, FaultLooks, AreBodiesRead}
 use Rattle.jrn_log.proofs.PartLemmas.{part_get, part_part}
 use Rattle.jrn_log.proofs.SlotLemmas.{begins_more, begins_end}
 
 -- the gate of a slot that was read
-slot_first : (file slot : List ℕ) (place : ℕ) → slot ≡ file_part file place 256 → get_or slot 0 0 ≡ get_or file place 0
-slot_first file slot place e = let k : place + 0 ≡ place = omega arith in ap (λ bytes. get_or bytes 0 0) e ∙ part_get file place 256 0 (omega arith) ∙ ap (λ n. get_or file n 0) k
+slot_first : (file slot : List ℕ) (offset : ℕ) → slot ≡ file_part file offset 256 → get_or slot 0 0 ≡ get_or file offset 0
+slot_first file slot offset e = let k : offset + 0 ≡ offset = omega arith in ap (λ bytes. get_or bytes 0 0) e ∙ part_get file offset 256 0 (omega arith) ∙ ap (λ n. get_or file n 0) k
 
 -- a closed slot ends them
-pub slot_ends : (file slot : List ℕ) (bodies : List (List ℕ)) → slot ≡ file_part file (256 * length bodies) 256 → (get_or slot 0 0 ≡ 165 → ⊥) → Begins file bodies → AreSlots file bodies
+pub slot_ends : (file slot : List ℕ) (bodies : List (List ℕ)) → slot ≡ file_part file (256 * length bodies) 256 → (get_or slot 0 0 ≡ 165 → ⊥) → BeginsWithSlots file bodies → AreSlots file bodies
 slot_ends file slot bodies e closed b = begins_end file bodies b (λ gate. closed (slot_first file slot (256 * length bodies) e ∙ gate.1))
 
 -- the body of a slot that was read
-slot_body : (file slot : List ℕ) (place : ℕ) → slot ≡ file_part file place 256 → take 255 (drop 1 slot) ≡ file_part file (place + 1) 255
-slot_body file slot place e = ap (λ bytes. take 255 (drop 1 bytes)) e ∙ part_part file place 256 1 255 (omega arith)
+slot_body : (file slot : List ℕ) (offset : ℕ) → slot ≡ file_part file offset 256 → take 255 (drop 1 slot) ≡ file_part file (offset + 1) 255
+slot_body file slot offset e = ap (λ bytes. take 255 (drop 1 bytes)) e ∙ part_part file offset 256 1 255 (omega arith)
 
 -- an open slot is one more
 pub slot_more : (file slot : List ℕ) (bodies new : List (List ℕ)) (body : List ℕ) (count : ℕ) → slot ≡ file_part file (256 * length bodies) 256 → 1 < length file → get_or slot 0 0 ≡ 165 →
-    count ≡ 255 → body ≡ take count (drop 1 slot) → new ≡ bodies ++ body ∷ [] → Begins file bodies → Begins file new
+    count ≡ 255 → body ≡ take count (drop 1 slot) → new ≡ bodies ++ body ∷ [] → BeginsWithSlots file bodies → BeginsWithSlots file new
 slot_more file slot bodies new body count e some gate size same grown b =
     rw grown (begins_more file bodies body b (some, sym (slot_first file slot (256 * length bodies) e) ∙ gate)
     (same ∙ ap (λ n. take n (drop 1 slot)) size ∙ slot_body file slot (256 * length bodies) e))
@@ -41,27 +41,27 @@ no_disk_looks (Err fault) turns n e = by_fault fault turns (λ q. n (ap Err q)) 
     by_fault (Cut slot) turns n e = e
     by_fault Memory turns n e = e
 
--- what the slots in memory tell is told of the file
-pub took_found : (file : List ℕ) (bodies : List (List ℕ)) (result : Result Taken OpenFault) → Took file bodies result → Found file bodies result
+-- what is known of the slots in memory is known of the file
+pub took_found : (file : List ℕ) (bodies : List (List ℕ)) (result : Result Taken OpenFault) → Took file bodies result → IsChunkRead file bodies result
 took_found file bodies (Ok taken) t = t
 took_found file bodies (Err fault) t = by_fault fault t
   where
-    by_fault : (fault : OpenFault) → NotTook file fault → NotFound file fault
+    by_fault : (fault : OpenFault) → NotTook file fault → NoChunkRead file fault
     by_fault Disk t = elim t [ ]
     by_fault (TooLong count) t = elim t [ ]
     by_fault (Cut slot) t = t
     by_fault Memory t = t
 
--- a slot of a piece of 16
-pub piece_slot : (file piece : List ℕ) (first count at size : ℕ) → piece ≡ file_part file (256 * first) 4096 → count ≡ first + at → at < 16 → size ≡ 256 → take size (drop (256 * at) piece) ≡ file_part file (256 * count) 256
-piece_slot file piece first count at size e c lt s =
+-- a slot of a chunk of 16
+pub chunk_slot : (file chunk : List ℕ) (first count at size : ℕ) → chunk ≡ file_part file (256 * first) 4096 → count ≡ first + at → at < 16 → size ≡ 256 → take size (drop (256 * at) chunk) ≡ file_part file (256 * count) 256
+chunk_slot file chunk first count at size e c lt s =
     let k : 256 * first + 256 * at ≡ 256 * count = omega arith in
-    ap (λ n. take n (drop (256 * at) piece)) s ∙ ap (λ bytes. take 256 (drop (256 * at) bytes)) e ∙ part_part file (256 * first) 4096 (256 * at) 256 (omega arith) ∙ ap (λ n. file_part file n 256) k
+    ap (λ n. take n (drop (256 * at) chunk)) s ∙ ap (λ bytes. take 256 (drop (256 * at) bytes)) e ∙ part_part file (256 * first) 4096 (256 * at) 256 (omega arith) ∙ ap (λ n. file_part file n 256) k
 
--- a call behind calls without turns
+-- a call after calls without turns
 pub looks_then : (fault : OpenFault) (p q : List Turn) → p ≡ [] → FaultLooks fault q → FaultLooks fault (p ++ q)
 looks_then fault p q e f = rw e f
 
 -- the bodies that were read are those of the file
-pub reads_end : (file : List ℕ) (bodies all : List (List ℕ)) (size : ℕ) → all ≡ bodies → size ≡ length file → 256 * length bodies < size → AreSlots file bodies → Reads file (Ok all)
+pub reads_end : (file : List ℕ) (bodies all : List (List ℕ)) (size : ℕ) → all ≡ bodies → size ≡ length file → 256 * length bodies < size → AreSlots file bodies → AreBodiesRead file (Ok all)
 reads_end file bodies all size e n lt s = (rw e s, rw e (omega (arith, lt, n)))

@@ -1,10 +1,10 @@
--- The turns of calls that are made one behind the other.
+-- The turns of calls that are made one after the other.
 use Rattle.std.proofs.Common.{◌≡◌, ℕ, List, [], ◌∷◌, ◌++◌, refl, inr}
 use Rattle.std.specs.Prelude.{Result, Ok, Err}
 use Rattle.gw_site.specs.Turns.{DiskTurns, SyncedTurns}
 use Rattle.gw_site.specs.declared.turn.Turn.{Turn}
 use Rattle.gw_site.specs.declared.turn.Turn.TheVariants.{Wrote, Synced}
-use Rattle.jrn_log.specs.Reading.{SyncedLengthTurns, WroteSyncedTurns}
+use Rattle.jrn_log.specs.inner.FileReader.{SyncedLengthTurns, WroteSyncedTurns}
 
 pub sync_then_length : {E : Type 0} (result : Result ℕ E) (p q : List Turn) → p ≡ Synced ∷ [] → DiskTurns result q → SyncedLengthTurns result (p ++ q)
 sync_then_length (Ok size) p q e f = rw (e, f) refl

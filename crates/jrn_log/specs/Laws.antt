@@ -3,8 +3,8 @@ use Rattle.std.specs.Prelude.{◌≡◌, ℕ, ◌+◌, List, [], ◌∷◌, ◌+
 use Rattle.gw_site.specs.declared.turn.Turn.{Turn}
 use Rattle.gw_site.specs.declared.turn.Turn.TheVariants.{Synced}
 use Rattle.jrn_log.specs.Slots.{AreSlots}
-use Rattle.jrn_log.specs.Stands.{IsAtRest, AreKept}
-use Rattle.jrn_log.specs.Calls.{body_write, gate_write}
+use Rattle.jrn_log.specs.Journal.{IsAtRest, AreKept}
+use Rattle.jrn_log.specs.JournalTurns.{body_write, gate_write}
 use Rattle.jrn_log.specs.Images.{AppendImages}
 
 -- each file has bodies
@@ -24,7 +24,7 @@ abbrev pub AppendKeepsImages : Type 0
 AppendKeepsImages = (log : List Turn) (bodies : List (List ℕ)) (body : List ℕ) → IsAtRest log (length bodies) → AreKept log bodies → length body ≡ 255 →
     AppendImages log (appended log (length bodies) body) bodies body
 
--- and is at rest with the new bodies behind its last turn
+-- and is at rest with the new bodies after its last turn
 abbrev pub AppendRests : Type 0
 AppendRests = (log : List Turn) (bodies : List (List ℕ)) (body : List ℕ) → IsAtRest log (length bodies) → AreKept log bodies → length body ≡ 255 →
     IsAtRest (appended log (length bodies) body) (length bodies + 1) × AreKept (appended log (length bodies) body) (bodies ++ body ∷ [])

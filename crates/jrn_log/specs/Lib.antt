@@ -1,7 +1,8 @@
-pub mod Slots
-pub mod Stands
-pub mod Calls
-pub mod Opening
+pub mod Foreign
 pub mod Images
-pub mod Reading
+pub mod Journal
+pub mod JournalTurns
 pub mod Laws
+pub mod Opening
+pub mod Slots
+pub mod inner

@@ -7,23 +7,23 @@ abbrev pub HasGate : List ℕ → ℕ → Type 0
 HasGate file slot = (1 < length file) × (slice_index file (256 * slot) ≡ 165)
 
 -- the slot is open: its gate is, and so are those of all slots below
-abbrev pub IsOpen : List ℕ → ℕ → Type 0
-IsOpen file slot = (lower : ℕ) → lower ≤ slot → HasGate file lower
+abbrev pub IsOpenSlot : List ℕ → ℕ → Type 0
+IsOpenSlot file slot = (lower : ℕ) → lower ≤ slot → HasGate file lower
 
 -- the body of a slot
-abbrev pub body_of : List ℕ → ℕ → List ℕ
-body_of file slot = file_part file (256 * slot + 1) 255
+abbrev pub body_at : List ℕ → ℕ → List ℕ
+body_at file slot = file_part file (256 * slot + 1) 255
 
 -- these are the bodies of the open slots of a file, in their order
 pub record AreSlots (file : List ℕ) (bodies : List (List ℕ)) : Type 0 where
-  pub exactly : (slot : ℕ) → IsOpen file slot ↔ (slot < length bodies)
-  pub each : (slot : ℕ) → slot < length bodies → slice_get bodies slot ≡ Some (body_of file slot)
+  pub exactly : (slot : ℕ) → IsOpenSlot file slot ↔ (slot < length bodies)
+  pub each : (slot : ℕ) → slot < length bodies → slice_get bodies slot ≡ Some (body_at file slot)
 
 -- the slot is open, and the file ends before the gate of the next
-pub record IsCut (file : List ℕ) (slot : ℕ) : Type 0 where
-  pub opened : IsOpen file slot
+pub record IsTruncatedSlot (file : List ℕ) (slot : ℕ) : Type 0 where
+  pub opened : IsOpenSlot file slot
   pub ends : length file ≤ 256 * (slot + 1)
 
--- the file has more bytes than so many slots and the gate behind them
-abbrev pub IsTooLong : ℕ → List ℕ → Type 0
-IsTooLong slots file = 256 * slots + 1 < length file
+-- the file has more bytes than so many slots and the gate after them
+abbrev pub IsFileTooLong : ℕ → List ℕ → Type 0
+IsFileTooLong slots file = 256 * slots + 1 < length file

@@ -1,14 +1,14 @@
 //! The journal over a site.
 ghost use Rattle.std.specs.Prelude.{◌≡◌, ◌+◌, ◌-◌, ◌*◌, ◌^◌, ◌<◌, ◌≤◌, [], ◌∷◌, ◌++◌, List, ℕ, length, false, Ok, Err, IfOk, OnOk, OnErr, IsTrue, ◌↔◌};
-ghost use Rattle.gw_site.specs.Causes.{HasCause, Rose};
+ghost use Rattle.gw_site.specs.Failures.{HasCause, Rose};
 ghost use Rattle.gw_site.specs.Outside.{outside_of};
-ghost use Rattle.gw_site.specs.Seen.{Added, Grows, GrowsBy, Tells};
+ghost use Rattle.gw_site.specs.Observed.{Added, Grows, GrowsBy, IfObserved};
 ghost use Rattle.jrn_log.specs.Slots.{AreSlots};
-ghost use Rattle.jrn_log.specs.Stands.{AreKept, StandsFor};
-ghost use Rattle.jrn_log.specs.Calls.{AppendTurns, OpeningTurns};
-ghost use Rattle.jrn_log.specs.Opening.{OpensWith, IsExactlyTooLong, IsExactlyCut};
+ghost use Rattle.jrn_log.specs.Journal.{AreKept, StandsFor};
+ghost use Rattle.jrn_log.specs.JournalTurns.{AppendTurns, OpeningTurns};
+ghost use Rattle.jrn_log.specs.Opening.{OpensWith, IsExactlyTooLong, IsExactlyTruncated};
 ghost use Rattle.jrn_log.specs.Images.{AppendImages, OpeningImages};
-ghost use Rattle.jrn_log.specs.Reading.{Sized, SizedTurns, SyncedLengthTurns};
+ghost use Rattle.jrn_log.specs.inner.FileReader.{Sized, SizedTurns, SyncedLengthTurns};
 
 use crate::fault::{AppendFault, OpenFault};
 use crate::read::read_bodies;
@@ -18,11 +18,14 @@ use gw_site::{Failed, Site};
 use std::alloc::Global;
 use std::marker::Model;
 
-/// Syncs, and answers the file's length.
+/// Syncs, and returns the file's length.
+///
+/// The sync comes first: what an opening reads must be what a power failure leaves, and a run before may have left
+/// writes that were never synced.
 fn synced_length<S: Site>(site: &mut S) -> Result<u64, Failed>
-    ensures size { Tells (S.seen site.old) (λ log. IfOk result (λ size. size ≡ length (outside_of log).file)) }
-    ensures turns { Grows (S.seen site.old) (S.seen site.new) (SyncedLengthTurns result) }
-    ensures cause { HasCause (S.seen site.old).faults (S.seen site.new).faults result }
+    ensures size { IfObserved (S.observed site.old) (λ log. IfOk result (λ size. size ≡ length (outside_of log).file)) }
+    ensures turns { Grows (S.observed site.old) (S.observed site.new) (SyncedLengthTurns result) }
+    ensures cause { HasCause (S.observed site.old).faults (S.observed site.new).faults result }
 {
     match site.sync() {
         Ok(()) => site.length(),
@@ -33,9 +36,9 @@ fn synced_length<S: Site>(site: &mut S) -> Result<u64, Failed>
 /// Writes the first gate, closed, of a file that has no bodies.
 fn begin_file<S: Site>(alloc: Global, site: &mut S) -> Result<Bodies, OpenFault>
     ensures none { IfOk result (λ bodies. bodies ≡ []) }
-    ensures turns { Grows (S.seen site.old) (S.seen site.new) (SizedTurns 0 result) }
+    ensures turns { Grows (S.observed site.old) (S.observed site.new) (SizedTurns 0 result) }
     ensures disk { OnErr result (result ≡ Err OpenFault.Disk) }
-    ensures cause { HasCause (S.seen site.old).faults (S.seen site.new).faults result }
+    ensures cause { HasCause (S.observed site.old).faults (S.observed site.new).faults result }
 {
     match write_synced(site, 0, &[CLOSED]) {
         Ok(()) => Ok(Bodies::new(Vec::new(alloc))),
@@ -51,10 +54,10 @@ fn sized_bodies<S: Site>(
     size: u64,
 ) -> Result<Bodies, OpenFault>
     ensures few { IfOk result (λ bodies. length bodies ≤ slots) }
-    ensures sized { Tells (S.seen site.old) (λ log. size ≡ length (outside_of log).file → Sized slots (outside_of log).file result) }
-    ensures turns { Grows (S.seen site.old) (S.seen site.new) (SizedTurns size result) }
-    ensures disk { result ≡ Err OpenFault.Disk → Rose (S.seen site.old).faults (S.seen site.new).faults }
-    ensures later { (S.seen site.old).faults ≤ (S.seen site.new).faults }
+    ensures sized { IfObserved (S.observed site.old) (λ log. size ≡ length (outside_of log).file → Sized slots (outside_of log).file result) }
+    ensures turns { Grows (S.observed site.old) (S.observed site.new) (SizedTurns size result) }
+    ensures disk { result ≡ Err OpenFault.Disk → Rose (S.observed site.old).faults (S.observed site.new).faults }
+    ensures later { (S.observed site.old).faults ≤ (S.observed site.new).faults }
 {
     if size > 256 * u64::from(slots) + 1 {
         return Err(OpenFault::TooLong { length: size });
@@ -78,9 +81,9 @@ pub struct Journal {
 
 impl Model for Journal {
     ghost use Rattle.std.specs.Prelude.{◌≤◌};
-    ghost use Rattle.jrn_log.specs.Stands.{Held};
+    ghost use Rattle.jrn_log.specs.Journal.{JournalValue};
 
-    ghost Value = { Held };
+    ghost Value = { JournalValue };
 
     ghost view = { λ journal. record {
       len = journal.len;
@@ -94,25 +97,25 @@ impl Model for Journal {
 impl Journal {
     /// Opens the journal of a site's file, with at most so many slots, and gives its bodies.
     ///
-    /// A file of at most one byte has no open slot and gets its first gate. A fault of the disk is told before one of
-    /// the file.
+    /// A file of at most one byte has no open slot and gets its first gate. A failure of the disk is reported before a
+    /// fault of the file.
     pub fn open<S: Site>(
         alloc: Global,
         site: &mut S,
         slots: u32,
     ) -> Result<(Journal, Bodies), OpenFault>
-        ensures bodies { Tells (S.seen site.old) (λ log. IfOk result (OpensWith slots (outside_of log).file)) }
-        ensures too_long { Tells (S.seen site.old) (λ log. IsExactlyTooLong slots (outside_of log).file result) }
-        ensures cut { Tells (S.seen site.old) (λ log. IsExactlyCut slots (outside_of log).file result) }
-        ensures disk { result ≡ Err OpenFault.Disk → Rose (S.seen site.old).faults (S.seen site.new).faults }
-        ensures later { (S.seen site.old).faults ≤ (S.seen site.new).faults }
+        ensures bodies { IfObserved (S.observed site.old) (λ log. IfOk result (OpensWith slots (outside_of log).file)) }
+        ensures too_long { IfObserved (S.observed site.old) (λ log. IsExactlyTooLong slots (outside_of log).file result) }
+        ensures truncated { IfObserved (S.observed site.old) (λ log. IsExactlyTruncated slots (outside_of log).file result) }
+        ensures disk { result ≡ Err OpenFault.Disk → Rose (S.observed site.old).faults (S.observed site.new).faults }
+        ensures later { (S.observed site.old).faults ≤ (S.observed site.new).faults }
         ensures count { IfOk result (λ opened. opened.0.len ≡ length opened.1) }
         ensures limit { IfOk result (λ opened. opened.0.slots ≡ slots) }
 
         // What it adds to the log, what it leaves, and what a power failure in it leaves.
-        ensures turns { GrowsBy Added (S.seen site.old) (S.seen site.new) (λ before. OpeningTurns (outside_of before).file result) }
-        ensures stands { IfOk result (λ opened. StandsFor opened.0 (S.seen site.new)) }
-        ensures images { Tells (S.seen site.old) (λ before. Tells (S.seen site.new) (λ after. (bodies : List (List ℕ))
+        ensures turns { GrowsBy Added (S.observed site.old) (S.observed site.new) (λ before. OpeningTurns (outside_of before).file result) }
+        ensures stands { IfOk result (λ opened. StandsFor opened.0 (S.observed site.new)) }
+        ensures images { IfObserved (S.observed site.old) (λ before. IfObserved (S.observed site.new) (λ after. (bodies : List (List ℕ))
             → AreSlots (outside_of before).file bodies → OpeningImages before after bodies)) }
     {
         match synced_length(site) {
@@ -137,18 +140,18 @@ impl Journal {
     /// After a fault the journal is as before, and is opened again before it is used.
     pub fn append<S: Site>(&mut self, site: &mut S, body: &[u8; 255]) -> Result<u32, AppendFault>
         requires room { self.old.len < self.old.slots }
-        requires stands { StandsFor self.old (S.seen site.old) }
+        requires stands { StandsFor self.old (S.observed site.old) }
         ensures slot { IfOk result (λ slot. slot ≡ self.old.len) }
         ensures ok { OnOk result (self.new ≡ record self.old { len = self.old.len + 1 }) }
         ensures err { OnErr result (self.new ≡ self.old) }
-        ensures cause { HasCause (S.seen site.old).faults (S.seen site.new).faults result }
+        ensures cause { HasCause (S.observed site.old).faults (S.observed site.new).faults result }
 
         // What it adds to the log, what it leaves, and what a power failure in it leaves.
-        ensures turns { Grows (S.seen site.old) (S.seen site.new) (AppendTurns self.old.len body.now result) }
-        ensures stands { OnOk result (StandsFor self.new (S.seen site.new)) }
-        ensures kept { OnOk result ((S.seen site.new).dark ≡ false → Tells (S.seen site.old) (λ before. Tells (S.seen site.new) (λ after. (bodies : List (List ℕ))
+        ensures turns { Grows (S.observed site.old) (S.observed site.new) (AppendTurns self.old.len body.now result) }
+        ensures stands { OnOk result (StandsFor self.new (S.observed site.new)) }
+        ensures kept { OnOk result ((S.observed site.new).dark ≡ false → IfObserved (S.observed site.old) (λ before. IfObserved (S.observed site.new) (λ after. (bodies : List (List ℕ))
             → AreKept before bodies → AreKept after (bodies ++ body.now ∷ [])))) }
-        ensures images { (S.seen site.old).dark ≡ false → Tells (S.seen site.old) (λ before. Tells (S.seen site.new) (λ after. (bodies : List (List ℕ))
+        ensures images { (S.observed site.old).dark ≡ false → IfObserved (S.observed site.old) (λ before. IfObserved (S.observed site.new) (λ after. (bodies : List (List ℕ))
             → AreKept before bodies → AppendImages before after bodies body.now)) }
     {
         match keep_body(site, self.len, body) {

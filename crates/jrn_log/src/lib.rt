@@ -4,11 +4,13 @@
 ghost use Rattle.jrn_log.specs.Laws.{EachHasSlots, SlotsAreOne, AppendKeepsImages, AppendRests};
 
 mod fault;
+mod foreign;
 mod journal;
 mod read;
 mod write;
 
 pub use fault::{AppendFault, OpenFault};
+pub use foreign::{can_be_journal, law_files};
 pub use journal::Journal;
 
 /// Each file has one list of the bodies of its open slots.
@@ -18,7 +20,7 @@ pub fn law_slots()
 {}
 
 /// An append to a log at rest: at each turn, whatever bytes a torn write leaves, a power failure leaves the old bodies,
-/// or the new ones once the gate was written. Behind its last turn the log is at rest with the new ones.
+/// or the new ones once the gate was written. After its last turn the log is at rest with the new ones.
 pub fn law_append()
     ensures images { AppendKeepsImages }
     ensures rests { AppendRests }

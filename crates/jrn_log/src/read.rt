@@ -1,9 +1,9 @@
-//! The slots of a file, read in pieces.
+//! The slots of a file, read in chunks.
 ghost use Rattle.std.specs.Prelude.{◌≡◌, ◌≢◌, ◌+◌, ◌*◌, ◌^◌, ◌<◌, ◌≤◌, List, ℕ, length, vec_len, Ok, Err, IfOk};
-ghost use Rattle.gw_site.specs.Causes.{Rose};
+ghost use Rattle.gw_site.specs.Failures.{Rose};
 ghost use Rattle.gw_site.specs.Outside.{outside_of, file_part};
-ghost use Rattle.gw_site.specs.Seen.{Grows, Tells};
-ghost use Rattle.jrn_log.specs.Reading.{Begins, Took, Found, Reads, LookTurns};
+ghost use Rattle.gw_site.specs.Observed.{Grows, IfObserved};
+ghost use Rattle.jrn_log.specs.inner.FileReader.{BeginsWithSlots, Took, IsChunkRead, AreBodiesRead, LookTurns};
 
 use crate::fault::OpenFault;
 use crate::write::OPEN;
@@ -30,7 +30,7 @@ fn take_slot(bodies: &mut Vec<[u8; 255]>, slot: &[u8], size: u64) -> Result<Take
     ensures more { result ≡ Ok Taken.More → vec_len bodies.new ≡ vec_len bodies.old + 1 }
     ensures looked { result ≢ Err OpenFault.Disk }
     ensures took { (file : List ℕ) → size ≡ length file → slot.now ≡ file_part file (256 * length bodies.old.items) 256
-        → Begins file bodies.old.items → Took file bodies.new.items result }
+        → BeginsWithSlots file bodies.old.items → Took file bodies.new.items result }
 {
     if slot[0] != OPEN {
         return Ok(Taken::End);
@@ -50,7 +50,7 @@ fn take_slot(bodies: &mut Vec<[u8; 255]>, slot: &[u8], size: u64) -> Result<Take
 /// Takes the bodies of the next 16 slots up to the first that is closed. The file has `size` bytes.
 fn take_slots(
     bodies: &mut Vec<[u8; 255]>,
-    piece: &[u8; 4096],
+    chunk: &[u8; 4096],
     size: u64,
 ) -> Result<Taken, OpenFault>
     requires some { 1 < size }
@@ -59,11 +59,11 @@ fn take_slots(
     ensures within { 256 * vec_len bodies.new < size }
     ensures more { result ≡ Ok Taken.More → vec_len bodies.new ≡ vec_len bodies.old + 16 }
     ensures looked { result ≢ Err OpenFault.Disk }
-    ensures took { (file : List ℕ) → size ≡ length file → piece.now ≡ file_part file (256 * length bodies.old.items) 4096
-        → Begins file bodies.old.items → Took file bodies.new.items result }
+    ensures took { (file : List ℕ) → size ≡ length file → chunk.now ≡ file_part file (256 * length bodies.old.items) 4096
+        → BeginsWithSlots file bodies.old.items → Took file bodies.new.items result }
 {
     for at in 0..16usize {
-        match take_slot(bodies, &piece[256 * at..256 * at + 256], size) {
+        match take_slot(bodies, &chunk[256 * at..256 * at + 256], size) {
             Ok(Taken::More) => {}
             Ok(Taken::End) => return Ok(Taken::End),
             Err(fault) => return Err(fault),
@@ -73,7 +73,7 @@ fn take_slots(
 }
 
 /// Reads the next 16 slots of the site's file, which has `size` bytes.
-fn read_piece<S: Site>(
+fn read_chunk<S: Site>(
     site: &mut S,
     bodies: &mut Vec<[u8; 255]>,
     size: u64,
@@ -83,15 +83,15 @@ fn read_piece<S: Site>(
     requires within { 256 * vec_len bodies.old < size }
     ensures within { 256 * vec_len bodies.new < size }
     ensures more { result ≡ Ok Taken.More → vec_len bodies.new ≡ vec_len bodies.old + 16 }
-    ensures found { Tells (S.seen site.old) (λ log. size ≡ length (outside_of log).file
-        → Begins (outside_of log).file bodies.old.items → Found (outside_of log).file bodies.new.items result) }
-    ensures turns { Grows (S.seen site.old) (S.seen site.new) (LookTurns result) }
-    ensures disk { result ≡ Err OpenFault.Disk → Rose (S.seen site.old).faults (S.seen site.new).faults }
-    ensures later { (S.seen site.old).faults ≤ (S.seen site.new).faults }
+    ensures found { IfObserved (S.observed site.old) (λ log. size ≡ length (outside_of log).file
+        → BeginsWithSlots (outside_of log).file bodies.old.items → IsChunkRead (outside_of log).file bodies.new.items result) }
+    ensures turns { Grows (S.observed site.old) (S.observed site.new) (LookTurns result) }
+    ensures disk { result ≡ Err OpenFault.Disk → Rose (S.observed site.old).faults (S.observed site.new).faults }
+    ensures later { (S.observed site.old).faults ≤ (S.observed site.new).faults }
 {
-    let mut piece = [0; 4096];
-    match site.read_at(256 * bodies.len() as u64, &mut piece) {
-        Ok(()) => take_slots(bodies, &piece, size),
+    let mut chunk = [0; 4096];
+    match site.read_at(256 * bodies.len() as u64, &mut chunk) {
+        Ok(()) => take_slots(bodies, &chunk, size),
         Err(Failed) => Err(OpenFault::Disk),
     }
 }
@@ -105,14 +105,14 @@ pub(crate) fn read_bodies<S: Site>(
     requires some { 1 < size }
     requires small { size < 2 ^ 40 }
     ensures within { IfOk result (λ bodies. 256 * length bodies < size) }
-    ensures reads { Tells (S.seen site.old) (λ log. size ≡ length (outside_of log).file → Reads (outside_of log).file result) }
-    ensures turns { Grows (S.seen site.old) (S.seen site.new) (LookTurns result) }
-    ensures disk { result ≡ Err OpenFault.Disk → Rose (S.seen site.old).faults (S.seen site.new).faults }
-    ensures later { (S.seen site.old).faults ≤ (S.seen site.new).faults }
+    ensures reads { IfObserved (S.observed site.old) (λ log. size ≡ length (outside_of log).file → AreBodiesRead (outside_of log).file result) }
+    ensures turns { Grows (S.observed site.old) (S.observed site.new) (LookTurns result) }
+    ensures disk { result ≡ Err OpenFault.Disk → Rose (S.observed site.old).faults (S.observed site.new).faults }
+    ensures later { (S.observed site.old).faults ≤ (S.observed site.new).faults }
 {
     let mut bodies = Vec::new(alloc);
-    'pieces: loop {
-        match read_piece(site, &mut bodies, size) {
+    'chunks: loop {
+        match read_chunk(site, &mut bodies, size) {
             Ok(Taken::More) => {}
             Ok(Taken::End) => return Ok(Bodies::new(bodies)),
             Err(fault) => return Err(fault),

@@ -1,9 +1,9 @@
 //! Writes that are synced.
 ghost use Rattle.std.specs.Prelude.{◌≡◌, [], ◌∷◌, ◌++◌};
-ghost use Rattle.gw_site.specs.Causes.{HasCause};
-ghost use Rattle.gw_site.specs.Seen.{Grows};
-ghost use Rattle.jrn_log.specs.Calls.{AppendTurns};
-ghost use Rattle.jrn_log.specs.Reading.{WroteSyncedTurns};
+ghost use Rattle.gw_site.specs.Failures.{HasCause};
+ghost use Rattle.gw_site.specs.Observed.{Grows};
+ghost use Rattle.jrn_log.specs.JournalTurns.{AppendTurns};
+ghost use Rattle.jrn_log.specs.inner.FileReader.{WroteSyncedTurns};
 
 use gw_site::{Failed, Site};
 
@@ -13,10 +13,10 @@ pub(crate) const OPEN: u8 = 0xA5;
 /// The gate of a closed slot.
 pub(crate) const CLOSED: u8 = 0x00;
 
-/// Writes bytes at a place, and syncs.
+/// Writes bytes at an offset, and syncs.
 pub(crate) fn write_synced<S: Site>(site: &mut S, pos: u64, bytes: &[u8]) -> Result<(), Failed>
-    ensures turns { Grows (S.seen site.old) (S.seen site.new) (WroteSyncedTurns pos bytes.now result) }
-    ensures cause { HasCause (S.seen site.old).faults (S.seen site.new).faults result }
+    ensures turns { Grows (S.observed site.old) (S.observed site.new) (WroteSyncedTurns pos bytes.now result) }
+    ensures cause { HasCause (S.observed site.old).faults (S.observed site.new).faults result }
 {
     match site.write_at(pos, bytes) {
         Ok(()) => site.sync(),
@@ -33,14 +33,18 @@ fn body_and_gate(body: &[u8; 255]) -> [u8; 256]
     bytes
 }
 
-/// Writes a body and the closed gate behind it, and then opens its own gate.
+/// Writes a body and the closed gate after it, and then opens its own gate.
+///
+/// There are two syncs. By the first the body is whole before its gate is written, so that no torn write is read as a
+/// body; by the second the gate is there before the caller acts on the record. The next gate is closed in the first
+/// write, since a torn write may leave any byte there and the file must never end at an open gate.
 pub(crate) fn keep_body<S: Site>(site: &mut S, slot: u32, body: &[u8; 255]) -> Result<(), Failed>
-    ensures turns { Grows (S.seen site.old) (S.seen site.new) (AppendTurns slot body.now result) }
-    ensures cause { HasCause (S.seen site.old).faults (S.seen site.new).faults result }
+    ensures turns { Grows (S.observed site.old) (S.observed site.new) (AppendTurns slot body.now result) }
+    ensures cause { HasCause (S.observed site.old).faults (S.observed site.new).faults result }
 {
-    let place = 256 * u64::from(slot);
-    match write_synced(site, place + 1, &body_and_gate(body)) {
-        Ok(()) => write_synced(site, place, &[OPEN]),
+    let offset = 256 * u64::from(slot);
+    match write_synced(site, offset + 1, &body_and_gate(body)) {
+        Ok(()) => write_synced(site, offset, &[OPEN]),
         Err(Failed) => Err(Failed),
     }
 }

@@ -6,18 +6,18 @@ use Rattle.std.proofs.lemmas.List.Elements.{All-get_or}
 use Rattle.gw_base.specs.Bcd.{IsBcd, IsBcdByte, IsFirstNotBcd, bcd_of, bcd_value}
 use Rattle.gw_base.specs.Ident.{IsIdent}
 use Rattle.gw_base.proofs.BcdLemmas.{bcd_of-value, bcd_value-of}
-use Rattle.jrn_record.specs.Limits.{HasText, IsTold}
-use Rattle.jrn_record.specs.Spelling.{option_field, text_field}
-use Rattle.jrn_record.specs.declared.values.Deal.{Deal}
-use Rattle.jrn_record.specs.declared.values.Deal.TheVariants.{Reversal}
+use Rattle.jrn_record.specs.Limits.{HasTillText, IsPresentWithin}
+use Rattle.jrn_record.specs.Grammar.{option_field, text_field}
+use Rattle.jrn_record.specs.declared.records.Deal.{Deal}
+use Rattle.jrn_record.specs.declared.records.Deal.TheVariants.{Reversal}
 
 -- digits are the spelling of their number
 pub told_ok : (count number : ℕ) (bytes : List ℕ) → length bytes ≡ count → IsBcd bytes × (number ≡ bcd_value bytes) → bcd_of count number ≡ bytes
 told_ok count number bytes e h =
     ap (λ n. bcd_of n number) (sym e) ∙ ap (bcd_of (length bytes)) h.1 ∙ bcd_of-value bytes h.0
 
--- a number that is told has few enough digits
-pub told_below : (told : Bool) (least greatest count number : ℕ) → greatest < 100 ^ count → IsTold told least greatest number → number < 100 ^ count
+-- a number that is present has few enough digits
+pub told_below : (present : Bool) (least greatest count number : ℕ) → greatest < 100 ^ count → IsPresentWithin present least greatest number → number < 100 ^ count
 told_below true least greatest count number fits h = omega arith
 told_below false least greatest count number fits h = omega arith
 
@@ -31,7 +31,7 @@ told_none count value at bytes below e h =
     let digits : IsBcd bytes = subst IsBcd e (bcd_value-of count value below).0 in
     h.here (All-get_or IsBcdByte bytes at 0 h.inside digits)
 
--- a spelling tells its text
+-- a spelling determines its text
 pub text_field-injective : (size : ℕ) (a b : List ℕ) → text_field size a ≡ text_field size b → a ≡ b
 text_field-injective size a b e =
     let lengths : length a ≡ length b = ap (λ field. get_or field 0 0) e in
@@ -41,7 +41,7 @@ text_field-injective size a b e =
     ∙ ap (take (length b)) rests
     ∙ take-append_seam b (replicate (size - 1 - length b) 0)
 
--- a text behind its length, and zeros
+-- a text after its length, and zeros
 pub text_field-parts : (cells : List ℕ) (first len : ℕ) (rest : List ℕ) → cells ≡ first ∷ rest → first ≡ len → len ≤ length rest
     → drop len rest ≡ replicate (length rest - len) 0 → text_field (length cells) (take len rest) ≡ cells
 text_field-parts cells first len rest e f fits zeros =
@@ -56,10 +56,10 @@ text_field-parts cells first len rest e f fits zeros =
 
 -- a reversal has no text
 pub option_none : (what : Deal) (most size : ℕ) (bytes : List ℕ) → what ≡ Reversal → (replicate size 0 ≡ bytes → ⊥)
-    → (value : Option (List ℕ)) → HasText what most value → option_field size value ≡ bytes → ⊥
-option_none what most size bytes e other value has f = at value (subst (λ w. HasText w most value) e has) f
+    → (value : Option (List ℕ)) → HasTillText what most value → option_field size value ≡ bytes → ⊥
+option_none what most size bytes e other value has f = at value (subst (λ w. HasTillText w most value) e has) f
   where
-    at : (value : Option (List ℕ)) → HasText Reversal most value → option_field size value ≡ bytes → ⊥
+    at : (value : Option (List ℕ)) → HasTillText Reversal most value → option_field size value ≡ bytes → ⊥
     at None has f = other f
     at (Some text) has f = has
 

@@ -1,4 +1,4 @@
--- Each field of a record stands at its place, and a body is that of one record.
+-- Each field of a record is at its offset, and a body is that of one record.
 use Rattle.std.proofs.Common.{◌≡◌, ℕ, suc, zero, ◌+◌, ◌-◌, ◌<◌, ◌≤◌, ◌^◌, ◌==◌, Bool, true, false, if◌then◌else◌, List, [], ◌∷◌, ◌++◌, length, take, drop, replicate, get_or, arith, sym, ◌∙◌, ap, subst, refl, length-append, append_assoc, inl, inr, Option, Some, None, ℤ, pos, negsuc, w32, w64}
 use Rattle.std.proofs.Math.Seq.{drop-append_seam, take-append_seam}
 use Rattle.std.proofs.lemmas.List.{length-replicate}
@@ -8,51 +8,51 @@ use Rattle.std.proofs.lemmas.Int.{ints}
 use Rattle.std.proofs.lemmas.Nat.{from_be_bytes-to_be_bytes_4, from_be_bytes-to_be_bytes_8}
 use Rattle.std.specs.Int.{from_be_bytes, to_be_bytes}
 use Rattle.gw_base.specs.Bcd.{bcd_of, bcd_value}
-use Rattle.gw_base.specs.Currency.{number_of}
+use Rattle.gw_base.specs.Currency.{currency_number}
 use Rattle.gw_base.specs.Moment.{IsMoment}
 use Rattle.gw_base.specs.declared.condition.Condition.{Condition}
 use Rattle.gw_base.specs.declared.condition.Condition.TheVariants.{Aborted, Busy, Cancel, InProgress, InsertedCard, InvalidCard, LoggedOut, MessageFormat, NotAllowed, NotFound, Refusal, UnavailableDevice, UnavailableService}
 use Rattle.gw_base.specs.declared.currency.Currency.{Currency}
 use Rattle.gw_base.specs.declared.currency.Currency.TheVariants.{Eur, Chf, Gbp, Usd, Dkk, Sek, Nok, Pln, Czk}
 use Rattle.gw_base.proofs.BcdLemmas.{bcd_value-of, length-bcd_of}
-use Rattle.jrn_record.specs.Limits.{HasOriginal, HasReason, HasText, IsIntent, IsOutcome, IsRecord, IsSettled, reason_code}
-use Rattle.jrn_record.specs.Spelling.{body_of, condition_code, fields_of, how_code, intent_fields, joined, moment_field, option_field, original_code, outcome_fields, settled_fields, text_field}
-use Rattle.jrn_record.specs.Table.{Agree, IsFirstFault, Place, field, intent_table, outcome_table, settled_table, table_at, table_of}
-use Rattle.jrn_record.specs.declared.values.Deal.{Deal}
-use Rattle.jrn_record.specs.declared.values.Deal.TheVariants.{Payment, Reversal}
-use Rattle.jrn_record.specs.declared.values.How.{How}
-use Rattle.jrn_record.specs.declared.values.How.TheVariants.{Sale, Acquirer}
-use Rattle.jrn_record.specs.declared.values.Intent.{Intent as TheIntent}
-use Rattle.jrn_record.specs.declared.values.Outcome.{Outcome as TheOutcome}
-use Rattle.jrn_record.specs.declared.values.Settled.{Settled as TheSettled}
-use Rattle.jrn_record.specs.declared.values.Record.{Record}
-use Rattle.jrn_record.specs.declared.values.Record.TheVariants.{Intent, Outcome, Settled}
+use Rattle.jrn_record.specs.Limits.{HasOriginal, HasReason, HasTillText, IsIntent, IsOutcome, IsRecord, IsSettled, reason_code}
+use Rattle.jrn_record.specs.Grammar.{record_body, condition_code, record_fields, how_code, intent_fields, joined, moment_field, option_field, original_code, outcome_fields, settled_fields, text_field}
+use Rattle.jrn_record.specs.Table.{Agree, IsFirstRecordFault, FieldRange, field, intent_table, outcome_table, settled_table, table_at, table_of}
+use Rattle.jrn_record.specs.declared.records.Deal.{Deal}
+use Rattle.jrn_record.specs.declared.records.Deal.TheVariants.{Payment, Reversal}
+use Rattle.jrn_record.specs.declared.records.How.{How}
+use Rattle.jrn_record.specs.declared.records.How.TheVariants.{Sale, Acquirer}
+use Rattle.jrn_record.specs.declared.records.Intent.{Intent as TheIntent}
+use Rattle.jrn_record.specs.declared.records.Outcome.{Outcome as TheOutcome}
+use Rattle.jrn_record.specs.declared.records.Settled.{Settled as TheSettled}
+use Rattle.jrn_record.specs.declared.records.Record.{Record}
+use Rattle.jrn_record.specs.declared.records.Record.TheVariants.{Intent, Outcome, Settled}
 use Rattle.jrn_record.proofs.FieldLemmas.{text_field-injective, told_below}
 use Rattle.jrn_record.proofs.ReadLemmas.{same_approval, same_deal}
-use Rattle.jrn_record.proofs.RunLemmas.{IsRun}
+use Rattle.jrn_record.proofs.BodyLemmas.{IsRun}
 
--- ---- the fields stand at their places
+-- ---- the fields are at their offsets
 
 -- each field has the size of its table
-abbrev HasSizes : List (List ℕ) → List Place → Type 0
+abbrev HasSizes : List (List ℕ) → List FieldRange → Type 0
 HasSizes [] [] = Unit {0}
 HasSizes [] (there ∷ table) = ⊥
 HasSizes (field ∷ fields) [] = ⊥
 HasSizes (field ∷ fields) (there ∷ table) = (length field ≡ there.size) × HasSizes fields table
 
--- fields of the right sizes, one behind the other, stand at their places
-laid : (fields : List (List ℕ)) (table : List Place) (at end : ℕ) (front : List ℕ) → HasSizes fields table → IsRun at table end
-    → length front ≡ at → Agree (length table) fields table (front ++ joined fields) × (at + length (joined fields) ≡ end)
-laid [] [] at end front sizes run len = (tt, omega (arith, run))
-laid [] (there ∷ table) at end front sizes run len = absurd sizes
-laid (field ∷ fields) [] at end front sizes run len = absurd sizes
-laid (field ∷ fields) (there ∷ table) at end front sizes run len =
-    let next = laid fields table (at + there.size) end (front ++ field) sizes.1 run.1
-    (omega (arith, length-append front field, len, sizes.0)) in
-    let body : (front ++ field) ++ joined fields ≡ front ++ (field ++ joined fields) = append_assoc front field (joined fields) in
-    let rest : drop there.place (front ++ (field ++ joined fields)) ≡ field ++ joined fields =
-    ap (λ place. drop place (front ++ (field ++ joined fields))) (run.0 ∙ sym len) ∙ drop-append_seam front (field ++ joined fields) in
-    let here : field ≡ take there.size (drop there.place (front ++ (field ++ joined fields))) =
+-- fields of the right sizes, one after the other, are at their offsets
+laid : (fields : List (List ℕ)) (table : List FieldRange) (at end : ℕ) (prefix : List ℕ) → HasSizes fields table → IsRun at table end
+    → length prefix ≡ at → Agree (length table) fields table (prefix ++ joined fields) × (at + length (joined fields) ≡ end)
+laid [] [] at end prefix sizes run len = (tt, omega (arith, run))
+laid [] (there ∷ table) at end prefix sizes run len = absurd sizes
+laid (field ∷ fields) [] at end prefix sizes run len = absurd sizes
+laid (field ∷ fields) (there ∷ table) at end prefix sizes run len =
+    let next = laid fields table (at + there.size) end (prefix ++ field) sizes.1 run.1
+    (omega (arith, length-append prefix field, len, sizes.0)) in
+    let body : (prefix ++ field) ++ joined fields ≡ prefix ++ (field ++ joined fields) = append_assoc prefix field (joined fields) in
+    let rest : drop there.offset (prefix ++ (field ++ joined fields)) ≡ field ++ joined fields =
+    ap (λ offset. drop offset (prefix ++ (field ++ joined fields))) (run.0 ∙ sym len) ∙ drop-append_seam prefix (field ++ joined fields) in
+    let here : field ≡ take there.size (drop there.offset (prefix ++ (field ++ joined fields))) =
     sym (ap (take there.size) rest ∙ ap (λ n. take n (field ++ joined fields)) (sym sizes.0) ∙ take-append_seam field (joined fields)) in (
       (here, subst (λ b. Agree (length table) fields table b) body next.0),
       omega (arith, next.1, length-append field (joined fields), sizes.0),
@@ -62,13 +62,13 @@ length-text_field : (size : ℕ) (text : List ℕ) → length text < size → le
 length-text_field size text fits =
     omega (arith, length-append text (replicate (size - 1 - length text) 0), length-replicate {A = ℕ} (size - 1 - length text) 0)
 
-length-option_field : (what : Deal) (most : ℕ) (text : Option (List ℕ)) → HasText what most text → length (option_field (most + 1) text) ≡ most + 1
+length-option_field : (what : Deal) (most : ℕ) (text : Option (List ℕ)) → HasTillText what most text → length (option_field (most + 1) text) ≡ most + 1
 length-option_field Payment most None has = absurd has
 length-option_field Payment most (Some text) has = length-text_field (most + 1) text (omega (arith, has.1))
 length-option_field Reversal most None has = length-replicate (most + 1) 0
 length-option_field Reversal most (Some text) has = absurd has
 
-sizes_of : (item : Record) → IsRecord item → HasSizes (fields_of item) (table_of item)
+sizes_of : (item : Record) → IsRecord item → HasSizes (record_fields item) (table_of item)
 sizes_of (Intent i) is = (
   refl,
   (
@@ -86,7 +86,7 @@ sizes_of (Intent i) is = (
               (
                 length-bcd_of 6 i.amount,
                 (
-                  length-bcd_of 2 (number_of i.currency),
+                  length-bcd_of 2 (currency_number i.currency),
                   (
                     length-bcd_of 3 i.before,
                     (refl, (refl, (length-replicate {A = ℕ} 20 0, tt))),
@@ -110,7 +110,7 @@ sizes_of (Settled s) is = (
       length-text_field 41 s.sale (omega (arith, is.sale.1)),
       (
         length-text_field 41 s.poi (omega (arith, is.poi.1)),
-        (length-text_field 11 s.service (omega (arith, is.service.1)), (length-bcd_of 2 (number_of s.currency), (refl, (length-replicate {A = ℕ} 150 0, tt)))),
+        (length-text_field 11 s.service (omega (arith, is.service.1)), (length-bcd_of 2 (currency_number s.currency), (refl, (length-replicate {A = ℕ} 150 0, tt)))),
       ),
     ),
   ),
@@ -122,14 +122,14 @@ run_of (Outcome o) = (refl, (refl, (refl, (refl, (refl, (refl, (refl, (refl, (re
 run_of (Settled s) = (refl, (refl, (refl, (refl, (refl, (refl, (refl, (refl, refl))))))))
 
 pub body_of-places : (item : Record) → IsRecord item
-    → (length (body_of item) ≡ 255) × Agree (length (table_of item)) (fields_of item) (table_of item) (body_of item)
+    → (length (record_body item) ≡ 255) × Agree (length (table_of item)) (record_fields item) (table_of item) (record_body item)
 body_of-places item is =
-    let h = laid (fields_of item) (table_of item) 0 255 [] (sizes_of item is) (run_of item) refl in
+    let h = laid (record_fields item) (table_of item) 0 255 [] (sizes_of item is) (run_of item) refl in
     (omega (arith, h.1), h.0)
 
 -- ---- one spelling, one value
 
-option_same : (what : Deal) (most size : ℕ) (a b : Option (List ℕ)) → HasText what most a → HasText what most b
+option_same : (what : Deal) (most size : ℕ) (a b : Option (List ℕ)) → HasTillText what most a → HasTillText what most b
     → option_field size a ≡ option_field size b → a ≡ b
 option_same Payment most size None b has too e = absurd has
 option_same Payment most size (Some text) None has too e = absurd too
@@ -157,7 +157,7 @@ currency_at number =
     if number == 978 then Eur else (if number == 756 then Chf else (if number == 826 then Gbp else (if number == 840 then Usd
     else (if number == 208 then Dkk else (if number == 752 then Sek else (if number == 578 then Nok else (if number == 985 then Pln else Czk)))))))
 
-currency_at-number : (currency : Currency) → currency_at (number_of currency) ≡ currency
+currency_at-number : (currency : Currency) → currency_at (currency_number currency) ≡ currency
 unfolding currency_at
 currency_at-number Eur = refl
 currency_at-number Chf = refl
@@ -169,7 +169,7 @@ currency_at-number Nok = refl
 currency_at-number Pln = refl
 currency_at-number Czk = refl
 
-number_fits : (currency : Currency) → number_of currency < 100 ^ 2
+number_fits : (currency : Currency) → currency_number currency < 100 ^ 2
 number_fits Eur = omega arith
 number_fits Chf = omega arith
 number_fits Gbp = omega arith
@@ -180,9 +180,9 @@ number_fits Nok = omega arith
 number_fits Pln = omega arith
 number_fits Czk = omega arith
 
-currency_same : (a b : Currency) → bcd_of 2 (number_of a) ≡ bcd_of 2 (number_of b) → a ≡ b
+currency_same : (a b : Currency) → bcd_of 2 (currency_number a) ≡ bcd_of 2 (currency_number b) → a ≡ b
 currency_same a b e =
-    sym (currency_at-number a) ∙ ap currency_at (bcd_same 2 (number_of a) (number_of b) (number_fits a) (number_fits b) e) ∙ currency_at-number b
+    sym (currency_at-number a) ∙ ap currency_at (bcd_same 2 (currency_number a) (currency_number b) (number_fits a) (number_fits b) e) ∙ currency_at-number b
 
 -- the reason of a code
 reason_at : ℕ → Condition
@@ -233,14 +233,14 @@ how_same a b e = at a b (ap (λ code. get_or code 0 0) e)
 
 -- ---- one body, one record
 
--- two lists of fields that agree with one body are the same, field by field
+-- two lists of fields that agree with one body are equal, field by field
 abbrev Same : List (List ℕ) → List (List ℕ) → Type 0
 Same [] [] = Unit {0}
 Same [] (g ∷ gs) = ⊥
 Same (f ∷ fs) [] = ⊥
 Same (f ∷ fs) (g ∷ gs) = (f ≡ g) × Same fs gs
 
-agree_same : (fields others : List (List ℕ)) (table : List Place) (body : List ℕ) → length fields ≡ length table → length others ≡ length table
+agree_same : (fields others : List (List ℕ)) (table : List FieldRange) (body : List ℕ) → length fields ≡ length table → length others ≡ length table
     → Agree (length table) fields table body → Agree (length table) others table body → Same fields others
 agree_same [] [] table body len too a b = tt
 agree_same [] (g ∷ gs) table body len too a b = absurd (omega (arith, len, too))
@@ -252,8 +252,8 @@ agree_same (f ∷ fs) (g ∷ gs) (there ∷ table) body len too a b =
 intent_same : (i j : TheIntent) → IsIntent i → IsIntent j → Same (intent_fields i) (intent_fields j) → i ≡ j
 intent_same i j is too s =
     let what : i.what ≡ j.what = same_deal i.what j.what _ s.1.0 refl in
-    let has : HasText i.what 80 j.transaction = subst (λ w. HasText w 80 j.transaction) (sym what) too.transaction in
-    let stamped : HasText i.what 35 j.stamp = subst (λ w. HasText w 35 j.stamp) (sym what) too.stamp in
+    let has : HasTillText i.what 80 j.transaction = subst (λ w. HasTillText w 80 j.transaction) (sym what) too.transaction in
+    let stamped : HasTillText i.what 35 j.stamp = subst (λ w. HasTillText w 35 j.stamp) (sym what) too.stamp in
     let originals : HasOriginal i.what j.original = subst (λ w. HasOriginal w j.original) (sym what) too.original in
     let sale = text_field-injective 41 i.sale j.sale s.1.1.0 in
     let poi = text_field-injective 41 i.poi j.poi s.1.1.1.0 in
@@ -312,15 +312,15 @@ settled_same s t is too a =
     let moment = moment_same s.moment t.moment is.moment too.moment a.1.1.1.1.1.1.0 in
     λ k. record { how = how k; sale = sale k; poi = poi k; service = service k; currency = currency k; moment = moment k }
 
-pub body_of-injective : (a b : Record) → IsRecord a → IsRecord b → body_of a ≡ body_of b → a ≡ b
+pub body_of-injective : (a b : Record) → IsRecord a → IsRecord b → record_body a ≡ record_body b → a ≡ b
 body_of-injective (Intent i) (Intent j) is too e =
-    ap Intent (intent_same i j is too (agree_same (intent_fields i) (intent_fields j) intent_table (body_of (Intent i)) refl refl
+    ap Intent (intent_same i j is too (agree_same (intent_fields i) (intent_fields j) intent_table (record_body (Intent i)) refl refl
     (body_of-places (Intent i) is).1 (subst (λ body. Agree 13 (intent_fields j) intent_table body) (sym e) (body_of-places (Intent j) too).1)))
 body_of-injective (Outcome o) (Outcome p) is too e =
-    ap Outcome (outcome_same o p is too (agree_same (outcome_fields o) (outcome_fields p) outcome_table (body_of (Outcome o)) refl refl
+    ap Outcome (outcome_same o p is too (agree_same (outcome_fields o) (outcome_fields p) outcome_table (record_body (Outcome o)) refl refl
     (body_of-places (Outcome o) is).1 (subst (λ body. Agree 9 (outcome_fields p) outcome_table body) (sym e) (body_of-places (Outcome p) too).1)))
 body_of-injective (Settled s) (Settled t) is too e =
-    ap Settled (settled_same s t is too (agree_same (settled_fields s) (settled_fields t) settled_table (body_of (Settled s)) refl refl
+    ap Settled (settled_same s t is too (agree_same (settled_fields s) (settled_fields t) settled_table (record_body (Settled s)) refl refl
     (body_of-places (Settled s) is).1 (subst (λ body. Agree 8 (settled_fields t) settled_table body) (sym e) (body_of-places (Settled t) too).1)))
 body_of-injective (Intent i) (Outcome p) is too e = let f : 1 ≡ 2 = ap (λ body. get_or body 0 0) e in absurd (omega (arith, f))
 body_of-injective (Intent i) (Settled t) is too e = let f : 1 ≡ 3 = ap (λ body. get_or body 0 0) e in absurd (omega (arith, f))
@@ -331,38 +331,38 @@ body_of-injective (Settled s) (Outcome p) is too e = let f : 3 ≡ 2 = ap (λ bo
 
 -- ---- a body with a fault is that of no record
 
-agree_front : (count more : ℕ) (fields : List (List ℕ)) (table : List Place) (body : List ℕ) → count ≤ more
+agree_prefix : (count more : ℕ) (fields : List (List ℕ)) (table : List FieldRange) (body : List ℕ) → count ≤ more
     → Agree more fields table body → Agree count fields table body
-agree_front zero more fields table body few a = tt
-agree_front (suc count) zero fields table body few a = absurd (omega arith)
-agree_front (suc count) (suc more) [] table body few a = absurd a
-agree_front (suc count) (suc more) (f ∷ fs) [] body few a = absurd a
-agree_front (suc count) (suc more) (f ∷ fs) (there ∷ table) body few a = (a.0, agree_front count more fs table body (omega arith) a.1)
+agree_prefix zero more fields table body few a = tt
+agree_prefix (suc count) zero fields table body few a = absurd (omega arith)
+agree_prefix (suc count) (suc more) [] table body few a = absurd a
+agree_prefix (suc count) (suc more) (f ∷ fs) [] body few a = absurd a
+agree_prefix (suc count) (suc more) (f ∷ fs) (there ∷ table) body few a = (a.0, agree_prefix count more fs table body (omega arith) a.1)
 
-table_at-body : (item : Record) → table_at (body_of item) ≡ table_of item
+table_at-body : (item : Record) → table_at (record_body item) ≡ table_of item
 table_at-body (Intent i) = refl
 table_at-body (Outcome o) = refl
 table_at-body (Settled s) = refl
 
-pub fault-no_record : (body : List ℕ) (at : ℕ) → IsFirstFault (table_at body) body at → (item : Record) → IsRecord item → body ≡ body_of item → ⊥
+pub fault-no_record : (body : List ℕ) (at : ℕ) → IsFirstRecordFault (table_at body) body at → (item : Record) → IsRecord item → body ≡ record_body item → ⊥
 fault-no_record body at fault item is e =
     let table : table_at body ≡ table_of item = ap table_at e ∙ table_at-body item in
-    let whole : Agree (length (table_of item)) (fields_of item) (table_of item) body =
-    subst (λ b. Agree (length (table_of item)) (fields_of item) (table_of item) b) (sym e) (body_of-places item is).1 in
-    let same : Agree (length (table_at body)) (fields_of item) (table_at body) body =
-    subst (λ t. Agree (length t) (fields_of item) t body) (sym table) whole in
-    fault.not_spelled item is (agree_front (suc fault.count) (length (table_at body)) (fields_of item) (table_at body) body fault.inside same)
+    let whole : Agree (length (table_of item)) (record_fields item) (table_of item) body =
+    subst (λ b. Agree (length (table_of item)) (record_fields item) (table_of item) b) (sym e) (body_of-places item is).1 in
+    let same : Agree (length (table_at body)) (record_fields item) (table_at body) body =
+    subst (λ t. Agree (length t) (record_fields item) t body) (sym table) whole in
+    fault.not_spelled item is (agree_prefix (suc fault.count) (length (table_at body)) (record_fields item) (table_at body) body fault.inside same)
 
 -- ---- a body has one first fault
 
 -- the fields before a first fault are spelled, so another isn't among them
-no_less : (table : List Place) (body : List ℕ) (at other : ℕ) (fault : IsFirstFault table body at) (later : IsFirstFault table body other) → fault.count < later.count → ⊥
+no_less : (table : List FieldRange) (body : List ℕ) (at other : ℕ) (fault : IsFirstRecordFault table body at) (later : IsFirstRecordFault table body other) → fault.count < later.count → ⊥
 no_less table body at other fault later less =
     let before = later.spelled_before in
-    fault.not_spelled before.0 before.1 (agree_front (suc fault.count) later.count (fields_of before.0) table body (omega arith) before.2)
+    fault.not_spelled before.0 before.1 (agree_prefix (suc fault.count) later.count (record_fields before.0) table body (omega arith) before.2)
 
-pub first_fault-one : (table : List Place) (body : List ℕ) (at other : ℕ) → IsFirstFault table body at → IsFirstFault table body other → at ≡ other
-first_fault-one table body at other fault later = fault.place ∙ ap (λ count. slice_index (map (λ there. there.place) table) count) same ∙ sym later.place
+pub first_fault-one : (table : List FieldRange) (body : List ℕ) (at other : ℕ) → IsFirstRecordFault table body at → IsFirstRecordFault table body other → at ≡ other
+first_fault-one table body at other fault later = fault.offset ∙ ap (λ count. slice_index (map (λ there. there.offset) table) count) same ∙ sym later.offset
   where
     same : fault.count ≡ later.count
     same = elim (cases_lt fault.count later.count) [

@@ -1,6 +1,6 @@
-pub mod WriteLemmas
-pub mod MomentFits
+pub mod BodyLemmas
 pub mod FieldLemmas
-pub mod ReadLemmas
-pub mod RunLemmas
 pub mod LawLemmas
+pub mod MomentLemmas
+pub mod ReadLemmas
+pub mod WriteLemmas

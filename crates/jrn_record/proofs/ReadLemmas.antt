@@ -9,17 +9,17 @@ use Rattle.gw_base.specs.Moment.{IsMoment}
 use Rattle.gw_base.specs.declared.condition.Condition.{Condition}
 use Rattle.gw_base.specs.declared.condition.Condition.TheVariants.{Refusal}
 use Rattle.gw_base.specs.declared.currency.Currency.TheVariants.{Eur}
-use Rattle.jrn_record.specs.Limits.{HasOriginal, HasReason, HasText, IsIntent, IsOutcome, IsRecord, IsSettled, IsTold}
-use Rattle.jrn_record.specs.Spelling.{approval_code, deal_code, fields_of, intent_fields, outcome_fields, settled_fields}
-use Rattle.jrn_record.specs.Table.{Agree, IsFirstFault, Place, field, field_at, intent_table, outcome_table, settled_table, table_at}
-use Rattle.jrn_record.specs.declared.fields.RecordFault.{RecordFault}
-use Rattle.jrn_record.specs.declared.values.Deal.{Deal}
-use Rattle.jrn_record.specs.declared.values.Deal.TheVariants.{Payment, Reversal}
-use Rattle.jrn_record.specs.declared.values.Intent.{Intent as TheIntent}
-use Rattle.jrn_record.specs.declared.values.Outcome.{Outcome as TheOutcome}
-use Rattle.jrn_record.specs.declared.values.Settled.{Settled as TheSettled}
-use Rattle.jrn_record.specs.declared.values.Record.{Record}
-use Rattle.jrn_record.specs.declared.values.Record.TheVariants.{Intent, Outcome, Settled}
+use Rattle.jrn_record.specs.Limits.{HasOriginal, HasReason, HasTillText, IsIntent, IsOutcome, IsRecord, IsSettled, IsPresentWithin}
+use Rattle.jrn_record.specs.Grammar.{approval_code, deal_code, record_fields, intent_fields, outcome_fields, settled_fields}
+use Rattle.jrn_record.specs.Table.{Agree, IsFirstRecordFault, FieldRange, field, body_field, intent_table, outcome_table, settled_table, table_at}
+use Rattle.jrn_record.specs.declared.body_fields.RecordFault.{RecordFault}
+use Rattle.jrn_record.specs.declared.records.Deal.{Deal}
+use Rattle.jrn_record.specs.declared.records.Deal.TheVariants.{Payment, Reversal}
+use Rattle.jrn_record.specs.declared.records.Intent.{Intent as TheIntent}
+use Rattle.jrn_record.specs.declared.records.Outcome.{Outcome as TheOutcome}
+use Rattle.jrn_record.specs.declared.records.Settled.{Settled as TheSettled}
+use Rattle.jrn_record.specs.declared.records.Record.{Record}
+use Rattle.jrn_record.specs.declared.records.Record.TheVariants.{Intent, Outcome, Settled}
 
 -- ---- blank values, which fill the fields that were not read
 
@@ -34,7 +34,7 @@ abbrev pub blank_option : Deal → Option (List ℕ)
 blank_option Payment = Some blank
 blank_option Reversal = None
 
-pub blank_option_is : (what : Deal) (most : ℕ) → 1 ≤ most → HasText what most (blank_option what)
+pub blank_option_is : (what : Deal) (most : ℕ) → 1 ≤ most → HasTillText what most (blank_option what)
 blank_option_is Payment most room = blank_is most room
 blank_option_is Reversal most room = tt
 
@@ -50,11 +50,11 @@ abbrev pub blank_told : Bool → ℕ
 blank_told true = 1
 blank_told false = 0
 
-pub blank_told_is : (told : Bool) (most : ℕ) → 1 ≤ most → IsTold told 1 most (blank_told told)
+pub blank_told_is : (present : Bool) (most : ℕ) → 1 ≤ most → IsPresentWithin present 1 most (blank_told present)
 blank_told_is true most room = (omega arith, room)
 blank_told_is false most room = refl
 
-pub zero_told_is : (told : Bool) (most : ℕ) → IsTold told 0 most 0
+pub zero_told_is : (present : Bool) (most : ℕ) → IsPresentWithin present 0 most 0
 zero_told_is true most = (omega arith, omega arith)
 zero_told_is false most = refl
 
@@ -96,57 +96,57 @@ first_differs a b bytes other e f = other (ap (λ code. get_or code 0 0) (e ∙ 
 -- ---- what isn't spelled by an Intent is spelled by no record, and so on
 
 pub intent_fault : (body : List ℕ) (count at : ℕ) (draft : TheIntent) → count < 13
-    → at ≡ get_or (map (λ there. there.place) intent_table) count 0
-    → IsIntent draft → Agree count (intent_fields draft) intent_table body → 1 ∷ [] ≡ field_at body (field 0 1)
+    → at ≡ get_or (map (λ there. there.offset) intent_table) count 0
+    → IsIntent draft → Agree count (intent_fields draft) intent_table body → 1 ∷ [] ≡ body_field body (field 0 1)
     → ((i : TheIntent) → IsIntent i → Agree (suc count) (intent_fields i) intent_table body → ⊥)
-    → IsFirstFault intent_table body at
-intent_fault body count at draft inside place is agrees kind none = record {
+    → IsFirstRecordFault intent_table body at
+intent_fault body count at draft inside offset is agrees kind none = record {
   count = count;
   inside = inside;
-  place = place;
+  offset = offset;
   spelled_before = (Intent draft, is, agrees);
   not_spelled = other;
 }
   where
-    other : (item : Record) → IsRecord item → Agree (suc count) (fields_of item) intent_table body → ⊥
+    other : (item : Record) → IsRecord item → Agree (suc count) (record_fields item) intent_table body → ⊥
     other (Intent i) is a = none i is a
-    other (Outcome o) is a = first_differs 2 1 (field_at body (field 0 1)) (λ e. omega arith) a.0 kind
-    other (Settled s) is a = first_differs 3 1 (field_at body (field 0 1)) (λ e. omega arith) a.0 kind
+    other (Outcome o) is a = first_differs 2 1 (body_field body (field 0 1)) (λ e. omega arith) a.0 kind
+    other (Settled s) is a = first_differs 3 1 (body_field body (field 0 1)) (λ e. omega arith) a.0 kind
 
 pub outcome_fault : (body : List ℕ) (count at : ℕ) (draft : TheOutcome) → count < 9
-    → at ≡ get_or (map (λ there. there.place) outcome_table) count 0
-    → IsOutcome draft → Agree count (outcome_fields draft) outcome_table body → 2 ∷ [] ≡ field_at body (field 0 1)
+    → at ≡ get_or (map (λ there. there.offset) outcome_table) count 0
+    → IsOutcome draft → Agree count (outcome_fields draft) outcome_table body → 2 ∷ [] ≡ body_field body (field 0 1)
     → ((o : TheOutcome) → IsOutcome o → Agree (suc count) (outcome_fields o) outcome_table body → ⊥)
-    → IsFirstFault outcome_table body at
-outcome_fault body count at draft inside place is agrees kind none = record {
+    → IsFirstRecordFault outcome_table body at
+outcome_fault body count at draft inside offset is agrees kind none = record {
   count = count;
   inside = inside;
-  place = place;
+  offset = offset;
   spelled_before = (Outcome draft, is, agrees);
   not_spelled = other;
 }
   where
-    other : (item : Record) → IsRecord item → Agree (suc count) (fields_of item) outcome_table body → ⊥
-    other (Intent i) is a = first_differs 1 2 (field_at body (field 0 1)) (λ e. omega arith) a.0 kind
+    other : (item : Record) → IsRecord item → Agree (suc count) (record_fields item) outcome_table body → ⊥
+    other (Intent i) is a = first_differs 1 2 (body_field body (field 0 1)) (λ e. omega arith) a.0 kind
     other (Outcome o) is a = none o is a
-    other (Settled s) is a = first_differs 3 2 (field_at body (field 0 1)) (λ e. omega arith) a.0 kind
+    other (Settled s) is a = first_differs 3 2 (body_field body (field 0 1)) (λ e. omega arith) a.0 kind
 
 pub settled_fault : (body : List ℕ) (count at : ℕ) (draft : TheSettled) → count < 8
-    → at ≡ get_or (map (λ there. there.place) settled_table) count 0
-    → IsSettled draft → Agree count (settled_fields draft) settled_table body → 3 ∷ [] ≡ field_at body (field 0 1)
+    → at ≡ get_or (map (λ there. there.offset) settled_table) count 0
+    → IsSettled draft → Agree count (settled_fields draft) settled_table body → 3 ∷ [] ≡ body_field body (field 0 1)
     → ((s : TheSettled) → IsSettled s → Agree (suc count) (settled_fields s) settled_table body → ⊥)
-    → IsFirstFault settled_table body at
-settled_fault body count at draft inside place is agrees kind none = record {
+    → IsFirstRecordFault settled_table body at
+settled_fault body count at draft inside offset is agrees kind none = record {
   count = count;
   inside = inside;
-  place = place;
+  offset = offset;
   spelled_before = (Settled draft, is, agrees);
   not_spelled = other;
 }
   where
-    other : (item : Record) → IsRecord item → Agree (suc count) (fields_of item) settled_table body → ⊥
-    other (Intent i) is a = first_differs 1 3 (field_at body (field 0 1)) (λ e. omega arith) a.0 kind
-    other (Outcome o) is a = first_differs 2 3 (field_at body (field 0 1)) (λ e. omega arith) a.0 kind
+    other : (item : Record) → IsRecord item → Agree (suc count) (record_fields item) settled_table body → ⊥
+    other (Intent i) is a = first_differs 1 3 (body_field body (field 0 1)) (λ e. omega arith) a.0 kind
+    other (Outcome o) is a = first_differs 2 3 (body_field body (field 0 1)) (λ e. omega arith) a.0 kind
     other (Settled s) is a = none s is a
 
 -- what the exit of a `?` hands on
@@ -184,18 +184,18 @@ blank_intent_is = record {
   moment = zero_moment;
 }
 
--- a body whose first byte tells no kind
+-- a body whose first byte is that of no kind
 pub no_kind : (body : List ℕ) → length body ≡ 255 → (get_or body 0 0 ≡ 1 → ⊥) → (get_or body 0 0 ≡ 2 → ⊥) → (get_or body 0 0 ≡ 3 → ⊥)
-    → IsFirstFault (table_at body) body 0
+    → IsFirstRecordFault (table_at body) body 0
 no_kind body len one two three =
     let outcome : (get_or body 0 0 == 2) ≡ false = not_equal (get_or body 0 0) 2 two in
     let settled : (get_or body 0 0 == 3) ≡ false = not_equal (get_or body 0 0) 3 three in
     let table : table_at body ≡ intent_table = rw (outcome, settled) refl in
-    let P : List Place → Type 0 = λ t. IsFirstFault t body 0 in
+    let P : List FieldRange → Type 0 = λ t. IsFirstRecordFault t body 0 in
     subst P (sym table) (record {
       count = 0;
       inside = omega arith;
-      place = refl;
+      offset = refl;
       spelled_before = (Intent blank_intent, blank_intent_is, tt);
       not_spelled = none;
     })
@@ -203,10 +203,10 @@ no_kind body len one two three =
     not_equal : (a b : ℕ) → (a ≡ b → ⊥) → (a == b) ≡ false
     not_equal a b other = grind (arith, nat_tests)
 
-    first : (kind : ℕ) → kind ∷ [] ≡ field_at body (field 0 1) → get_or body 0 0 ≡ kind
+    first : (kind : ℕ) → kind ∷ [] ≡ body_field body (field 0 1) → get_or body 0 0 ≡ kind
     first kind e = sym (ap (λ bytes. get_or bytes 0 0) e ∙ get_or-take 1 (drop 0 body) 0 0 (omega arith) ∙ get_or-drop 0 body 0 0)
 
-    none : (item : Record) → IsRecord item → Agree 1 (fields_of item) intent_table body → ⊥
+    none : (item : Record) → IsRecord item → Agree 1 (record_fields item) intent_table body → ⊥
     none (Intent i) is a = one (first 1 a.0)
     none (Outcome o) is a = two (first 2 a.0)
     none (Settled s) is a = three (first 3 a.0)

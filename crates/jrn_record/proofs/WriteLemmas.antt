@@ -3,7 +3,7 @@ use Rattle.std.proofs.Common.{◌≡◌, List, [], ◌++◌, append_assoc, sym, 
 use Rattle.std.proofs.lemmas.List.{append-nil}
 
 module _ {X : Type 0} where
-  -- a field, and what comes behind it
+  -- a field, and what comes after it
   pub then : (a b d f rest : List X) → b ≡ a ++ f → d ≡ b ++ rest → d ≡ a ++ (f ++ rest)
   then a b d f rest e g = g ∙ ap (λ xs. xs ++ rest) e ∙ append_assoc a f rest
 

@@ -1,4 +1,4 @@
+pub mod Grammar
 pub mod Limits
-pub mod Reads
-pub mod Spelling
 pub mod Table
+pub mod inner

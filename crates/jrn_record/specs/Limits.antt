@@ -1,24 +1,24 @@
 -- The limits of a record's fields.
 use Rattle.std.specs.Prelude.{◌≡◌, ℕ, ◌^◌, ◌<◌, ◌≤◌, Bool, true, false, List, Option, Some, None}
 use Rattle.gw_base.specs.Ident.{IsIdent}
-use Rattle.gw_base.specs.Limits.{IsAmount, IsNumber, IsReceipt}
+use Rattle.gw_base.specs.Limits.{IsAmount, IsTrace, IsReceipt}
 use Rattle.gw_base.specs.Moment.{IsMoment}
 use Rattle.gw_base.specs.declared.condition.Condition.{Condition}
 use Rattle.gw_base.specs.declared.condition.Condition.TheVariants.{Aborted, Busy, Cancel, InProgress, InsertedCard, InvalidCard, LoggedOut, MessageFormat, NotAllowed, NotFound, Refusal, UnavailableDevice, UnavailableService}
-use Rattle.jrn_record.specs.declared.values.Deal.{Deal}
-use Rattle.jrn_record.specs.declared.values.Deal.TheVariants.{Payment, Reversal}
-use Rattle.jrn_record.specs.declared.values.Intent.{Intent as TheIntent}
-use Rattle.jrn_record.specs.declared.values.Outcome.{Outcome as TheOutcome}
-use Rattle.jrn_record.specs.declared.values.Settled.{Settled as TheSettled}
-use Rattle.jrn_record.specs.declared.values.Record.{Record}
-use Rattle.jrn_record.specs.declared.values.Record.TheVariants.{Intent, Outcome, Settled}
+use Rattle.jrn_record.specs.declared.records.Deal.{Deal}
+use Rattle.jrn_record.specs.declared.records.Deal.TheVariants.{Payment, Reversal}
+use Rattle.jrn_record.specs.declared.records.Intent.{Intent as TheIntent}
+use Rattle.jrn_record.specs.declared.records.Outcome.{Outcome as TheOutcome}
+use Rattle.jrn_record.specs.declared.records.Settled.{Settled as TheSettled}
+use Rattle.jrn_record.specs.declared.records.Record.{Record}
+use Rattle.jrn_record.specs.declared.records.Record.TheVariants.{Intent, Outcome, Settled}
 
 -- a text of the till, which a payment has and a reversal hasn't
-abbrev pub HasText : Deal → ℕ → Option (List ℕ) → Type 0
-HasText Payment most None = ⊥
-HasText Payment most (Some text) = IsIdent most text
-HasText Reversal most None = Unit {0}
-HasText Reversal most (Some text) = ⊥
+abbrev pub HasTillText : Deal → ℕ → Option (List ℕ) → Type 0
+HasTillText Payment most None = ⊥
+HasTillText Payment most (Some text) = IsIdent most text
+HasTillText Reversal most None = Unit {0}
+HasTillText Reversal most (Some text) = ⊥
 
 -- the slot of the original, which a reversal has and a payment hasn't
 abbrev pub HasOriginal : Deal → Option ℕ → Type 0
@@ -32,21 +32,21 @@ pub record IsIntent (intent : TheIntent) : Type 0 where
   pub sale : IsIdent 40 intent.sale
   pub poi : IsIdent 40 intent.poi
   pub service : IsIdent 10 intent.service
-  pub transaction : HasText intent.what 80 intent.transaction
-  pub stamp : HasText intent.what 35 intent.stamp
+  pub transaction : HasTillText intent.what 80 intent.transaction
+  pub stamp : HasTillText intent.what 35 intent.stamp
   pub amount : IsAmount intent.amount
-  pub before : IsNumber intent.before
+  pub before : IsTrace intent.before
   pub original : HasOriginal intent.what intent.original
   pub moment : IsMoment intent.moment
 
--- a number that an approval tells, which keeps its limits, and a refusal tells as 0
-abbrev pub IsToldAs : Bool → (ℕ → Type 0) → ℕ → Type 0
-IsToldAs true IsLimited number = IsLimited number
-IsToldAs false IsLimited number = number ≡ 0
+-- a number that is within its limits where it is present (an approval has it), and is 0 where it is not (a refusal)
+abbrev pub IsPresentAs : Bool → (ℕ → Type 0) → ℕ → Type 0
+IsPresentAs true IsLimited number = IsLimited number
+IsPresentAs false IsLimited number = number ≡ 0
 
--- the same with the least and the greatest for its limits
-abbrev pub IsTold : Bool → ℕ → ℕ → ℕ → Type 0
-IsTold told least greatest number = IsToldAs told (λ n. (least ≤ n) × (n ≤ greatest)) number
+-- Inner: a number that lies between the least and the greatest where it is present, and is 0 where it is not
+abbrev pub IsPresentWithin : Bool → ℕ → ℕ → ℕ → Type 0
+IsPresentWithin present least greatest number = IsPresentAs present (λ n. (least ≤ n) × (n ≤ greatest)) number
 
 -- the code of a condition that a refusal can have; 0 for every other
 abbrev pub reason_code : Condition → ℕ
@@ -74,9 +74,9 @@ HasReason false (Some condition) = 1 ≤ reason_code condition
 -- each field of an Outcome lies within its limits
 pub record IsOutcome (outcome : TheOutcome) : Type 0 where
   pub slot : outcome.slot < 2 ^ 32
-  pub number : IsToldAs outcome.approved (λ number. (1 ≤ number) × IsNumber number) outcome.number
-  pub receipt : IsToldAs outcome.approved (λ receipt. (0 ≤ receipt) × IsReceipt receipt) outcome.receipt
-  pub amount : IsToldAs outcome.approved IsAmount outcome.amount
+  pub number : IsPresentAs outcome.approved (λ number. (1 ≤ number) × IsTrace number) outcome.number
+  pub receipt : IsPresentAs outcome.approved (λ receipt. (0 ≤ receipt) × IsReceipt receipt) outcome.receipt
+  pub amount : IsPresentAs outcome.approved IsAmount outcome.amount
   pub condition : HasReason outcome.approved outcome.condition
   pub moment : IsMoment outcome.moment
 

@@ -49,7 +49,7 @@ const SETTLED: [(usize, &[u8]); 6] = [
     (97, b"\x00\x00\x00\x00\x67\xCA\xC6\x38"),
 ];
 
-/// Bytes at their places in a body of zeros.
+/// Bytes at their offsets in a body of zeros.
 fn body(parts: &[(usize, &[u8])]) -> [u8; 255] {
     let mut body = [0; 255];
     for (at, bytes) in parts {
@@ -184,9 +184,9 @@ fn faults(rt: HostRuntime) {
         (&settled, 97, 0xFF, 97),
         (&settled, 105, 1, 105),
     ];
-    for (bytes, place, byte, at) in rows {
+    for (bytes, offset, byte, at) in rows {
         assert_eq!(rt;
-            from_body(&changed(bytes, place, byte)),
+            from_body(&changed(bytes, offset, byte)),
             Err(RecordFault { at })
         );
     }

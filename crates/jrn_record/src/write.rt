@@ -3,10 +3,10 @@ ghost use Rattle.std.specs.Prelude.{◌≡◌, ◌+◌, ◌^◌, ◌<◌, ◌≤
 ghost use Rattle.std.specs.Int.{to_be_bytes, w32};
 ghost use Rattle.arrayvec.specs.ArrayVec.{array_vec_len};
 ghost use Rattle.gw_base.specs.Bcd.{bcd_of};
-ghost use Rattle.gw_base.specs.Currency.{number_of};
+ghost use Rattle.gw_base.specs.Currency.{currency_number};
 ghost use Rattle.gw_base.specs.Moment.{IsMoment};
 ghost use Rattle.jrn_record.specs.Limits.{IsIntent, IsOutcome, IsRecord, IsSettled};
-ghost use Rattle.jrn_record.specs.Spelling.{body_of, condition_code, deal_code, how_code, intent_fields, joined, moment_field, option_field, original_code, outcome_fields, settled_fields, text_field};
+ghost use Rattle.jrn_record.specs.Grammar.{record_body, condition_code, deal_code, how_code, intent_fields, joined, moment_field, option_field, original_code, outcome_fields, settled_fields, text_field};
 
 use crate::{Deal, How, Intent, Outcome, Record, Settled};
 use arrayvec::ArrayVec;
@@ -34,7 +34,7 @@ fn put_zeros(draft: &mut Draft, count: usize)
     put(draft, &[0; 255][..count]);
 }
 
-/// Appends a text behind its length, filled with zeros to the size.
+/// Appends the length of a text and the text, filled with zeros to the size.
 fn put_text(draft: &mut Draft, text: &[u8], size: usize)
     requires fits { length text.now < size }
     requires room { array_vec_len draft.old + size ≤ 255 }
@@ -73,7 +73,7 @@ fn put_bcd(draft: &mut Draft, value: u64, count: usize)
 /// Appends the number of a currency.
 fn put_currency(draft: &mut Draft, currency: Currency)
     requires { array_vec_len draft.old + 2 ≤ 255 }
-    ensures { draft.new.items ≡ draft.old.items ++ bcd_of 2 (number_of currency) }
+    ensures { draft.new.items ≡ draft.old.items ++ bcd_of 2 (currency_number currency) }
 {
     put_bcd(draft, u64::from(currency.number()), 2);
 }
@@ -189,7 +189,7 @@ fn condition_byte(condition: Option<Condition>) -> u8
 /// The body of a record, whose fields lie within their limits.
 pub fn to_body(item: &Record) -> [u8; 255]
     requires { IsRecord item.now }
-    ensures { result ≡ body_of item.now }
+    ensures { result ≡ record_body item.now }
 {
     let mut draft = Draft::new();
     match item {

@@ -1,7 +1,7 @@
--- How the log of the site in memory grows where it is dark, and what it then tells.
+-- How the log of the site in memory grows where it is dark, and what is then observed.
 use Rattle.std.proofs.Common.{◌≡◌, ℕ, List, [], ◌∷◌, ◌++◌, refl, sym, ◌∙◌, ap, append-nil}
 use Rattle.std.specs.Prelude.{Bool, true, false, Some}
-use Rattle.gw_site.specs.Seen.{Seen, Added, Grows}
+use Rattle.gw_site.specs.Observed.{Observed, Added, Grows}
 use Rattle.gw_site.specs.Outside.{overwrite, outside_after, outside_of}
 use Rattle.gw_site.specs.declared.turn.Turn.{Turn}
 use Rattle.gw_site.specs.declared.turn.Turn.TheVariants.{Wrote, Synced, Crash}
@@ -14,15 +14,15 @@ nothing_added false true turns e = (turns, refl)
 nothing_added before false turns e = absurd (let h : false ≡ true = e in cc)
 
 -- a call in a site that is dark after it, and adds nothing
-pub dark_grows : (old new : Seen) (Call : List Turn → Type 0) (turns : List Turn) → Call turns → new.dark ≡ true → new.log ≡ old.log → new.origin ≡ old.origin → Grows old new Call
+pub dark_grows : (old new : Observed) (Call : List Turn → Type 0) (turns : List Turn) → Call turns → new.dark ≡ true → new.log ≡ old.log → new.origin ≡ old.origin → Grows old new Call
 dark_grows old new Call turns call d l o = record {
-  told = λ before f. (turns, [], call, nothing_added old.dark new.dark turns d, (l ∙ f ∙ ap Some (sym (append-nil before))));
-  untold = λ f. l ∙ f;
+  observed = λ before f. (turns, [], call, nothing_added old.dark new.dark turns d, (l ∙ f ∙ ap Some (sym (append-nil before))));
+  unobserved = λ f. l ∙ f;
   stays = λ f. d;
   origin = o;
 }
 
--- the outside behind one more turn
+-- the outside after one more turn
 after : (log new : List Turn) (turn : Turn) → new ≡ log ++ turn ∷ [] → outside_of new ≡ outside_after (outside_of log) turn
 after log new turn e = ap (λ turns. outside_of turns) e ∙ outside_of_more log turn
 

@@ -8,9 +8,9 @@ use Rattle.gw_site.specs.Outside.{Range, outside_after, outside_of}
 use Rattle.gw_site.specs.declared.turn.Turn.{Turn}
 use Rattle.gw_site.proofs.OutsideLemmas.{outside_of_more}
 
-junked_length : (junk : ℕ) (ranges : List Range) (place : ℕ) (bytes : List ℕ) → length (junked_from junk ranges place bytes) ≡ length bytes
-junked_length junk ranges place [] = refl
-junked_length junk ranges place (byte ∷ bytes) = ap (λ n. suc n) (junked_length junk ranges (place + 1) bytes)
+junked_length : (junk : ℕ) (ranges : List Range) (offset : ℕ) (bytes : List ℕ) → length (junked_from junk ranges offset bytes) ≡ length bytes
+junked_length junk ranges offset [] = refl
+junked_length junk ranges offset (byte ∷ bytes) = ap (λ n. suc n) (junked_length junk ranges (offset + 1) bytes)
 
 junked_get : (junk : ℕ) (ranges : List Range) (from i : ℕ) (bytes : List ℕ) → i < length bytes
     → get_or (junked_from junk ranges from bytes) i 0 ≡ (if is_covered ranges (from + i) then junk else get_or bytes i 0)
@@ -24,13 +24,13 @@ junked_at : (junk : ℕ) (ranges : List Range) (i : ℕ) (bytes : List ℕ) → 
     → get_or (junked_from junk ranges 0 bytes) i 0 ≡ (if is_covered ranges i then junk else get_or bytes i 0)
 junked_at junk ranges i bytes lt = let e : 0 + i ≡ i = omega arith in rw e at (junked_get junk ranges 0 i bytes lt)
 
--- a file of the same length that holds the byte at each covered place, and the old byte at each other
+-- a file of the same length that holds the byte at each covered offset, and the old byte at each other
 pub junked_is : (junk : ℕ) (ranges : List Range) (old new : List ℕ) → length new ≡ length old
     → ((i : ℕ) → i < length old → get_or new i 0 ≡ (if is_covered ranges i then junk else get_or old i 0)) → new ≡ junked_from junk ranges 0 old
 junked_is junk ranges old new size each = same_number_lists new (junked_from junk ranges 0 old) (size ∙ sym (junked_length junk ranges 0 old))
     (λ i lt. let l : i < length old = omega (arith, size) in each i l ∙ sym (junked_at junk ranges i old l))
 
--- the outside behind the turns up to a place and the one at it
+-- the outside after the turns up to an index and the one at it
 pub outside_take : (log : List Turn) (i : ℕ) (turn : Turn) → i < length log → turn ≡ get_or log i turn → outside_of (take (i + 1) log) ≡ outside_after (outside_of (take i log)) turn
 outside_take log i turn lt is =
     let n : i + 1 ≡ suc i = omega arith in

@@ -6,7 +6,7 @@ ghost use Rattle.gw_site.specs.Outside.{Outside, file_part, outside_after, outsi
 use gw_site::Turn;
 use std::alloc::{AllocError, Global};
 
-/// The file with bytes written at a place; a gap is filled with zeros.
+/// The file with bytes written at an offset; a gap is filled with zeros.
 pub(crate) fn overwritten(
     alloc: Global,
     file: &[u8],
@@ -15,14 +15,14 @@ pub(crate) fn overwritten(
 ) -> Result<Vec<u8>, AllocError>
     ensures { IfOk result (λ new. new.items ≡ overwrite file.now at bytes.now) }
 {
-    let mut new = front(alloc, file, at)?;
+    let mut new = prefix(alloc, file, at)?;
     new.extend_from_slice(bytes)?;
-    new.extend_from_slice(behind(file, at, bytes.len()))?;
+    new.extend_from_slice(rest_after(file, at, bytes.len()))?;
     Ok(new)
 }
 
-/// The file's bytes up to a place, with zeros past its end.
-fn front(alloc: Global, file: &[u8], at: usize) -> Result<Vec<u8>, AllocError>
+/// The file's bytes up to an offset, with zeros past its end.
+fn prefix(alloc: Global, file: &[u8], at: usize) -> Result<Vec<u8>, AllocError>
     ensures { IfOk result (λ new. new.items ≡ take at file.now ++ replicate (at - length file.now) 0) }
 {
     if at <= file.len() {
@@ -33,8 +33,8 @@ fn front(alloc: Global, file: &[u8], at: usize) -> Result<Vec<u8>, AllocError>
     Ok(new)
 }
 
-/// The file's bytes from a place and a count of bytes on.
-fn behind(file: &[u8], at: usize, count: usize) -> &[u8]
+/// The file's bytes from so many after an offset on.
+fn rest_after(file: &[u8], at: usize, count: usize) -> &[u8]
     ensures { result.now ≡ drop (at + count) file.now }
 {
     if at >= file.len() || count >= file.len() - at {
@@ -43,7 +43,7 @@ fn behind(file: &[u8], at: usize, count: usize) -> &[u8]
     &file[at + count..]
 }
 
-/// The file's byte so many places behind another, or zero past its end.
+/// The file's byte so many after an offset, or zero past its end.
 fn byte_at(file: &[u8], pos: u64, count: usize) -> u8
     ensures { result ≡ slice_index file.now (pos + count) }
 {
@@ -53,7 +53,7 @@ fn byte_at(file: &[u8], pos: u64, count: usize) -> u8
     }
 }
 
-/// Fills a buffer with the file's bytes from a place on, and zeros past its end.
+/// Fills a buffer with the file's bytes from an offset on, and zeros past its end.
 pub(crate) fn read_part(file: &[u8], pos: u64, buf: &mut [u8])
     ensures { buf.new ≡ file_part file.now pos (length buf.old) }
 {
@@ -71,40 +71,40 @@ pub(crate) fn put_junk(file: &mut [u8], log: &[Turn], junk: u8)
     }
 }
 
-/// The byte of junk where the place was written since the last sync or power failure of this log, else the file's.
-fn junk_at(log: &[Turn], place: usize, byte: u8, junk: u8) -> u8
-    ensures { result ≡ (if is_covered (outside_of log.now).written place then junk else byte) }
+/// The byte of junk where the offset was written since the last sync or power failure of this log, else the file's.
+fn junk_at(log: &[Turn], offset: usize, byte: u8, junk: u8) -> u8
+    ensures { result ≡ (if is_covered (outside_of log.now).written offset then junk else byte) }
 {
-    if is_written(log, place) { junk } else { byte }
+    if is_written(log, offset) { junk } else { byte }
 }
 
-/// Whether the byte at a place was written since the last sync or power failure of this log.
-fn is_written(log: &[Turn], place: usize) -> bool
-    ensures { result ≡ is_covered (outside_of log.now).written place }
+/// Whether the byte at an offset was written since the last sync or power failure of this log.
+fn is_written(log: &[Turn], offset: usize) -> bool
+    ensures { result ≡ is_covered (outside_of log.now).written offset }
 {
     let mut written = false;
     for turn in log {
-        written = written_after(turn, place, written);
+        written = written_after(turn, offset, written);
     }
     written
 }
 
-/// Whether the byte at a place is written since then, after one more turn.
-fn written_after(turn: &Turn, place: usize, before: bool) -> bool
-    ensures { (o : Outside) → before ≡ is_covered o.written place → result ≡ is_covered (outside_after o turn.now).written place }
+/// Whether the byte at an offset is written since then, after one more turn.
+fn written_after(turn: &Turn, offset: usize, before: bool) -> bool
+    ensures { (o : Outside) → before ≡ is_covered o.written offset → result ≡ is_covered (outside_after o turn.now).written offset }
 {
     match turn {
         Turn::Wrote { pos, bytes } => {
-            is_within(*pos as usize, bytes.as_slice().len(), place) || before
+            is_within(*pos as usize, bytes.as_slice().len(), offset) || before
         }
         Turn::Synced | Turn::Crash { .. } => false,
         _ => before,
     }
 }
 
-/// Whether a place is one of so many from a place on.
-fn is_within(from: usize, size: usize, place: usize) -> bool
-    ensures { result ≡ covers place (record { from = from; size = size }) }
+/// Whether an offset is one of so many from another on.
+fn is_within(from: usize, size: usize, offset: usize) -> bool
+    ensures { result ≡ covers offset (record { from = from; size = size }) }
 {
-    from <= place && place - from < size
+    from <= offset && offset - from < size
 }

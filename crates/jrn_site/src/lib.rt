@@ -1,10 +1,11 @@
-//! A site in memory that has a disk and no lines, tells its log, and loses its power where it is told to.
+//! A site in memory that has a disk and no connections, whose log a proof observes, and which loses its power after as
+//! many calls as it is asked to.
 #![tactic(auto)]
 
 mod disk;
 mod site;
 
-pub use site::{DiskSite, Left};
+pub use site::{DiskSite, ImageKind};
 
 #[cfg(test)]
 mod tests;

@@ -1,12 +1,12 @@
-//! The site.
+//! The site in memory.
 ghost use Rattle.std.specs.Prelude.{◌≡◌, ◌≤◌, ◌∷◌, ◌++◌, ◌||◌, ◌==◌, [], length, List, Some, None, true, false, IsOk, IsErr, OnOk, OnErr, IfOk};
-ghost use Rattle.gw_site.specs.Causes.{HasCause, Rose};
+ghost use Rattle.gw_site.specs.Failures.{HasCause, Rose};
 ghost use Rattle.gw_site.specs.Outside.{file_part, outside_of};
-ghost use Rattle.gw_site.specs.Seen.{Grows, GrowsWhole, Tells};
+ghost use Rattle.gw_site.specs.Observed.{Grows, GrowsWhole, IfObserved};
 ghost use Rattle.gw_site.specs.Turns.{DiskTurns, IsTurn, SyncedTurns, WroteTurns};
 ghost use Rattle.gw_site.specs.declared.turn.Turn.{Turn as ATurn};
 ghost use Rattle.gw_site.specs.declared.turn.Turn.TheVariants.{Crash, Synced, Wrote};
-ghost use Rattle.jrn_site.specs.Left.{file_left};
+ghost use Rattle.jrn_site.specs.ImageKind.{image_file};
 
 use crate::disk::{overwritten, put_junk, read_part};
 use gw_base::{Bytes, Setup};
@@ -15,18 +15,18 @@ use std::alloc::{AllocError, Global};
 
 /// What a power failure leaves.
 #[derive(Clone, Copy, Debug)]
-pub enum Left {
+pub enum ImageKind {
     /// The file of the last sync.
     Old,
     /// The file with all writes.
     New,
-    /// The same, with this byte over all that was written since the last sync.
+    /// The file with all writes, with this byte over all that was written since the last sync.
     Junk(u8),
 }
 
 /// A site in memory with a disk.
 ///
-/// It has no lines: a call on one that can fail does, and a poll brings the stop, at the moment 0. Where memory is
+/// It has no connections: a call on one that can fail does, and a poll brings the stop, at the moment 0. Where memory is
 /// refused the site is dark, and its log ends there.
 #[derive(Drop)]
 pub struct DiskSite {
@@ -43,7 +43,7 @@ pub struct DiskSite {
     ghost stable_is: { stable.items ≡ (outside_of log.items).stable },
 }
 
-/// One more fault; the count stays at its last value.
+/// A count of failures after one more; it stays at its last value.
 fn risen(faults: u64) -> u64
     ensures rose { Rose faults result }
     ensures later { faults ≤ result }
@@ -67,11 +67,11 @@ fn copied(alloc: Global, bytes: &[u8]) -> Result<Vec<u8>, AllocError>
 }
 
 impl DiskSite {
-    ghost use Rattle.jrn_site.specs.Disk.{LeavesFile, calls_of, is_last, one_less, seen_of};
+    ghost use Rattle.jrn_site.specs.Disk.{LeavesFile, calls_of, is_last_call, one_less, observed_of};
 
     /// A site with an empty file and an empty log.
     pub fn new(alloc: Global) -> DiskSite
-        ensures seen { seen_of result ≡ record { log = Some []; faults = 0; dark = false; origin = [] } }
+        ensures observed { observed_of result ≡ record { log = Some []; faults = 0; dark = false; origin = [] } }
         ensures calls { calls_of result ≡ None }
     {
         DiskSite {
@@ -87,7 +87,7 @@ impl DiskSite {
 
     /// A site with this file, as if a power failure had left it.
     pub fn holding(alloc: Global, file: &[u8]) -> Result<DiskSite, AllocError>
-        ensures seen { IfOk result (λ site. seen_of site ≡ record { log = Some (Crash file.now ∷ []); faults = 0; dark = false; origin = [] }) }
+        ensures observed { IfOk result (λ site. observed_of site ≡ record { log = Some (Crash file.now ∷ []); faults = 0; dark = false; origin = [] }) }
         ensures calls { IfOk result (λ site. calls_of site ≡ None) }
     {
         let mut site = DiskSite::new(alloc);
@@ -97,25 +97,25 @@ impl DiskSite {
 
     /// The file.
     pub fn file(&self) -> &[u8]
-        ensures { (log : List ATurn) → (seen_of self.now).log ≡ Some log → result.now ≡ (outside_of log).file }
+        ensures { (log : List ATurn) → (observed_of self.now).log ≡ Some log → result.now ≡ (outside_of log).file }
     {
         &self.file
     }
 
     /// What went in and out.
     pub fn log(&self) -> &[Turn]
-        ensures { (seen_of self.now).log ≡ Some result.now }
+        ensures { (observed_of self.now).log ≡ Some result.now }
     {
         &self.log
     }
 
-    /// The power fails behind so many more calls on the disk, the last of which is made whole.
+    /// The power fails after so many more calls on the disk, the last of which is made whole.
     pub fn stop_after(&mut self, calls: u64)
-        ensures log { (seen_of self.new).log ≡ (seen_of self.old).log }
+        ensures log { (observed_of self.new).log ≡ (observed_of self.old).log }
         ensures calls { calls_of self.new ≡ Some calls }
-        ensures dark { (seen_of self.new).dark ≡ ((seen_of self.old).dark || (calls == 0)) }
-        ensures lit { (seen_of self.new).dark ≡ false → (seen_of self.old).dark ≡ false }
-        ensures faults { (seen_of self.new).faults ≡ (seen_of self.old).faults }
+        ensures dark { (observed_of self.new).dark ≡ ((observed_of self.old).dark || (calls == 0)) }
+        ensures lit { (observed_of self.new).dark ≡ false → (observed_of self.old).dark ≡ false }
+        ensures faults { (observed_of self.new).faults ≡ (observed_of self.old).faults }
     {
         self.calls = Some(calls);
         self.dark = self.dark || calls == 0;
@@ -165,7 +165,7 @@ impl DiskSite {
         ensures log { self.new.log.items ≡ self.old.log.items }
         ensures faults { self.new.faults ≡ self.old.faults }
         ensures calls { self.new.calls ≡ one_less self.old.calls }
-        ensures dark { self.old.dark ≡ false → self.new.dark ≡ is_last self.old.calls }
+        ensures dark { self.old.dark ≡ false → self.new.dark ≡ is_last_call self.old.calls }
     {
         if let Some(calls) = self.calls {
             self.dark = self.dark || calls <= 1;
@@ -188,8 +188,8 @@ impl DiskSite {
     /// Appends a turn that leaves the file; where the log can't grow the site is dark.
     fn note(&mut self, turn: Turn)
         requires { LeavesFile turn }
-        ensures turns { Grows (seen_of self.old) (seen_of self.new) (IsTurn turn) }
-        ensures whole { GrowsWhole (seen_of self.old) (seen_of self.new) (λ before. IsTurn turn) }
+        ensures turns { Grows (observed_of self.old) (observed_of self.new) (IsTurn turn) }
+        ensures whole { GrowsWhole (observed_of self.old) (observed_of self.new) (λ before. IsTurn turn) }
         ensures faults { self.new.faults ≡ self.old.faults }
         ensures calls { self.new.calls ≡ self.old.calls }
     {
@@ -198,11 +198,11 @@ impl DiskSite {
         }
     }
 
-    /// A call on a line fails, which is this turn.
+    /// A call on a connection fails, which is this turn.
     fn refuse(&mut self, turn: Turn) -> Failed
         requires { LeavesFile turn }
-        ensures turns { Grows (seen_of self.old) (seen_of self.new) (IsTurn turn) }
-        ensures whole { GrowsWhole (seen_of self.old) (seen_of self.new) (λ before. IsTurn turn) }
+        ensures turns { Grows (observed_of self.old) (observed_of self.new) (IsTurn turn) }
+        ensures whole { GrowsWhole (observed_of self.old) (observed_of self.new) (λ before. IsTurn turn) }
         ensures rose { Rose self.old.faults self.new.faults }
         ensures later { self.old.faults ≤ self.new.faults }
         ensures calls { self.new.calls ≡ self.old.calls }
@@ -213,13 +213,13 @@ impl DiskSite {
     }
 
     /// The file that a power failure leaves.
-    fn leave(&self, left: Left) -> Result<Vec<u8>, AllocError>
-        ensures { IfOk result (λ file. file.items ≡ file_left left (outside_of self.now.log.items)) }
+    fn leave(&self, kind: ImageKind) -> Result<Vec<u8>, AllocError>
+        ensures { IfOk result (λ file. file.items ≡ image_file kind (outside_of self.now.log.items)) }
     {
-        match left {
-            Left::Old => copied(self.alloc, &self.stable),
-            Left::New => copied(self.alloc, &self.file),
-            Left::Junk(junk) => {
+        match kind {
+            ImageKind::Old => copied(self.alloc, &self.stable),
+            ImageKind::New => copied(self.alloc, &self.file),
+            ImageKind::Junk(junk) => {
                 let mut file = copied(self.alloc, &self.file)?;
                 put_junk(&mut file, &self.log, junk);
                 Ok(file)
@@ -227,26 +227,26 @@ impl DiskSite {
         }
     }
 
-    /// A power failure, behind which the site has its power again. Without memory nothing happens.
-    pub fn restart(&mut self, left: Left) -> Result<(), AllocError>
-        ensures crash { OnOk result ((log : List ATurn) → (seen_of self.old).log ≡ Some log
-            → (seen_of self.new).log ≡ Some (log ++ Crash (file_left left (outside_of log)) ∷ [])) }
-        ensures lit { OnOk result ((seen_of self.new).dark ≡ false) }
+    /// A power failure, after which the site has its power again. Without memory nothing happens.
+    pub fn restart(&mut self, kind: ImageKind) -> Result<(), AllocError>
+        ensures crash { OnOk result ((log : List ATurn) → (observed_of self.old).log ≡ Some log
+            → (observed_of self.new).log ≡ Some (log ++ Crash (image_file kind (outside_of log)) ∷ [])) }
+        ensures lit { OnOk result ((observed_of self.new).dark ≡ false) }
         ensures calls { OnOk result (calls_of self.new ≡ None) }
-        ensures err { OnErr result (seen_of self.new ≡ seen_of self.old) }
-        ensures faults { (seen_of self.new).faults ≡ (seen_of self.old).faults }
+        ensures err { OnErr result (observed_of self.new ≡ observed_of self.old) }
+        ensures faults { (observed_of self.new).faults ≡ (observed_of self.old).faults }
     {
-        let file = self.leave(left)?;
+        let file = self.leave(kind)?;
         self.hold(file)
     }
 
     /// Has this file, which a power failure left.
     fn hold(&mut self, file: Vec<u8>) -> Result<(), AllocError>
         ensures ok { OnOk result (self.new.log.items ≡ self.old.log.items ++ Crash file.items ∷ []) }
-        ensures err { OnErr result (seen_of self.new ≡ seen_of self.old) }
-        ensures lit { OnOk result ((seen_of self.new).dark ≡ false) }
+        ensures err { OnErr result (observed_of self.new ≡ observed_of self.old) }
+        ensures lit { OnOk result ((observed_of self.new).dark ≡ false) }
         ensures calls { OnOk result (calls_of self.new ≡ None) }
-        ensures faults { (seen_of self.new).faults ≡ (seen_of self.old).faults }
+        ensures faults { (observed_of self.new).faults ≡ (observed_of self.old).faults }
     {
         let stable = copied(self.alloc, &file)?;
         let crash = Bytes::copied(self.alloc, &file)?;
@@ -260,9 +260,9 @@ impl DiskSite {
 }
 
 impl Site for DiskSite {
-    ghost use Rattle.jrn_site.specs.Disk.{IsMade, seen_of};
+    ghost use Rattle.jrn_site.specs.Disk.{IsMade, observed_of};
 
-    ghost seen = { seen_of };
+    ghost observed = { observed_of };
 
     fn open(&mut self, _setup: &Setup) -> Result<(), Failed> {
         Err(self.refuse(Turn::OpenFailed))
@@ -308,11 +308,11 @@ impl Site for DiskSite {
     }
 
     fn length(&mut self) -> Result<u64, Failed>
-        ensures turns { Grows (seen_of self.old) (seen_of self.new) (DiskTurns result) }
-        ensures length { Tells (seen_of self.old) (λ log. IfOk result (λ count. count ≡ length (outside_of log).file)) }
-        ensures cause { HasCause (seen_of self.old).faults (seen_of self.new).faults result }
-        ensures dark { (seen_of self.old).dark ≡ true → IsErr result }
-        ensures lit { (seen_of self.old).dark ≡ false → IsOk result }
+        ensures turns { Grows (observed_of self.old) (observed_of self.new) (DiskTurns result) }
+        ensures length { IfObserved (observed_of self.old) (λ log. IfOk result (λ count. count ≡ length (outside_of log).file)) }
+        ensures cause { HasCause (observed_of self.old).faults (observed_of self.new).faults result }
+        ensures dark { (observed_of self.old).dark ≡ true → IsErr result }
+        ensures lit { (observed_of self.old).dark ≡ false → IsOk result }
         ensures made { OnOk result (IsMade self.old self.new) }
     {
         if self.dark {
@@ -323,11 +323,11 @@ impl Site for DiskSite {
     }
 
     fn read_at(&mut self, pos: u64, buf: &mut [u8]) -> Result<(), Failed>
-        ensures turns { Grows (seen_of self.old) (seen_of self.new) (DiskTurns result) }
-        ensures bytes { Tells (seen_of self.old) (λ log. IfOk result (λ done. buf.new ≡ file_part (outside_of log).file pos (length buf.old))) }
-        ensures cause { HasCause (seen_of self.old).faults (seen_of self.new).faults result }
-        ensures dark { (seen_of self.old).dark ≡ true → IsErr result }
-        ensures lit { (seen_of self.old).dark ≡ false → IsOk result }
+        ensures turns { Grows (observed_of self.old) (observed_of self.new) (DiskTurns result) }
+        ensures bytes { IfObserved (observed_of self.old) (λ log. IfOk result (λ done. buf.new ≡ file_part (outside_of log).file pos (length buf.old))) }
+        ensures cause { HasCause (observed_of self.old).faults (observed_of self.new).faults result }
+        ensures dark { (observed_of self.old).dark ≡ true → IsErr result }
+        ensures lit { (observed_of self.old).dark ≡ false → IsOk result }
         ensures made { OnOk result (IsMade self.old self.new) }
     {
         if self.dark {
@@ -339,9 +339,9 @@ impl Site for DiskSite {
     }
 
     fn write_at(&mut self, pos: u64, bytes: &[u8]) -> Result<(), Failed>
-        ensures turns { Grows (seen_of self.old) (seen_of self.new) (WroteTurns pos bytes.now result) }
-        ensures cause { HasCause (seen_of self.old).faults (seen_of self.new).faults result }
-        ensures dark { (seen_of self.old).dark ≡ true → IsErr result }
+        ensures turns { Grows (observed_of self.old) (observed_of self.new) (WroteTurns pos bytes.now result) }
+        ensures cause { HasCause (observed_of self.old).faults (observed_of self.new).faults result }
+        ensures dark { (observed_of self.old).dark ≡ true → IsErr result }
         ensures made { OnOk result (IsMade self.old self.new) }
     {
         if self.dark {
@@ -355,9 +355,9 @@ impl Site for DiskSite {
     }
 
     fn sync(&mut self) -> Result<(), Failed>
-        ensures turns { Grows (seen_of self.old) (seen_of self.new) (SyncedTurns result) }
-        ensures cause { HasCause (seen_of self.old).faults (seen_of self.new).faults result }
-        ensures dark { (seen_of self.old).dark ≡ true → IsErr result }
+        ensures turns { Grows (observed_of self.old) (observed_of self.new) (SyncedTurns result) }
+        ensures cause { HasCause (observed_of self.old).faults (observed_of self.new).faults result }
+        ensures dark { (observed_of self.old).dark ≡ true → IsErr result }
         ensures made { OnOk result (IsMade self.old self.new) }
     {
         if self.dark {

@@ -1,6 +1,7 @@
+//! Journals over the site in memory: every stop of an append and of an opening, and files that others wrote.
 ghost use Rattle.std.specs.Prelude.{OnOk};
-ghost use Rattle.jrn_log.specs.Stands.{StandsFor};
-ghost use Rattle.jrn_site.specs.Disk.{seen_of};
+ghost use Rattle.jrn_log.specs.Journal.{StandsFor};
+ghost use Rattle.jrn_site.specs.Disk.{observed_of};
 
 use super::*;
 use jrn_log::{AppendFault, Journal, OpenFault};
@@ -13,8 +14,8 @@ const SECOND: [u8; 255] = [0x02; 255];
 
 /// Keeps a body where there is room.
 fn keep(site: &mut DiskSite, journal: &mut Journal, body: &[u8; 255]) -> Result<u32, AppendFault>
-    requires { StandsFor journal.old (seen_of site.old) }
-    ensures { OnOk result (StandsFor journal.new (seen_of site.new)) }
+    requires { StandsFor journal.old (observed_of site.old) }
+    ensures { OnOk result (StandsFor journal.new (observed_of site.new)) }
 {
     if journal.room() == 0 {
         return Err(AppendFault::Disk);
@@ -34,40 +35,45 @@ fn count_bodies(alloc: Global, site: &mut DiskSite) -> Result<usize, Fail> {
     Ok(bodies.as_slice().len())
 }
 
-/// A journal with the first body, whose power fails behind so many calls of keeping the second.
-fn stopped_append(alloc: Global, calls: u64, left: Left) -> Result<usize, Fail> {
+/// A journal with the first body, whose power fails after so many calls of keeping the second.
+fn stopped_append(alloc: Global, calls: u64, kind: ImageKind) -> Result<usize, Fail> {
     let mut site = DiskSite::new(alloc);
     let (mut journal, _) = Journal::open(alloc, &mut site, 3)?;
     keep(&mut site, &mut journal, &FIRST)?;
     site.stop_after(calls);
     let _ = keep(&mut site, &mut journal, &SECOND);
-    site.restart(left)?;
+    site.restart(kind)?;
     count_bodies(alloc, &mut site)
 }
 
-/// A site without a file, whose power fails behind so many calls of an opening.
-fn stopped_first_opening(alloc: Global, calls: u64, left: Left) -> Result<usize, Fail> {
+/// A site without a file, whose power fails after so many calls of an opening.
+fn stopped_first_opening(alloc: Global, calls: u64, kind: ImageKind) -> Result<usize, Fail> {
     let mut site = DiskSite::new(alloc);
     site.stop_after(calls);
     let _ = Journal::open(alloc, &mut site, 3).is_ok();
-    site.restart(left)?;
+    site.restart(kind)?;
     count_bodies(alloc, &mut site)
 }
 
-/// A site with both bodies, whose power fails behind so many calls of an opening.
-fn stopped_opening(alloc: Global, calls: u64, left: Left) -> Result<usize, Fail> {
+/// A site with both bodies, whose power fails after so many calls of an opening.
+fn stopped_opening(alloc: Global, calls: u64, kind: ImageKind) -> Result<usize, Fail> {
     let mut site = DiskSite::new(alloc);
     let (mut journal, _) = Journal::open(alloc, &mut site, 3)?;
     keep(&mut site, &mut journal, &FIRST)?;
     keep(&mut site, &mut journal, &SECOND)?;
     site.stop_after(calls);
     let _ = Journal::open(alloc, &mut site, 3).is_ok();
-    site.restart(left)?;
+    site.restart(kind)?;
     count_bodies(alloc, &mut site)
 }
 
 /// What a power failure leaves, in the order of the columns below.
-const LEFT: [Left; 4] = [Left::Old, Left::New, Left::Junk(0xA5), Left::Junk(0x41)];
+const LEFT: [ImageKind; 4] = [
+    ImageKind::Old,
+    ImageKind::New,
+    ImageKind::Junk(0xA5),
+    ImageKind::Junk(0x41),
+];
 
 /// When the power fails.
 #[derive(Clone, Copy, Debug)]
@@ -77,16 +83,16 @@ enum Stop {
     Opening,
 }
 
-/// How many bodies are left where the power fails behind so many calls.
-fn stopped(alloc: Global, stop: Stop, calls: u64, left: Left) -> Result<usize, Fail> {
+/// How many bodies are left where the power fails after so many calls.
+fn stopped(alloc: Global, stop: Stop, calls: u64, kind: ImageKind) -> Result<usize, Fail> {
     match stop {
-        Stop::Append => stopped_append(alloc, calls, left),
-        Stop::FirstOpening => stopped_first_opening(alloc, calls, left),
-        Stop::Opening => stopped_opening(alloc, calls, left),
+        Stop::Append => stopped_append(alloc, calls, kind),
+        Stop::FirstOpening => stopped_first_opening(alloc, calls, kind),
+        Stop::Opening => stopped_opening(alloc, calls, kind),
     }
 }
 
-/// When the power fails, behind how many calls, and how many bodies are left by each power failure of `LEFT`.
+/// When the power fails, after how many calls, and how many bodies are left by each power failure of `LEFT`.
 const STOPS: [(Stop, u64, [usize; 4]); 14] = [
     // A write, a sync, the write of the gate, a sync.
     (Stop::Append, 0, [1, 1, 1, 1]),
@@ -110,9 +116,35 @@ const STOPS: [(Stop, u64, [usize; 4]); 14] = [
 #[test]
 fn every_stop_leaves_the_old_bodies_or_the_new(rt: HostRuntime) -> Result<(), Fail> {
     for (stop, calls, expected) in STOPS {
-        for (left, count) in LEFT.into_iter().zip(expected) {
-            let bodies = stopped(rt.alloc(), stop, calls, left)?;
-            assert_eq!(rt; bodies, count, "{stop:?} {calls} {left:?}");
+        for (kind, count) in LEFT.into_iter().zip(expected) {
+            let bodies = stopped(rt.alloc(), stop, calls, kind)?;
+            assert_eq!(rt; bodies, count, "{stop:?} {calls} {kind:?}");
+        }
+    }
+    Ok(())
+}
+
+#[test]
+fn a_first_opening_reads_nothing(rt: HostRuntime) -> Result<(), Fail> {
+    // After how many calls the power fails, whether the journal was opened, and the turns that were added. The calls
+    // are a sync, the length, the write of the first gate and a sync: no read, and no length before the sync.
+    let rows = [
+        (0, false, 0),
+        (1, false, 1),
+        (2, false, 1),
+        (3, false, 2),
+        (4, true, 3),
+    ];
+    for file in [b"".as_slice(), b"\xA5".as_slice()] {
+        for (calls, opened, turns) in rows {
+            let mut site = DiskSite::holding(rt.alloc(), file)?;
+            site.stop_after(calls);
+            let is_opened = Journal::open(rt.alloc(), &mut site, 3).is_ok();
+            assert_eq!(rt;
+                (is_opened, site.log().len()),
+                (opened, turns + 1),
+                "{calls} calls"
+            );
         }
     }
     Ok(())

@@ -1,61 +1,61 @@
--- The one text of a tree that is written.
+-- The canonical spelling: the one text that is written of a tree.
 use Rattle.std.specs.Prelude.{◌≡◌, ℕ, ◌/◌, ◌%◌, List, [], ◌∷◌, ◌++◌, Bool, true, false, flat_map, nat_lt, ◌==◌, ◌||◌, if◌then◌else◌}
 use Rattle.std.specs.Char.{digit_char}
 use Rattle.json_text.specs.Tree.{Tree, null, boolean, number, string, array, object, Items, no_items, item, Members, no_members, member}
-use Rattle.json_text.specs.Spelling.{word_null, word_true, word_false}
+use Rattle.json_text.specs.Grammar.{literal_null, literal_true, literal_false}
 
--- one byte of a string: quotation mark and backslash behind a backslash, a control character by its
+-- one byte of a string: quotation mark and backslash after a backslash, a control character by its
 -- number in lower-case digits, any other byte itself
-abbrev pub written_byte : ℕ → List ℕ
-written_byte c =
+abbrev pub canonical_byte : ℕ → List ℕ
+canonical_byte c =
     if (c == 34) || (c == 92) then 92 ∷ c ∷ [] else
     (if nat_lt c 32 then 92 ∷ 117 ∷ 48 ∷ 48 ∷ digit_char (c / 16) ∷ digit_char (c % 16) ∷ [] else c ∷ [])
 
 -- a string between its quotation marks
-abbrev pub written_text : List ℕ → List ℕ
-written_text text = 34 ∷ (flat_map written_byte text ++ 34 ∷ [])
+abbrev pub canonical_string : List ℕ → List ℕ
+canonical_string text = 34 ∷ (flat_map canonical_byte text ++ 34 ∷ [])
 
 abbrev mutual
   -- no white space, items and members in order
   pub canonical : Tree → List ℕ
-  canonical null = word_null
-  canonical (boolean true) = word_true
-  canonical (boolean false) = word_false
+  canonical null = literal_null
+  canonical (boolean true) = literal_true
+  canonical (boolean false) = literal_false
   canonical (number text) = text
-  canonical (string text) = written_text text
+  canonical (string text) = canonical_string text
   canonical (array xs) = 91 ∷ canonical_first xs
   canonical (object ms) = 123 ∷ canonical_first_member ms
 
-  -- behind the opening bracket
+  -- after the opening bracket
   pub canonical_first : Items → List ℕ
   canonical_first no_items = 93 ∷ []
   canonical_first (item x rest) = canonical x ++ canonical_more rest
 
-  -- behind an item
+  -- after an item
   pub canonical_more : Items → List ℕ
   canonical_more no_items = 93 ∷ []
   canonical_more (item x rest) = 44 ∷ (canonical x ++ canonical_more rest)
 
-  -- behind the opening brace
+  -- after the opening brace
   pub canonical_first_member : Members → List ℕ
   canonical_first_member no_members = 125 ∷ []
-  canonical_first_member (member name x rest) = written_text name ++ (58 ∷ (canonical x ++ canonical_more_members rest))
+  canonical_first_member (member name x rest) = canonical_string name ++ (58 ∷ (canonical x ++ canonical_more_members rest))
 
-  -- behind a member
+  -- after a member
   pub canonical_more_members : Members → List ℕ
   canonical_more_members no_members = 125 ∷ []
-  canonical_more_members (member name x rest) = 44 ∷ (written_text name ++ (58 ∷ (canonical x ++ canonical_more_members rest)))
+  canonical_more_members (member name x rest) = 44 ∷ (canonical_string name ++ (58 ∷ (canonical x ++ canonical_more_members rest)))
 
--- what follows a bracket or a brace: true where nothing is written behind it yet
+-- Inner: the items that follow: true where they are the first after the bracket
 abbrev pub canonical_items : Bool → Items → List ℕ
 canonical_items true xs = canonical_first xs
 canonical_items false xs = canonical_more xs
 
--- the same of members
+-- Inner: the members that follow: true where they are the first after the brace
 abbrev pub canonical_members : Bool → Members → List ℕ
 canonical_members true ms = canonical_first_member ms
 canonical_members false ms = canonical_more_members ms
 
--- a front of the piece was appended
-abbrev pub AppendsFront : List ℕ → List ℕ → List ℕ → Type 0
-AppendsFront piece old new = (part : List ℕ) × (rest : List ℕ) × (piece ≡ part ++ rest) × (new ≡ old ++ part)
+-- Inner: a prefix of these bytes was appended
+abbrev pub AppendsPrefix : List ℕ → List ℕ → List ℕ → Type 0
+AppendsPrefix chunk old new = (part : List ℕ) × (rest : List ℕ) × (chunk ≡ part ++ rest) × (new ≡ old ++ part)

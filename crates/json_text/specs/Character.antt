@@ -30,7 +30,7 @@ hex_value d =
     (if is_in_range 97 102 d then Some (d - 87) else
     (if is_in_range 65 70 d then Some (d - 55) else None))
 
--- w is hexadecimal digits, and behind the value n they make the value u
+-- w is hexadecimal digits, and after the value n they make the value u
 abbrev pub AreHex : List ℕ → ℕ → ℕ → Type 0
 AreHex [] n u = u ≡ n
 AreHex (d ∷ w) n u = (x : ℕ) × (hex_value d ≡ Some x) × AreHex w (n * 16 + x) u
@@ -42,15 +42,15 @@ pub record IsUnit (u : ℕ) (w : List ℕ) : Type 0 where
   pub value : AreHex digits 0 u
   pub parts : w ≡ 92 ∷ 117 ∷ digits
 
--- a surrogate in front, and one behind
+-- the first surrogate of a pair
 abbrev pub IsHigh : ℕ → Type 0
 IsHigh u = (0xD800 ≤ u) × (u < 0xDC00)
 
--- a surrogate behind
+-- the second surrogate of a pair
 abbrev pub IsLow : ℕ → Type 0
 IsLow u = (0xDC00 ≤ u) × (u < 0xE000)
 
--- the character that a pair of surrogates stands for
+-- the character that a pair of surrogates means
 abbrev pub of_pair : ℕ → ℕ → ℕ
 of_pair high low = 0x10000 + ((high - 0xD800) * 0x400 + (low - 0xDC00))
 

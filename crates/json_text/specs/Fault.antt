@@ -1,37 +1,37 @@
--- Where a text is wrong, and why.
+-- Where a text is malformed, and why.
 use Rattle.std.specs.Prelude.{◌≡◌, ℕ, ◌+◌, ◌<◌, ◌≤◌, ◌↔◌, List, length, take, slice_index, true, false}
 use Rattle.json_text.specs.Tree.{Tree}
-use Rattle.json_text.specs.Spelling.{BeginsBy, Begins, Spells}
-use Rattle.json_text.specs.Stand.{stand, IsBadUtf8}
+use Rattle.json_text.specs.Grammar.{BeginsTextBy, BeginsText, Spells}
+use Rattle.json_text.specs.Scan.{scan, IsBadUtf8}
 use Rattle.json_text.specs.declared.fault.FaultKind.{FaultKind}
 use Rattle.json_text.specs.declared.fault.FaultKind.TheVariants as kinds
 use Rattle.json_text.specs.declared.fault.ReadError.{ReadError}
 use Rattle.json_text.specs.declared.fault.ReadError.TheVariants as errors
 
--- with more levels allowed, some text begins with the byte at this place too
+-- with more levels allowed, some text begins with the bytes up to this offset and the byte there
 abbrev pub OpensTooDeep : List ℕ → ℕ → Type 0
-OpensTooDeep b at = (at < length b) × ((limit : ℕ) × (32 ≤ limit) × BeginsBy (record { limit = limit; distinct = true }) (take (at + 1) b))
+OpensTooDeep b at = (at < length b) × ((limit : ℕ) × (32 ≤ limit) × BeginsTextBy (record { limit = limit; distinct = true }) (take (at + 1) b))
 
--- with a name allowed twice, some text begins with the byte at this place too
+-- with a name allowed twice, some text begins with the bytes up to this offset and the byte there
 abbrev pub ClosesRepeated : List ℕ → ℕ → Type 0
-ClosesRepeated b at = (at < length b) × BeginsBy (record { limit = 32; distinct = false }) (take (at + 1) b)
+ClosesRepeated b at = (at < length b) × BeginsTextBy (record { limit = 32; distinct = false }) (take (at + 1) b)
 
--- the byte at this place is in a string, and is 80 or above or cuts a character
+-- the byte at this offset is in a string, and is 80 or above or truncates a character
 abbrev pub BreaksUtf8 : List ℕ → ℕ → Type 0
-BreaksUtf8 b at = (at < length b) × IsBadUtf8 (stand (take at b)) (slice_index b at)
+BreaksUtf8 b at = (at < length b) × IsBadUtf8 (scan (take at b)) (slice_index b at)
 
--- b is no text: some text begins with its bytes up to this place, and none with one byte more
-pub record IsFault (b : List ℕ) (at : ℕ) (kind : FaultKind) : Type 0 where
+-- b is no text: some text begins with its bytes up to this offset, and none with one byte more
+pub record IsJsonFault (b : List ℕ) (at : ℕ) (kind : FaultKind) : Type 0 where
   pub within : at ≤ length b
-  pub begins : Begins (take at b)
-  pub longest : at < length b → Begins (take (at + 1) b) → ⊥
+  pub begins : BeginsText (take at b)
+  pub longest : at < length b → BeginsText (take (at + 1) b) → ⊥
   pub spelled_by_none : (v : Tree) → Spells v b → ⊥
   -- NotJson is where it is none of these
   pub too_deep : (kind ≡ kinds.TooDeep) ↔ OpensTooDeep b at
   pub repeated : (kind ≡ kinds.Repeated) ↔ ClosesRepeated b at
   pub bad_utf8 : (kind ≡ kinds.BadUtf8) ↔ BreaksUtf8 b at
 
--- the bytes are refused, unless it is for want of memory
-abbrev pub Refuses : List ℕ → ReadError → Type 0
-Refuses b errors.Memory = Unit {0}
-Refuses b (errors.Fault f) = IsFault b f.at f.kind
+-- the bytes have this fault, or memory was refused
+abbrev pub RefusesText : List ℕ → ReadError → Type 0
+RefusesText b errors.Memory = Unit {0}
+RefusesText b (errors.Fault f) = IsJsonFault b f.at f.kind

@@ -57,5 +57,5 @@ IsNegative [] = ⊥
 IsNegative (c ∷ s) = (c ≡ 45) × IsMagnitude s
 
 -- number = [ minus ] int [ frac ] [ exp ]
-abbrev pub IsNumber : List ℕ → Type 0
-IsNumber s = IsMagnitude s ⊎ IsNegative s
+abbrev pub IsNumberText : List ℕ → Type 0
+IsNumberText s = IsMagnitude s ⊎ IsNegative s

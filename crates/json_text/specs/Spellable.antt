@@ -2,8 +2,8 @@
 use Rattle.std.specs.Prelude.{ℕ, suc, ◌<◌}
 use Rattle.std.specs.Str.{IsUtf8}
 use Rattle.json_text.specs.Tree.{Tree, null, boolean, number, string, array, object, Items, no_items, item, Members, no_members, member, names}
-use Rattle.json_text.specs.Number.{IsNumber}
-use Rattle.json_text.specs.Spelling.{AreDistinct, profile}
+use Rattle.json_text.specs.Number.{IsNumberText}
+use Rattle.json_text.specs.Grammar.{AreDistinct, profile}
 
 abbrev mutual
   -- inside d open arrays and objects: its numbers are numbers, its strings and names UTF-8, the names of each object
@@ -11,7 +11,7 @@ abbrev mutual
   pub IsSpellableAt : ℕ → Tree → Type 0
   IsSpellableAt d null = Unit {0}
   IsSpellableAt d (boolean b) = Unit {0}
-  IsSpellableAt d (number text) = IsNumber text
+  IsSpellableAt d (number text) = IsNumberText text
   IsSpellableAt d (string text) = IsUtf8 text
   IsSpellableAt d (array xs) = (d < profile.limit) × AreSpellable (suc d) xs
   IsSpellableAt d (object ms) = (d < profile.limit) × AreDistinct (names ms) × HaveSpellable (suc d) ms

@@ -46,13 +46,13 @@ get_of name (array xs) = None
 get_of name (object ms) = member_of name ms
 
 -- the names of the tree's members; none where the tree is no object
-abbrev pub names_of : Tree → List (List ℕ)
-names_of null = []
-names_of (boolean b) = []
-names_of (number text) = []
-names_of (string text) = []
-names_of (array xs) = []
-names_of (object ms) = names ms
+abbrev pub member_names_of : Tree → List (List ℕ)
+member_names_of null = []
+member_names_of (boolean b) = []
+member_names_of (number text) = []
+member_names_of (string text) = []
+member_names_of (array xs) = []
+member_names_of (object ms) = names ms
 
 -- true or false, where the tree is one of these
 abbrev pub boolean_of : Tree → Option Bool
@@ -64,13 +64,13 @@ boolean_of (array xs) = None
 boolean_of (object ms) = None
 
 -- the text, where the tree is a number
-abbrev pub number_of : Tree → Option (List ℕ)
-number_of null = None
-number_of (boolean b) = None
-number_of (number text) = Some text
-number_of (string text) = None
-number_of (array xs) = None
-number_of (object ms) = None
+abbrev pub numeral_of : Tree → Option (List ℕ)
+numeral_of null = None
+numeral_of (boolean b) = None
+numeral_of (number text) = Some text
+numeral_of (string text) = None
+numeral_of (array xs) = None
+numeral_of (object ms) = None
 
 -- the text, where the tree is a string
 abbrev pub string_of : Tree → Option (List ℕ)
@@ -91,10 +91,10 @@ array_of (array xs) = Some (items_list xs)
 array_of (object ms) = None
 
 -- the members, where the tree is an object
-abbrev pub object_of : Tree → Option Members
-object_of null = None
-object_of (boolean b) = None
-object_of (number text) = None
-object_of (string text) = None
-object_of (array xs) = None
-object_of (object ms) = Some ms
+abbrev pub members_of : Tree → Option Members
+members_of null = None
+members_of (boolean b) = None
+members_of (number text) = None
+members_of (string text) = None
+members_of (array xs) = None
+members_of (object ms) = Some ms

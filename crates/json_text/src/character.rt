@@ -2,12 +2,12 @@
 ghost use Rattle.std.specs.Prelude.{◌≡◌, ◌≢◌, ◌<◌, ◌≤◌};
 ghost use Rattle.std.specs.Char.{InScalarRange};
 ghost use Rattle.json_text.specs.Character.{hex_value, short_escape, IsHigh};
-ghost use Rattle.json_text.specs.Stand.{inside, escaped, owes};
-ghost use Rattle.json_text.specs.CharacterLeft.{Left, IsSound, Turned, Starts, stand_within, FirstBounds, SecondBounds};
+ghost use Rattle.json_text.specs.Scan.{inside, escaped, owes};
+ghost use Rattle.json_text.specs.inner.CharacterLeft.{LeftOfCharacter, IsSound, IsCharacterStep, Starts, scan_within, FirstBounds, SecondBounds};
 
 /// What has been read of a character's spelling.
 #[derive(Clone, Copy, Debug)]
-pub(crate) enum Within {
+pub(crate) enum CharacterState {
     /// So many bytes of UTF-8 are owed, the next of them from `low` to `high`.
     Utf8 {
         owed: u8,
@@ -40,26 +40,26 @@ pub(crate) enum Within {
 
 /// What a byte does.
 #[derive(Clone, Copy, Debug)]
-pub(crate) enum Turn {
+pub(crate) enum CharacterStep {
     /// It completes the character.
     Whole(char),
-    Next(Within),
+    Next(CharacterState),
     /// No character goes on so.
     Wrong,
 }
 
-impl Turn {
-    fn whole(code: u32) -> Turn
+impl CharacterStep {
+    fn whole(code: u32) -> CharacterStep
         requires { InScalarRange code }
-        ensures { result ≡ Turn.Whole code }
+        ensures { result ≡ CharacterStep.Whole code }
     {
-        Turn::Whole(char::from_u32(code).unwrap())
+        CharacterStep::Whole(char::from_u32(code).unwrap())
     }
 
-    fn utf8(owed: u8, low: u8, high: u8, bits: u8) -> Turn
-        ensures { result ≡ Turn.Next (Within.Utf8 owed low high bits) }
+    fn utf8(owed: u8, low: u8, high: u8, bits: u8) -> CharacterStep
+        ensures { result ≡ CharacterStep.Next (CharacterState.Utf8 owed low high bits) }
     {
-        Turn::Next(Within::Utf8 {
+        CharacterStep::Next(CharacterState::Utf8 {
             owed,
             low,
             high,
@@ -69,58 +69,60 @@ impl Turn {
 }
 
 /// The first byte of a character, which is no quotation mark.
-pub(crate) fn first(byte: u8) -> Turn
+pub(crate) fn first(byte: u8) -> CharacterStep
     requires { byte ≢ 34 }
-    ensures { Turned Starts inside byte result }
+    ensures { IsCharacterStep Starts inside byte result }
 {
+    // The bounds of a second byte leave the shortest form alone (after E0 and F0), no surrogate (after ED) and nothing
+    // above 10FFFF (after F4); C0 and C1 would begin a longer form of ASCII, F5 and above a character that isn't there.
     match byte {
-        b'\\' => Turn::Next(Within::Escape),
-        0x20..=0x7F => Turn::Whole(char::from(byte)),
-        0xC2..=0xDF => Turn::utf8(1, 0x80, 0xBF, byte - 0xC0),
-        0xE0 => Turn::utf8(2, 0xA0, 0xBF, 0),
-        0xED => Turn::utf8(2, 0x80, 0x9F, 0xD),
-        0xE1..=0xEF => Turn::utf8(2, 0x80, 0xBF, byte - 0xE0),
-        0xF0 => Turn::utf8(3, 0x90, 0xBF, 0),
-        0xF4 => Turn::utf8(3, 0x80, 0x8F, 4),
-        0xF1..=0xF3 => Turn::utf8(3, 0x80, 0xBF, byte - 0xF0),
-        _ => Turn::Wrong,
+        b'\\' => CharacterStep::Next(CharacterState::Escape),
+        0x20..=0x7F => CharacterStep::Whole(char::from(byte)),
+        0xC2..=0xDF => CharacterStep::utf8(1, 0x80, 0xBF, byte - 0xC0),
+        0xE0 => CharacterStep::utf8(2, 0xA0, 0xBF, 0),
+        0xED => CharacterStep::utf8(2, 0x80, 0x9F, 0xD),
+        0xE1..=0xEF => CharacterStep::utf8(2, 0x80, 0xBF, byte - 0xE0),
+        0xF0 => CharacterStep::utf8(3, 0x90, 0xBF, 0),
+        0xF4 => CharacterStep::utf8(3, 0x80, 0x8F, 4),
+        0xF1..=0xF3 => CharacterStep::utf8(3, 0x80, 0xBF, byte - 0xF0),
+        _ => CharacterStep::Wrong,
     }
 }
 
-impl Within {
+impl CharacterState {
     /// The next byte of a character.
-    pub(crate) fn next(self, byte: u8) -> Turn
+    pub(crate) fn next(self, byte: u8) -> CharacterStep
         requires { IsSound self }
-        ensures { Turned (Left self) (stand_within self) byte result }
+        ensures { IsCharacterStep (LeftOfCharacter self) (scan_within self) byte result }
     {
         match self {
-            Within::Utf8 {
+            CharacterState::Utf8 {
                 owed,
                 low,
                 high,
                 bits,
             } => in_utf8(owed, low, high, bits, byte),
-            Within::Escape => in_escape(byte),
-            Within::First { owed, bits } => in_first(owed, bits, byte),
-            Within::Between { high } => in_between(high, byte),
-            Within::SecondEscape { high } => in_second_escape(high, byte),
-            Within::Second { high, owed, bits } => in_second(high, owed, bits, byte),
+            CharacterState::Escape => in_escape(byte),
+            CharacterState::First { owed, bits } => in_first(owed, bits, byte),
+            CharacterState::Between { high } => in_between(high, byte),
+            CharacterState::SecondEscape { high } => in_second_escape(high, byte),
+            CharacterState::Second { high, owed, bits } => in_second(high, owed, bits, byte),
         }
     }
 }
 
-fn in_utf8(owed: u8, low: u8, high: u8, bits: u32, byte: u8) -> Turn
-    requires { IsSound (Within.Utf8 owed low high bits) }
-    ensures { Turned (Left (Within.Utf8 owed low high bits)) (owes owed) byte result }
+fn in_utf8(owed: u8, low: u8, high: u8, bits: u32, byte: u8) -> CharacterStep
+    requires { IsSound (CharacterState.Utf8 owed low high bits) }
+    ensures { IsCharacterStep (LeftOfCharacter (CharacterState.Utf8 owed low high bits)) (owes owed) byte result }
 {
     if byte < low || byte > high {
-        return Turn::Wrong;
+        return CharacterStep::Wrong;
     }
     let bits = bits * 64 + u32::from(byte - 0x80);
     if owed == 1 {
-        Turn::whole(bits)
+        CharacterStep::whole(bits)
     } else {
-        Turn::Next(Within::Utf8 {
+        CharacterStep::Next(CharacterState::Utf8 {
             owed: owed - 1,
             low: 0x80,
             high: 0xBF,
@@ -129,22 +131,22 @@ fn in_utf8(owed: u8, low: u8, high: u8, bits: u32, byte: u8) -> Turn
     }
 }
 
-fn in_escape(byte: u8) -> Turn
-    ensures { Turned (Left Within.Escape) escaped byte result }
+fn in_escape(byte: u8) -> CharacterStep
+    ensures { IsCharacterStep (LeftOfCharacter CharacterState.Escape) escaped byte result }
 {
     match short(byte) {
-        Some(c) => Turn::Whole(c),
+        Some(c) => CharacterStep::Whole(c),
         None => {
             if byte == b'u' {
-                Turn::Next(Within::First { owed: 4, bits: 0 })
+                CharacterStep::Next(CharacterState::First { owed: 4, bits: 0 })
             } else {
-                Turn::Wrong
+                CharacterStep::Wrong
             }
         }
     }
 }
 
-/// The character that a letter behind a backslash stands for.
+/// The character that a letter after a backslash means.
 fn short(letter: u8) -> Option<char>
     ensures { result ≡ short_escape letter }
 {
@@ -159,66 +161,68 @@ fn short(letter: u8) -> Option<char>
     }
 }
 
-fn in_first(owed: u8, bits: u32, byte: u8) -> Turn
+fn in_first(owed: u8, bits: u32, byte: u8) -> CharacterStep
     requires { FirstBounds owed bits }
-    ensures { Turned (Left (Within.First owed bits)) inside byte result }
+    ensures { IsCharacterStep (LeftOfCharacter (CharacterState.First owed bits)) inside byte result }
 {
     let Some(value) = hex(byte) else {
-        return Turn::Wrong;
+        return CharacterStep::Wrong;
     };
     let bits = bits * 16 + value;
     match owed {
-        1 if (0xD800..0xDC00).contains(&bits) => Turn::Next(Within::Between { high: bits }),
-        1 => Turn::whole(bits),
-        // No low surrogate stands alone.
-        3 if (0xDC..0xE0).contains(&bits) => Turn::Wrong,
-        _ => Turn::Next(Within::First {
+        1 if (0xD800..0xDC00).contains(&bits) => CharacterStep::Next(CharacterState::Between {
+            high: bits,
+        }),
+        1 => CharacterStep::whole(bits),
+        // A low surrogate without a high one before it is refused at its second digit, the first that shows it.
+        3 if (0xDC..0xE0).contains(&bits) => CharacterStep::Wrong,
+        _ => CharacterStep::Next(CharacterState::First {
             owed: owed - 1,
             bits,
         }),
     }
 }
 
-fn in_between(high: u32, byte: u8) -> Turn
+fn in_between(high: u32, byte: u8) -> CharacterStep
     requires { IsHigh high }
-    ensures { Turned (Left (Within.Between high)) inside byte result }
+    ensures { IsCharacterStep (LeftOfCharacter (CharacterState.Between high)) inside byte result }
 {
     if byte == b'\\' {
-        Turn::Next(Within::SecondEscape { high })
+        CharacterStep::Next(CharacterState::SecondEscape { high })
     } else {
-        Turn::Wrong
+        CharacterStep::Wrong
     }
 }
 
-fn in_second_escape(high: u32, byte: u8) -> Turn
+fn in_second_escape(high: u32, byte: u8) -> CharacterStep
     requires { IsHigh high }
-    ensures { Turned (Left (Within.SecondEscape high)) escaped byte result }
+    ensures { IsCharacterStep (LeftOfCharacter (CharacterState.SecondEscape high)) escaped byte result }
 {
     if byte == b'u' {
-        Turn::Next(Within::Second {
+        CharacterStep::Next(CharacterState::Second {
             high,
             owed: 4,
             bits: 0,
         })
     } else {
-        Turn::Wrong
+        CharacterStep::Wrong
     }
 }
 
-fn in_second(high: u32, owed: u8, bits: u32, byte: u8) -> Turn
+fn in_second(high: u32, owed: u8, bits: u32, byte: u8) -> CharacterStep
     requires high { IsHigh high }
     requires bounds { SecondBounds owed bits }
-    ensures { Turned (Left (Within.Second high owed bits)) inside byte result }
+    ensures { IsCharacterStep (LeftOfCharacter (CharacterState.Second high owed bits)) inside byte result }
 {
     let Some(value) = hex(byte) else {
-        return Turn::Wrong;
+        return CharacterStep::Wrong;
     };
     let bits = bits * 16 + value;
     match owed {
-        1 => Turn::whole(0x10000 + ((high - 0xD800) * 0x400 + (bits - 0xDC00))),
-        3 if bits < 0xDC => Turn::Wrong,
-        4 if bits != 0xD => Turn::Wrong,
-        _ => Turn::Next(Within::Second {
+        1 => CharacterStep::whole(0x10000 + ((high - 0xD800) * 0x400 + (bits - 0xDC00))),
+        3 if bits < 0xDC => CharacterStep::Wrong,
+        4 if bits != 0xD => CharacterStep::Wrong,
+        _ => CharacterStep::Next(CharacterState::Second {
             high,
             owed: owed - 1,
             bits,

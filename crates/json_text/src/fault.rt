@@ -1,6 +1,6 @@
 //! What a text can be refused for.
 ghost use Rattle.std.specs.Prelude.{◌≡◌, ◌≤◌, length};
-ghost use Rattle.json_text.specs.Stops.{stop_at};
+ghost use Rattle.json_text.specs.inner.StepErrors.{read_error_at};
 ghost use Rattle.json_text.specs.FaultText.{kind_text};
 
 use std::alloc::{AllocError, AllocFailed};
@@ -23,7 +23,7 @@ pub enum FaultKind {
 /// Where a text is refused, and why.
 #[derive(Clone, Copy, Debug, PartialEq, Eq)]
 pub struct JsonFault {
-    /// The length of the longest front with which some text begins.
+    /// The length of the longest prefix with which some text begins.
     pub at: usize,
     pub kind: FaultKind,
 }
@@ -81,38 +81,38 @@ impl Error for ReadError {}
 
 /// What ends the reading at a byte.
 #[derive(Clone, Copy, Debug)]
-pub(crate) enum Stop {
+pub(crate) enum StepError {
     Memory,
     Fault(FaultKind),
 }
 
-impl Stop {
+impl StepError {
     pub(crate) fn at(self, at: usize) -> ReadError
-        ensures { result ≡ stop_at self at }
+        ensures { result ≡ read_error_at self at }
     {
         match self {
-            Stop::Memory => ReadError::Memory,
-            Stop::Fault(kind) => ReadError::Fault(JsonFault { at, kind }),
+            StepError::Memory => ReadError::Memory,
+            StepError::Fault(kind) => ReadError::Fault(JsonFault { at, kind }),
         }
     }
 }
 
-impl From<AllocError> for Stop {
-    ghost use Rattle.json_text.specs.declared.fault.Stop.TheVariants.{Memory};
+impl From<AllocError> for StepError {
+    ghost use Rattle.json_text.specs.declared.fault.StepError.TheVariants.{Memory};
 
     ghost from_gives = { λ _ e. e ≡ Memory };
 
     fn from(_: AllocError) -> Self {
-        Stop::Memory
+        StepError::Memory
     }
 }
 
-impl<T: Drop> From<AllocFailed<T>> for Stop {
-    ghost use Rattle.json_text.specs.declared.fault.Stop.TheVariants.{Memory};
+impl<T: Drop> From<AllocFailed<T>> for StepError {
+    ghost use Rattle.json_text.specs.declared.fault.StepError.TheVariants.{Memory};
 
     ghost from_gives = { λ _ e. e ≡ Memory };
 
     fn from(_: AllocFailed<T>) -> Self {
-        Stop::Memory
+        StepError::Memory
     }
 }

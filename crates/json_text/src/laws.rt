@@ -1,7 +1,7 @@
 //! Laws of texts, and of what is written.
 ghost use Rattle.std.specs.Prelude.{◌≡◌, ℕ, List};
 ghost use Rattle.json_text.specs.Tree.{Tree};
-ghost use Rattle.json_text.specs.Spelling.{Spells};
+ghost use Rattle.json_text.specs.Grammar.{Spells};
 ghost use Rattle.json_text.specs.Spellable.{IsSpellable};
 ghost use Rattle.json_text.specs.Canonical.{canonical};
 
@@ -10,8 +10,8 @@ pub fn one_tree_of_a_text()
     ensures { (v w : Tree) (b : List ℕ) → Spells v b → Spells w b → v ≡ w }
 {}
 
-/// No two trees that have texts are written alike: what is written tells the tree.
-pub fn written_tells_apart()
+/// No two trees that have texts have the same canonical spelling.
+pub fn no_two_written_alike()
     ensures { (v w : Tree) (b c : List ℕ) → Spells v b → Spells w c → canonical v ≡ canonical w → v ≡ w }
 {}
 

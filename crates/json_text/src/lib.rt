@@ -1,13 +1,20 @@
-//! Whole JSON text (RFC 8259): read exactly, refused at the exact place, written in one spelling.
+//! Whole JSON text (RFC 8259): read exactly, refused at the exact offset, written in one spelling.
 //!
 //! This profile allows at most 32 arrays and objects open at once and no member name twice in one object.
-//! A number is kept as its text.
+//! A number has its text as its value.
+//!
+//! ```
+//! let tree = json_text::read(alloc, b"{\"a\":[1,\"x\"],\"b\":true}")?;
+//! assert_eq!(tree.get(b"b").and_then(|b| b.as_bool()), Some(true));
+//! let mut out = Vec::new(alloc);
+//! json_text::write(alloc, &tree, &mut out)?;
+//! ```
 #![tactic(auto)]
 
 mod character;
 mod fault;
-mod fields;
 mod laws;
+mod members;
 mod number;
 mod reader;
 mod state;
@@ -17,7 +24,7 @@ mod tree;
 mod writer;
 
 pub use fault::{FaultKind, JsonFault, ReadError};
-pub use laws::{one_tree_of_a_text, spellable_trees_have_texts, written_tells_apart};
+pub use laws::{no_two_written_alike, one_tree_of_a_text, spellable_trees_have_texts};
 pub use reader::read;
 pub use tree::{Chars, Json, Numeral};
-pub use writer::{write, write_text, written_is_read_again};
+pub use writer::{escaped, write, write_text, written_is_read_again};

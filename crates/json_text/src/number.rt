@@ -1,13 +1,13 @@
 //! The text of a number, byte by byte.
 ghost use Rattle.std.specs.Prelude.{◌≡◌, [], MatchOption, MatchBool};
-ghost use Rattle.json_text.specs.Number.{IsNumber};
-ghost use Rattle.json_text.specs.NumberLeft.{Left, Leaves, Stops};
+ghost use Rattle.json_text.specs.Number.{IsNumberText};
+ghost use Rattle.json_text.specs.inner.NumberLeft.{LeftOfNumber, LeavesNumber, EndsNumber};
 
 /// What has been read of a number.
 #[derive(Clone, Copy, Debug)]
-pub(crate) enum Phase {
+pub(crate) enum NumberState {
     Minus,
-    /// The one digit 0 in front.
+    /// The digit 0, after which no digit may come.
     Zero,
     Digits,
     Point,
@@ -19,120 +19,124 @@ pub(crate) enum Phase {
     Exponent,
 }
 
-impl Phase {
+impl NumberState {
     /// The first byte of a number.
-    pub(crate) fn first(byte: u8) -> Option<Phase>
-        ensures { MatchOption result (Stops IsNumber byte) (Leaves IsNumber byte) }
+    pub(crate) fn first(byte: u8) -> Option<NumberState>
+        ensures { MatchOption result (EndsNumber IsNumberText byte) (LeavesNumber IsNumberText byte) }
     {
         match byte {
-            b'-' => Some(Phase::Minus),
-            b'0' => Some(Phase::Zero),
-            b'1'..=b'9' => Some(Phase::Digits),
+            b'-' => Some(NumberState::Minus),
+            b'0' => Some(NumberState::Zero),
+            b'1'..=b'9' => Some(NumberState::Digits),
             _ => None,
         }
     }
 
     /// The next byte, `None` where no number goes on with it.
-    pub(crate) fn next(self, byte: u8) -> Option<Phase>
-        ensures { MatchOption result (Stops (Left self) byte) (Leaves (Left self) byte) }
+    pub(crate) fn next(self, byte: u8) -> Option<NumberState>
+        ensures { MatchOption result (EndsNumber (LeftOfNumber self) byte) (LeavesNumber (LeftOfNumber self) byte) }
     {
         match self {
-            Phase::Minus => behind_minus(byte),
-            Phase::Zero => behind_zero(byte),
-            Phase::Digits => behind_digits(byte),
-            Phase::Point => behind_point(byte),
-            Phase::Fraction => behind_fraction(byte),
-            Phase::Letter => behind_letter(byte),
-            Phase::Sign => behind_sign(byte),
-            Phase::Exponent => behind_exponent(byte),
+            NumberState::Minus => after_minus(byte),
+            NumberState::Zero => after_zero(byte),
+            NumberState::Digits => after_digits(byte),
+            NumberState::Point => after_point(byte),
+            NumberState::Fraction => after_fraction(byte),
+            NumberState::Letter => after_letter(byte),
+            NumberState::Sign => after_sign(byte),
+            NumberState::Exponent => after_exponent(byte),
         }
     }
 
     /// Whether what has been read is a number.
     pub(crate) fn is_whole(self) -> bool
-        ensures { MatchBool result (Left self []) (Left self [] → ⊥) }
+        ensures { MatchBool result (LeftOfNumber self []) (LeftOfNumber self [] → ⊥) }
     {
         match self {
-            Phase::Zero | Phase::Digits | Phase::Fraction | Phase::Exponent => true,
-            Phase::Minus | Phase::Point | Phase::Letter | Phase::Sign => false,
+            NumberState::Zero
+            | NumberState::Digits
+            | NumberState::Fraction
+            | NumberState::Exponent => true,
+            NumberState::Minus | NumberState::Point | NumberState::Letter | NumberState::Sign =>
+                false,
         }
     }
 }
 
-fn behind_minus(byte: u8) -> Option<Phase>
-    ensures { MatchOption result (Stops (Left Phase.Minus) byte) (Leaves (Left Phase.Minus) byte) }
+fn after_minus(byte: u8) -> Option<NumberState>
+    ensures { MatchOption result (EndsNumber (LeftOfNumber NumberState.Minus) byte) (LeavesNumber (LeftOfNumber NumberState.Minus) byte) }
 {
     match byte {
-        b'0' => Some(Phase::Zero),
-        b'1'..=b'9' => Some(Phase::Digits),
+        b'0' => Some(NumberState::Zero),
+        b'1'..=b'9' => Some(NumberState::Digits),
         _ => None,
     }
 }
 
-fn behind_zero(byte: u8) -> Option<Phase>
-    ensures { MatchOption result (Stops (Left Phase.Zero) byte) (Leaves (Left Phase.Zero) byte) }
+fn after_zero(byte: u8) -> Option<NumberState>
+    ensures { MatchOption result (EndsNumber (LeftOfNumber NumberState.Zero) byte) (LeavesNumber (LeftOfNumber NumberState.Zero) byte) }
 {
     match byte {
-        b'.' => Some(Phase::Point),
-        b'e' | b'E' => Some(Phase::Letter),
+        b'.' => Some(NumberState::Point),
+        b'e' | b'E' => Some(NumberState::Letter),
         _ => None,
     }
 }
 
-fn behind_digits(byte: u8) -> Option<Phase>
-    ensures { MatchOption result (Stops (Left Phase.Digits) byte) (Leaves (Left Phase.Digits) byte) }
+fn after_digits(byte: u8) -> Option<NumberState>
+    ensures { MatchOption result (EndsNumber (LeftOfNumber NumberState.Digits) byte) (LeavesNumber (LeftOfNumber NumberState.Digits) byte) }
 {
     match byte {
-        b'0'..=b'9' => Some(Phase::Digits),
-        b'.' => Some(Phase::Point),
-        b'e' | b'E' => Some(Phase::Letter),
+        b'0'..=b'9' => Some(NumberState::Digits),
+        b'.' => Some(NumberState::Point),
+        b'e' | b'E' => Some(NumberState::Letter),
         _ => None,
     }
 }
 
-fn behind_point(byte: u8) -> Option<Phase>
-    ensures { MatchOption result (Stops (Left Phase.Point) byte) (Leaves (Left Phase.Point) byte) }
+fn after_point(byte: u8) -> Option<NumberState>
+    ensures { MatchOption result (EndsNumber (LeftOfNumber NumberState.Point) byte) (LeavesNumber (LeftOfNumber NumberState.Point) byte) }
 {
     match byte {
-        b'0'..=b'9' => Some(Phase::Fraction),
+        b'0'..=b'9' => Some(NumberState::Fraction),
         _ => None,
     }
 }
 
-fn behind_fraction(byte: u8) -> Option<Phase>
-    ensures { MatchOption result (Stops (Left Phase.Fraction) byte) (Leaves (Left Phase.Fraction) byte) }
+fn after_fraction(byte: u8) -> Option<NumberState>
+    ensures { MatchOption result (EndsNumber (LeftOfNumber NumberState.Fraction) byte) (LeavesNumber (LeftOfNumber NumberState.Fraction) byte) }
 {
     match byte {
-        b'0'..=b'9' => Some(Phase::Fraction),
-        b'e' | b'E' => Some(Phase::Letter),
+        b'0'..=b'9' => Some(NumberState::Fraction),
+        b'e' | b'E' => Some(NumberState::Letter),
         _ => None,
     }
 }
 
-fn behind_letter(byte: u8) -> Option<Phase>
-    ensures { MatchOption result (Stops (Left Phase.Letter) byte) (Leaves (Left Phase.Letter) byte) }
+fn after_letter(byte: u8) -> Option<NumberState>
+    ensures { MatchOption result (EndsNumber (LeftOfNumber NumberState.Letter) byte) (LeavesNumber (LeftOfNumber NumberState.Letter) byte) }
 {
     match byte {
-        b'+' | b'-' => Some(Phase::Sign),
-        b'0'..=b'9' => Some(Phase::Exponent),
+        b'+' | b'-' => Some(NumberState::Sign),
+        b'0'..=b'9' => Some(NumberState::Exponent),
         _ => None,
     }
 }
 
-fn behind_sign(byte: u8) -> Option<Phase>
-    ensures { MatchOption result (Stops (Left Phase.Sign) byte) (Leaves (Left Phase.Sign) byte) }
+fn after_sign(byte: u8) -> Option<NumberState>
+    ensures { MatchOption result (EndsNumber (LeftOfNumber NumberState.Sign) byte) (LeavesNumber (LeftOfNumber NumberState.Sign) byte) }
 {
     match byte {
-        b'0'..=b'9' => Some(Phase::Exponent),
+        b'0'..=b'9' => Some(NumberState::Exponent),
         _ => None,
     }
 }
 
-fn behind_exponent(byte: u8) -> Option<Phase>
-    ensures { MatchOption result (Stops (Left Phase.Exponent) byte) (Leaves (Left Phase.Exponent) byte) }
+fn after_exponent(byte: u8) -> Option<NumberState>
+    ensures { MatchOption result (EndsNumber (LeftOfNumber NumberState.Exponent) byte) (LeavesNumber (LeftOfNumber NumberState.Exponent) byte) }
 {
     match byte {
-        b'0'..=b'9' => Some(Phase::Exponent),
+        b'0'..=b'9' => Some(NumberState::Exponent),
         _ => None,
     }
 }

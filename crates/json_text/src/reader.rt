@@ -1,22 +1,23 @@
 //! The reader: one byte after another, with a stack of its own.
 ghost use Rattle.std.specs.Prelude.{◌≡◌, ◌≢◌, ◌<◌, [], ◌∷◌, length, drop, map, false, string_bytes, IfOk, IfErr, IsTrue, ◌↔◌, MatchBool, MatchOption, MatchResult};
 ghost use Rattle.json_text.specs.Tree.{Tree};
-ghost use Rattle.json_text.specs.View.{view};
-ghost use Rattle.json_text.specs.NumberLeft.{Leaves, Stops};
-ghost use Rattle.json_text.specs.Number.{IsNumber};
-ghost use Rattle.json_text.specs.CharacterLeft.{IsSound, stand_within};
-ghost use Rattle.json_text.specs.Stand.{inside};
-ghost use Rattle.json_text.specs.Spelling.{is_space, Spells};
-ghost use Rattle.json_text.specs.Reading.{pairs, levels, place, role_of, word_text, word_tree, value, first_item, first_name, name, colon, after, word, number_in, text_in, character_in, in_list, in_object, IsWithin, IsPlain, Stays, Steps, IsOpen, Ends};
-ghost use Rattle.json_text.specs.Stops.{Fails, IsKindAt, IsNoMark};
-ghost use Rattle.json_text.specs.Fault.{Refuses};
+ghost use Rattle.json_text.specs.ValueOf.{value_of};
+ghost use Rattle.json_text.specs.inner.NumberLeft.{LeavesNumber, EndsNumber};
+ghost use Rattle.json_text.specs.Number.{IsNumberText};
+ghost use Rattle.json_text.specs.inner.CharacterLeft.{IsSound, scan_within};
+ghost use Rattle.json_text.specs.Scan.{inside};
+ghost use Rattle.json_text.specs.Grammar.{is_space, Spells};
+ghost use Rattle.json_text.specs.inner.ReaderStates.{pairs, levels, reader_state, role_of, literal_text, literal_tree, value, first_item, first_name, name, colon, after, literal, number_in, string_in, character_in, in_list, in_object, IsWithin, IsPlain, Stays, StepsOn, CannotEnd, Ends};
+ghost use Rattle.json_text.specs.inner.StepErrors.{Fails, IsKindAt, IsNoMark};
+ghost use Rattle.json_text.specs.Fault.{RefusesText};
 
-use crate::character::{self, Turn, Within};
-use crate::fault::{FaultKind, JsonFault, ReadError, Stop};
-use crate::fields::{Fields, Named};
-use crate::number::Phase;
-use crate::state::{Frame, MAX_DEPTH, Mode, State, Target, Word};
+use crate::character::{self, CharacterState, CharacterStep};
+use crate::fault::{FaultKind, JsonFault, ReadError, StepError};
+use crate::members::{NamedObject, OpenObject};
+use crate::number::NumberState;
+use crate::state::{Literal, Mode, OpenLevel, State, Target};
 use crate::tree::{Chars, Json, Numeral};
+use gw_bytes::MOST_LEVELS;
 use std::alloc::{AllocError, Global};
 use std::mem;
 
@@ -25,12 +26,14 @@ use std::mem;
 /// Takes time in the number of bytes, times the logarithm of the greatest number of members of one object.
 pub fn read(alloc: Global, bytes: &[u8]) -> Result<Json, ReadError>
     // The bytes are a text of the tree, and of no other.
-    ensures spelled { IfOk result (λ j. Spells (view j) bytes.now) }
-    ensures only { IfOk result (λ j. (v : Tree) → Spells v bytes.now → v ≡ view j) }
+    ensures spelled { IfOk result (λ j. Spells (value_of j) bytes.now) }
+    ensures only { IfOk result (λ j. (v : Tree) → Spells v bytes.now → v ≡ value_of j) }
 
-    // A fault comes only where there is no such tree, at its place and with its kind.
-    ensures fault { IfErr result (λ e. Refuses bytes.now e) }
+    // A fault is returned only where there is no such tree, with its offset and its kind.
+    ensures fault { IfErr result (λ e. RefusesText bytes.now e) }
 {
+    // The stack of open arrays and objects is the reader's own: a text decides how deep it is, and the stack of calls
+    // must not go by what a till sends.
     let mut state = State {
         stack: Vec::new(alloc),
         mode: Mode::Value,
@@ -55,24 +58,25 @@ pub fn read(alloc: Global, bytes: &[u8]) -> Result<Json, ReadError>
     }
 }
 
-/// Takes a byte of a string or of a number in place. `false` where it is another byte, which changes nothing.
+/// Takes a byte of a string or of a number by appending it to the text so far, without a new state: most bytes of a
+/// message are such. `false` where it is another byte, which changes nothing.
 fn take(mode: &mut Mode, byte: u8) -> Result<bool, AllocError>
     ensures { IfOk result (λ taken. MatchBool taken (Stays mode.old byte mode.new) (mode.new ≡ mode.old)) }
 {
     match mode {
-        Mode::Text(_, text) => {
+        Mode::Str(_, text) => {
             if !is_plain(byte) {
                 return Ok(false);
             }
             text.push(char::from(byte))?;
             Ok(true)
         }
-        Mode::Number(text, phase) => {
-            let Some(next) = phase.next(byte) else {
+        Mode::Number(text, number_state) => {
+            let Some(next) = number_state.next(byte) else {
                 return Ok(false);
             };
             text.push(char::from(byte))?;
-            *phase = next;
+            *number_state = next;
             Ok(true)
         }
         _ => Ok(false),
@@ -86,10 +90,12 @@ fn is_plain(byte: u8) -> bool
     byte >= 0x20 && byte < 0x80 && byte != b'"' && byte != b'\\'
 }
 
-fn step(alloc: Global, state: &mut State, byte: u8) -> Result<(), Stop>
+fn step(alloc: Global, state: &mut State, byte: u8) -> Result<(), StepError>
     requires { IsWithin state.old.mode }
-    ensures { MatchResult result (λ _. Steps (place state.old.mode) (levels state.old.stack.items) byte state.new) (Fails (place state.old.mode) (levels state.old.stack.items) byte) }
+    ensures { MatchResult result (λ _. StepsOn (reader_state state.old.mode) (levels state.old.stack.items) byte state.new) (Fails (reader_state state.old.mode) (levels state.old.stack.items) byte) }
 {
+    // The mode is taken out of the state, so that each function owns what was read so far and copies nothing. What is
+    // left in its place is set by that function, or is dropped with the state after a fault.
     match mem::replace(&mut state.mode, Mode::Value) {
         Mode::Value => in_value(alloc, state, byte),
         Mode::FirstItem => in_first_item(alloc, state, byte),
@@ -97,9 +103,9 @@ fn step(alloc: Global, state: &mut State, byte: u8) -> Result<(), Stop>
         Mode::Name(fields) => in_name(alloc, state, fields, byte),
         Mode::Colon(named) => in_colon(state, named, byte),
         Mode::After(json) => in_after(state, json, byte),
-        Mode::Word(at, read) => in_word(state, at, read, byte),
-        Mode::Number(text, phase) => in_number(state, text, phase, byte),
-        Mode::Text(target, text) => in_text(alloc, state, target, text, byte),
+        Mode::Literal(at, read) => in_literal(state, at, read, byte),
+        Mode::Number(text, number_state) => in_number(state, text, number_state, byte),
+        Mode::Str(target, text) => in_string(alloc, state, target, text, byte),
         Mode::Character(target, text, within) => in_character(state, target, text, within, byte),
     }
 }
@@ -107,7 +113,7 @@ fn step(alloc: Global, state: &mut State, byte: u8) -> Result<(), Stop>
 /// What the text is if it ends here.
 fn finish(state: State) -> Option<Json>
     requires { IsWithin state.mode }
-    ensures { MatchOption result (IsOpen (place state.mode) (levels state.stack.items)) (λ j. Ends (place state.mode) (levels state.stack.items) (view j)) }
+    ensures { MatchOption result (CannotEnd (reader_state state.mode) (levels state.stack.items)) (λ j. Ends (reader_state state.mode) (levels state.stack.items) (value_of j)) }
 {
     let State { stack, mode } = state;
     if stack.len() > 0 {
@@ -115,8 +121,8 @@ fn finish(state: State) -> Option<Json>
     }
     match mode {
         Mode::After(json) => Some(json),
-        Mode::Number(text, phase) => {
-            if phase.is_whole() {
+        Mode::Number(text, number_state) => {
+            if number_state.is_whole() {
                 Some(Json::Number(Numeral::new(text)))
             } else {
                 None
@@ -133,67 +139,72 @@ fn is_white(byte: u8) -> bool
     byte == b' ' || byte == b'\t' || byte == b'\n' || byte == b'\r'
 }
 
-fn in_value(alloc: Global, state: &mut State, byte: u8) -> Result<(), Stop>
-    ensures { MatchResult result (λ _. Steps value (levels state.old.stack.items) byte state.new) (Fails value (levels state.old.stack.items) byte) }
+fn in_value(alloc: Global, state: &mut State, byte: u8) -> Result<(), StepError>
+    ensures { MatchResult result (λ _. StepsOn value (levels state.old.stack.items) byte state.new) (Fails value (levels state.old.stack.items) byte) }
 {
     if is_white(byte) {
         state.mode = Mode::Value;
         return Ok(());
     }
-    if let Some(phase) = Phase::first(byte) {
-        return begin_number(alloc, state, phase, byte);
+    if let Some(number_state) = NumberState::first(byte) {
+        return begin_number(alloc, state, number_state, byte);
     }
     match byte {
         b'[' => {
-            if state.stack.len() >= MAX_DEPTH {
-                return Err(Stop::Fault(FaultKind::TooDeep));
+            if state.stack.len() >= MOST_LEVELS {
+                return Err(StepError::Fault(FaultKind::TooDeep));
             }
             state.mode = Mode::FirstItem;
             Ok(())
         }
         b'{' => {
-            if state.stack.len() >= MAX_DEPTH {
-                return Err(Stop::Fault(FaultKind::TooDeep));
+            if state.stack.len() >= MOST_LEVELS {
+                return Err(StepError::Fault(FaultKind::TooDeep));
             }
             state.mode = Mode::FirstName;
             Ok(())
         }
         b'"' => {
-            state.mode = Mode::Text(Target::Value, String::new(alloc));
+            state.mode = Mode::Str(Target::Value, String::new(alloc));
             Ok(())
         }
-        _ => begin_word(state, byte),
+        _ => begin_literal(state, byte),
     }
 }
 
-fn begin_word(state: &mut State, byte: u8) -> Result<(), Stop>
+fn begin_literal(state: &mut State, byte: u8) -> Result<(), StepError>
     requires space { is_space byte ≡ false }
     requires other { IsNoMark byte }
-    requires number { Stops IsNumber byte }
-    ensures { MatchResult result (λ _. Steps value (levels state.old.stack.items) byte state.new) (Fails value (levels state.old.stack.items) byte) }
+    requires number { EndsNumber IsNumberText byte }
+    ensures { MatchResult result (λ _. StepsOn value (levels state.old.stack.items) byte state.new) (Fails value (levels state.old.stack.items) byte) }
 {
     let at = match byte {
-        b'n' => Word::Null,
-        b't' => Word::True,
-        b'f' => Word::False,
-        _ => return Err(Stop::Fault(FaultKind::NotJson)),
+        b'n' => Literal::Null,
+        b't' => Literal::True,
+        b'f' => Literal::False,
+        _ => return Err(StepError::Fault(FaultKind::NotJson)),
     };
-    state.mode = Mode::Word(at, 1);
+    state.mode = Mode::Literal(at, 1);
     Ok(())
 }
 
-fn begin_number(alloc: Global, state: &mut State, phase: Phase, byte: u8) -> Result<(), Stop>
-    requires { Leaves IsNumber byte phase }
-    ensures { MatchResult result (λ _. Steps value (levels state.old.stack.items) byte state.new) (Fails value (levels state.old.stack.items) byte) }
+fn begin_number(
+    alloc: Global,
+    state: &mut State,
+    number_state: NumberState,
+    byte: u8,
+) -> Result<(), StepError>
+    requires { LeavesNumber IsNumberText byte number_state }
+    ensures { MatchResult result (λ _. StepsOn value (levels state.old.stack.items) byte state.new) (Fails value (levels state.old.stack.items) byte) }
 {
     let mut text = String::new(alloc);
     text.push(char::from(byte))?;
-    state.mode = Mode::Number(text, phase);
+    state.mode = Mode::Number(text, number_state);
     Ok(())
 }
 
-fn in_first_item(alloc: Global, state: &mut State, byte: u8) -> Result<(), Stop>
-    ensures { MatchResult result (λ _. Steps first_item (levels state.old.stack.items) byte state.new) (Fails first_item (levels state.old.stack.items) byte) }
+fn in_first_item(alloc: Global, state: &mut State, byte: u8) -> Result<(), StepError>
+    ensures { MatchResult result (λ _. StepsOn first_item (levels state.old.stack.items) byte state.new) (Fails first_item (levels state.old.stack.items) byte) }
 {
     if is_white(byte) {
         state.mode = Mode::FirstItem;
@@ -205,12 +216,12 @@ fn in_first_item(alloc: Global, state: &mut State, byte: u8) -> Result<(), Stop>
     }
     // Most lists of messages have one item.
     let items = Vec::with_capacity(alloc, 1)?;
-    state.stack.push(Frame::List(items))?;
+    state.stack.push(OpenLevel::List(items))?;
     in_value(alloc, state, byte)
 }
 
-fn in_first_name(alloc: Global, state: &mut State, byte: u8) -> Result<(), Stop>
-    ensures { MatchResult result (λ _. Steps first_name (levels state.old.stack.items) byte state.new) (Fails first_name (levels state.old.stack.items) byte) }
+fn in_first_name(alloc: Global, state: &mut State, byte: u8) -> Result<(), StepError>
+    ensures { MatchResult result (λ _. StepsOn first_name (levels state.old.stack.items) byte state.new) (Fails first_name (levels state.old.stack.items) byte) }
 {
     if is_white(byte) {
         state.mode = Mode::FirstName;
@@ -218,69 +229,69 @@ fn in_first_name(alloc: Global, state: &mut State, byte: u8) -> Result<(), Stop>
     }
     match byte {
         b'"' => {
-            state.mode = Mode::Text(Target::Name(Fields::new(alloc)), String::new(alloc));
+            state.mode = Mode::Str(Target::Name(OpenObject::new(alloc)), String::new(alloc));
             Ok(())
         }
         b'}' => {
             state.mode = Mode::After(Json::Object(Vec::new(alloc)));
             Ok(())
         }
-        _ => Err(Stop::Fault(FaultKind::NotJson)),
+        _ => Err(StepError::Fault(FaultKind::NotJson)),
     }
 }
 
-fn in_name(alloc: Global, state: &mut State, fields: Fields, byte: u8) -> Result<(), Stop>
-    ensures { MatchResult result (λ _. Steps (name (pairs fields.members.items)) (levels state.old.stack.items) byte state.new) (Fails (name (pairs fields.members.items)) (levels state.old.stack.items) byte) }
+fn in_name(alloc: Global, state: &mut State, fields: OpenObject, byte: u8) -> Result<(), StepError>
+    ensures { MatchResult result (λ _. StepsOn (name (pairs fields.members.items)) (levels state.old.stack.items) byte state.new) (Fails (name (pairs fields.members.items)) (levels state.old.stack.items) byte) }
 {
     if is_white(byte) {
         state.mode = Mode::Name(fields);
         return Ok(());
     }
     if byte != b'"' {
-        return Err(Stop::Fault(FaultKind::NotJson));
+        return Err(StepError::Fault(FaultKind::NotJson));
     }
-    state.mode = Mode::Text(Target::Name(fields), String::new(alloc));
+    state.mode = Mode::Str(Target::Name(fields), String::new(alloc));
     Ok(())
 }
 
-fn in_colon(state: &mut State, named: Named, byte: u8) -> Result<(), Stop>
-    ensures { MatchResult result (λ _. Steps (colon (pairs named.members.items) named.name) (levels state.old.stack.items) byte state.new) (Fails (colon (pairs named.members.items) named.name) (levels state.old.stack.items) byte) }
+fn in_colon(state: &mut State, named: NamedObject, byte: u8) -> Result<(), StepError>
+    ensures { MatchResult result (λ _. StepsOn (colon (pairs named.members.items) named.name) (levels state.old.stack.items) byte state.new) (Fails (colon (pairs named.members.items) named.name) (levels state.old.stack.items) byte) }
 {
     if is_white(byte) {
         state.mode = Mode::Colon(named);
         return Ok(());
     }
     if byte != b':' {
-        return Err(Stop::Fault(FaultKind::NotJson));
+        return Err(StepError::Fault(FaultKind::NotJson));
     }
-    state.stack.push(Frame::Object(named))?;
+    state.stack.push(OpenLevel::Object(named))?;
     state.mode = Mode::Value;
     Ok(())
 }
 
-fn in_after(state: &mut State, json: Json, byte: u8) -> Result<(), Stop>
-    ensures { MatchResult result (λ _. Steps (after (view json)) (levels state.old.stack.items) byte state.new) (Fails (after (view json)) (levels state.old.stack.items) byte) }
+fn in_after(state: &mut State, json: Json, byte: u8) -> Result<(), StepError>
+    ensures { MatchResult result (λ _. StepsOn (after (value_of json)) (levels state.old.stack.items) byte state.new) (Fails (after (value_of json)) (levels state.old.stack.items) byte) }
 {
     if is_white(byte) {
         state.mode = Mode::After(json);
         return Ok(());
     }
     match state.stack.pop() {
-        None => Err(Stop::Fault(FaultKind::NotJson)),
-        Some(Frame::List(items)) => after_item(state, items, json, byte),
-        Some(Frame::Object(named)) => after_member(state, named, json, byte),
+        None => Err(StepError::Fault(FaultKind::NotJson)),
+        Some(OpenLevel::List(items)) => after_item(state, items, json, byte),
+        Some(OpenLevel::Object(named)) => after_member(state, named, json, byte),
     }
 }
 
-fn after_item(state: &mut State, items: Vec<Json>, json: Json, byte: u8) -> Result<(), Stop>
+fn after_item(state: &mut State, items: Vec<Json>, json: Json, byte: u8) -> Result<(), StepError>
     requires { is_space byte ≡ false }
-    ensures { MatchResult result (λ _. Steps (after (view json)) (in_list (map view items.items) ∷ levels state.old.stack.items) byte state.new) (Fails (after (view json)) (in_list (map view items.items) ∷ levels state.old.stack.items) byte) }
+    ensures { MatchResult result (λ _. StepsOn (after (value_of json)) (in_list (map value_of items.items) ∷ levels state.old.stack.items) byte state.new) (Fails (after (value_of json)) (in_list (map value_of items.items) ∷ levels state.old.stack.items) byte) }
 {
     let mut items = items;
     items.push(json)?;
     match byte {
         b',' => {
-            state.stack.push(Frame::List(items))?;
+            state.stack.push(OpenLevel::List(items))?;
             state.mode = Mode::Value;
             Ok(())
         }
@@ -288,13 +299,18 @@ fn after_item(state: &mut State, items: Vec<Json>, json: Json, byte: u8) -> Resu
             state.mode = Mode::After(Json::List(items));
             Ok(())
         }
-        _ => Err(Stop::Fault(FaultKind::NotJson)),
+        _ => Err(StepError::Fault(FaultKind::NotJson)),
     }
 }
 
-fn after_member(state: &mut State, named: Named, json: Json, byte: u8) -> Result<(), Stop>
+fn after_member(
+    state: &mut State,
+    named: NamedObject,
+    json: Json,
+    byte: u8,
+) -> Result<(), StepError>
     requires { is_space byte ≡ false }
-    ensures { MatchResult result (λ _. Steps (after (view json)) (in_object (pairs named.members.items) named.name ∷ levels state.old.stack.items) byte state.new) (Fails (after (view json)) (in_object (pairs named.members.items) named.name ∷ levels state.old.stack.items) byte) }
+    ensures { MatchResult result (λ _. StepsOn (after (value_of json)) (in_object (pairs named.members.items) named.name ∷ levels state.old.stack.items) byte state.new) (Fails (after (value_of json)) (in_object (pairs named.members.items) named.name ∷ levels state.old.stack.items) byte) }
 {
     let fields = named.with(json)?;
     match byte {
@@ -306,20 +322,20 @@ fn after_member(state: &mut State, named: Named, json: Json, byte: u8) -> Result
             state.mode = Mode::After(Json::Object(fields.into_members()));
             Ok(())
         }
-        _ => Err(Stop::Fault(FaultKind::NotJson)),
+        _ => Err(StepError::Fault(FaultKind::NotJson)),
     }
 }
 
-fn in_word(state: &mut State, at: Word, read: usize, byte: u8) -> Result<(), Stop>
-    requires { read < length (word_text at) }
-    ensures { MatchResult result (λ _. Steps (word (drop read (word_text at)) (word_tree at)) (levels state.old.stack.items) byte state.new) (Fails (word (drop read (word_text at)) (word_tree at)) (levels state.old.stack.items) byte) }
+fn in_literal(state: &mut State, at: Literal, read: usize, byte: u8) -> Result<(), StepError>
+    requires { read < length (literal_text at) }
+    ensures { MatchResult result (λ _. StepsOn (literal (drop read (literal_text at)) (literal_tree at)) (levels state.old.stack.items) byte state.new) (Fails (literal (drop read (literal_text at)) (literal_tree at)) (levels state.old.stack.items) byte) }
 {
     let text = at.text();
     if byte != text[read] {
-        return Err(Stop::Fault(FaultKind::NotJson));
+        return Err(StepError::Fault(FaultKind::NotJson));
     }
     if read + 1 < text.len() {
-        state.mode = Mode::Word(at, read + 1);
+        state.mode = Mode::Literal(at, read + 1);
         Ok(())
     } else {
         state.mode = Mode::After(at.json());
@@ -327,10 +343,15 @@ fn in_word(state: &mut State, at: Word, read: usize, byte: u8) -> Result<(), Sto
     }
 }
 
-fn in_number(state: &mut State, text: String, phase: Phase, byte: u8) -> Result<(), Stop>
-    ensures { MatchResult result (λ _. Steps (number_in (string_bytes text) phase) (levels state.old.stack.items) byte state.new) (Fails (number_in (string_bytes text) phase) (levels state.old.stack.items) byte) }
+fn in_number(
+    state: &mut State,
+    text: String,
+    number_state: NumberState,
+    byte: u8,
+) -> Result<(), StepError>
+    ensures { MatchResult result (λ _. StepsOn (number_in (string_bytes text) number_state) (levels state.old.stack.items) byte state.new) (Fails (number_in (string_bytes text) number_state) (levels state.old.stack.items) byte) }
 {
-    match phase.next(byte) {
+    match number_state.next(byte) {
         Some(next) => {
             let mut text = text;
             text.push(char::from(byte))?;
@@ -338,39 +359,39 @@ fn in_number(state: &mut State, text: String, phase: Phase, byte: u8) -> Result<
             Ok(())
         }
         None => {
-            if phase.is_whole() {
+            if number_state.is_whole() {
                 in_after(state, Json::Number(Numeral::new(text)), byte)
             } else {
-                Err(Stop::Fault(FaultKind::NotJson))
+                Err(StepError::Fault(FaultKind::NotJson))
             }
         }
     }
 }
 
-fn in_text(
+fn in_string(
     alloc: Global,
     state: &mut State,
     target: Target,
     text: String,
     byte: u8,
-) -> Result<(), Stop>
-    ensures { MatchResult result (λ _. Steps (text_in (role_of target) (string_bytes text)) (levels state.old.stack.items) byte state.new) (Fails (text_in (role_of target) (string_bytes text)) (levels state.old.stack.items) byte) }
+) -> Result<(), StepError>
+    ensures { MatchResult result (λ _. StepsOn (string_in (role_of target) (string_bytes text)) (levels state.old.stack.items) byte state.new) (Fails (string_in (role_of target) (string_bytes text)) (levels state.old.stack.items) byte) }
 {
     if byte == b'"' {
         return closed(alloc, state, target, text);
     }
     match character::first(byte) {
-        Turn::Whole(c) => {
+        CharacterStep::Whole(c) => {
             let mut text = text;
             text.push(c)?;
-            state.mode = Mode::Text(target, text);
+            state.mode = Mode::Str(target, text);
             Ok(())
         }
-        Turn::Next(within) => {
+        CharacterStep::Next(within) => {
             state.mode = Mode::Character(target, text, within);
             Ok(())
         }
-        Turn::Wrong => Err(Stop::Fault(fault_between(byte))),
+        CharacterStep::Wrong => Err(StepError::Fault(fault_between(byte))),
     }
 }
 
@@ -378,30 +399,30 @@ fn in_character(
     state: &mut State,
     target: Target,
     text: String,
-    within: Within,
+    within: CharacterState,
     byte: u8,
-) -> Result<(), Stop>
+) -> Result<(), StepError>
     requires { IsSound within }
-    ensures { MatchResult result (λ _. Steps (character_in (role_of target) (string_bytes text) within) (levels state.old.stack.items) byte state.new) (Fails (character_in (role_of target) (string_bytes text) within) (levels state.old.stack.items) byte) }
+    ensures { MatchResult result (λ _. StepsOn (character_in (role_of target) (string_bytes text) within) (levels state.old.stack.items) byte state.new) (Fails (character_in (role_of target) (string_bytes text) within) (levels state.old.stack.items) byte) }
 {
     match within.next(byte) {
-        Turn::Whole(c) => {
+        CharacterStep::Whole(c) => {
             let mut text = text;
             text.push(c)?;
-            state.mode = Mode::Text(target, text);
+            state.mode = Mode::Str(target, text);
             Ok(())
         }
-        Turn::Next(within) => {
+        CharacterStep::Next(within) => {
             state.mode = Mode::Character(target, text, within);
             Ok(())
         }
-        Turn::Wrong => Err(Stop::Fault(fault_inside(within, byte))),
+        CharacterStep::Wrong => Err(StepError::Fault(fault_inside(within, byte))),
     }
 }
 
 /// The closing quotation mark.
-fn closed(alloc: Global, state: &mut State, target: Target, text: String) -> Result<(), Stop>
-    ensures { MatchResult result (λ _. Steps (text_in (role_of target) (string_bytes text)) (levels state.old.stack.items) 34 state.new) (Fails (text_in (role_of target) (string_bytes text)) (levels state.old.stack.items) 34) }
+fn closed(alloc: Global, state: &mut State, target: Target, text: String) -> Result<(), StepError>
+    ensures { MatchResult result (λ _. StepsOn (string_in (role_of target) (string_bytes text)) (levels state.old.stack.items) 34 state.new) (Fails (string_in (role_of target) (string_bytes text)) (levels state.old.stack.items) 34) }
 {
     match target {
         Target::Value => {
@@ -415,7 +436,7 @@ fn closed(alloc: Global, state: &mut State, target: Target, text: String) -> Res
                     state.mode = Mode::Colon(named);
                     Ok(())
                 }
-                None => Err(Stop::Fault(FaultKind::Repeated)),
+                None => Err(StepError::Fault(FaultKind::Repeated)),
             }
         }
     }
@@ -433,11 +454,11 @@ fn fault_between(byte: u8) -> FaultKind
 }
 
 /// The kind of a byte with which no character goes on.
-fn fault_inside(within: Within, byte: u8) -> FaultKind
-    ensures { IsKindAt (stand_within within) byte result }
+fn fault_inside(within: CharacterState, byte: u8) -> FaultKind
+    ensures { IsKindAt (scan_within within) byte result }
 {
     match within {
-        Within::Utf8 { .. } => FaultKind::BadUtf8,
+        CharacterState::Utf8 { .. } => FaultKind::BadUtf8,
         _ => fault_between(byte),
     }
 }

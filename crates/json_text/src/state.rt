@@ -1,57 +1,54 @@
-//! The state of the reader.
+//! The state of the reader: what is open, and what is being read in the innermost of it.
 ghost use Rattle.std.specs.Prelude.{◌≡◌};
-ghost use Rattle.json_text.specs.View.{view};
-ghost use Rattle.json_text.specs.Reading.{word_text, word_tree};
+ghost use Rattle.json_text.specs.ValueOf.{value_of};
+ghost use Rattle.json_text.specs.inner.ReaderStates.{literal_text, literal_tree};
 
-use crate::character::Within;
-use crate::fields::{Fields, Named};
-use crate::number::Phase;
+use crate::character::CharacterState;
+use crate::members::{NamedObject, OpenObject};
+use crate::number::NumberState;
 use crate::tree::Json;
-
-/// How many arrays and objects may be open at once.
-pub(crate) const MAX_DEPTH: usize = 32;
 
 /// An open array or object, with what it has so far.
 #[derive(Drop)]
-pub(crate) enum Frame {
+pub(crate) enum OpenLevel {
     List(Vec<Json>),
-    Object(Named),
+    Object(NamedObject),
 }
 
 /// What the string that is being read is.
 #[derive(Drop)]
 pub(crate) enum Target {
     Value,
-    /// The name of the next member behind these.
-    Name(Fields),
+    /// The name of the member after these.
+    Name(OpenObject),
 }
 
-/// A word that is a value.
+/// A literal name that is a value: `null`, `true` or `false`.
 #[derive(Clone, Copy, Debug)]
-pub(crate) enum Word {
+pub(crate) enum Literal {
     Null,
     True,
     False,
 }
 
-impl Word {
+impl Literal {
     pub(crate) fn text(self) -> &'static [u8]
-        ensures { result.now ≡ word_text self }
+        ensures { result.now ≡ literal_text self }
     {
         match self {
-            Word::Null => b"null",
-            Word::True => b"true",
-            Word::False => b"false",
+            Literal::Null => b"null",
+            Literal::True => b"true",
+            Literal::False => b"false",
         }
     }
 
     pub(crate) fn json(self) -> Json
-        ensures { view result ≡ word_tree self }
+        ensures { value_of result ≡ literal_tree self }
     {
         match self {
-            Word::Null => Json::Null,
-            Word::True => Json::Bool(true),
-            Word::False => Json::Bool(false),
+            Literal::Null => Json::Null,
+            Literal::True => Json::Bool(true),
+            Literal::False => Json::Bool(false),
         }
     }
 }
@@ -65,25 +62,25 @@ pub(crate) enum Mode {
     FirstItem,
     /// A name or the closing brace comes.
     FirstName,
-    /// The name of the next member behind these comes.
-    Name(Fields),
-    /// The colon behind a name comes.
-    Colon(Named),
+    /// The name of the member after these comes.
+    Name(OpenObject),
+    /// The colon after a name comes.
+    Colon(NamedObject),
     /// This value has ended.
     After(Json),
-    /// A word, of which so many letters have been read.
-    Word(Word, usize),
+    /// A literal, of which so many letters have been read.
+    Literal(Literal, usize),
     /// A number with this text so far.
-    Number(String, Phase),
+    Number(String, NumberState),
     /// A string with this text so far, between two characters.
-    Text(Target, String),
-    /// The same inside a character.
-    Character(Target, String, Within),
+    Str(Target, String),
+    /// A string with this text so far, inside a character.
+    Character(Target, String, CharacterState),
 }
 
 #[derive(Drop)]
 pub(crate) struct State {
     /// The innermost is last.
-    pub stack: Vec<Frame>,
+    pub stack: Vec<OpenLevel>,
     pub mode: Mode,
 }

@@ -1,9 +1,9 @@
-//! Texts from RFC 8259, and places and kinds of faults.
+//! Texts from RFC 8259, and offsets and kinds of faults.
 use crate::{Chars, FaultKind, ReadError, read, write, write_text};
 use std::alloc::{AllocError, Global};
 use std::test::Fail;
 
-/// The kind and place of the fault, or `None`.
+/// The kind and offset of the fault, or `None`.
 fn fault(alloc: Global, text: &[u8]) -> Option<(FaultKind, usize)> {
     match read(alloc, text) {
         Err(ReadError::Fault(fault)) => Some((fault.kind, fault.at)),

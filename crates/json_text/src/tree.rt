@@ -1,8 +1,8 @@
 //! JSON values.
 ghost use Rattle.std.specs.Prelude.{◌≡◌, map, option_map, option_copied, string_bytes, is_some, IsNone, ◌↔◌};
-ghost use Rattle.json_text.specs.Tree.{get_of, names_of, member_of, boolean_of, number_of, string_of, array_of, object_of};
-ghost use Rattle.json_text.specs.Spelling.{IsNew};
-ghost use Rattle.json_text.specs.View.{view, members_view};
+ghost use Rattle.json_text.specs.Tree.{get_of, member_names_of, member_of, boolean_of, numeral_of, string_of, array_of, members_of};
+ghost use Rattle.json_text.specs.Grammar.{IsNew};
+ghost use Rattle.json_text.specs.ValueOf.{value_of, members_value};
 
 use std::marker::Model;
 
@@ -82,14 +82,14 @@ pub enum Json {
 impl Json {
     /// The value of the member of this name, the first where a value made by hand has several.
     pub fn get(&self, name: &[u8]) -> Option<&Json>
-        ensures value { option_map (λ v. view v.now) result ≡ get_of name.now (view self.now) }
-        ensures absent { IsNone result ↔ IsNew name.now (names_of (view self.now)) }
+        ensures value { option_map (λ v. value_of v.now) result ≡ get_of name.now (value_of self.now) }
+        ensures absent { IsNone result ↔ IsNew name.now (member_names_of (value_of self.now)) }
     {
         self.member(name)
     }
 
     fn member(&self, name: &[u8]) -> Option<&Json>
-        ensures { option_map (λ v. view v.now) result ≡ get_of name.now (view self.now) }
+        ensures { option_map (λ v. value_of v.now) result ≡ get_of name.now (value_of self.now) }
     {
         match self {
             Json::Object(members) => find(members, name),
@@ -98,7 +98,7 @@ impl Json {
     }
 
     pub fn as_bool(&self) -> Option<bool>
-        ensures { result ≡ boolean_of (view self.now) }
+        ensures { result ≡ boolean_of (value_of self.now) }
     {
         match self {
             Json::Bool(value) => Some(*value),
@@ -107,7 +107,7 @@ impl Json {
     }
 
     pub fn as_number(&self) -> Option<&Numeral>
-        ensures { option_copied result ≡ number_of (view self.now) }
+        ensures { option_copied result ≡ numeral_of (value_of self.now) }
     {
         match self {
             Json::Number(text) => Some(text),
@@ -116,7 +116,7 @@ impl Json {
     }
 
     pub fn as_str(&self) -> Option<&Chars>
-        ensures { option_copied result ≡ string_of (view self.now) }
+        ensures { option_copied result ≡ string_of (value_of self.now) }
     {
         match self {
             Json::Str(text) => Some(text),
@@ -125,7 +125,7 @@ impl Json {
     }
 
     pub fn as_list(&self) -> Option<&[Json]>
-        ensures { option_map (λ items. map view items.now) result ≡ array_of (view self.now) }
+        ensures { option_map (λ items. map value_of items.now) result ≡ array_of (value_of self.now) }
     {
         match self {
             Json::List(items) => Some(items),
@@ -134,7 +134,7 @@ impl Json {
     }
 
     pub fn is_object(&self) -> bool
-        ensures { result ≡ is_some (object_of (view self.now)) }
+        ensures { result ≡ is_some (members_of (value_of self.now)) }
     {
         match self {
             Json::Object(_) => true,
@@ -144,10 +144,10 @@ impl Json {
 }
 
 fn find<'a>(members: &'a [(Chars, Json)], name: &[u8]) -> Option<&'a Json>
-    ensures { option_map (λ v. view v.now) result ≡ member_of name.now (members_view members.now) }
+    ensures { option_map (λ v. value_of v.now) result ≡ member_of name.now (members_value members.now) }
 {
-    for (key, value) in members {
-        if key.as_bytes() == name {
+    for (own, value) in members {
+        if own.as_bytes() == name {
             return Some(value);
         }
     }

@@ -1,34 +1,36 @@
-//! The written spelling of a tree.
+//! The canonical spelling of a tree.
 ghost use Rattle.std.specs.Prelude.{◌≡◌, ℕ, List, ◌++◌, ◌<◌, map, flat_map, OnOk, OnErr};
-ghost use Rattle.std.specs.Char.{digit_char};
 ghost use Rattle.json_text.specs.Tree.{Tree, no_items};
-ghost use Rattle.json_text.specs.View.{view, items_onto, members_view};
-ghost use Rattle.json_text.specs.Spelling.{Spells};
-ghost use Rattle.json_text.specs.Canonical.{AppendsFront, canonical, canonical_first, canonical_first_member, written_text, written_byte};
+ghost use Rattle.json_text.specs.ValueOf.{value_of, items_onto, members_value};
+ghost use Rattle.json_text.specs.Grammar.{Spells};
+ghost use Rattle.json_text.specs.Canonical.{AppendsPrefix, canonical, canonical_first, canonical_first_member, canonical_string, canonical_byte};
 
 use crate::tree::{Chars, Json};
+use arrayvec::ArrayVec;
+use gw_bytes::lower_hex_digit;
 use std::alloc::{AllocError, Global};
 
-/// Appends the one written spelling of the tree: no white space, members in their order.
+/// Appends the canonical spelling of the tree: no white space, members in their order.
 ///
 /// Takes as much stack as the tree is deep; a tree that [`read`](crate::read) gave is at most 32 deep.
 pub fn write(alloc: Global, tree: &Json, out: &mut Vec<u8>) -> Result<(), AllocError>
-    ensures ok { OnOk result (out.new.items ≡ out.old.items ++ canonical (view tree.now)) }
+    ensures ok { OnOk result (out.new.items ≡ out.old.items ++ canonical (value_of tree.now)) }
     ensures err { OnErr result (out.new.items ≡ out.old.items) }
 {
+    // Into a buffer of its own: where memory is refused halfway, no part of the tree stays in `out`.
     let mut text = Vec::new(alloc);
     write_value(tree, &mut text)?;
     out.extend_from_slice(&text)
 }
 
-/// What is written of a tree that has a text is a text of it, so [`read`](crate::read) gives the same tree again.
+/// The canonical spelling of a tree that has a text is a text of it, so [`read`](crate::read) returns this tree for it.
 pub fn written_is_read_again()
     ensures { (v : Tree) (b : List ℕ) → Spells v b → Spells v (canonical v) }
 {}
 
 #[cycle(values)]
 fn write_value(tree: &Json, out: &mut Vec<u8>) -> Result<(), AllocError>
-    ensures { OnOk result (out.new.items ≡ out.old.items ++ canonical (view tree.now)) }
+    ensures { OnOk result (out.new.items ≡ out.old.items ++ canonical (value_of tree.now)) }
 {
     match tree {
         Json::Null => out.extend_from_slice(b"null"),
@@ -49,7 +51,7 @@ fn write_value(tree: &Json, out: &mut Vec<u8>) -> Result<(), AllocError>
 
 #[cycle(values)]
 fn write_items(items: &[Json], out: &mut Vec<u8>) -> Result<(), AllocError>
-    ensures { OnOk result (out.new.items ≡ out.old.items ++ canonical_first (items_onto (map view items.now) no_items)) }
+    ensures { OnOk result (out.new.items ≡ out.old.items ++ canonical_first (items_onto (map value_of items.now) no_items)) }
 {
     for (i, item) in items.iter().enumerate() {
         if i > 0 {
@@ -62,7 +64,7 @@ fn write_items(items: &[Json], out: &mut Vec<u8>) -> Result<(), AllocError>
 
 #[cycle(values)]
 fn write_members(members: &[(Chars, Json)], out: &mut Vec<u8>) -> Result<(), AllocError>
-    ensures { OnOk result (out.new.items ≡ out.old.items ++ canonical_first_member (members_view members.now)) }
+    ensures { OnOk result (out.new.items ≡ out.old.items ++ canonical_first_member (members_value members.now)) }
 {
     for (i, (name, value)) in members.iter().enumerate() {
         if i > 0 {
@@ -75,10 +77,25 @@ fn write_members(members: &[(Chars, Json)], out: &mut Vec<u8>) -> Result<(), All
     out.extend_from_slice(b"}")
 }
 
-/// Appends the written spelling of a string, with its quotation marks.
+/// Appends the canonical spelling of a string, with its quotation marks. Without memory nothing is appended.
 pub fn write_text(text: &[u8], out: &mut Vec<u8>) -> Result<(), AllocError>
-    ensures ok { OnOk result (out.new.items ≡ out.old.items ++ written_text text.now) }
-    ensures err { OnErr result (AppendsFront (written_text text.now) out.old.items out.new.items) }
+    ensures ok { OnOk result (out.new.items ≡ out.old.items ++ canonical_string text.now) }
+    ensures err { OnErr result (out.new.items ≡ out.old.items) }
+{
+    let start = out.len();
+    match append_text(text, out) {
+        Ok(()) => Ok(()),
+        Err(error) => {
+            out.truncate(start);
+            Err(error)
+        }
+    }
+}
+
+/// Appends the canonical spelling of a string; where memory is refused, the part of it that there was room for stays.
+fn append_text(text: &[u8], out: &mut Vec<u8>) -> Result<(), AllocError>
+    ensures ok { OnOk result (out.new.items ≡ out.old.items ++ canonical_string text.now) }
+    ensures err { OnErr result (AppendsPrefix (canonical_string text.now) out.old.items out.new.items) }
 {
     out.extend_from_slice(b"\"")?;
     for byte in text {
@@ -87,27 +104,28 @@ pub fn write_text(text: &[u8], out: &mut Vec<u8>) -> Result<(), AllocError>
     out.extend_from_slice(b"\"")
 }
 
-fn write_byte(byte: u8, out: &mut Vec<u8>) -> Result<(), AllocError>
-    ensures ok { OnOk result (out.new.items ≡ out.old.items ++ written_byte byte) }
-    ensures err { OnErr result (out.new.items ≡ out.old.items) }
+/// The spelling of one byte of a string: `"`, `\` and control characters are escaped, no other byte is (RFC 8259, section 7).
+pub fn escaped(byte: u8) -> ArrayVec<u8, 6>
+    ensures spelling { result.items ≡ canonical_byte byte }
 {
+    let mut spelling = ArrayVec::new();
     if byte == b'"' || byte == b'\\' {
-        out.extend_from_slice(&[b'\\', byte])
+        spelling.push(b'\\');
+        spelling.push(byte);
     } else if byte < 32 {
-        let (high, low) = (hex_digit(byte / 16), hex_digit(byte % 16));
-        out.extend_from_slice(&[b'\\', b'u', b'0', b'0', high, low])
+        let (high, low) = (lower_hex_digit(byte / 16), lower_hex_digit(byte % 16));
+        spelling
+            .try_extend_from_slice(&[b'\\', b'u', b'0', b'0', high, low])
+            .unwrap();
     } else {
-        out.extend_from_slice(&[byte])
+        spelling.push(byte);
     }
+    spelling
 }
 
-fn hex_digit(value: u8) -> u8
-    requires { value < 16 }
-    ensures { result ≡ digit_char value }
+fn write_byte(byte: u8, out: &mut Vec<u8>) -> Result<(), AllocError>
+    ensures ok { OnOk result (out.new.items ≡ out.old.items ++ canonical_byte byte) }
+    ensures err { OnErr result (out.new.items ≡ out.old.items) }
 {
-    if value < 10 {
-        b'0' + value
-    } else {
-        b'a' + (value - 10)
-    }
+    out.extend_from_slice(escaped(byte).as_slice())
 }

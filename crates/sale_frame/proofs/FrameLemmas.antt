@@ -1,4 +1,4 @@
--- What the front of a stream says: one length, and one of a message, a front of a frame and a bad rest.
+-- What a stream begins with: one length, and one of a message, a prefix of a frame and a bad length.
 use Rattle.std.proofs.Common.{◌≡◌, ℕ, ◌+◌, ◌-◌, ◌<◌, ◌≤◌, ◌⊎◌, inl, inr, List, ◌++◌, length, take, drop, replicate, refl, ap, sym, ◌∙◌, subst, arith, append_assoc, length-append, length-drop, take-append-drop}
 use Rattle.std.proofs.Math.Seq.{take-append_seam, drop-append_seam}
 use Rattle.std.proofs.lemmas.List.{take-append-le, length-replicate, length-take, drop-drop}
@@ -6,7 +6,7 @@ use Rattle.std.specs.Prelude.{Option, Some, None, MatchOption, slice_range}
 use Rattle.std.specs.Borrow.{Bor}
 use Rattle.std.proofs.lemmas.Nat.{from_be_bytes-to_be_bytes_4}
 use Rattle.std.specs.Int.{w32, to_be_bytes, from_be_bytes}
-use Rattle.sale_frame.specs.Frame.{IsMessageLength, IsMessage, frame, BeginsWithLength, BeginsWithMessage, IsUnfinished, IsBad, IsRest}
+use Rattle.sale_frame.specs.Grammar.{IsPayloadLength, IsPayload, frame, BeginsWithLength, BeginsWithPayload, IsIncompleteFrame, IsBadLength, IsFrameRest}
 
 -- the length is the one that the bytes read as
 pub spelled : (bytes : List ℕ) (n : ℕ) → BeginsWithLength bytes n → from_be_bytes w32 (take 4 bytes) ≡ n
@@ -15,10 +15,10 @@ spelled bytes n h = ap (from_be_bytes w32) h.1 ∙ from_be_bytes-to_be_bytes_4 n
 pub one_length : (bytes : List ℕ) (m n : ℕ) → BeginsWithLength bytes m → BeginsWithLength bytes n → m ≡ n
 one_length bytes m n first second = sym (spelled bytes m first) ∙ spelled bytes n second
 
-pub message_begins : (bytes message left : List ℕ) → IsMessage message → bytes ≡ frame message ++ left → BeginsWithLength bytes (length message)
+pub message_begins : (bytes message left : List ℕ) → IsPayload message → bytes ≡ frame message ++ left → BeginsWithLength bytes (length message)
 message_begins bytes message left lawful whole = (omega arith, ap (take 4) whole)
 
-pub one_message : (a b x y : List ℕ) → IsMessage a → IsMessage b → frame a ++ x ≡ frame b ++ y → (a ≡ b) × (x ≡ y)
+pub one_message : (a b x y : List ℕ) → IsPayload a → IsPayload b → frame a ++ x ≡ frame b ++ y → (a ≡ b) × (x ≡ y)
 one_message a b x y p q h =
     let same : length a ≡ length b = one_length (frame a ++ x) (length a) (length b) (message_begins (frame a ++ x) a x p refl) (message_begins (frame a ++ x) b y q h) in
     let tails : a ++ x ≡ b ++ y = ap (drop 4) h in (
@@ -26,62 +26,62 @@ one_message a b x y p q h =
       sym (drop-append_seam a x) ∙ ap (λ n. drop n (a ++ x)) same ∙ ap (drop (length b)) tails ∙ drop-append_seam b y,
     )
 
--- four bytes at least stand where a length begins
+-- there are four bytes at least where a length begins
 pub length_fits : (bytes : List ℕ) (n : ℕ) → BeginsWithLength bytes n → 4 ≤ length bytes
 length_fits bytes n h = let e : length (take 4 bytes) ≡ 4 = ap length h.1 in omega (arith, length-take 4 bytes)
 
--- bytes behind the length change nothing of it
+-- bytes after the length change nothing of it
 pub lengthened : (bytes more : List ℕ) (n : ℕ) → BeginsWithLength bytes n → BeginsWithLength (bytes ++ more) n
 lengthened bytes more n h = (h.0, take-append-le 4 bytes more (length_fits bytes n h) ∙ h.1)
 
 pub length-frame : (message left : List ℕ) → length (frame message ++ left) ≡ 4 + (length message + length left)
 length-frame message left = omega (arith, length-append message left)
 
--- a front of a frame that shows its length is shorter than the frame
-pub front_is_shorter : (bytes : List ℕ) (n : ℕ) → IsUnfinished bytes → BeginsWithLength bytes n → IsMessageLength n × (length bytes < 4 + n)
-front_is_shorter bytes n (inl short) h = absurd (omega (arith, length_fits bytes n h))
-front_is_shorter bytes n (inr (message, lawful, more, some, is)) h =
+-- a prefix of a frame that has its length is shorter than the frame
+pub prefix_is_shorter : (bytes : List ℕ) (n : ℕ) → IsIncompleteFrame bytes → BeginsWithLength bytes n → IsPayloadLength n × (length bytes < 4 + n)
+prefix_is_shorter bytes n (inl short) h = absurd (omega (arith, length_fits bytes n h))
+prefix_is_shorter bytes n (inr (message, lawful, more, some, is)) h =
     let fits : 4 ≤ length bytes = length_fits bytes n h in
     let all : BeginsWithLength (bytes ++ more) n = lengthened bytes more n h in
     let same : length message ≡ n = one_length (bytes ++ more) (length message) n (omega arith, ap (take 4) (sym is)) all in
     let sizes : 4 + length message ≡ length bytes + length more = omega (arith, ap length is, length-append bytes more) in
-    (subst IsMessageLength same lawful, omega arith)
+    (subst IsPayloadLength same lawful, omega arith)
 
 -- the other way round: the missing bytes may be any
-pub shorter_is_front : (bytes : List ℕ) (n : ℕ) → IsMessageLength n → BeginsWithLength bytes n → length bytes < 4 + n → IsUnfinished bytes
-shorter_is_front bytes n lawful h short =
+pub shorter_is_prefix : (bytes : List ℕ) (n : ℕ) → IsPayloadLength n → BeginsWithLength bytes n → length bytes < 4 + n → IsIncompleteFrame bytes
+shorter_is_prefix bytes n lawful h short =
     let fits : 4 ≤ length bytes = length_fits bytes n h in
     let more : List ℕ = replicate (4 + n - length bytes) 0 in
     let message : List ℕ = drop 4 bytes ++ more in
     let size : length message ≡ n = simp (length-append, length-drop, length-replicate) (omega arith) in
     let joined : to_be_bytes w32 n ++ message ≡ bytes ++ more =
-    ap (λ front. front ++ message) (sym h.1) ∙ sym (append_assoc (take 4 bytes) (drop 4 bytes) more) ∙ ap (λ whole. whole ++ more) (take-append-drop 4 bytes) in
-    inr (message, subst IsMessageLength (sym size) lawful, more, simp length-replicate (omega arith), ap (λ k. to_be_bytes w32 k ++ message) size ∙ joined)
+    ap (λ prefix. prefix ++ message) (sym h.1) ∙ sym (append_assoc (take 4 bytes) (drop 4 bytes) more) ∙ ap (λ whole. whole ++ more) (take-append-drop 4 bytes) in
+    inr (message, subst IsPayloadLength (sym size) lawful, more, simp length-replicate (omega arith), ap (λ k. to_be_bytes w32 k ++ message) size ∙ joined)
 
 -- no bytes are both less than a frame and the beginning of a message's
-pub unfinished_has_no_message : (bytes message : List ℕ) → IsUnfinished bytes → BeginsWithMessage bytes message → ⊥
+pub unfinished_has_no_message : (bytes message : List ℕ) → IsIncompleteFrame bytes → BeginsWithPayload bytes message → ⊥
 unfinished_has_no_message bytes message unfinished (lawful, left, is) =
-    let shorter = front_is_shorter bytes (length message) unfinished (message_begins bytes message left lawful is) in
+    let shorter = prefix_is_shorter bytes (length message) unfinished (message_begins bytes message left lawful is) in
     let sizes : length bytes ≡ 4 + (length message + length left) = ap length is ∙ length-frame message left in
     absurd (omega arith)
 
 -- nor a bad rest
-pub bad_has_no_message : (bytes message : List ℕ) → IsBad bytes → BeginsWithMessage bytes message → ⊥
+pub bad_has_no_message : (bytes message : List ℕ) → IsBadLength bytes → BeginsWithPayload bytes message → ⊥
 bad_has_no_message bytes message (n, begins, unlawful) (lawful, left, is) =
-    unlawful (subst IsMessageLength (one_length bytes (length message) n (message_begins bytes message left lawful is) begins) lawful)
+    unlawful (subst IsPayloadLength (one_length bytes (length message) n (message_begins bytes message left lawful is) begins) lawful)
 
-pub bad_is_no_front : (bytes : List ℕ) → IsUnfinished bytes → IsBad bytes → ⊥
-bad_is_no_front bytes unfinished (n, begins, unlawful) = unlawful (front_is_shorter bytes n unfinished begins).0
+pub bad_is_no_prefix : (bytes : List ℕ) → IsIncompleteFrame bytes → IsBadLength bytes → ⊥
+bad_is_no_prefix bytes unfinished (n, begins, unlawful) = unlawful (prefix_is_shorter bytes n unfinished begins).0
 
-pub rest_has_no_message : (bytes message : List ℕ) → IsRest bytes → BeginsWithMessage bytes message → ⊥
+pub rest_has_no_message : (bytes message : List ℕ) → IsFrameRest bytes → BeginsWithPayload bytes message → ⊥
 rest_has_no_message bytes message (inl unfinished) = unfinished_has_no_message bytes message unfinished
 rest_has_no_message bytes message (inr bad) = bad_has_no_message bytes message bad
 
--- a message behind the length that says so
-pub message_behind : (waiting message : List ℕ) (n : ℕ) → IsMessageLength n → BeginsWithLength waiting n → length message ≡ n → message ≡ take n (drop 4 waiting) → BeginsWithMessage waiting message
-message_behind waiting message n lawful begins size is =
+-- a message after the length that says so
+pub payload_after : (waiting message : List ℕ) (n : ℕ) → IsPayloadLength n → BeginsWithLength waiting n → length message ≡ n → message ≡ take n (drop 4 waiting) → BeginsWithPayload waiting message
+payload_after waiting message n lawful begins size is =
     let left : List ℕ = drop n (drop 4 waiting) in (
-      subst IsMessageLength (sym size) lawful,
+      subst IsPayloadLength (sym size) lawful,
       left,
       sym (take-append-drop 4 waiting) ∙ ap (λ head. head ++ drop 4 waiting) begins.1
           ∙ ap (λ tail. to_be_bytes w32 n ++ tail) (sym (take-append-drop n (drop 4 waiting)) ∙ ap (λ m. m ++ left) (sym is))
@@ -91,16 +91,16 @@ message_behind waiting message n lawful begins size is =
 less_four : (n : ℕ) → 4 + n - 4 ≡ n
 less_four n = omega arith
 
--- what a slice of that length behind the four bytes is
-pub cut_message : (waiting : List ℕ) (n : ℕ) → IsMessageLength n → BeginsWithLength waiting n → (found : Option (Bor (List ℕ)))
+-- what a slice of that length after the four bytes is
+pub incomplete_payload : (waiting : List ℕ) (n : ℕ) → IsPayloadLength n → BeginsWithLength waiting n → (found : Option (Bor (List ℕ)))
     → MatchOption found ((4 + n < 4) ⊎ (length waiting < 4 + n)) (λ m. (4 ≤ 4 + n) × (4 + n ≤ length waiting) × (m.now ≡ slice_range waiting 4 (4 + n)) × (length m.now + 4 ≡ 4 + n))
-    → MatchOption found (IsUnfinished waiting) (λ m. BeginsWithMessage waiting m.now)
-cut_message waiting n lawful begins None (inl none) = absurd (omega arith)
-cut_message waiting n lawful begins None (inr short) = shorter_is_front waiting n lawful begins short
-cut_message waiting n lawful begins (Some m) (_, fits, is, size) =
-    message_behind waiting m.now n lawful begins (omega arith) (is ∙ ap (λ k. take k (drop 4 waiting)) (less_four n))
+    → MatchOption found (IsIncompleteFrame waiting) (λ m. BeginsWithPayload waiting m.now)
+incomplete_payload waiting n lawful begins None (inl none) = absurd (omega arith)
+incomplete_payload waiting n lawful begins None (inr short) = shorter_is_prefix waiting n lawful begins short
+incomplete_payload waiting n lawful begins (Some m) (_, fits, is, size) =
+    payload_after waiting m.now n lawful begins (omega arith) (is ∙ ap (λ k. take k (drop 4 waiting)) (less_four n))
 
--- the bytes behind the message
-pub behind_message : (waiting message : List ℕ) → (begins : BeginsWithMessage waiting message) → drop (4 + length message) waiting ≡ begins.1
-behind_message waiting message (lawful, left, is) =
+-- the bytes after the message
+pub after_payload : (waiting message : List ℕ) → (begins : BeginsWithPayload waiting message) → drop (4 + length message) waiting ≡ begins.1
+after_payload waiting message (lawful, left, is) =
     ap (drop (4 + length message)) is ∙ sym (drop-drop (length message) 4 (frame message ++ left)) ∙ drop-append_seam message left

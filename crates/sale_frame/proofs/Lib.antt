@@ -1,4 +1,4 @@
+pub mod StepLemmas
+pub mod DecodeLemmas
 pub mod FrameLemmas
-pub mod CallLemmas
 pub mod StreamLemmas
-pub mod ReadingLemmas

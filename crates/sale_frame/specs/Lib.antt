@@ -1,3 +1,3 @@
-pub mod Frame
-pub mod Reading
-pub mod Call
+pub mod Steps
+pub mod Decode
+pub mod Grammar

@@ -1,6 +1,8 @@
+//! Why a stream has no next message.
+use std::error::Error;
 use std::fmt;
 
-/// Why no message can follow on a stream: the four bytes in a length's place spell one that no
+/// Why no message can follow on a stream: the four bytes where a length begins spell one that no
 /// message has. The stream can't be read from there on.
 #[derive(Clone, Copy, Debug, PartialEq, Eq)]
 pub enum FrameFault {
@@ -18,3 +20,5 @@ impl fmt::Display for FrameFault {
         }
     }
 }
+
+impl Error for FrameFault {}

@@ -1,21 +1,23 @@
-//! What holds of frames and of readers, in whatever pieces a stream comes.
+//! Laws of frames and of readers, in whatever chunks a stream comes.
 
 ghost use Rattle.std.specs.Prelude.{◌≡◌, ◌↔◌, ℕ, ◌<◌, true, List, [], ◌++◌};
 ghost use Rattle.std.specs.List.{AllByRecursion};
-ghost use Rattle.sale_frame.specs.Frame.{IsMessage, IsFrame, IsRest, frame, Frames};
-ghost use Rattle.sale_frame.specs.Reading.{is_frame, reading_of, completed, with_messages};
-ghost use Rattle.sale_frame.specs.Call.{Call, IsFault, Run, fed, given, OnlyRefuses};
+ghost use Rattle.sale_frame.specs.Grammar.{IsPayload, IsFrame, IsFrameRest, frame, Frames};
+ghost use Rattle.sale_frame.specs.Decode.{is_frame, decode_frames, decode_after, with_messages};
+ghost use Rattle.sale_frame.specs.Steps.{FrameStep, IsFrameFault, TakesFrame, OnlyRefuses};
+ghost use Rattle.gw_bytes.specs.Bytes.{AreBytes};
+ghost use Rattle.gw_bytes.specs.Chunks.{Steps, fed, given};
 ghost use Rattle.sale_frame.specs.declared.fault.FrameFault.{FrameFault};
 
 /// No frame begins another: a stream that begins with a frame begins with no other.
 pub fn no_frame_begins_another()
-    ensures { (a b x y : List ℕ) → IsMessage a → IsMessage b → frame a ++ x ≡ frame b ++ y
+    ensures { (a b x y : List ℕ) → IsPayload a → IsPayload b → frame a ++ x ≡ frame b ++ y
         → (a ≡ b) × (x ≡ y) }
 {}
 
 /// The test of a frame finds exactly the frames of messages.
 pub fn frame_found()
-    ensures { (bytes : List ℕ) → AllByRecursion (λ byte. byte < 256) bytes
+    ensures { (bytes : List ℕ) → AreBytes bytes
         → is_frame bytes ≡ true ↔ IsFrame bytes }
 {}
 
@@ -25,36 +27,36 @@ pub fn one_reading()
         → Frames bytes b y → (a ≡ b) × (x ≡ y) }
 {}
 
-/// Each stream of bytes has one: the one that `reading_of` computes.
+/// Each stream of bytes has one: the one that `decode_frames` computes.
 pub fn reading()
-    ensures { (bytes : List ℕ) → AllByRecursion (λ byte. byte < 256) bytes
-        → Frames bytes (reading_of bytes).messages (reading_of bytes).rest }
+    ensures { (bytes : List ℕ) → AreBytes bytes
+        → Frames bytes (decode_frames bytes).messages (decode_frames bytes).rest }
 {}
 
-/// A piece more completes its own messages, and changes none of those before.
-pub fn piece_more()
-    ensures { (bytes piece : List ℕ) → reading_of (bytes ++ piece)
-        ≡ with_messages (reading_of bytes).messages (completed (reading_of bytes).rest piece) }
+/// One more chunk completes its own messages, and changes none of those before.
+pub fn chunk_more()
+    ensures { (bytes chunk : List ℕ) → decode_frames (bytes ++ chunk)
+        ≡ with_messages (decode_frames bytes).messages (decode_after (decode_frames bytes).rest chunk) }
 {}
 
-/// Behind a rest, a piece completes the messages that stand in both together.
-pub fn piece_completes()
-    ensures { (rest piece left : List ℕ) (messages : List (List ℕ)) → IsRest rest
-        → AllByRecursion (λ byte. byte < 256) (rest ++ piece) → Frames (rest ++ piece) messages left
-        → ((completed rest piece).messages ≡ messages) × ((completed rest piece).rest ≡ left) }
+/// After a rest, a chunk completes the messages that the two together have.
+pub fn chunk_completes()
+    ensures { (rest chunk left : List ℕ) (messages : List (List ℕ)) → IsFrameRest rest
+        → AreBytes (rest ++ chunk) → Frames (rest ++ chunk) messages left
+        → ((decode_after rest chunk).messages ≡ messages) × ((decode_after rest chunk).rest ≡ left) }
 {}
 
-/// However the calls on a reader went, the messages handed out, and then those of the bytes that
+/// However the calls on a reader went, the messages returned, and then those of the bytes that
 /// wait, are those of all bytes fed.
-pub fn any_pieces()
-    ensures { (calls : List Call) (waiting rest : List ℕ) (messages : List (List ℕ))
-        → Run [] calls waiting → Frames waiting messages rest
-        → Frames (fed calls) (given calls ++ messages) rest }
+pub fn any_chunks()
+    ensures { (steps : List FrameStep) (waiting rest : List ℕ) (messages : List (List ℕ))
+        → Steps TakesFrame [] steps waiting → Frames waiting messages rest
+        → Frames (fed steps) (given steps ++ messages) rest }
 {}
 
-/// After a fault each answer is the same fault, whatever is fed.
+/// After a fault each result is this fault, whatever is fed.
 pub fn refused_for_good()
-    ensures { (waiting left : List ℕ) (fault : FrameFault) (calls : List Call)
-        → IsFault waiting fault → Run waiting calls left
-        → AllByRecursion (OnlyRefuses fault) calls }
+    ensures { (waiting left : List ℕ) (fault : FrameFault) (steps : List FrameStep)
+        → IsFrameFault waiting fault → Steps TakesFrame waiting steps left
+        → AllByRecursion (OnlyRefuses fault) steps }
 {}

@@ -1,24 +1,25 @@
+//! Streams of frames, byte by byte and in one chunk, and the text of faults.
 use super::*;
 use std::alloc::{AllocError, Global};
 use std::test::Fail;
 
-/// The messages of a stream that comes byte by byte, each with a bar behind it, and the last answer.
+/// The messages of a stream that comes byte by byte, each with a bar after it, and the last result.
 fn by_byte(alloc: Global, stream: &[u8]) -> Result<(Vec<u8>, Option<FrameFault>), AllocError> {
     let mut reader = FrameReader::new(alloc)?;
-    let mut seen = Vec::new(alloc);
+    let mut messages = Vec::new(alloc);
     let mut fault = None;
     for byte in stream {
         reader.feed(alloc, &[*byte])?;
         match reader.next() {
             Ok(Some(message)) => {
-                seen.extend_from_slice(message)?;
-                seen.push(b'|')?;
+                messages.extend_from_slice(message)?;
+                messages.push(b'|')?;
             }
             Ok(None) => (),
-            Err(told) => fault = Some(told),
+            Err(own) => fault = Some(own),
         }
     }
-    Ok((seen, fault))
+    Ok((messages, fault))
 }
 
 #[test]
@@ -43,15 +44,16 @@ fn rows(rt: HostRuntime) -> Result<(), Fail> {
         (b"\xff\xff\xff".as_slice(), b"".as_slice(), None),
     ];
     for (stream, messages, fault) in rows {
-        let (seen, told) = by_byte(rt.alloc(), stream)?;
-        assert_eq!(rt; seen.as_slice(), messages, "in {stream:?}");
-        assert_eq!(rt; told, fault, "in {stream:?}");
+        let (found, own) = by_byte(rt.alloc(), stream)?;
+        assert_eq!(rt; found.as_slice(), messages, "in {stream:?}");
+        assert_eq!(rt; own, fault, "in {stream:?}");
     }
     Ok(())
 }
 
+/// The example of the crate's first page.
 #[test]
-fn one_piece(rt: HostRuntime) -> Result<(), Fail> {
+fn one_chunk(rt: HostRuntime) -> Result<(), Fail> {
     let mut reader = FrameReader::new(rt.alloc())?;
     reader.feed(rt.alloc(), b"\0\0\0\x02{}\0\0\0\x03abc\0\0")?;
     assert_eq!(rt; reader.next()?.ok_or("none")?, b"{}".as_slice());
@@ -74,7 +76,7 @@ fn greatest_message(rt: HostRuntime) -> Result<(), Fail> {
 }
 
 #[test]
-fn faults_are_told(rt: HostRuntime) -> Result<(), Fail> {
+fn texts_of_faults(rt: HostRuntime) -> Result<(), Fail> {
     let too_long = FrameFault::TooLong { length: 65_537 };
     assert_eq!(rt;
         FrameFault::Zero.to_string(rt.alloc())?.as_str(),

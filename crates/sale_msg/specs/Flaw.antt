@@ -1,9 +1,9 @@
 -- What is wrong with an object, by a table: its first row that isn't met.
 use Rattle.std.specs.Prelude.{◌≡◌, ℕ, List, [], ◌∷◌, Some, codes, MatchOption, ◌⊎◌}
 use Rattle.json_text.specs.Tree.{Tree}
-use Rattle.sale_msg.specs.Path.{text_at, value_at}
+use Rattle.sale_msg.specs.Path.{text_at, tree_at}
 use Rattle.sale_msg.specs.Form.{HasForm}
-use Rattle.sale_msg.specs.Table.{Row}
+use Rattle.sale_msg.specs.Table.{MemberRow}
 use Rattle.sale_msg.specs.declared.table.Form.{Form}
 use Rattle.sale_msg.specs.declared.table.Presence.{Presence}
 use Rattle.sale_msg.specs.declared.table.Presence.TheVariants.{Required, Optional, ByHeader}
@@ -18,35 +18,35 @@ MayBeAbsent ByHeader tree =
     (text_at (codes "MessageHeader.MessageClass") tree ≡ Some (codes "Device"))
     ⊎ (text_at (codes "MessageHeader.MessageType") tree ≡ Some (codes "Notification"))
 
--- a value of this form is at the path
+-- Inner: a value of this form is at the path
 abbrev pub HoldsAt : List ℕ → Form → Tree → Type 0
-HoldsAt path form tree = MatchOption (value_at path tree) ⊥ (HasForm form)
+HoldsAt path form tree = MatchOption (tree_at path tree) ⊥ (HasForm form)
 
--- nothing is at the path, or a value of this form
+-- Inner: nothing is at the path, or a value of this form
 abbrev pub MayHoldAt : List ℕ → Form → Tree → Type 0
-MayHoldAt path form tree = MatchOption (value_at path tree) (Unit {0}) (HasForm form)
+MayHoldAt path form tree = MatchOption (tree_at path tree) (Unit {0}) (HasForm form)
 
 -- the member is of its form, or is absent and may be
-unfoldable pub IsMet : Row → Tree → Type 0
-IsMet row tree = MatchOption (value_at row.at tree) (MayBeAbsent row.presence tree) (HasForm row.form)
+unfoldable pub IsMet : MemberRow → Tree → Type 0
+IsMet row tree = MatchOption (tree_at row.at tree) (MayBeAbsent row.presence tree) (HasForm row.form)
 
 -- the member is absent and may not be, or is of another form
-unfoldable pub IsFlaw : Row → Tree → Flaw → Type 0
-IsFlaw row tree flaw = MatchOption (value_at row.at tree)
+unfoldable pub IsFlaw : MemberRow → Tree → Flaw → Type 0
+IsFlaw row tree flaw = MatchOption (tree_at row.at tree)
     ((¬ MayBeAbsent row.presence tree) × (flaw ≡ flaws.Missing row.path))
     (λ value. (¬ HasForm row.form value) × (flaw ≡ flaws.Wrong row.path))
 
 -- the object meets each row of the table
-abbrev pub AreMet : List Row → Tree → Type 0
+abbrev pub AreMet : List MemberRow → Tree → Type 0
 AreMet [] tree = Unit {0}
 AreMet (row ∷ rows) tree = IsMet row tree × AreMet rows tree
 
 -- the flaw is that of the first row that the object doesn't meet
-abbrev pub IsFirstFlaw : List Row → Tree → Flaw → Type 0
+abbrev pub IsFirstFlaw : List MemberRow → Tree → Flaw → Type 0
 IsFirstFlaw [] tree flaw = ⊥
 IsFirstFlaw (row ∷ rows) tree flaw = IsFlaw row tree flaw ⊎ (IsMet row tree × IsFirstFlaw rows tree flaw)
 
 -- the flaw is the first one of the first object that has any
-abbrev pub IsFirstAmong : List Row → List Tree → Flaw → Type 0
+abbrev pub IsFirstAmong : List MemberRow → List Tree → Flaw → Type 0
 IsFirstAmong rows [] flaw = ⊥
 IsFirstAmong rows (tree ∷ trees) flaw = IsFirstFlaw rows tree flaw ⊎ (AreMet rows tree × IsFirstAmong rows trees flaw)

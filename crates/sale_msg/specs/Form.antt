@@ -1,8 +1,8 @@
 -- What a member is to be.
 use Rattle.std.specs.Prelude.{◌≡◌, ℕ, ◌≤◌, List, ◌++◌, All, length, codes, IsSome, MatchOption, ◌⊎◌}
-use Rattle.gw_base.specs.Amount.{IsAmountText}
+use Rattle.gw_base.specs.Amount.{SpellsAmount}
 use Rattle.gw_base.specs.Ident.{IsIdent}
-use Rattle.json_text.specs.Tree.{Tree, array_of, boolean_of, number_of, object_of, string_of}
+use Rattle.json_text.specs.Tree.{Tree, array_of, boolean_of, numeral_of, members_of, string_of}
 use Rattle.sale_values.specs.declared.names.Class.{Class}
 use Rattle.sale_values.specs.declared.names.Kind.{Kind}
 use Rattle.sale_values.specs.declared.names.Kind.TheVariants as kinds
@@ -21,25 +21,25 @@ abbrev pub IsLetter : ℕ → Type 0
 IsLetter byte = IsCapital byte ⊎ ((0x61 ≤ byte) × (byte ≤ 0x7A))
 
 -- an object, whatever its members
-abbrev pub IsObject : Tree → Type 0
-IsObject tree = IsSome (object_of tree)
+abbrev pub IsJsonObject : Tree → Type 0
+IsJsonObject tree = IsSome (members_of tree)
 
 -- a number whose text is an amount
 abbrev pub IsAmountNumber : Tree → Type 0
-IsAmountNumber tree = MatchOption (number_of tree) ⊥ (λ numeral. (minor : ℕ) × IsAmountText numeral minor)
+IsAmountNumber tree = MatchOption (numeral_of tree) ⊥ (λ numeral. (minor : ℕ) × SpellsAmount numeral minor)
 
 -- a list of 1 to 16 objects; a single object is taken as a list of one
 abbrev pub IsOutputList : Tree → Type 0
-IsOutputList tree = MatchOption (array_of tree) (IsObject tree)
-    (λ items. (1 ≤ length items) × (length items ≤ 16) × All IsObject items)
+IsOutputList tree = MatchOption (array_of tree) (IsJsonObject tree)
+    (λ items. (1 ≤ length items) × (length items ≤ 16) × All IsJsonObject items)
 
 -- an object with a text as its `Text`
-abbrev pub HasText : Tree → Type 0
-HasText item = IsSome (text_at (codes "Text") item)
+abbrev pub HasTextMember : Tree → Type 0
+HasTextMember item = IsSome (text_at (codes "Text") item)
 
 -- a list of objects, each of which has a text
 abbrev pub IsTextList : Tree → Type 0
-IsTextList tree = MatchOption (array_of tree) ⊥ (All HasText)
+IsTextList tree = MatchOption (array_of tree) ⊥ (All HasTextMember)
 
 -- the text is of the form
 abbrev pub TextHasForm : Form → List ℕ → Type 0
@@ -64,7 +64,7 @@ IsTextOf form tree = MatchOption (string_of tree) ⊥ (TextHasForm form)
 
 -- the tree is of the form
 abbrev pub HasForm : Form → Tree → Type 0
-HasForm forms.Object tree = IsObject tree
+HasForm forms.Object tree = IsJsonObject tree
 HasForm forms.Text tree = IsTextOf forms.Text tree
 HasForm (forms.Ident most) tree = IsTextOf (forms.Ident most) tree
 HasForm forms.Letters tree = IsTextOf forms.Letters tree

@@ -1,9 +1,8 @@
+pub mod Canonical
 pub mod Category
-pub mod Path
-pub mod Form
-pub mod Table
-pub mod Shown
 pub mod Flaw
-pub mod Message
-pub mod Written
-pub mod Pieces
+pub mod Form
+pub mod Grammar
+pub mod Path
+pub mod Table
+pub mod inner

@@ -11,19 +11,19 @@ use Rattle.sale_msg.specs.declared.table.Presence.TheVariants.{Required, Optiona
 use Rattle.sale_msg.specs.declared.table.Envelope.{Envelope}
 use Rattle.sale_msg.specs.declared.table.Envelope.TheVariants as envelopes
 
--- a member by its path in the table's object, how a fault tells it, whether it may be absent, and what it is to be
-pub record Row : Type 0 where
+-- a member by its path in the table's object, its path in a fault, whether it may be absent, and its form
+pub record MemberRow : Type 0 where
   pub at : List ℕ
   pub path : List ℕ
   pub presence : Presence
   pub form : Form
 
--- a member of the body object, told by its own path
-abbrev pub row : String → Presence → Form → Row
-row path presence form = record { at = codes path; path = codes path; presence = presence; form = form }
+-- a member of the body object; its path in a fault is the same
+abbrev pub member_row : String → Presence → Form → MemberRow
+member_row path presence form = record { at = codes path; path = codes path; presence = presence; form = form }
 
--- a member of an object of its own, which is told by the path of that object too
-abbrev pub part_row : String → String → Presence → Form → Row
+-- a member of an object within the body; its path in a fault begins with that object's
+abbrev pub part_row : String → String → Presence → Form → MemberRow
 part_row object path presence form =
     record { at = codes path; path = codes object ++ 0x2E ∷ codes path; presence = presence; form = form }
 
@@ -33,74 +33,74 @@ kind_form envelopes.Request = RequestKind
 kind_form envelopes.Response = Kind
 
 -- the header, in each envelope
-abbrev pub header_rows : Envelope → List Row
+abbrev pub header_rows : Envelope → List MemberRow
 header_rows envelope =
-    row "MessageHeader" Required Object
-    ∷ row "MessageHeader.ProtocolVersion" Optional Version
-    ∷ row "MessageHeader.MessageClass" Required Class
-    ∷ row "MessageHeader.MessageCategory" Required Letters
-    ∷ row "MessageHeader.MessageType" Required (kind_form envelope)
-    ∷ row "MessageHeader.ServiceID" ByHeader (Ident 10)
-    ∷ row "MessageHeader.DeviceID" Optional (Ident 10)
-    ∷ row "MessageHeader.SaleID" Required (Ident 40)
-    ∷ row "MessageHeader.POIID" Required (Ident 40)
+    member_row "MessageHeader" Required Object
+    ∷ member_row "MessageHeader.ProtocolVersion" Optional Version
+    ∷ member_row "MessageHeader.MessageClass" Required Class
+    ∷ member_row "MessageHeader.MessageCategory" Required Letters
+    ∷ member_row "MessageHeader.MessageType" Required (kind_form envelope)
+    ∷ member_row "MessageHeader.ServiceID" ByHeader (Ident 10)
+    ∷ member_row "MessageHeader.DeviceID" Optional (Ident 10)
+    ∷ member_row "MessageHeader.SaleID" Required (Ident 40)
+    ∷ member_row "MessageHeader.POIID" Required (Ident 40)
     ∷ []
 
 -- what every body but those of Display and Print asks of the header
-abbrev pub service_row : Row
-service_row = row "MessageHeader.ServiceID" Required (Ident 10)
+abbrev pub service_row : MemberRow
+service_row = member_row "MessageHeader.ServiceID" Required (Ident 10)
 
 -- a Payment
-abbrev pub payment_rows : List Row
+abbrev pub payment_rows : List MemberRow
 payment_rows =
     service_row
-    ∷ row "PaymentRequest" Required Object
-    ∷ row "PaymentRequest.SaleData" Required Object
-    ∷ row "PaymentRequest.SaleData.SaleTransactionID" Required Object
-    ∷ row "PaymentRequest.SaleData.SaleTransactionID.TransactionID" Required (Ident 80)
-    ∷ row "PaymentRequest.SaleData.SaleTransactionID.TimeStamp" Required (Ident 35)
-    ∷ row "PaymentRequest.PaymentTransaction" Required Object
-    ∷ row "PaymentRequest.PaymentTransaction.AmountsReq" Required Object
-    ∷ row "PaymentRequest.PaymentTransaction.AmountsReq.Currency" Required Currency
-    ∷ row "PaymentRequest.PaymentTransaction.AmountsReq.RequestedAmount" Required Amount
-    ∷ row "PaymentRequest.PaymentData" Optional Object
-    ∷ row "PaymentRequest.PaymentData.PaymentType" Optional Text
+    ∷ member_row "PaymentRequest" Required Object
+    ∷ member_row "PaymentRequest.SaleData" Required Object
+    ∷ member_row "PaymentRequest.SaleData.SaleTransactionID" Required Object
+    ∷ member_row "PaymentRequest.SaleData.SaleTransactionID.TransactionID" Required (Ident 80)
+    ∷ member_row "PaymentRequest.SaleData.SaleTransactionID.TimeStamp" Required (Ident 35)
+    ∷ member_row "PaymentRequest.PaymentTransaction" Required Object
+    ∷ member_row "PaymentRequest.PaymentTransaction.AmountsReq" Required Object
+    ∷ member_row "PaymentRequest.PaymentTransaction.AmountsReq.Currency" Required Currency
+    ∷ member_row "PaymentRequest.PaymentTransaction.AmountsReq.RequestedAmount" Required Amount
+    ∷ member_row "PaymentRequest.PaymentData" Optional Object
+    ∷ member_row "PaymentRequest.PaymentData.PaymentType" Optional Text
     ∷ []
 
 -- a Reversal
-abbrev pub reversal_rows : List Row
+abbrev pub reversal_rows : List MemberRow
 reversal_rows =
     service_row
-    ∷ row "ReversalRequest" Required Object
-    ∷ row "ReversalRequest.OriginalPOITransaction" Required Object
-    ∷ row "ReversalRequest.OriginalPOITransaction.POITransactionID" Required Object
-    ∷ row "ReversalRequest.OriginalPOITransaction.POITransactionID.TransactionID" Required (Ident 80)
-    ∷ row "ReversalRequest.ReversalReason" Required Text
-    ∷ row "ReversalRequest.ReversedAmount" Optional Amount
+    ∷ member_row "ReversalRequest" Required Object
+    ∷ member_row "ReversalRequest.OriginalPOITransaction" Required Object
+    ∷ member_row "ReversalRequest.OriginalPOITransaction.POITransactionID" Required Object
+    ∷ member_row "ReversalRequest.OriginalPOITransaction.POITransactionID.TransactionID" Required (Ident 80)
+    ∷ member_row "ReversalRequest.ReversalReason" Required Text
+    ∷ member_row "ReversalRequest.ReversedAmount" Optional Amount
     ∷ []
 
 -- an Abort, with its reference
-abbrev pub abort_rows : List Row
+abbrev pub abort_rows : List MemberRow
 abort_rows =
     service_row
-    ∷ row "AbortRequest" Required Object
-    ∷ row "AbortRequest.MessageReference" Required Object
-    ∷ row "AbortRequest.MessageReference.ServiceID" Required (Ident 10)
-    ∷ row "AbortRequest.MessageReference.SaleID" Optional (Ident 40)
-    ∷ row "AbortRequest.MessageReference.POIID" Optional (Ident 40)
-    ∷ row "AbortRequest.AbortReason" Optional Text
+    ∷ member_row "AbortRequest" Required Object
+    ∷ member_row "AbortRequest.MessageReference" Required Object
+    ∷ member_row "AbortRequest.MessageReference.ServiceID" Required (Ident 10)
+    ∷ member_row "AbortRequest.MessageReference.SaleID" Optional (Ident 40)
+    ∷ member_row "AbortRequest.MessageReference.POIID" Optional (Ident 40)
+    ∷ member_row "AbortRequest.AbortReason" Optional Text
     ∷ []
 
 -- a TransactionStatus
-abbrev pub status_rows : List Row
+abbrev pub status_rows : List MemberRow
 status_rows =
     service_row
-    ∷ row "TransactionStatusRequest" Required Object
-    ∷ row "TransactionStatusRequest.MessageReference" Optional Object
+    ∷ member_row "TransactionStatusRequest" Required Object
+    ∷ member_row "TransactionStatusRequest.MessageReference" Optional Object
     ∷ []
 
 -- the reference of a TransactionStatus, where it has one
-abbrev pub status_reference_rows : List Row
+abbrev pub status_reference_rows : List MemberRow
 status_reference_rows =
     part_row "TransactionStatusRequest.MessageReference" "ServiceID" Required (Ident 10)
     ∷ part_row "TransactionStatusRequest.MessageReference" "SaleID" Optional (Ident 40)
@@ -108,22 +108,22 @@ status_reference_rows =
     ∷ []
 
 -- a Reconciliation
-abbrev pub reconciliation_rows : List Row
+abbrev pub reconciliation_rows : List MemberRow
 reconciliation_rows =
     service_row
-    ∷ row "ReconciliationRequest" Required Object
-    ∷ row "ReconciliationRequest.ReconciliationType" Required Period
+    ∷ member_row "ReconciliationRequest" Required Object
+    ∷ member_row "ReconciliationRequest.ReconciliationType" Required Period
     ∷ []
 
 -- a Display
-abbrev pub display_rows : List Row
+abbrev pub display_rows : List MemberRow
 display_rows =
-    row "DisplayRequest" Required Object
-    ∷ row "DisplayRequest.DisplayOutput" Required Outputs
+    member_row "DisplayRequest" Required Object
+    ∷ member_row "DisplayRequest.DisplayOutput" Required Outputs
     ∷ []
 
 -- each output of a Display
-abbrev pub output_rows : List Row
+abbrev pub output_rows : List MemberRow
 output_rows =
     part_row "DisplayRequest.DisplayOutput" "Device" Required (Ident 40)
     ∷ part_row "DisplayRequest.DisplayOutput" "InfoQualify" Required (Ident 40)
@@ -134,17 +134,17 @@ output_rows =
     ∷ []
 
 -- a Print
-abbrev pub print_rows : List Row
+abbrev pub print_rows : List MemberRow
 print_rows =
-    row "PrintRequest" Required Object
-    ∷ row "PrintRequest.PrintOutput" Required Object
-    ∷ row "PrintRequest.PrintOutput.DocumentQualifier" Required (Ident 40)
+    member_row "PrintRequest" Required Object
+    ∷ member_row "PrintRequest.PrintOutput" Required Object
+    ∷ member_row "PrintRequest.PrintOutput.DocumentQualifier" Required (Ident 40)
     ∷ []
 
 -- the body of each category
-abbrev pub rows_of : Category → List Row
-rows_of categories.Login = service_row ∷ row "LoginRequest" Required Object ∷ []
-rows_of categories.Logout = service_row ∷ row "LogoutRequest" Required Object ∷ []
+abbrev pub rows_of : Category → List MemberRow
+rows_of categories.Login = service_row ∷ member_row "LoginRequest" Required Object ∷ []
+rows_of categories.Logout = service_row ∷ member_row "LogoutRequest" Required Object ∷ []
 rows_of categories.Payment = payment_rows
 rows_of categories.Reversal = reversal_rows
 rows_of categories.Abort = abort_rows
@@ -152,10 +152,10 @@ rows_of categories.TransactionStatus = status_rows
 rows_of categories.Reconciliation = reconciliation_rows
 rows_of categories.Display = display_rows
 rows_of categories.Print = print_rows
-rows_of categories.Diagnosis = service_row ∷ row "DiagnosisRequest" Required Object ∷ []
+rows_of categories.Diagnosis = service_row ∷ member_row "DiagnosisRequest" Required Object ∷ []
 
 -- each object within a body that has a table of its own
-abbrev pub part_rows : Category → List Row
+abbrev pub part_rows : Category → List MemberRow
 part_rows categories.Login = []
 part_rows categories.Logout = []
 part_rows categories.Payment = []

@@ -1,18 +1,20 @@
 //! What the bodies of requests ask.
 ghost use Rattle.std.specs.Prelude.{◌≡◌, Some, IfOk, codes};
-ghost use Rattle.json_text.specs.View.{view};
+ghost use Rattle.json_text.specs.ValueOf.{value_of};
 ghost use Rattle.sale_values.specs.Names.{period_name};
 ghost use Rattle.sale_msg.specs.Flaw.{AreMet, IsMet};
-ghost use Rattle.sale_msg.specs.Message.{Asks, HasBody, IsPayment, IsReversal, IsReference, IsReferenceAt};
+ghost use Rattle.sale_msg.specs.Grammar.{Asks, HasBody, IsPayment, IsReversal, IsReference, IsReferenceAt};
 ghost use Rattle.sale_msg.specs.Category.{category_of};
 ghost use Rattle.sale_msg.specs.Path.{text_at};
 ghost use Rattle.sale_msg.specs.Table.{abort_rows, payment_rows, print_rows, reconciliation_rows, reversal_rows, status_reference_rows};
 
 use crate::Category;
+use crate::members::{
+    amount, amount_or_none, currency, ident, ident_or_none, period, text_or_none,
+};
 use crate::outputs::outputs;
-use crate::parts::parts;
 use crate::path::find;
-use crate::values::{amount, amount_or_none, currency, ident, ident_or_none, period, text_or_none};
+use crate::tabled_objects::parts;
 use gw_base::Ident;
 use json_text::Json;
 use sale_values::{PaymentAsk, Period, Reference, ReversalAsk, SaleRequest};
@@ -21,8 +23,8 @@ use std::alloc::{AllocError, Global};
 /// What a Payment asks.
 #[tactic(auto, unfolding(crate::specs::Flaw::IsMet))]
 pub(crate) fn payment(alloc: Global, body: &Json) -> Result<PaymentAsk, AllocError>
-    requires { AreMet payment_rows (view body.now) }
-    ensures { IfOk result (IsPayment (view body.now)) }
+    requires { AreMet payment_rows (value_of body.now) }
+    ensures { IfOk result (IsPayment (value_of body.now)) }
 {
     let kind = text_or_none(alloc, body, "PaymentRequest.PaymentData.PaymentType")?;
     Ok(PaymentAsk {
@@ -46,8 +48,8 @@ pub(crate) fn payment(alloc: Global, body: &Json) -> Result<PaymentAsk, AllocErr
 /// What a Reversal asks.
 #[tactic(auto, unfolding(crate::specs::Flaw::IsMet))]
 pub(crate) fn reversal(body: &Json) -> ReversalAsk
-    requires { AreMet reversal_rows (view body.now) }
-    ensures { IsReversal (view body.now) result }
+    requires { AreMet reversal_rows (value_of body.now) }
+    ensures { IsReversal (value_of body.now) result }
 {
     ReversalAsk {
         transaction: ident(
@@ -61,8 +63,8 @@ pub(crate) fn reversal(body: &Json) -> ReversalAsk
 /// The reference that an object is.
 #[tactic(auto, unfolding(crate::specs::Flaw::IsMet))]
 pub(crate) fn reference(object: &Json) -> Reference
-    requires { AreMet status_reference_rows (view object.now) }
-    ensures { IsReference (view object.now) result }
+    requires { AreMet status_reference_rows (value_of object.now) }
+    ensures { IsReference (value_of object.now) result }
 {
     Reference {
         service: ident(object, "ServiceID"),
@@ -74,8 +76,8 @@ pub(crate) fn reference(object: &Json) -> Reference
 /// The type that a Reconciliation asks for.
 #[tactic(auto, unfolding(crate::specs::Flaw::IsMet))]
 pub(crate) fn reconciliation(body: &Json) -> Period
-    requires { AreMet reconciliation_rows (view body.now) }
-    ensures { text_at (codes "ReconciliationRequest.ReconciliationType") (view body.now) ≡ Some (period_name result) }
+    requires { AreMet reconciliation_rows (value_of body.now) }
+    ensures { text_at (codes "ReconciliationRequest.ReconciliationType") (value_of body.now) ≡ Some (period_name result) }
 {
     period(body, "ReconciliationRequest.ReconciliationType")
 }
@@ -83,16 +85,16 @@ pub(crate) fn reconciliation(body: &Json) -> Period
 /// The qualifier of a Print.
 #[tactic(auto, unfolding(crate::specs::Flaw::IsMet))]
 pub(crate) fn qualifier(body: &Json) -> Ident<40>
-    requires { AreMet print_rows (view body.now) }
-    ensures { text_at (codes "PrintRequest.PrintOutput.DocumentQualifier") (view body.now) ≡ Some result }
+    requires { AreMet print_rows (value_of body.now) }
+    ensures { text_at (codes "PrintRequest.PrintOutput.DocumentQualifier") (value_of body.now) ≡ Some result }
 {
     ident(body, "PrintRequest.PrintOutput.DocumentQualifier")
 }
 
 /// The reference of an Abort.
 pub(crate) fn abort(body: &Json) -> Reference
-    requires { AreMet abort_rows (view body.now) }
-    ensures { IsReferenceAt (codes "AbortRequest.MessageReference") (view body.now) (Some result) }
+    requires { AreMet abort_rows (value_of body.now) }
+    ensures { IsReferenceAt (codes "AbortRequest.MessageReference") (value_of body.now) (Some result) }
 {
     match find(body, "AbortRequest.MessageReference") {
         None => unreachable!(),
@@ -102,8 +104,8 @@ pub(crate) fn abort(body: &Json) -> Reference
 
 /// The reference of a TransactionStatus, where it has one.
 pub(crate) fn status(body: &Json) -> Option<Reference>
-    requires { HasBody Category.TransactionStatus (view body.now) }
-    ensures { IsReferenceAt (codes "TransactionStatusRequest.MessageReference") (view body.now) result }
+    requires { HasBody Category.TransactionStatus (value_of body.now) }
+    ensures { IsReferenceAt (codes "TransactionStatusRequest.MessageReference") (value_of body.now) result }
 {
     match find(body, "TransactionStatusRequest.MessageReference") {
         None => None,
@@ -117,8 +119,8 @@ pub(crate) fn request(
     category: Category,
     body: &Json,
 ) -> Result<SaleRequest, AllocError>
-    requires { HasBody category (view body.now) }
-    ensures { IfOk result (λ request. (category_of request ≡ category) × Asks (view body.now) request) }
+    requires { HasBody category (value_of body.now) }
+    ensures { IfOk result (λ request. (category_of request ≡ category) × Asks (value_of body.now) request) }
 {
     let request = match category {
         Category::Login => SaleRequest::Login,

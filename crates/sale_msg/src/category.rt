@@ -33,7 +33,7 @@ impl Category {
         Category::Diagnosis,
     ];
 
-    /// The text that stands as `MessageCategory` in a header.
+    /// The text of a header's `MessageCategory`.
     pub fn name(self) -> &'static str
         ensures { result.now ≡ category_name self }
     {

@@ -1,26 +1,26 @@
 //! Objects against their tables.
 ghost use Rattle.std.specs.Prelude.{◌≡◌, ◌↔◌, All, map, true, IsTrue, MatchResult, Some};
 ghost use Rattle.std.specs.List.{list_all};
-ghost use Rattle.json_text.specs.View.{view};
+ghost use Rattle.json_text.specs.ValueOf.{value_of};
 ghost use Rattle.sale_msg.specs.Flaw.{AreMet, IsFirstAmong, IsFirstFlaw, IsFlaw, IsMet, MayBeAbsent};
-ghost use Rattle.sale_msg.specs.Message.{HasBody, IsBodyFlaw};
+ghost use Rattle.sale_msg.specs.Grammar.{HasBody, IsBodyFlaw};
 ghost use Rattle.sale_msg.specs.Path.{text_at};
-ghost use Rattle.sale_msg.specs.Shown.{shown, is_path};
+ghost use Rattle.sale_msg.specs.inner.RowValue.{row_value, is_path};
 
 use crate::Category;
 use crate::flaw::Flaw;
 use crate::form::has_form;
-use crate::parts::parts;
 use crate::path::find;
-use crate::table::{Presence, Row, body_table, part_table};
+use crate::table::{MemberRow, Presence, body_table, part_table};
+use crate::tabled_objects::parts;
 use gw_base::Ident;
 use json_text::Json;
 
 /// Whether the object meets each row of the table; else the flaw of the first that it doesn't meet.
-pub(crate) fn check(tree: &Json, rows: &[Row]) -> Result<(), Flaw>
+pub(crate) fn check(tree: &Json, rows: &[MemberRow]) -> Result<(), Flaw>
     requires { list_all (λ row. is_path row.path.now) rows.now ≡ true }
-    ensures { MatchResult result (λ _. AreMet (map shown rows.now) (view tree.now))
-        (IsFirstFlaw (map shown rows.now) (view tree.now)) }
+    ensures { MatchResult result (λ _. AreMet (map row_value rows.now) (value_of tree.now))
+        (IsFirstFlaw (map row_value rows.now) (value_of tree.now)) }
 {
     for row in rows {
         check_row(tree, row)?;
@@ -29,10 +29,10 @@ pub(crate) fn check(tree: &Json, rows: &[Row]) -> Result<(), Flaw>
 }
 
 /// Whether each of these objects meets each row of the table; else the first flaw of the first that doesn't.
-pub(crate) fn check_each(parts: &[Json], rows: &[Row]) -> Result<(), Flaw>
+pub(crate) fn check_each(parts: &[Json], rows: &[MemberRow]) -> Result<(), Flaw>
     requires { list_all (λ row. is_path row.path.now) rows.now ≡ true }
-    ensures { MatchResult result (λ _. All (AreMet (map shown rows.now)) (map view parts.now))
-        (IsFirstAmong (map shown rows.now) (map view parts.now)) }
+    ensures { MatchResult result (λ _. All (AreMet (map row_value rows.now)) (map value_of parts.now))
+        (IsFirstAmong (map row_value rows.now) (map value_of parts.now)) }
 {
     for part in parts {
         check(part, rows)?;
@@ -42,7 +42,7 @@ pub(crate) fn check_each(parts: &[Json], rows: &[Row]) -> Result<(), Flaw>
 
 /// Whether the body object meets the tables of the category; else its first flaw.
 pub(crate) fn check_body(category: Category, body: &Json) -> Result<(), Flaw>
-    ensures { MatchResult result (λ _. HasBody category (view body.now)) (IsBodyFlaw category (view body.now)) }
+    ensures { MatchResult result (λ _. HasBody category (value_of body.now)) (IsBodyFlaw category (value_of body.now)) }
 {
     let rows = body_table(category);
     let part_rows = part_table(category);
@@ -52,24 +52,24 @@ pub(crate) fn check_body(category: Category, body: &Json) -> Result<(), Flaw>
     check_each(parts(category, body), part_rows)
 }
 
-fn check_row(tree: &Json, row: &Row) -> Result<(), Flaw>
+fn check_row(tree: &Json, row: &MemberRow) -> Result<(), Flaw>
     requires { is_path row.now.path.now ≡ true }
-    ensures { MatchResult result (λ _. IsMet (shown row.now) (view tree.now))
-        (IsFlaw (shown row.now) (view tree.now)) }
+    ensures { MatchResult result (λ _. IsMet (row_value row.now) (value_of tree.now))
+        (IsFlaw (row_value row.now) (value_of tree.now)) }
 {
     match find(tree, row.at) {
         None => {
             if may_be_absent(row.presence, tree) {
                 Ok(())
             } else {
-                Err(Flaw::Missing(told(row.path)))
+                Err(Flaw::Missing(reported_path(row.path)))
             }
         }
         Some(value) => {
             if has_form(row.form, value) {
                 Ok(())
             } else {
-                Err(Flaw::Wrong(told(row.path)))
+                Err(Flaw::Wrong(reported_path(row.path)))
             }
         }
     }
@@ -77,7 +77,7 @@ fn check_row(tree: &Json, row: &Row) -> Result<(), Flaw>
 
 /// Whether a member of this presence may be absent.
 fn may_be_absent(presence: Presence, tree: &Json) -> bool
-    ensures { IsTrue result ↔ MayBeAbsent presence (view tree.now) }
+    ensures { IsTrue result ↔ MayBeAbsent presence (value_of tree.now) }
 {
     match presence {
         Presence::Required => false,
@@ -91,7 +91,7 @@ fn may_be_absent(presence: Presence, tree: &Json) -> bool
 
 /// Whether the value at the path is this text.
 fn is_text(tree: &Json, path: &str, text: &[u8]) -> bool
-    ensures { IsTrue result ↔ (text_at path.now (view tree.now) ≡ Some text.now) }
+    ensures { IsTrue result ↔ (text_at path.now (value_of tree.now) ≡ Some text.now) }
 {
     match find(tree, path) {
         None => false,
@@ -102,13 +102,14 @@ fn is_text(tree: &Json, path: &str, text: &[u8]) -> bool
     }
 }
 
-/// The path, as a fault tells it.
-pub(crate) fn told(path: &'static str) -> Ident<100>
+/// The path, as a fault has it.
+pub(crate) fn reported_path(path: &'static str) -> Ident<100>
     requires { is_path path.now ≡ true }
     ensures { result ≡ path.now }
 {
+    // The paths of the tables are texts of this program, of 1 to 100 printable bytes: that is proved of the tables.
     match Ident::of(path.as_bytes()) {
-        Some(told) => told,
+        Some(ident) => ident,
         None => unreachable!(),
     }
 }

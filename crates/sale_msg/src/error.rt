@@ -3,6 +3,8 @@ ghost use Rattle.std.specs.Prelude.{◌≡◌};
 
 use sale_values::SaleFault;
 use std::alloc::{AllocError, AllocFailed};
+use std::error::Error;
+use std::fmt;
 
 /// Why a tree wasn't read as a message.
 #[derive(Clone, Copy, PartialEq, Eq, Debug)]
@@ -30,3 +32,14 @@ impl<T: Drop> From<AllocFailed<T>> for MessageError {
         MessageError::Memory
     }
 }
+
+impl fmt::Display for MessageError {
+    fn fmt<W: fmt::Write>(&self, f: &mut fmt::Formatter<W>) -> fmt::Result {
+        match self {
+            MessageError::Memory => write!(f, "out of memory"),
+            MessageError::Fault(fault) => write!(f, "{fault}"),
+        }
+    }
+}
+
+impl Error for MessageError {}

@@ -11,7 +11,7 @@ pub(crate) enum Flaw {
 
 impl Flaw {
     ghost use Rattle.std.specs.Prelude.{◌≡◌};
-    ghost use Rattle.sale_msg.specs.Message.{fault_of, path_of};
+    ghost use Rattle.sale_msg.specs.Grammar.{fault_of, path_of};
 
     /// The path.
     pub(crate) fn path(self) -> Ident<100>

@@ -1,9 +1,9 @@
 //! What values are.
 ghost use Rattle.std.specs.Prelude.{◌≡◌, ◌↔◌, ℕ, ◌≤◌, ◌++◌, List, All, IsTrue, length, codes, ◌⊎◌};
 ghost use Rattle.gw_base.specs.Ident.{IsIdent};
-ghost use Rattle.json_text.specs.View.{view};
+ghost use Rattle.json_text.specs.ValueOf.{value_of};
 ghost use Rattle.sale_values.specs.Names.{kind_name};
-ghost use Rattle.sale_msg.specs.Form.{HasForm, HasText, IsAmountNumber, IsObject, IsCapital, IsLetter, IsOutputList, IsTextList, TextHasForm};
+ghost use Rattle.sale_msg.specs.Form.{HasForm, HasTextMember, IsAmountNumber, IsJsonObject, IsCapital, IsLetter, IsOutputList, IsTextList, TextHasForm};
 
 use crate::path::find;
 use crate::table::Form;
@@ -13,7 +13,7 @@ use sale_values::{Class, Kind, Period};
 
 /// Whether the value is of the form.
 pub(crate) fn has_form(form: Form, value: &Json) -> bool
-    ensures { IsTrue result ↔ HasForm form (view value.now) }
+    ensures { IsTrue result ↔ HasForm form (value_of value.now) }
 {
     match form {
         Form::Object => value.is_object(),
@@ -71,7 +71,7 @@ fn is_request_kind(text: &[u8]) -> bool
 }
 
 fn is_amount(value: &Json) -> bool
-    ensures { IsTrue result ↔ IsAmountNumber (view value.now) }
+    ensures { IsTrue result ↔ IsAmountNumber (value_of value.now) }
 {
     match value.as_number() {
         None => false,
@@ -80,7 +80,7 @@ fn is_amount(value: &Json) -> bool
 }
 
 fn is_output_list(value: &Json) -> bool
-    ensures { IsTrue result ↔ IsOutputList (view value.now) }
+    ensures { IsTrue result ↔ IsOutputList (value_of value.now) }
 {
     match value.as_list() {
         None => value.is_object(),
@@ -89,13 +89,13 @@ fn is_output_list(value: &Json) -> bool
 }
 
 fn are_objects(items: &[Json]) -> bool
-    ensures { IsTrue result ↔ All (λ item. IsObject (view item)) items.now }
+    ensures { IsTrue result ↔ All (λ item. IsJsonObject (value_of item)) items.now }
 {
     items.iter().all(|item| item.is_object())
 }
 
 fn is_text_list(value: &Json) -> bool
-    ensures { IsTrue result ↔ IsTextList (view value.now) }
+    ensures { IsTrue result ↔ IsTextList (value_of value.now) }
 {
     match value.as_list() {
         None => false,
@@ -104,14 +104,14 @@ fn is_text_list(value: &Json) -> bool
 }
 
 fn have_texts(items: &[Json]) -> bool
-    ensures { IsTrue result ↔ All (λ item. HasText (view item)) items.now }
+    ensures { IsTrue result ↔ All (λ item. HasTextMember (value_of item)) items.now }
 {
     items.iter().all(|item| has_text(item))
 }
 
 /// Whether it is an object with a text as its `Text`.
 fn has_text(item: &Json) -> bool
-    ensures { IsTrue result ↔ HasText (view item.now) }
+    ensures { IsTrue result ↔ HasTextMember (value_of item.now) }
 {
     match find(item, "Text") {
         None => false,

@@ -1,18 +1,18 @@
 //! The header of a message.
 ghost use Rattle.std.specs.Prelude.{◌≡◌, IfErr, IfOk, MatchResult};
 ghost use Rattle.json_text.specs.Tree.{Tree};
-ghost use Rattle.json_text.specs.View.{view};
+ghost use Rattle.json_text.specs.ValueOf.{value_of};
 ghost use Rattle.sale_msg.specs.Flaw.{AreMet, IsMet};
-ghost use Rattle.sale_msg.specs.Message.{IsHeaded, IsHeadless, StandsIn, TellsHeader};
+ghost use Rattle.sale_msg.specs.Grammar.{IsHeaded, IsHeadless, IsUnderEnvelope, HeaderHolds};
 ghost use Rattle.sale_msg.specs.Table.{header_rows};
 
-use crate::check::{check, told};
+use crate::check::{check, reported_path};
+use crate::members::{class, ident, ident_or_none, kind, letters};
 use crate::table::{Envelope, header_table};
-use crate::values::{class, ident, ident_or_none, kind, letters};
 use json_text::Json;
 use sale_values::{Header, SaleFault};
 
-/// A header, with the object in which it stands beside the body.
+/// A header, with the object that it is in, beside the body.
 #[derive(Clone, Copy)]
 pub struct Headed<'a> {
     pub envelope: Envelope,
@@ -22,24 +22,25 @@ pub struct Headed<'a> {
 
 /// Reads the header of a message, under either envelope; where there are both, that of requests counts.
 pub fn read_header(tree: &Json) -> Result<Headed<'_>, SaleFault>
-    ensures ok { IfOk result (λ headed. IsHeaded (view tree.now) headed.envelope (view headed.body.now) headed.header) }
-    ensures err { IfErr result (IsHeadless (view tree.now)) }
+    ensures ok { IfOk result (λ headed. IsHeaded (value_of tree.now) headed.envelope (value_of headed.body.now) headed.header) }
+    ensures err { IfErr result (IsHeadless (value_of tree.now)) }
 {
+    // A till may send both. It is asked something then, and a reply is due: so the request counts.
     match tree.get(b"SaleToPOIRequest") {
         Some(body) => header_under(Envelope::Request, body),
         None => match tree.get(b"SaleToPOIResponse") {
             Some(body) => header_under(Envelope::Response, body),
             None => Err(SaleFault::NoHeader {
-                path: told("SaleToPOIRequest"),
+                path: reported_path("SaleToPOIRequest"),
             }),
         },
     }
 }
 
-/// The header in the object that stands in this envelope.
+/// The header in the object of this envelope.
 fn header_under(envelope: Envelope, body: &Json) -> Result<Headed<'_>, SaleFault>
-    ensures { (message : Tree) → StandsIn envelope message (view body.now)
-        → MatchResult result (λ headed. IsHeaded message headed.envelope (view headed.body.now) headed.header) (IsHeadless message) }
+    ensures { (message : Tree) → IsUnderEnvelope envelope message (value_of body.now)
+        → MatchResult result (λ headed. IsHeaded message headed.envelope (value_of headed.body.now) headed.header) (IsHeadless message) }
 {
     match check(body, header_table(envelope)) {
         Ok(()) => Ok(Headed {
@@ -55,8 +56,8 @@ fn header_under(envelope: Envelope, body: &Json) -> Result<Headed<'_>, SaleFault
 /// header does too.
 #[tactic(auto, unfolding(crate::specs::Flaw::IsMet))]
 fn header_of(body: &Json) -> Header
-    requires { AreMet (header_rows Envelope.Response) (view body.now) }
-    ensures { TellsHeader (view body.now) result }
+    requires { AreMet (header_rows Envelope.Response) (value_of body.now) }
+    ensures { HeaderHolds (value_of body.now) result }
 {
     Header {
         class: class(body, "MessageHeader.MessageClass"),

@@ -1,4 +1,16 @@
-//! The messages of tills (nexo Sale to POI 3.0), read from JSON trees by tables.
+//! The messages of tills (nexo Sale to POI 3.0), read from JSON trees by tables, and requests written.
+//!
+//! A table has a row for each member of the header or of a category's body: its path, whether it may be absent, and its
+//! form. Rows are met in their order, and the first that isn't is the fault. What no row names is ignored.
+//!
+//! ```
+//! let tree = json_text::read(alloc, text)?;
+//! match sale_msg::read_message(alloc, &tree)? {
+//!     Incoming::Request(header, SaleRequest::Payment(ask)) => ..,
+//!     Incoming::Request(header, request) => ..,
+//!     Incoming::Silent => {} // a response or a notification, which gets no reply
+//! }
+//! ```
 #![tactic(auto)]
 
 mod body;
@@ -9,12 +21,12 @@ mod flaw;
 mod form;
 mod header;
 mod laws;
+mod members;
 mod outputs;
-mod parts;
 mod path;
 mod reader;
 mod table;
-mod values;
+mod tabled_objects;
 mod writer;
 
 pub use category::Category;

@@ -3,22 +3,22 @@ ghost use Rattle.std.specs.Prelude.{◌≡◌, All, codes, map, option_map, IfOk
 ghost use Rattle.std.specs.List.{AllZip};
 ghost use Rattle.std.specs.Option.{option_and_then};
 ghost use Rattle.json_text.specs.Tree.{array_of};
-ghost use Rattle.json_text.specs.View.{view};
+ghost use Rattle.json_text.specs.ValueOf.{value_of};
 ghost use Rattle.sale_msg.specs.Flaw.{AreMet, IsMet};
-ghost use Rattle.sale_msg.specs.Message.{IsOutput, texts_of};
-ghost use Rattle.sale_msg.specs.Path.{value_at};
+ghost use Rattle.sale_msg.specs.Grammar.{IsOutput, texts_of};
+ghost use Rattle.sale_msg.specs.Path.{tree_at};
 ghost use Rattle.sale_msg.specs.Table.{output_rows};
 
+use crate::members::{chars_at, copied, flag_or_true, ident};
 use crate::path::find;
-use crate::values::{chars_at, copied, flag_or_true, ident};
 use json_text::Json;
 use sale_values::{Output, Outputs, Texts};
 use std::alloc::{AllocError, Global};
 
 /// The outputs that these objects are.
 pub(crate) fn outputs(alloc: Global, parts: &[Json]) -> Result<Outputs, AllocError>
-    requires { All (λ part. AreMet output_rows (view part)) parts.now }
-    ensures { IfOk result (AllZip IsOutput (map view parts.now)) }
+    requires { All (λ part. AreMet output_rows (value_of part)) parts.now }
+    ensures { IfOk result (AllZip IsOutput (map value_of parts.now)) }
 {
     let mut outputs = Vec::new(alloc);
     for part in parts {
@@ -29,8 +29,8 @@ pub(crate) fn outputs(alloc: Global, parts: &[Json]) -> Result<Outputs, AllocErr
 
 #[tactic(auto, unfolding(crate::specs::Flaw::IsMet))]
 fn output(alloc: Global, part: &Json) -> Result<Output, AllocError>
-    requires { AreMet output_rows (view part.now) }
-    ensures { IfOk result (IsOutput (view part.now)) }
+    requires { AreMet output_rows (value_of part.now) }
+    ensures { IfOk result (IsOutput (value_of part.now)) }
 {
     let texts = texts_or_none(alloc, part)?;
     Ok(Output {
@@ -44,7 +44,7 @@ fn output(alloc: Global, part: &Json) -> Result<Output, AllocError>
 /// The texts of an output; `None` where it has none.
 fn texts_or_none(alloc: Global, part: &Json) -> Result<Option<Texts>, AllocError>
     ensures { IfOk result (λ texts. option_map texts_of
-        (option_and_then array_of (value_at (codes "OutputContent.OutputText") (view part.now))) ≡ texts) }
+        (option_and_then array_of (tree_at (codes "OutputContent.OutputText") (value_of part.now))) ≡ texts) }
 {
     match find(part, "OutputContent.OutputText") {
         None => Ok(None),
@@ -57,7 +57,7 @@ fn texts_or_none(alloc: Global, part: &Json) -> Result<Option<Texts>, AllocError
 
 /// The texts of these objects.
 fn texts(alloc: Global, items: &[Json]) -> Result<Texts, AllocError>
-    ensures { IfOk result (λ texts. texts ≡ texts_of (map view items.now)) }
+    ensures { IfOk result (λ texts. texts ≡ texts_of (map value_of items.now)) }
 {
     let mut texts = Vec::new(alloc);
     for item in items {

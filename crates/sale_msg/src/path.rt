@@ -1,13 +1,13 @@
 //! Values at paths.
 ghost use Rattle.std.specs.Prelude.{◌≡◌, option_map};
-ghost use Rattle.json_text.specs.View.{view};
-ghost use Rattle.sale_msg.specs.Path.{value_at};
+ghost use Rattle.json_text.specs.ValueOf.{value_of};
+ghost use Rattle.sale_msg.specs.Path.{tree_at};
 
 use json_text::Json;
 
 /// The value at a path of names, divided by points, of which each is a member of the object before.
 pub fn find<'a>(tree: &'a Json, path: &str) -> Option<&'a Json>
-    ensures { option_map (λ v. view v.now) result ≡ value_at path.now (view tree.now) }
+    ensures { option_map (λ v. value_of v.now) result ≡ tree_at path.now (value_of tree.now) }
 {
     match path.split_once('.') {
         None => tree.get(path.as_bytes()),

@@ -1,7 +1,7 @@
 //! The tables of members, as the reader goes through them.
 ghost use Rattle.std.specs.Prelude.{◌≡◌};
 ghost use Rattle.sale_msg.specs.Table.{header_rows, rows_of, part_rows};
-ghost use Rattle.sale_msg.specs.Shown.{ShowsTable};
+ghost use Rattle.sale_msg.specs.inner.RowValue.{IsTableOf};
 
 use crate::Category;
 
@@ -40,7 +40,7 @@ pub(crate) enum Form {
     Texts,
 }
 
-/// In which member a message stands: `SaleToPOIRequest` or `SaleToPOIResponse`.
+/// The member that a message is in: `SaleToPOIRequest` or `SaleToPOIResponse`.
 #[derive(Clone, Copy, PartialEq, Eq, Debug)]
 pub enum Envelope {
     Request,
@@ -49,69 +49,66 @@ pub enum Envelope {
 
 /// One row of a table.
 #[derive(Clone, Copy)]
-pub(crate) struct Row {
+pub(crate) struct MemberRow {
     /// The member, by its names from the table's object on, divided by points.
     pub at: &'static str,
-    /// How a fault tells it.
+    /// The path in a fault.
     pub path: &'static str,
     pub presence: Presence,
     pub form: Form,
 }
 
-/// Rows of members that are told by their own path.
+/// Rows of members whose path in a fault is their own.
 macro_rules! rows {
     ($($path:literal $presence:ident $form:expr,)*) => {
-        [$(Row { at: $path, path: $path, presence: Presence::$presence, form: $form }),*]
+        [$(MemberRow { at: $path, path: $path, presence: Presence::$presence, form: $form }),*]
     };
 }
 
-/// Rows of an object that is told by a path of its own.
+/// Rows of the members of an object within the body: a fault has their whole path.
 macro_rules! part_rows {
     ($($at:literal $path:literal $presence:ident $form:expr,)*) => {
-        [$(Row { at: $at, path: $path, presence: Presence::$presence, form: $form }),*]
+        [$(MemberRow { at: $at, path: $path, presence: Presence::$presence, form: $form }),*]
     };
 }
 
-const REQUEST_HEADER: [Row; 9] = rows! {
-    "MessageHeader" Required Form::Object,
-    "MessageHeader.ProtocolVersion" Optional Form::Version,
-    "MessageHeader.MessageClass" Required Form::Class,
-    "MessageHeader.MessageCategory" Required Form::Letters,
-    "MessageHeader.MessageType" Required Form::RequestKind,
-    "MessageHeader.ServiceID" ByHeader Form::Ident(10),
-    "MessageHeader.DeviceID" Optional Form::Ident(10),
-    "MessageHeader.SaleID" Required Form::Ident(40),
-    "MessageHeader.POIID" Required Form::Ident(40),
-};
+/// The rows of the header, in which the two envelopes differ by the form of the type alone.
+macro_rules! header {
+    ($kind:expr) => {
+        rows! {
+            "MessageHeader" Required Form::Object,
+            "MessageHeader.ProtocolVersion" Optional Form::Version,
+            "MessageHeader.MessageClass" Required Form::Class,
+            "MessageHeader.MessageCategory" Required Form::Letters,
+            "MessageHeader.MessageType" Required $kind,
+            "MessageHeader.ServiceID" ByHeader Form::Ident(10),
+            "MessageHeader.DeviceID" Optional Form::Ident(10),
+            "MessageHeader.SaleID" Required Form::Ident(40),
+            "MessageHeader.POIID" Required Form::Ident(40),
+        }
+    };
+}
 
-const RESPONSE_HEADER: [Row; 9] = rows! {
-    "MessageHeader" Required Form::Object,
-    "MessageHeader.ProtocolVersion" Optional Form::Version,
-    "MessageHeader.MessageClass" Required Form::Class,
-    "MessageHeader.MessageCategory" Required Form::Letters,
-    "MessageHeader.MessageType" Required Form::Kind,
-    "MessageHeader.ServiceID" ByHeader Form::Ident(10),
-    "MessageHeader.DeviceID" Optional Form::Ident(10),
-    "MessageHeader.SaleID" Required Form::Ident(40),
-    "MessageHeader.POIID" Required Form::Ident(40),
-};
+const REQUEST_HEADER: [MemberRow; 9] = header!(Form::RequestKind);
 
-const LOGIN: [Row; 2] = rows! {
+const RESPONSE_HEADER: [MemberRow; 9] = header!(Form::Kind);
+
+const LOGIN: [MemberRow; 2] = rows! {
     "MessageHeader.ServiceID" Required Form::Ident(10),
     "LoginRequest" Required Form::Object,
 };
 
-const LOGOUT: [Row; 2] = rows! {
+const LOGOUT: [MemberRow; 2] = rows! {
     "MessageHeader.ServiceID" Required Form::Ident(10),
     "LogoutRequest" Required Form::Object,
 };
 
-const DIAGNOSIS: [Row; 2] = rows! {
+const DIAGNOSIS: [MemberRow; 2] = rows! {
     "MessageHeader.ServiceID" Required Form::Ident(10),
     "DiagnosisRequest" Required Form::Object,
 };
 
-const PAYMENT: [Row; 12] = rows! {
+const PAYMENT: [MemberRow; 12] = rows! {
     "MessageHeader.ServiceID" Required Form::Ident(10),
     "PaymentRequest" Required Form::Object,
     "PaymentRequest.SaleData" Required Form::Object,
@@ -126,7 +123,7 @@ const PAYMENT: [Row; 12] = rows! {
     "PaymentRequest.PaymentData.PaymentType" Optional Form::Text,
 };
 
-const REVERSAL: [Row; 7] = rows! {
+const REVERSAL: [MemberRow; 7] = rows! {
     "MessageHeader.ServiceID" Required Form::Ident(10),
     "ReversalRequest" Required Form::Object,
     "ReversalRequest.OriginalPOITransaction" Required Form::Object,
@@ -136,7 +133,7 @@ const REVERSAL: [Row; 7] = rows! {
     "ReversalRequest.ReversedAmount" Optional Form::Amount,
 };
 
-const ABORT: [Row; 7] = rows! {
+const ABORT: [MemberRow; 7] = rows! {
     "MessageHeader.ServiceID" Required Form::Ident(10),
     "AbortRequest" Required Form::Object,
     "AbortRequest.MessageReference" Required Form::Object,
@@ -146,30 +143,30 @@ const ABORT: [Row; 7] = rows! {
     "AbortRequest.AbortReason" Optional Form::Text,
 };
 
-const STATUS: [Row; 3] = rows! {
+const STATUS: [MemberRow; 3] = rows! {
     "MessageHeader.ServiceID" Required Form::Ident(10),
     "TransactionStatusRequest" Required Form::Object,
     "TransactionStatusRequest.MessageReference" Optional Form::Object,
 };
 
-const STATUS_REFERENCE: [Row; 3] = part_rows! {
+const STATUS_REFERENCE: [MemberRow; 3] = part_rows! {
     "ServiceID" "TransactionStatusRequest.MessageReference.ServiceID" Required Form::Ident(10),
     "SaleID" "TransactionStatusRequest.MessageReference.SaleID" Optional Form::Ident(40),
     "POIID" "TransactionStatusRequest.MessageReference.POIID" Optional Form::Ident(40),
 };
 
-const RECONCILIATION: [Row; 3] = rows! {
+const RECONCILIATION: [MemberRow; 3] = rows! {
     "MessageHeader.ServiceID" Required Form::Ident(10),
     "ReconciliationRequest" Required Form::Object,
     "ReconciliationRequest.ReconciliationType" Required Form::Period,
 };
 
-const DISPLAY: [Row; 2] = rows! {
+const DISPLAY: [MemberRow; 2] = rows! {
     "DisplayRequest" Required Form::Object,
     "DisplayRequest.DisplayOutput" Required Form::Outputs,
 };
 
-const OUTPUT: [Row; 6] = part_rows! {
+const OUTPUT: [MemberRow; 6] = part_rows! {
     "Device" "DisplayRequest.DisplayOutput.Device" Required Form::Ident(40),
     "InfoQualify" "DisplayRequest.DisplayOutput.InfoQualify" Required Form::Ident(40),
     "ResponseRequiredFlag" "DisplayRequest.DisplayOutput.ResponseRequiredFlag" Optional Form::Flag,
@@ -178,15 +175,15 @@ const OUTPUT: [Row; 6] = part_rows! {
     "OutputContent.OutputText" "DisplayRequest.DisplayOutput.OutputContent.OutputText" Optional Form::Texts,
 };
 
-const PRINT: [Row; 3] = rows! {
+const PRINT: [MemberRow; 3] = rows! {
     "PrintRequest" Required Form::Object,
     "PrintRequest.PrintOutput" Required Form::Object,
     "PrintRequest.PrintOutput.DocumentQualifier" Required Form::Ident(40),
 };
 
 /// The table of the header.
-pub(crate) fn header_table(envelope: Envelope) -> &'static [Row]
-    ensures { ShowsTable result.now (header_rows envelope) }
+pub(crate) fn header_table(envelope: Envelope) -> &'static [MemberRow]
+    ensures { IsTableOf result.now (header_rows envelope) }
 {
     match envelope {
         Envelope::Request => &REQUEST_HEADER,
@@ -195,8 +192,8 @@ pub(crate) fn header_table(envelope: Envelope) -> &'static [Row]
 }
 
 /// The table of the category's body.
-pub(crate) fn body_table(category: Category) -> &'static [Row]
-    ensures { ShowsTable result.now (rows_of category) }
+pub(crate) fn body_table(category: Category) -> &'static [MemberRow]
+    ensures { IsTableOf result.now (rows_of category) }
 {
     match category {
         Category::Login => &LOGIN,
@@ -213,8 +210,8 @@ pub(crate) fn body_table(category: Category) -> &'static [Row]
 }
 
 /// The table of each object within the category's body that has its own.
-pub(crate) fn part_table(category: Category) -> &'static [Row]
-    ensures { ShowsTable result.now (part_rows category) }
+pub(crate) fn part_table(category: Category) -> &'static [MemberRow]
+    ensures { IsTableOf result.now (part_rows category) }
 {
     match category {
         Category::TransactionStatus => &STATUS_REFERENCE,

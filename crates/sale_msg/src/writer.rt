@@ -1,11 +1,11 @@
 //! Requests, written.
 ghost use Rattle.std.specs.Prelude.{◌≡◌, ◌++◌, codes, OnOk, OnErr};
-ghost use Rattle.json_text.specs.Canonical.{canonical, canonical_first, written_text};
+ghost use Rattle.json_text.specs.Canonical.{canonical, canonical_first, canonical_string};
 ghost use Rattle.json_text.specs.Tree.{boolean, object};
-ghost use Rattle.sale_msg.specs.Pieces.{money_piece, optional_piece, texts_piece};
-ghost use Rattle.sale_values.specs.Header.{header_members};
+ghost use Rattle.sale_msg.specs.inner.OptionalParts.{money_part, optional_part, texts_part};
+ghost use Rattle.sale_values.specs.CanonicalHeader.{header_members};
 ghost use Rattle.sale_values.specs.Money.{money_text};
-ghost use Rattle.sale_msg.specs.Written.{body_members, body_name, output_items, output_tree, payment_members, referring_members, request_tree, reversal_members, text_items};
+ghost use Rattle.sale_msg.specs.Canonical.{body_members, body_name, output_items, display_output_tree, payment_members, referring_members, request_tree, reversal_members, text_items};
 
 use gw_base::{Ident, Text};
 use json_text::write_text;
@@ -16,10 +16,10 @@ use std::alloc::{AllocError, Global};
 /// what is absent.
 ///
 /// `ProtocolVersion` is written as `3.0`, `ReversalReason` as `MerchantCancel`, `OutputFormat` as `Text`, and
-/// `ResponseRequiredFlag` always. An amount has two digits behind the point. A request that
+/// `ResponseRequiredFlag` always. An amount has two digits after the point. A request that
 /// [`read_message`](crate::read_message) gave of a text's tree is written as JSON text (RFC 8259) that is read as this
 /// request again ([`law_written_again`](crate::law_written_again)). This asks for nothing: one that was put together
-/// otherwise is written by the same rules, though its bytes may be no text.
+/// otherwise is written by these rules too, though its bytes may be no text.
 pub fn write_request(
     alloc: Global,
     header: &Header,
@@ -29,6 +29,7 @@ pub fn write_request(
     ensures ok { OnOk result (out.new.items ≡ out.old.items ++ canonical (request_tree header.now request.now)) }
     ensures err { OnErr result (out.new.items ≡ out.old.items) }
 {
+    // Into a buffer of its own: where memory is refused halfway, no part of a message stays in `out`.
     let mut text = Vec::new(alloc);
     write_message(header, request, &mut text)?;
     out.extend_from_slice(&text)
@@ -85,25 +86,25 @@ fn write_header(header: &Header, out: &mut Vec<u8>) -> Result<(), AllocError>
     out.extend_from_slice(b"}")
 }
 
-/// A text behind what stands in front of it.
-fn write_named(front: &[u8], text: &[u8], out: &mut Vec<u8>) -> Result<(), AllocError>
-    ensures { OnOk result (out.new.items ≡ out.old.items ++ (front.now ++ written_text text.now)) }
+/// A text, after the bytes that come before it.
+fn write_named(prefix: &[u8], text: &[u8], out: &mut Vec<u8>) -> Result<(), AllocError>
+    ensures { OnOk result (out.new.items ≡ out.old.items ++ (prefix.now ++ canonical_string text.now)) }
 {
-    out.extend_from_slice(front)?;
+    out.extend_from_slice(prefix)?;
     write_text(text, out)
 }
 
-/// The same, where there is a text.
+/// A text after the bytes that come before it, or nothing where there is no text.
 fn write_optional<const N: usize>(
-    front: &[u8],
+    prefix: &[u8],
     text: &Option<Ident<N>>,
     out: &mut Vec<u8>,
 ) -> Result<(), AllocError>
-    ensures { OnOk result (out.new.items ≡ out.old.items ++ optional_piece front.now text.now) }
+    ensures { OnOk result (out.new.items ≡ out.old.items ++ optional_part prefix.now text.now) }
 {
     match text {
         None => Ok(()),
-        Some(text) => write_named(front, text.as_bytes(), out),
+        Some(text) => write_named(prefix, text.as_bytes(), out),
     }
 }
 
@@ -195,7 +196,7 @@ fn write_referring(reference: &Reference, out: &mut Vec<u8>) -> Result<(), Alloc
     out.extend_from_slice(b"}}")
 }
 
-/// Outputs behind the opening bracket, with the closing one.
+/// Outputs after the opening bracket, with the closing one.
 fn write_outputs(outputs: &[Output], out: &mut Vec<u8>) -> Result<(), AllocError>
     ensures { OnOk result (out.new.items ≡ out.old.items ++ canonical_first (output_items outputs.now)) }
 {
@@ -209,7 +210,7 @@ fn write_outputs(outputs: &[Output], out: &mut Vec<u8>) -> Result<(), AllocError
 }
 
 fn write_output(output: &Output, out: &mut Vec<u8>) -> Result<(), AllocError>
-    ensures { OnOk result (out.new.items ≡ out.old.items ++ canonical (output_tree output.now)) }
+    ensures { OnOk result (out.new.items ≡ out.old.items ++ canonical (display_output_tree output.now)) }
 {
     write_named(b"{\"Device\":", output.device.as_bytes(), out)?;
     write_named(b",\"InfoQualify\":", output.qualify.as_bytes(), out)?;
@@ -220,7 +221,7 @@ fn write_output(output: &Output, out: &mut Vec<u8>) -> Result<(), AllocError>
     out.extend_from_slice(b"}}")
 }
 
-/// The word of true or false.
+/// The literal of true or false.
 fn word_of(flag: bool) -> &'static [u8]
     ensures { result.now ≡ canonical (boolean flag) }
 {
@@ -229,7 +230,7 @@ fn word_of(flag: bool) -> &'static [u8]
 
 /// The texts of an output, where it has some.
 fn write_optional_texts(texts: &Option<Texts>, out: &mut Vec<u8>) -> Result<(), AllocError>
-    ensures { OnOk result (out.new.items ≡ out.old.items ++ texts_piece (codes ",\"OutputText\":") texts.now) }
+    ensures { OnOk result (out.new.items ≡ out.old.items ++ texts_part (codes ",\"OutputText\":") texts.now) }
 {
     match texts {
         None => Ok(()),
@@ -240,7 +241,7 @@ fn write_optional_texts(texts: &Option<Texts>, out: &mut Vec<u8>) -> Result<(), 
     }
 }
 
-/// Texts behind the opening bracket, with the closing one.
+/// Texts after the opening bracket, with the closing one.
 fn write_texts(texts: &[Text], out: &mut Vec<u8>) -> Result<(), AllocError>
     ensures { OnOk result (out.new.items ≡ out.old.items ++ canonical_first (text_items texts.now)) }
 {
@@ -260,18 +261,18 @@ fn write_money(minor: u64, out: &mut Vec<u8>) -> Result<(), AllocError>
     out.extend_from_slice(money(minor).as_slice())
 }
 
-/// Money behind what stands in front of it, where there is some.
+/// Money after the bytes that come before it, or nothing where there is none.
 fn write_optional_money(
-    front: &[u8],
+    prefix: &[u8],
     minor: Option<u64>,
     out: &mut Vec<u8>,
 ) -> Result<(), AllocError>
-    ensures { OnOk result (out.new.items ≡ out.old.items ++ money_piece front.now minor) }
+    ensures { OnOk result (out.new.items ≡ out.old.items ++ money_part prefix.now minor) }
 {
     match minor {
         None => Ok(()),
         Some(minor) => {
-            out.extend_from_slice(front)?;
+            out.extend_from_slice(prefix)?;
             write_money(minor, out)
         }
     }

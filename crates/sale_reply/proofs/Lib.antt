@@ -1,9 +1,9 @@
-pub mod PieceLemmas
-pub mod Spellings
-pub mod Sizes
+pub mod BodySizeLemmas
+pub mod CanonicalLemmas
 pub mod LimitLemmas
-pub mod MessageSizes
-pub mod LineSizes
-pub mod ReplySizes
+pub mod PartLemmas
+pub mod ReplySizeLemmas
+pub mod RequestSizeLemmas
+pub mod SizeLemmas
+pub mod SpellableLemmas
 pub mod TextLemmas
-pub mod ReplyTexts

@@ -12,23 +12,24 @@ use Rattle.gw_base.specs.declared.condition.Condition.TheVariants as conditions
 use Rattle.gw_base.specs.declared.currency.Currency.{Currency}
 use Rattle.gw_base.specs.declared.currency.Currency.TheVariants as currencies
 use Rattle.gw_base.specs.Condition.{name_of}
-use Rattle.gw_base.specs.Currency.{code_of}
+use Rattle.gw_base.specs.Currency.{currency_letters}
 use Rattle.gw_base.specs.Digits.{digits}
 use Rattle.gw_base.specs.Ident.{IsIdent, IsPrintable}
 use Rattle.gw_base.specs.Text437.{char_of, is_printable, letters, scalar_in}
 use Rattle.json_text.specs.declared.fault.FaultKind.{FaultKind}
 use Rattle.json_text.specs.declared.fault.FaultKind.TheVariants as faults
-use Rattle.sale_values.proofs.Utf8.{IsBelow, ascii_utf8, below_utf8, ident_utf8}
+use Rattle.sale_values.proofs.Utf8Lemmas.{IsBelow, ascii_utf8, below_utf8, ident_utf8}
 use Rattle.sale_reply.specs.declared.reply.Detail.{Detail}
 use Rattle.sale_reply.specs.declared.reply.Detail.TheVariants.{Json, Header, Body, Abort}
 use Rattle.sale_reply.specs.declared.reply.GlobalStatus.{GlobalStatus}
 use Rattle.sale_reply.specs.declared.reply.GlobalStatus.TheVariants as statuses
 use Rattle.sale_reply.specs.declared.reply.ReplyResult.{ReplyResult}
 use Rattle.sale_reply.specs.declared.reply.ReplyResult.TheVariants as results
-use Rattle.sale_reply.specs.Limits.{IsDetail}
+use Rattle.sale_reply.specs.Limits.{IsDetailWithinLimits}
 use Rattle.json_text.specs.FaultText.{kind_text}
 use Rattle.sale_reply.specs.Names.{result_name, status_name}
-use Rattle.sale_reply.specs.Texts.{detail_text, line_text, status_text, transaction_text, upper_digit}
+use Rattle.sale_reply.specs.Texts.{detail_text, line_text, intermediate_text, transaction_text}
+use Rattle.gw_bytes.specs.Hex.{upper_digit}
 
 -- ---- closed lists
 
@@ -68,7 +69,7 @@ pub condition_utf8 : (condition : Option Condition) → IfSome (option_map name_
 condition_utf8 None = tt
 condition_utf8 (Some condition) = name_utf8 condition
 
-pub code_utf8 : (currency : Currency) → IsUtf8 (code_of currency)
+pub code_utf8 : (currency : Currency) → IsUtf8 (currency_letters currency)
 code_utf8 currencies.Eur = ascii_utf8 (codes "EUR") refl
 code_utf8 currencies.Chf = ascii_utf8 (codes "CHF") refl
 code_utf8 currencies.Gbp = ascii_utf8 (codes "GBP") refl
@@ -121,15 +122,15 @@ upper_below v h = by (nat_lt v 10)
     by true = omega arith
     by false = omega arith
 
-pub status_text_utf8 : (code : ℕ) → code < 2 ^ 8 → IsUtf8 (status_text code)
-unfolding status_text
+pub status_text_utf8 : (code : ℕ) → code < 2 ^ 8 → IsUtf8 (intermediate_text code)
+unfolding intermediate_text
 status_text_utf8 code small =
     let last : List ℕ = upper_digit (code / 16) ∷ upper_digit (code % 16) ∷ [] in
     IsUtf8-append (codes "ZVT status ") last (ascii_utf8 (codes "ZVT status ") refl)
     (below_utf8 last (All-cons IsBelow (upper_digit (code / 16)) (upper_digit (code % 16) ∷ []) (upper_below (code / 16) (omega arith))
     (All-cons IsBelow (upper_digit (code % 16)) [] (upper_below (code % 16) (omega arith)) (All-nil IsBelow))))
 
-pub detail_utf8 : (detail : Detail) → IsDetail detail → IsUtf8 (detail_text detail)
+pub detail_utf8 : (detail : Detail) → IsDetailWithinLimits detail → IsUtf8 (detail_text detail)
 unfolding detail_text
 detail_utf8 (Json fault) is =
     IsUtf8-append (codes "json ") (kind_text fault.kind ++ (codes " " ++ decimal fault.at)) (ascii_utf8 (codes "json ") refl)
@@ -141,7 +142,7 @@ detail_utf8 Abort is = ascii_utf8 (codes "abort") refl
 
 -- ---- lines
 
--- the character has a place in Unicode
+-- the character is a scalar value of Unicode
 record HasScalar (c : ℕ) : Type 0 where
   holds : IsScalar c
 
@@ -181,13 +182,13 @@ abbrev last_or : ℕ → List ℕ → ℕ
 last_or c [] = c
 last_or c (d ∷ text) = last_or d text
 
-last_behind : (c : ℕ) (front : List ℕ) (d : ℕ) (text : List ℕ) → last_or c (front ++ d ∷ text) ≡ last_or d text
-last_behind c [] d text = refl
-last_behind c (x ∷ front) d text = last_behind x front d text
+last_after : (c : ℕ) (prefix : List ℕ) (d : ℕ) (text : List ℕ) → last_or c (prefix ++ d ∷ text) ≡ last_or d text
+last_after c [] d text = refl
+last_after c (x ∷ prefix) d text = last_after x prefix d text
 
 -- a text that ends otherwise is no name of a header
-other_end : (front : List ℕ) (d : ℕ) (text : List ℕ) → last_or d text ≢ 0x72 → codes "MessageHeader" ≢ front ++ d ∷ text
-other_end front d text other e = other (sym (last_behind 0 front d text) ∙ ap (last_or 0) (sym e))
+other_end : (prefix : List ℕ) (d : ℕ) (text : List ℕ) → last_or d text ≢ 0x72 → codes "MessageHeader" ≢ prefix ++ d ∷ text
+other_end prefix d text other e = other (sym (last_after 0 prefix d text) ∙ ap (last_or 0) (sym e))
 
 pub response_new : (category : List ℕ) → codes "MessageHeader" ≢ category ++ codes "Response"
 response_new category = other_end category 0x52 (codes "esponse") (λ e. omega arith)

@@ -1,6 +1,5 @@
-pub mod Names
-pub mod Texts
-pub mod Reply
-pub mod Pieces
-pub mod Appends
 pub mod Limits
+pub mod Names
+pub mod Reply
+pub mod Texts
+pub mod inner

@@ -13,56 +13,56 @@ use Rattle.sale_reply.specs.declared.reply.SaleReply.{SaleReply}
 use Rattle.sale_reply.specs.declared.reply.SaleReply.TheVariants as reply
 
 -- its texts are identifiers of their lengths
-pub record IsHeader (header : Header) : Type 0 where
+pub record IsHeaderWithinLimits (header : Header) : Type 0 where
   pub category : IsIdent 40 header.category
   pub service : IfSome header.service (λ id. IsIdent 10 id)
   pub device : IfSome header.device (λ id. IsIdent 10 id)
   pub sale : IsIdent 40 header.sale
   pub poi : IsIdent 40 header.poi
 
-abbrev pub IsVerdict : Verdict → Type 0
-IsVerdict verdict = IfSome verdict.path (λ path. IsIdent 100 path)
+abbrev pub IsVerdictWithinLimits : Verdict → Type 0
+IsVerdictWithinLimits verdict = IfSome verdict.path (λ path. IsIdent 100 path)
 
 -- a slot is a number of 32 bits
-abbrev pub IsMark : PoiMark → Type 0
-IsMark mark = mark.slot < 2 ^ 32
+abbrev pub IsMarkWithinLimits : PoiMark → Type 0
+IsMarkWithinLimits mark = mark.slot < 2 ^ 32
 
 -- a count is a number of 32 bits, a sum one of 64
-abbrev pub IsTotal : ℕ × ℕ → Type 0
-IsTotal total = (total.0 < 2 ^ 32) × (total.1 < 2 ^ 64)
+abbrev pub IsTotalWithinLimits : ℕ × ℕ → Type 0
+IsTotalWithinLimits total = (total.0 < 2 ^ 32) × (total.1 < 2 ^ 64)
 
-abbrev pub IsTold : Told → Type 0
-IsTold (PaymentApproved transaction stamp mark requested paid) =
-    IsIdent 80 transaction × IsIdent 35 stamp × IsMark mark × (paid.minor < 2 ^ 64)
-IsTold (PaymentDeclined transaction stamp mark condition) = IsIdent 80 transaction × IsIdent 35 stamp × IsMark mark
-IsTold (ReversalApproved mark reversed) = IsMark mark × (reversed.minor < 2 ^ 64)
-IsTold (ReversalDeclined mark condition) = IsMark mark
-IsTold (Reconciled period currency debit reversed) = IsTotal debit × IsTotal reversed
+abbrev pub IsToldWithinLimits : Told → Type 0
+IsToldWithinLimits (PaymentApproved transaction stamp mark requested paid) =
+    IsIdent 80 transaction × IsIdent 35 stamp × IsMarkWithinLimits mark × (paid.minor < 2 ^ 64)
+IsToldWithinLimits (PaymentDeclined transaction stamp mark condition) = IsIdent 80 transaction × IsIdent 35 stamp × IsMarkWithinLimits mark
+IsToldWithinLimits (ReversalApproved mark reversed) = IsMarkWithinLimits mark × (reversed.minor < 2 ^ 64)
+IsToldWithinLimits (ReversalDeclined mark condition) = IsMarkWithinLimits mark
+IsToldWithinLimits (Reconciled period currency debit reversed) = IsTotalWithinLimits debit × IsTotalWithinLimits reversed
 
-pub record IsShown (shown : Shown) : Type 0 where
+pub record IsShownWithinLimits (shown : Shown) : Type 0 where
   pub device : IsIdent 40 shown.device
   pub qualify : IsIdent 40 shown.qualify
-  pub verdict : IsVerdict shown.verdict
+  pub verdict : IsVerdictWithinLimits shown.verdict
 
-abbrev pub IsDetail : Detail → Type 0
-IsDetail (detail.Json fault) = fault.at < 2 ^ 64
-IsDetail (detail.Header path) = IsIdent 100 path
-IsDetail (detail.Body path) = IsIdent 100 path
-IsDetail detail.Abort = Unit {0}
+abbrev pub IsDetailWithinLimits : Detail → Type 0
+IsDetailWithinLimits (detail.Json fault) = fault.at < 2 ^ 64
+IsDetailWithinLimits (detail.Header path) = IsIdent 100 path
+IsDetailWithinLimits (detail.Body path) = IsIdent 100 path
+IsDetailWithinLimits detail.Abort = Unit {0}
 
 -- the texts are identifiers of their lengths, the numbers have 8, 32 or 64 bits, and the lines of a print request have
 -- together at most the bytes of one APDU
 abbrev pub IsWithinLimits : SaleReply → Type 0
-IsWithinLimits (reply.Plain header verdict) = IsHeader header × IsVerdict verdict
-IsWithinLimits (reply.Told header told) = IsHeader header × IsTold told
-IsWithinLimits (reply.Status header repeated told) = IsHeader header × IsHeader repeated × IsTold told
-IsWithinLimits (reply.Diagnosis header status) = IsHeader header
-IsWithinLimits (reply.Display header outputs) = IsHeader header × (length outputs.items ≤ 16) × All IsShown outputs.items
-IsWithinLimits (reply.Print header qualifier verdict) = IsHeader header × IsIdent 40 qualifier × IsVerdict verdict
-IsWithinLimits (reply.DisplayRequest header code) = IsHeader header × (code < 2 ^ 8)
+IsWithinLimits (reply.Plain header verdict) = IsHeaderWithinLimits header × IsVerdictWithinLimits verdict
+IsWithinLimits (reply.Told header told) = IsHeaderWithinLimits header × IsToldWithinLimits told
+IsWithinLimits (reply.Status header repeated told) = IsHeaderWithinLimits header × IsHeaderWithinLimits repeated × IsToldWithinLimits told
+IsWithinLimits (reply.Diagnosis header status) = IsHeaderWithinLimits header
+IsWithinLimits (reply.Display header outputs) = IsHeaderWithinLimits header × (length outputs.items ≤ 16) × All IsShownWithinLimits outputs.items
+IsWithinLimits (reply.Print header qualifier verdict) = IsHeaderWithinLimits header × IsIdent 40 qualifier × IsVerdictWithinLimits verdict
+IsWithinLimits (reply.DisplayRequest header code) = IsHeaderWithinLimits header × (code < 2 ^ 8)
 IsWithinLimits (reply.PrintRequest header lines) =
-    IsHeader header × (length lines.items ≤ 400) × (sum_by (λ line. length line.now) lines.items ≤ 12000)
-IsWithinLimits (reply.Reject sale poi moment detail) = IsIdent 40 sale × IsIdent 40 poi × IsDetail detail
+    IsHeaderWithinLimits header × (length lines.items ≤ 400) × (sum_by (λ line. length line.now) lines.items ≤ 12000)
+IsWithinLimits (reply.Reject sale poi moment detail) = IsIdent 40 sale × IsIdent 40 poi × IsDetailWithinLimits detail
 
 -- it asks to print lines of the terminal, which are of any number and length
 abbrev pub IsPrintRequest : SaleReply → Type 0

@@ -6,13 +6,13 @@ use Rattle.sale_reply.specs.declared.reply.GlobalStatus.TheVariants.{Ready, Busy
 use Rattle.sale_reply.specs.declared.reply.ReplyResult.{ReplyResult}
 use Rattle.sale_reply.specs.declared.reply.ReplyResult.TheVariants.{Success, Partial, Failure}
 
--- the text that stands as `Result`
+-- the text of `Result`
 abbrev pub result_name : ReplyResult → List ℕ
 result_name Success = codes "Success"
 result_name Partial = codes "Partial"
 result_name Failure = codes "Failure"
 
--- the text that stands as `GlobalStatus`
+-- the text of `GlobalStatus`
 abbrev pub status_name : GlobalStatus → List ℕ
 status_name Ready = codes "OK"
 status_name Busy = codes "Busy"

@@ -2,12 +2,12 @@
 use Rattle.std.specs.Prelude.{ℕ, List, ◌++◌, codes, decimal, map, Option, Some, None, option_map, false, ℤ}
 use Rattle.std.specs.Borrow.{Bor}
 use Rattle.json_text.specs.Tree.{Tree, boolean, string, array, object, Items, no_items, item, Members, no_members, member}
-use Rattle.json_text.specs.View.{items_onto}
+use Rattle.json_text.specs.ValueOf.{items_onto}
 use Rattle.gw_base.specs.declared.condition.Condition.{Condition}
 use Rattle.gw_base.specs.declared.currency.Currency.{Currency}
-use Rattle.gw_base.specs.declared.money.Money.{Money}
+use Rattle.gw_base.specs.declared.figures.Money.{Money}
 use Rattle.gw_base.specs.Condition.{name_of}
-use Rattle.gw_base.specs.Currency.{code_of}
+use Rattle.gw_base.specs.Currency.{currency_letters}
 use Rattle.gw_base.specs.Moment.{stamp_of}
 use Rattle.sale_values.specs.declared.header.Header.{Header}
 use Rattle.sale_values.specs.Names.{period_name}
@@ -22,29 +22,29 @@ use Rattle.sale_reply.specs.declared.reply.Told.{Told}
 use Rattle.sale_reply.specs.declared.reply.Told.TheVariants.{PaymentApproved, PaymentDeclined, ReversalApproved, ReversalDeclined, Reconciled}
 use Rattle.sale_reply.specs.declared.reply.SaleReply.{SaleReply}
 use Rattle.sale_reply.specs.declared.reply.SaleReply.TheVariants as reply
-use Rattle.sale_values.specs.Header.{header_members}
+use Rattle.sale_values.specs.CanonicalHeader.{header_members}
 use Rattle.sale_values.specs.Money.{money_text}
-use Rattle.sale_values.specs.Members.{text_member, optional_member, number_member, object_member, only}
+use Rattle.sale_values.specs.MemberShapes.{text_member, optional_member, number_member, object_member, only}
 use Rattle.sale_reply.specs.Names.{result_name, status_name, result_of, paid_result}
-use Rattle.sale_reply.specs.Texts.{transaction_text, status_text, line_text, detail_text}
+use Rattle.sale_reply.specs.Texts.{transaction_text, intermediate_text, line_text, detail_text}
 
 -- a message header
 unfoldable pub header_tree : Header → Tree
 header_tree header = object (header_members header)
 
 -- a message: its envelope, its header, and its body, named by the category and what it is
-unfoldable pub message : List ℕ → Header → List ℕ → Tree → Tree
-message envelope header suffix body = only envelope (object
+unfoldable pub message_tree : List ℕ → Header → List ℕ → Tree → Tree
+message_tree envelope header suffix body = only envelope (object
     (member (codes "MessageHeader") (header_tree header)
     (member (header.category ++ suffix) body no_members)))
 
 -- a reply
-abbrev pub response : Header → Tree → Tree
-response header body = message (codes "SaleToPOIResponse") header (codes "Response") body
+abbrev pub response_tree : Header → Tree → Tree
+response_tree header body = message_tree (codes "SaleToPOIResponse") header (codes "Response") body
 
 -- a device request
-abbrev pub request : Header → Tree → Tree
-request header body = message (codes "SaleToPOIRequest") header (codes "Request") body
+abbrev pub device_request : Header → Tree → Tree
+device_request header body = message_tree (codes "SaleToPOIRequest") header (codes "Request") body
 
 -- the response object: its result, why it failed, and the path of the member at fault
 unfoldable pub result_tree : ReplyResult → Option Condition → Option (List ℕ) → Tree
@@ -92,7 +92,7 @@ declined_data mark = poi_data 0 0 mark
 -- what was paid
 unfoldable pub payment_result : Currency → ℕ → Tree
 payment_result currency minor = only (codes "AmountsResp") (object
-    (text_member (codes "Currency") (code_of currency)
+    (text_member (codes "Currency") (currency_letters currency)
     (number_member (codes "AuthorizedAmount") (money_text minor) no_members)))
 
 -- how many of this type, and their sum
@@ -106,11 +106,11 @@ total type sum = object
 unfoldable pub totals : Currency → ℕ × ℕ → ℕ × ℕ → Tree
 totals currency debit reversed = object
     (text_member (codes "PaymentInstrumentType") (codes "Card")
-    (text_member (codes "PaymentCurrency") (code_of currency)
+    (text_member (codes "PaymentCurrency") (currency_letters currency)
     (member (codes "PaymentTotals")
     (array (item (total (codes "Debit") debit) (item (total (codes "ReverseDebit") reversed) no_items))) no_members)))
 
--- the body that tells an approved payment
+-- the body of the reply to an approved payment
 unfoldable pub approved_body : List ℕ → List ℕ → PoiMark → ReplyResult → Money → Tree
 approved_body transaction stamp mark outcome paid = object
     (member (codes "Response") (result_tree outcome None None)
@@ -118,54 +118,54 @@ approved_body transaction stamp mark outcome paid = object
     (member (codes "POIData") (approved_data mark)
     (member (codes "PaymentResult") (payment_result paid.currency paid.minor) no_members))))
 
--- the body that tells the outcome of a payment, a reversal or a reconciliation
-unfoldable pub told_body : Told → Tree
-told_body (PaymentApproved transaction stamp mark requested paid) =
+-- the result body of a payment, a reversal or a reconciliation
+unfoldable pub result_body : Told → Tree
+result_body (PaymentApproved transaction stamp mark requested paid) =
     approved_body transaction stamp mark (paid_result requested paid.minor) paid
-told_body (PaymentDeclined transaction stamp mark condition) = object
+result_body (PaymentDeclined transaction stamp mark condition) = object
     (member (codes "Response") (failure_tree condition)
     (member (codes "SaleData") (sale_data transaction stamp)
     (member (codes "POIData") (declined_data mark) no_members)))
-told_body (ReversalApproved mark reversed) = object
+result_body (ReversalApproved mark reversed) = object
     (member (codes "Response") success_tree
     (member (codes "POIData") (approved_data mark)
     (number_member (codes "ReversedAmount") (money_text reversed.minor) no_members)))
-told_body (ReversalDeclined mark condition) = object
+result_body (ReversalDeclined mark condition) = object
     (member (codes "Response") (failure_tree condition)
     (member (codes "POIData") (declined_data mark) no_members))
-told_body (Reconciled period currency debit reversed) = object
+result_body (Reconciled period currency debit reversed) = object
     (member (codes "Response") success_tree
     (text_member (codes "ReconciliationType") (period_name period)
     (member (codes "TransactionTotals") (array (item (totals currency debit reversed) no_items)) no_members)))
 
--- a reply told again: the header that it had, and its body under the name that it had
+-- a reply that is repeated: the header that it had, and its body under the name that it had
 unfoldable pub repeated_message : Header → Tree → Tree
 repeated_message header body = object
     (member (codes "MessageHeader") (header_tree header)
     (member (codes "RepeatedResponseMessageBody") (only (header.category ++ codes "Response") body) no_members))
 
--- the body that tells a finished request again
+-- the body that repeats the reply to a finished request
 unfoldable pub status_body : Header → Tree → Tree
 status_body header body = object
     (member (codes "Response") success_tree
     (member (codes "RepeatedMessageResponse") (repeated_message header body) no_members))
 
--- the body that tells whether the terminal can be used
+-- the body that reports whether the terminal can be used
 unfoldable pub diagnosis_body : GlobalStatus → Tree
 diagnosis_body status = object
     (member (codes "Response") success_tree
     (object_member (codes "POIStatus") (text_member (codes "GlobalStatus") (status_name status) no_members) no_members))
 
 -- the result of one output
-unfoldable pub output_tree : Shown → Tree
-output_tree shown = object
+unfoldable pub output_result_tree : Shown → Tree
+output_result_tree shown = object
     (text_member (codes "Device") shown.device
     (text_member (codes "InfoQualify") shown.qualify
     (member (codes "Response") (verdict_tree shown.verdict) no_members)))
 
 -- the results of the outputs, in order
 unfoldable pub display_body : List Shown → Tree
-display_body outputs = only (codes "OutputResult") (array (items_onto (map output_tree outputs) no_items))
+display_body outputs = only (codes "OutputResult") (array (items_onto (map output_result_tree outputs) no_items))
 
 -- the result of a print
 unfoldable pub print_body : List ℕ → Verdict → Tree
@@ -184,12 +184,12 @@ content texts = object
     (member (codes "OutputText") (array texts) no_members))
 
 -- the body that shows a cashier an intermediate status of the terminal
-unfoldable pub show_body : ℕ → Tree
-show_body code = only (codes "DisplayOutput") (array (item (object
+unfoldable pub display_request_body : ℕ → Tree
+display_request_body code = only (codes "DisplayOutput") (array (item (object
     (member (codes "ResponseRequiredFlag") (boolean false)
     (text_member (codes "Device") (codes "CashierDisplay")
     (text_member (codes "InfoQualify") (codes "Status")
-    (member (codes "OutputContent") (content (item (text_tree (status_text code)) no_items)) no_members)))))
+    (member (codes "OutputContent") (content (item (text_tree (intermediate_text code)) no_items)) no_members)))))
     no_items))
 
 -- the lines that are printed, each as a text
@@ -197,8 +197,8 @@ abbrev pub line_trees : List (Bor (List ℕ)) → List Tree
 line_trees lines = map (λ line. text_tree (line_text line.now)) lines
 
 -- the body that prints lines of the terminal
-unfoldable pub paper_body : List (Bor (List ℕ)) → Tree
-paper_body lines = only (codes "PrintOutput") (object
+unfoldable pub print_request_body : List (Bor (List ℕ)) → Tree
+print_request_body lines = only (codes "PrintOutput") (object
     (text_member (codes "DocumentQualifier") (codes "Document")
     (text_member (codes "ResponseMode") (codes "NotRequired")
     (member (codes "OutputContent") (content (items_onto (line_trees lines) no_items)) no_members))))
@@ -221,19 +221,19 @@ event_body moment detail = object
     (text_member (codes "EventDetails") (detail_text detail) no_members)))
 
 -- the event that a message was rejected
-unfoldable pub event : List ℕ → List ℕ → ℤ → Detail → Tree
-event sale poi moment detail = only (codes "SaleToPOIRequest") (object
+unfoldable pub event_tree : List ℕ → List ℕ → ℤ → Detail → Tree
+event_tree sale poi moment detail = only (codes "SaleToPOIRequest") (object
     (member (codes "MessageHeader") (event_header sale poi)
     (member (codes "EventNotification") (event_body moment detail) no_members)))
 
 -- the tree of a message to a till
 abbrev pub tree_of : SaleReply → Tree
-tree_of (reply.Plain header verdict) = response header (plain_body (verdict_tree verdict))
-tree_of (reply.Told header told) = response header (told_body told)
-tree_of (reply.Status header repeated told) = response header (status_body repeated (told_body told))
-tree_of (reply.Diagnosis header status) = response header (diagnosis_body status)
-tree_of (reply.Display header outputs) = response header (display_body outputs.items)
-tree_of (reply.Print header qualifier verdict) = response header (print_body qualifier verdict)
-tree_of (reply.DisplayRequest header code) = request header (show_body code)
-tree_of (reply.PrintRequest header lines) = request header (paper_body lines.items)
-tree_of (reply.Reject sale poi moment detail) = event sale poi moment detail
+tree_of (reply.Plain header verdict) = response_tree header (plain_body (verdict_tree verdict))
+tree_of (reply.Told header told) = response_tree header (result_body told)
+tree_of (reply.Status header repeated told) = response_tree header (status_body repeated (result_body told))
+tree_of (reply.Diagnosis header status) = response_tree header (diagnosis_body status)
+tree_of (reply.Display header outputs) = response_tree header (display_body outputs.items)
+tree_of (reply.Print header qualifier verdict) = response_tree header (print_body qualifier verdict)
+tree_of (reply.DisplayRequest header code) = device_request header (display_request_body code)
+tree_of (reply.PrintRequest header lines) = device_request header (print_request_body lines.items)
+tree_of (reply.Reject sale poi moment detail) = event_tree sale poi moment detail

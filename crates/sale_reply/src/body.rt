@@ -3,9 +3,9 @@ ghost use Rattle.std.specs.Prelude.{◌≡◌, codes, option_map};
 ghost use Rattle.json_text.specs.Canonical.{canonical};
 ghost use Rattle.gw_base.specs.Condition.{name_of};
 ghost use Rattle.sale_reply.specs.Names.{result_name, status_name, result_of, paid_result};
-ghost use Rattle.sale_reply.specs.Pieces.{next_optional};
-ghost use Rattle.sale_reply.specs.Appends.{Appends};
-ghost use Rattle.sale_reply.specs.Reply.{result_tree, verdict_tree, success_tree, sale_data, poi_data, payment_result, total, totals, approved_body, told_body, plain_body, diagnosis_body, print_body, event_body};
+ghost use Rattle.sale_reply.specs.inner.Parts.{next_optional};
+ghost use Rattle.sale_reply.specs.inner.Appends.{Appends};
+ghost use Rattle.sale_reply.specs.Reply.{result_tree, verdict_tree, success_tree, sale_data, poi_data, payment_result, total, totals, approved_body, result_body, plain_body, diagnosis_body, print_body, event_body};
 
 use crate::buffer::Out;
 use crate::reply::{Detail, GlobalStatus, PoiMark, ReplyResult, Told, Verdict};
@@ -134,9 +134,9 @@ fn write_payment_result(paid: &Money, out: &mut Out)
     out.raw(b"}}");
 }
 
-#[tactic(auto, unfolding(crate::specs::Reply::told_body))]
-pub(crate) fn write_told(told: &Told, out: &mut Out)
-    ensures { Appends out.old out.new (canonical (told_body told.now)) }
+#[tactic(auto, unfolding(crate::specs::Reply::result_body))]
+pub(crate) fn write_result_body(told: &Told, out: &mut Out)
+    ensures { Appends out.old out.new (canonical (result_body told.now)) }
 {
     match told {
         Told::PaymentApproved {
@@ -197,7 +197,7 @@ fn write_declined(
     out: &mut Out,
 )
     ensures { Appends out.old out.new
-        (canonical (told_body (Told.PaymentDeclined transaction.now stamp.now mark.now condition))) }
+        (canonical (result_body (Told.PaymentDeclined transaction.now stamp.now mark.now condition))) }
 {
     out.raw(b"{");
     out.first_name(b"Response");
@@ -210,7 +210,7 @@ fn write_declined(
 }
 
 fn write_reversed(mark: &PoiMark, reversed: &Money, out: &mut Out)
-    ensures { Appends out.old out.new (canonical (told_body (Told.ReversalApproved mark.now reversed.now))) }
+    ensures { Appends out.old out.new (canonical (result_body (Told.ReversalApproved mark.now reversed.now))) }
 {
     out.raw(b"{");
     out.first_name(b"Response");
@@ -222,7 +222,7 @@ fn write_reversed(mark: &PoiMark, reversed: &Money, out: &mut Out)
 }
 
 fn write_unreversed(mark: &PoiMark, condition: Condition, out: &mut Out)
-    ensures { Appends out.old out.new (canonical (told_body (Told.ReversalDeclined mark.now condition))) }
+    ensures { Appends out.old out.new (canonical (result_body (Told.ReversalDeclined mark.now condition))) }
 {
     out.raw(b"{");
     out.first_name(b"Response");
@@ -240,7 +240,7 @@ fn write_reconciled(
     out: &mut Out,
 )
     ensures { Appends out.old out.new
-        (canonical (told_body (Told.Reconciled period currency debit.now reversed.now))) }
+        (canonical (result_body (Told.Reconciled period currency debit.now reversed.now))) }
 {
     out.raw(b"{");
     out.first_name(b"Response");

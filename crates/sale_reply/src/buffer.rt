@@ -1,18 +1,18 @@
 //! The buffer of a message to a till.
 ghost use Rattle.std.specs.Prelude.{◌≡◌, ◌<◌, ◌≤◌, [], ◌∷◌, length, drop, IfOk, flat_map, encode_utf8};
 ghost use Rattle.sale_reply.specs.Texts.{line_text};
-ghost use Rattle.std.specs.Char.{digit_char};
-ghost use Rattle.json_text.specs.Canonical.{written_text, written_byte};
-ghost use Rattle.sale_frame.specs.Frame.{frame};
-ghost use Rattle.sale_reply.specs.Pieces.{first_name, next_name, first_text, next_text, next_optional, next_number};
-ghost use Rattle.sale_reply.specs.Appends.{Appends};
+ghost use Rattle.json_text.specs.Canonical.{canonical_string, canonical_byte};
+ghost use Rattle.sale_frame.specs.Grammar.{frame};
+ghost use Rattle.sale_reply.specs.inner.Parts.{first_name, next_name, first_text, next_text, next_optional, next_number};
+ghost use Rattle.sale_reply.specs.inner.Appends.{Appends};
 
 use gw_base::{Ident, char_of_437};
+use json_text::escaped;
 use sale_frame::frame_length;
 use std::alloc::{AllocError, Global};
 use std::marker::Model;
 
-/// A frame's length and the longest message.
+/// A frame's length and the longest message: a message that fits a frame always fits the buffer.
 const ROOM: usize = 65_540;
 
 /// A message to a till in its frame: four bytes of length, most significant first, and at most 65,536 bytes of JSON
@@ -52,7 +52,7 @@ impl Out {
         &self.bytes
     }
 
-    /// Begins a message, with room for its length in front.
+    /// Begins a message, with four bytes for its length: how long it is, is known only at its end.
     pub(crate) fn begin(&mut self)
         ensures { self.new ≡ 0 ∷ 0 ∷ 0 ∷ 0 ∷ [] }
     {
@@ -60,7 +60,7 @@ impl Out {
         self.raw(&[0; 4]);
     }
 
-    /// Writes the message's length in front.
+    /// Writes the message's length into the first four bytes.
     pub(crate) fn end(&mut self)
         requires begun { 4 < length self.old }
         requires fits { length self.old ≤ 65540 }
@@ -77,6 +77,8 @@ impl Out {
     pub(crate) fn raw(&mut self, bytes: &[u8])
         ensures { Appends self.old self.new bytes.now }
     {
+        // That there is room is proved once, of the whole message. So no caller has an error to handle that never
+        // comes, and without room nothing is written past the buffer's end, where memory would be taken.
         if bytes.len() <= ROOM - self.bytes.len() {
             self.bytes.extend_from_slice(bytes).unwrap();
         }
@@ -84,21 +86,14 @@ impl Out {
 
     /// Appends a byte of a string, escaped where it has to be.
     fn byte(&mut self, byte: u8)
-        ensures { Appends self.old self.new (written_byte byte) }
+        ensures { Appends self.old self.new (canonical_byte byte) }
     {
-        if byte == b'"' || byte == b'\\' {
-            self.raw(&[b'\\', byte]);
-        } else if byte < 32 {
-            let (high, low) = (hex_digit(byte / 16), hex_digit(byte % 16));
-            self.raw(&[b'\\', b'u', b'0', b'0', high, low]);
-        } else {
-            self.raw(&[byte]);
-        }
+        self.raw(escaped(byte).as_slice());
     }
 
     /// Appends a string between its quotation marks.
     pub(crate) fn string(&mut self, text: &[u8])
-        ensures { Appends self.old self.new (written_text text.now) }
+        ensures { Appends self.old self.new (canonical_string text.now) }
     {
         self.raw(b"\"");
         for byte in text {
@@ -107,9 +102,9 @@ impl Out {
         self.raw(b"\"");
     }
 
-    /// Appends what the bytes of a terminal's line show, between quotation marks.
+    /// Appends the characters of a terminal's line, between quotation marks.
     pub(crate) fn line(&mut self, line: &[u8])
-        ensures { Appends self.old self.new (written_text (line_text line.now)) }
+        ensures { Appends self.old self.new (canonical_string (line_text line.now)) }
     {
         self.raw(b"\"");
         for byte in line {
@@ -120,7 +115,7 @@ impl Out {
 
     /// Appends a character of a string, escaped where it has to be.
     fn character(&mut self, character: char)
-        ensures { Appends self.old self.new (flat_map written_byte (encode_utf8 character)) }
+        ensures { Appends self.old self.new (flat_map canonical_byte (encode_utf8 character)) }
     {
         for byte in character.encode_utf8(&mut [0; 4]).as_bytes() {
             self.byte(*byte);
@@ -175,16 +170,5 @@ impl Out {
     {
         self.next_name(name);
         self.raw(digits);
-    }
-}
-
-fn hex_digit(value: u8) -> u8
-    requires { value < 16 }
-    ensures { result ≡ digit_char value }
-{
-    if value < 10 {
-        b'0' + value
-    } else {
-        b'a' + (value - 10)
     }
 }

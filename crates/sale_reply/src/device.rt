@@ -1,9 +1,9 @@
-//! What is shown and printed, written.
+//! Writes what is shown and printed: the bodies of Display and Print, and of requests to show and to print.
 ghost use Rattle.json_text.specs.Canonical.{canonical};
 ghost use Rattle.sale_reply.specs.Texts.{line_text};
-ghost use Rattle.sale_reply.specs.Appends.{Appends};
-ghost use Rattle.sale_reply.specs.Pieces.{content_front, more_outputs, more_lines, outputs_text, lines_text};
-ghost use Rattle.sale_reply.specs.Reply.{output_tree, display_body, text_tree, show_body, paper_body};
+ghost use Rattle.sale_reply.specs.inner.Appends.{Appends};
+ghost use Rattle.sale_reply.specs.inner.Parts.{content_prefix, more_outputs, more_lines, canonical_outputs, canonical_lines};
+ghost use Rattle.sale_reply.specs.Reply.{output_result_tree, display_body, text_tree, display_request_body, print_request_body};
 
 use crate::body::write_verdict;
 use crate::buffer::Out;
@@ -20,9 +20,9 @@ pub(crate) fn write_display(outputs: &[Shown], out: &mut Out)
     out.raw(b"]}");
 }
 
-#[tactic(auto, unfolding(crate::specs::Pieces::outputs_text))]
+#[tactic(auto, unfolding(crate::specs::inner::Parts::canonical_outputs))]
 fn write_outputs(outputs: &[Shown], out: &mut Out)
-    ensures { Appends out.old out.new (outputs_text outputs.now) }
+    ensures { Appends out.old out.new (canonical_outputs outputs.now) }
 {
     if let [first, others @ ..] = outputs {
         write_output(first, out);
@@ -30,7 +30,7 @@ fn write_outputs(outputs: &[Shown], out: &mut Out)
     }
 }
 
-#[tactic(auto, unfolding(crate::specs::Pieces::more_outputs))]
+#[tactic(auto, unfolding(crate::specs::inner::Parts::more_outputs))]
 fn write_more_outputs(outputs: &[Shown], out: &mut Out)
     ensures { Appends out.old out.new (more_outputs outputs.now) }
 {
@@ -41,7 +41,7 @@ fn write_more_outputs(outputs: &[Shown], out: &mut Out)
 }
 
 fn write_output(shown: &Shown, out: &mut Out)
-    ensures { Appends out.old out.new (canonical (output_tree shown.now)) }
+    ensures { Appends out.old out.new (canonical (output_result_tree shown.now)) }
 {
     out.raw(b"{");
     out.first_text(b"Device", shown.device.as_bytes());
@@ -51,8 +51,8 @@ fn write_output(shown: &Shown, out: &mut Out)
     out.raw(b"}");
 }
 
-pub(crate) fn write_show(code: u8, out: &mut Out)
-    ensures { Appends out.old out.new (canonical (show_body code)) }
+pub(crate) fn write_display_request(code: u8, out: &mut Out)
+    ensures { Appends out.old out.new (canonical (display_request_body code)) }
 {
     out.raw(b"{");
     out.first_name(b"DisplayOutput");
@@ -71,7 +71,7 @@ pub(crate) fn write_show(code: u8, out: &mut Out)
 
 /// An `OutputContent` up to the first of its texts.
 fn open_content(out: &mut Out)
-    ensures { Appends out.old out.new content_front }
+    ensures { Appends out.old out.new content_prefix }
 {
     out.raw(b"{");
     out.first_text(b"OutputFormat", b"Text");
@@ -79,8 +79,8 @@ fn open_content(out: &mut Out)
     out.raw(b"[");
 }
 
-pub(crate) fn write_paper(lines: &[&[u8]], out: &mut Out)
-    ensures { Appends out.old out.new (canonical (paper_body lines.now)) }
+pub(crate) fn write_print_request(lines: &[&[u8]], out: &mut Out)
+    ensures { Appends out.old out.new (canonical (print_request_body lines.now)) }
 {
     out.raw(b"{");
     out.first_name(b"PrintOutput");
@@ -93,9 +93,9 @@ pub(crate) fn write_paper(lines: &[&[u8]], out: &mut Out)
     out.raw(b"]}}}");
 }
 
-#[tactic(auto, unfolding(crate::specs::Pieces::lines_text))]
+#[tactic(auto, unfolding(crate::specs::inner::Parts::canonical_lines))]
 fn write_lines(lines: &[&[u8]], out: &mut Out)
-    ensures { Appends out.old out.new (lines_text lines.now) }
+    ensures { Appends out.old out.new (canonical_lines lines.now) }
 {
     if let [first, others @ ..] = lines {
         write_line(first, out);
@@ -103,7 +103,7 @@ fn write_lines(lines: &[&[u8]], out: &mut Out)
     }
 }
 
-#[tactic(auto, unfolding(crate::specs::Pieces::more_lines))]
+#[tactic(auto, unfolding(crate::specs::inner::Parts::more_lines))]
 fn write_more_lines(lines: &[&[u8]], out: &mut Out)
     ensures { Appends out.old out.new (more_lines lines.now) }
 {

@@ -1,4 +1,13 @@
 //! The messages to a till (nexo Sale to POI 3.0): replies, device requests and events.
+//!
+//! A message is written into one buffer, in its frame, and takes no memory. Each part of it has a definition of its
+//! tree (`specs/Reply.antt`), and what is written is the canonical spelling of that tree.
+//!
+//! ```
+//! let mut out = Out::new(alloc)?;
+//! write_reply(&SaleReply::Plain { header, verdict: Verdict { condition: None, path: None } }, &mut out);
+//! site.send_till(till, out.as_bytes());
+//! ```
 #![tactic(auto)]
 
 mod body;

@@ -2,9 +2,9 @@
 ghost use Rattle.std.specs.Prelude.{◌^◌, ◌<◌, ◌≤◌, ◌↔◌, ◌⊎◌, All, IfSome, IsTrue, length, sum_by};
 ghost use Rattle.gw_base.specs.Ident.{IsIdent};
 ghost use Rattle.json_text.specs.Canonical.{canonical};
-ghost use Rattle.json_text.specs.Spelling.{Spells};
+ghost use Rattle.json_text.specs.Grammar.{Spells};
 ghost use Rattle.sale_reply.specs.declared.reply.SaleReply.{SaleReply};
-ghost use Rattle.sale_reply.specs.Limits.{IsDetail, IsHeader, IsShown, IsTold, IsPrintRequest, IsTotal, IsWithinLimits};
+ghost use Rattle.sale_reply.specs.Limits.{IsDetailWithinLimits, IsHeaderWithinLimits, IsShownWithinLimits, IsToldWithinLimits, IsPrintRequest, IsTotalWithinLimits, IsWithinLimits};
 ghost use Rattle.sale_reply.specs.Reply.{tree_of};
 
 use crate::reply::{Detail, SaleReply, Shown, Told};
@@ -33,7 +33,7 @@ pub fn is_within_limits(reply: &SaleReply<'_>) -> bool
         }
         SaleReply::Told { header, told } => {
             law_header(header);
-            law_told(told);
+            law_result_body(told);
             true
         }
         SaleReply::Status {
@@ -43,7 +43,7 @@ pub fn is_within_limits(reply: &SaleReply<'_>) -> bool
         } => {
             law_header(header);
             law_header(repeated);
-            law_told(told);
+            law_result_body(told);
             true
         }
         SaleReply::Display { header, outputs } => {
@@ -101,7 +101,8 @@ fn are_within_limits(lines: &[&[u8]]) -> bool
     true
 }
 
-// What follows holds by the types.
+// For the prover alone: what follows holds by the types of the arguments, and these functions do nothing. A contract
+// learns what a type says of a value by a call that the value is handed to, so each part of a message is handed to one.
 
 fn law_u8(value: u8)
     ensures { value < 2 ^ 8 }
@@ -122,7 +123,7 @@ fn law_u64(value: u64)
 }
 
 fn law_total(total: &(u32, u64))
-    ensures { IsTotal total.now }
+    ensures { IsTotalWithinLimits total.now }
 {
     law_u32(total.0);
     law_u64(total.1);
@@ -143,7 +144,7 @@ fn law_optional<const N: usize>(ident: &Option<Ident<N>>)
 }
 
 fn law_header(header: &Header)
-    ensures { IsHeader header.now }
+    ensures { IsHeaderWithinLimits header.now }
 {
     law_ident(&header.category);
     law_optional(&header.service);
@@ -152,8 +153,8 @@ fn law_header(header: &Header)
     law_ident(&header.poi);
 }
 
-fn law_told(told: &Told)
-    ensures { IsTold told.now }
+fn law_result_body(told: &Told)
+    ensures { IsToldWithinLimits told.now }
 {
     match told {
         Told::PaymentApproved {
@@ -197,7 +198,7 @@ fn law_told(told: &Told)
 }
 
 fn law_outputs(outputs: &[Shown])
-    ensures { All IsShown outputs.now }
+    ensures { All IsShownWithinLimits outputs.now }
 {
     for shown in outputs {
         law_shown(shown);
@@ -205,7 +206,7 @@ fn law_outputs(outputs: &[Shown])
 }
 
 fn law_shown(shown: &Shown)
-    ensures { IsShown shown.now }
+    ensures { IsShownWithinLimits shown.now }
 {
     law_ident(&shown.device);
     law_ident(&shown.qualify);
@@ -213,7 +214,7 @@ fn law_shown(shown: &Shown)
 }
 
 fn law_detail(detail: &Detail)
-    ensures { IsDetail detail.now }
+    ensures { IsDetailWithinLimits detail.now }
 {
     match detail {
         Detail::Json(fault) => {

@@ -1,4 +1,4 @@
-//! What is told to a till.
+//! The messages to a till, as values.
 ghost use Rattle.std.specs.Prelude.{◌≡◌};
 ghost use Rattle.gw_base.specs.Ident.{IsIdent};
 
@@ -18,7 +18,7 @@ fn name(text: &[u8]) -> Ident<40>
     }
 }
 
-/// What stands as `POITransactionID`: the numbers that the terminal told, the slot of the record of the
+/// nexo's `POITransactionID`: the numbers that the terminal reported, the slot of the record of the
 /// intent, and the moment of the outcome.
 #[derive(Clone, Copy, Debug, PartialEq, Eq)]
 pub struct PoiMark {
@@ -37,7 +37,7 @@ pub struct Verdict {
     pub path: Option<Ident<100>>,
 }
 
-/// What is told of a finished payment, reversal or reconciliation.
+/// The result body of a finished payment, reversal or reconciliation.
 #[derive(Clone, Copy, Debug, PartialEq, Eq)]
 pub enum Told {
     PaymentApproved {
@@ -88,7 +88,7 @@ pub struct Shown {
 }
 
 impl Default for Shown {
-    /// What stands in the free places of a list of outputs; it is never written.
+    /// What fills the unused elements of a list of outputs; it is never written.
     fn default() -> Self {
         Shown {
             device: name(b"CustomerDisplay"),
@@ -119,7 +119,7 @@ pub enum Detail {
     Header(Ident<100>),
     /// The path of the member of an Abort's body that is absent or of another form.
     Body(Ident<100>),
-    /// An Abort of what is neither open nor waits.
+    /// An Abort of a request that is neither open nor waiting.
     Abort,
 }
 
@@ -134,7 +134,7 @@ pub enum SaleReply<'a> {
         header: Header,
         told: Told,
     },
-    /// What was told before, told again, with the header that it had.
+    /// A result body that was sent before, repeated with the header that it had.
     Status {
         header: Header,
         repeated: Header,
@@ -163,7 +163,7 @@ pub enum SaleReply<'a> {
         header: Header,
         lines: ArrayVec<&'a [u8], 400>,
     },
-    /// Tells that a message was rejected.
+    /// The event that a message was rejected.
     Reject {
         sale: Ident<40>,
         poi: Ident<40>,

@@ -49,7 +49,7 @@ fn put(reply: &SaleReply<'_>, out: &mut Out) -> bool {
     }
 }
 
-fn tells(rt: &impl Abort, out: &mut Out, reply: &SaleReply<'_>, text: &str) {
+fn is_written_as(rt: &impl Abort, out: &mut Out, reply: &SaleReply<'_>, text: &str) {
     assert!(rt; put(reply, out));
     let length = (text.len() as u64).to_be_bytes();
     assert_eq!(rt; out.as_bytes().get(..4), length.get(4..));
@@ -92,7 +92,7 @@ const SHOW: &str =
 const PAPER: &str =
     r#"{"SaleToPOIRequest":{"MessageHeader":{"ProtocolVersion":"3.0","MessageClass":"Device","MessageCategory":"Print","MessageType":"Request","ServiceID":"1","DeviceID":"0","SaleID":"S1","POIID":"T1"},"PrintRequest":{"PrintOutput":{"DocumentQualifier":"Document","ResponseMode":"NotRequired","OutputContent":{"OutputFormat":"Text","OutputText":[{"Text":"ä?"},{"Text":""},{"Text":"\"\\"}]}}}}}"#;
 
-const REJECTED: &str =
+const REJECT: &str =
     r#"{"SaleToPOIRequest":{"MessageHeader":{"ProtocolVersion":"3.0","MessageClass":"Event","MessageCategory":"Event","MessageType":"Notification","SaleID":"0","POIID":"GATEWAY"},"EventNotification":{"TimeStamp":"1970-01-01T00:00:00Z","EventToNotify":"Reject","EventDetails":"header SaleToPOIRequest"}}}"#;
 
 #[test]
@@ -103,7 +103,7 @@ fn replies(rt: HostRuntime) -> Result<(), Fail> {
         header: payment,
         told: approved().ok_or("printable")?,
     };
-    tells(&rt, &mut out, &told, APPROVED);
+    is_written_as(&rt, &mut out, &told, APPROVED);
     let failed = SaleReply::Plain {
         header: payment,
         verdict: Verdict {
@@ -111,7 +111,7 @@ fn replies(rt: HostRuntime) -> Result<(), Fail> {
             path: Ident::of(b"PaymentRequest.PaymentTransaction.AmountsReq.RequestedAmount"),
         },
     };
-    tells(&rt, &mut out, &failed, FAILED);
+    is_written_as(&rt, &mut out, &failed, FAILED);
     let logged_in = SaleReply::Plain {
         header: header(Class::Service, b"Login", Kind::Response).ok_or("printable")?,
         verdict: Verdict {
@@ -119,12 +119,12 @@ fn replies(rt: HostRuntime) -> Result<(), Fail> {
             path: None,
         },
     };
-    tells(&rt, &mut out, &logged_in, LOGGED_IN);
+    is_written_as(&rt, &mut out, &logged_in, LOGGED_IN);
     let diagnosis = SaleReply::Diagnosis {
         header: header(Class::Service, b"Diagnosis", Kind::Response).ok_or("printable")?,
         status: GlobalStatus::Ready,
     };
-    tells(&rt, &mut out, &diagnosis, DIAGNOSIS);
+    is_written_as(&rt, &mut out, &diagnosis, DIAGNOSIS);
     Ok(())
 }
 
@@ -151,7 +151,7 @@ fn outcomes(rt: HostRuntime) -> Result<(), Fail> {
             condition: Condition::Aborted,
         },
     };
-    tells(&rt, &mut out, &status, STATUS);
+    is_written_as(&rt, &mut out, &status, STATUS);
     let reversal = header(Class::Service, b"Reversal", Kind::Response).ok_or("printable")?;
     let reversed = SaleReply::Told {
         header: reversal,
@@ -163,7 +163,7 @@ fn outcomes(rt: HostRuntime) -> Result<(), Fail> {
             },
         },
     };
-    tells(&rt, &mut out, &reversed, REVERSED);
+    is_written_as(&rt, &mut out, &reversed, REVERSED);
     let unreversed = SaleReply::Told {
         header: reversal,
         told: Told::ReversalDeclined {
@@ -171,7 +171,7 @@ fn outcomes(rt: HostRuntime) -> Result<(), Fail> {
             condition: Condition::NotAllowed,
         },
     };
-    tells(&rt, &mut out, &unreversed, UNREVERSED);
+    is_written_as(&rt, &mut out, &unreversed, UNREVERSED);
     let totals = SaleReply::Told {
         header: header(Class::Service, b"Reconciliation", Kind::Response).ok_or("printable")?,
         told: Told::Reconciled {
@@ -181,7 +181,7 @@ fn outcomes(rt: HostRuntime) -> Result<(), Fail> {
             reversed: (1, 1099),
         },
     };
-    tells(&rt, &mut out, &totals, TOTALS);
+    is_written_as(&rt, &mut out, &totals, TOTALS);
     Ok(())
 }
 
@@ -215,13 +215,13 @@ fn devices(rt: HostRuntime) -> Result<(), Fail> {
         header: display,
         outputs,
     };
-    tells(&rt, &mut out, &shown, SHOWN);
+    is_written_as(&rt, &mut out, &shown, SHOWN);
     let printed = SaleReply::Print {
         header: header(Class::Device, b"Print", Kind::Response).ok_or("printable")?,
         qualifier: Ident::of(b"Document").ok_or("printable")?,
         verdict: unavailable,
     };
-    tells(&rt, &mut out, &printed, PRINTED);
+    is_written_as(&rt, &mut out, &printed, PRINTED);
     Ok(())
 }
 
@@ -235,7 +235,7 @@ fn device_requests_and_events(rt: HostRuntime) -> Result<(), Fail> {
         },
         code: 0x0A,
     };
-    tells(&rt, &mut out, &show, SHOW);
+    is_written_as(&rt, &mut out, &show, SHOW);
     let mut lines = ArrayVec::new();
     lines.push([0x84, 0xFF].as_slice());
     lines.push(b"".as_slice());
@@ -247,14 +247,14 @@ fn device_requests_and_events(rt: HostRuntime) -> Result<(), Fail> {
         },
         lines,
     };
-    tells(&rt, &mut out, &paper, PAPER);
+    is_written_as(&rt, &mut out, &paper, PAPER);
     let rejected = SaleReply::Reject {
         sale: Ident::of(b"0").ok_or("printable")?,
         poi: Ident::of(b"GATEWAY").ok_or("printable")?,
         moment: 0,
         detail: Detail::Header(Ident::of(b"SaleToPOIRequest").ok_or("printable")?),
     };
-    tells(&rt, &mut out, &rejected, REJECTED);
+    is_written_as(&rt, &mut out, &rejected, REJECT);
     Ok(())
 }
 
@@ -282,7 +282,7 @@ fn details_of_rejects(rt: HostRuntime) -> Result<(), Fail> {
         let text = format!(in rt.alloc();
             "{{\"SaleToPOIRequest\":{{\"MessageHeader\":{{\"ProtocolVersion\":\"3.0\",\"MessageClass\":\"Event\",\"MessageCategory\":\"Event\",\"MessageType\":\"Notification\",\"SaleID\":\"S1\",\"POIID\":\"T1\"}},\"EventNotification\":{{\"TimeStamp\":\"9999-01-01T00:00:00Z\",\"EventToNotify\":\"Reject\",\"EventDetails\":\"{text}\"}}}}}}"
         )?;
-        tells(&rt, &mut out, &reply, text.as_str());
+        is_written_as(&rt, &mut out, &reply, text.as_str());
     }
     Ok(())
 }

@@ -1,11 +1,12 @@
 //! The texts that a reply puts together.
 ghost use Rattle.std.specs.Prelude.{◌≡◌, ◌≤◌, ◌<◌, ◌++◌, length};
 ghost use Rattle.gw_base.specs.Digits.{digits};
-ghost use Rattle.sale_reply.specs.Texts.{transaction_text, upper_digit, status_text, detail_text};
+ghost use Rattle.sale_reply.specs.Texts.{transaction_text, intermediate_text, detail_text};
 
 use crate::reply::Detail;
 use arrayvec::ArrayVec;
 use gw_base::Ident;
+use gw_bytes::upper_hex_digit;
 use itoa::Buffer;
 use json_text::JsonFault;
 
@@ -14,6 +15,7 @@ use json_text::JsonFault;
 pub(crate) fn transaction(number: u32, receipt: u16, slot: u32) -> ArrayVec<u8, 24>
     ensures { result.items ≡ transaction_text number receipt slot }
 {
+    // 6 and 4 digits, up to 10 of a slot, and two dashes: 22 bytes at most.
     let mut text = ArrayVec::new();
     text.try_extend_from_slice(&last_digits::<6>(u64::from(number)))
         .unwrap();
@@ -26,7 +28,7 @@ pub(crate) fn transaction(number: u32, receipt: u16, slot: u32) -> ArrayVec<u8, 
     text
 }
 
-/// The last digits of a number, with zeros in front.
+/// The last digits of a number, with leading zeros.
 fn last_digits<const N: usize>(value: u64) -> [u8; N]
     ensures { result ≡ digits N value }
 {
@@ -45,26 +47,15 @@ fn fill_digits(value: u64, cells: &mut [u8])
     }
 }
 
-/// What a cashier is shown of an intermediate status of the terminal.
-#[tactic(auto, unfolding(crate::specs::Texts::status_text))]
+/// The text of a cashier's display for an intermediate status of the terminal.
+#[tactic(auto, unfolding(crate::specs::Texts::intermediate_text))]
 pub(crate) fn status(code: u8) -> [u8; 13]
-    ensures { result ≡ status_text code }
+    ensures { result ≡ intermediate_text code }
 {
-    let (high, low) = (upper_digit(code / 16), upper_digit(code % 16));
+    let (high, low) = (upper_hex_digit(code / 16), upper_hex_digit(code % 16));
     [
         b'Z', b'V', b'T', b' ', b's', b't', b'a', b't', b'u', b's', b' ', high, low,
     ]
-}
-
-fn upper_digit(value: u8) -> u8
-    requires { value < 16 }
-    ensures { result ≡ upper_digit value }
-{
-    if value < 10 {
-        b'0' + value
-    } else {
-        b'A' + (value - 10)
-    }
 }
 
 /// The `EventDetails` of a rejected message.
@@ -98,12 +89,12 @@ fn json_details(fault: &JsonFault) -> ArrayVec<u8, 128>
     text
 }
 
-fn path_details(front: &[u8], path: &Ident<100>) -> ArrayVec<u8, 128>
-    requires { length front.now ≤ 8 }
-    ensures { result.items ≡ front.now ++ path.now }
+fn path_details(prefix: &[u8], path: &Ident<100>) -> ArrayVec<u8, 128>
+    requires { length prefix.now ≤ 8 }
+    ensures { result.items ≡ prefix.now ++ path.now }
 {
     let mut text = ArrayVec::new();
-    text.try_extend_from_slice(front).unwrap();
+    text.try_extend_from_slice(prefix).unwrap();
     text.try_extend_from_slice(path.as_bytes()).unwrap();
     text
 }

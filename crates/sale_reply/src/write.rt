@@ -1,22 +1,22 @@
 //! The messages, written.
 ghost use Rattle.std.specs.Prelude.{◌≡◌, ◌≤◌, codes, length};
 ghost use Rattle.json_text.specs.Canonical.{canonical};
-ghost use Rattle.sale_frame.specs.Frame.{frame};
-ghost use Rattle.sale_reply.specs.Appends.{Appends};
-ghost use Rattle.sale_reply.specs.Pieces.{message_front};
-ghost use Rattle.sale_reply.specs.Reply.{header_tree, event_header, status_body, told_body, event, tree_of};
+ghost use Rattle.sale_frame.specs.Grammar.{frame};
+ghost use Rattle.sale_reply.specs.inner.Appends.{Appends};
+ghost use Rattle.sale_reply.specs.inner.Parts.{message_prefix};
+ghost use Rattle.sale_reply.specs.Reply.{header_tree, event_header, status_body, result_body, event_tree, tree_of};
 
 use crate::body::{
-    write_diagnosis, write_event, write_plain, write_print, write_success, write_told,
+    write_diagnosis, write_event, write_plain, write_print, write_result_body, write_success,
 };
 use crate::buffer::Out;
-use crate::device::{write_display, write_paper, write_show};
+use crate::device::{write_display, write_display_request, write_print_request};
 use crate::reply::{Detail, SaleReply, Told};
 use crate::text::body_name;
 use gw_base::Ident;
 use sale_values::Header;
 
-/// Puts the message into the buffer, in its frame, in place of what was there. It takes no memory.
+/// Puts the message into the buffer, in its frame, and drops what was there. It takes no memory.
 ///
 /// JSON text (RFC 8259) of nexo Sale to POI 3.0 without white space. A message within the limits of this profile has
 /// at most 65,536 bytes.
@@ -41,12 +41,12 @@ fn write_message(reply: &SaleReply<'_>, out: &mut Out)
         } => write_reject(sale, poi, *moment, detail, out),
         SaleReply::DisplayRequest { header, code } => {
             open_request(header, out);
-            write_show(*code, out);
+            write_display_request(*code, out);
             out.raw(b"}}");
         }
         SaleReply::PrintRequest { header, lines } => {
             open_request(header, out);
-            write_paper(lines.as_slice(), out);
+            write_print_request(lines.as_slice(), out);
             out.raw(b"}}");
         }
         SaleReply::Plain { header, verdict } => {
@@ -56,7 +56,7 @@ fn write_message(reply: &SaleReply<'_>, out: &mut Out)
         }
         SaleReply::Told { header, told } => {
             open_response(header, out);
-            write_told(told, out);
+            write_result_body(told, out);
             out.raw(b"}}");
         }
         SaleReply::Status {
@@ -92,21 +92,21 @@ fn write_message(reply: &SaleReply<'_>, out: &mut Out)
 
 /// A reply up to its body.
 fn open_response(header: &Header, out: &mut Out)
-    ensures { Appends out.old out.new (message_front (codes "SaleToPOIResponse") header.now (codes "Response")) }
+    ensures { Appends out.old out.new (message_prefix (codes "SaleToPOIResponse") header.now (codes "Response")) }
 {
     open_message(b"SaleToPOIResponse", header, b"Response", out);
 }
 
 /// A device request up to its body.
 fn open_request(header: &Header, out: &mut Out)
-    ensures { Appends out.old out.new (message_front (codes "SaleToPOIRequest") header.now (codes "Request")) }
+    ensures { Appends out.old out.new (message_prefix (codes "SaleToPOIRequest") header.now (codes "Request")) }
 {
     open_message(b"SaleToPOIRequest", header, b"Request", out);
 }
 
 fn open_message(envelope: &[u8], header: &Header, suffix: &[u8], out: &mut Out)
     requires { length suffix.now ≤ 8 }
-    ensures { Appends out.old out.new (message_front envelope.now header.now suffix.now) }
+    ensures { Appends out.old out.new (message_prefix envelope.now header.now suffix.now) }
 {
     out.raw(b"{");
     out.first_name(envelope);
@@ -132,9 +132,9 @@ fn write_header(header: &Header, out: &mut Out)
     out.raw(b"}");
 }
 
-/// The body that tells a finished request again.
+/// The body that repeats the reply to a finished request.
 fn write_status(repeated: &Header, told: &Told, out: &mut Out)
-    ensures { Appends out.old out.new (canonical (status_body repeated.now (told_body told.now))) }
+    ensures { Appends out.old out.new (canonical (status_body repeated.now (result_body told.now))) }
 {
     out.raw(b"{");
     out.first_name(b"Response");
@@ -146,12 +146,12 @@ fn write_status(repeated: &Header, told: &Told, out: &mut Out)
     out.next_name(b"RepeatedResponseMessageBody");
     out.raw(b"{");
     out.first_name(body_name(&repeated.category, b"Response").as_slice());
-    write_told(told, out);
+    write_result_body(told, out);
     out.raw(b"}}}");
 }
 
 fn write_reject(sale: &Ident<40>, poi: &Ident<40>, moment: i64, detail: &Detail, out: &mut Out)
-    ensures { Appends out.old out.new (canonical (event sale.now poi.now moment detail.now)) }
+    ensures { Appends out.old out.new (canonical (event_tree sale.now poi.now moment detail.now)) }
 {
     out.raw(b"{");
     out.first_name(b"SaleToPOIRequest");

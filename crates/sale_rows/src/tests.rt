@@ -372,7 +372,8 @@ fn references_and_periods(rt: HostRuntime) -> Result<(), Fail> {
     Ok(())
 }
 
-/// Whether the reader, fed the frame of this text cut at this place, gives the text whole.
+/// Whether the reader, fed the frame of this text in two chunks, the first of this length, gives nothing before the
+/// second and then the text.
 fn given_whole(alloc: Global, text: &[u8], cut: usize) -> Result<bool, AllocError> {
     if text.is_empty() || text.len() > 4000 {
         return Ok(false);
@@ -381,18 +382,18 @@ fn given_whole(alloc: Global, text: &[u8], cut: usize) -> Result<bool, AllocErro
     frame.extend_from_slice(&frame_length(text.len()))?;
     frame.extend_from_slice(text)?;
     let mut reader = FrameReader::new(alloc)?;
-    let (front, back) = frame.split_at(cut.min(frame.len()));
-    if front.len() > 4096 || back.len() > 4096 {
+    let (prefix, rest) = frame.split_at(cut.min(frame.len()));
+    if prefix.len() > 4096 || rest.len() > 4096 {
         return Ok(false);
     }
-    reader.feed(alloc, front)?;
+    reader.feed(alloc, prefix)?;
     let early = matches!(reader.next(), Ok(Some(_)));
-    reader.feed(alloc, back)?;
+    reader.feed(alloc, rest)?;
     let whole = match reader.next() {
         Ok(Some(message)) => message == text,
         _ => false,
     };
-    Ok(whole != early)
+    Ok(whole && !early)
 }
 
 #[test]

@@ -1,8 +1,8 @@
-pub mod Spelled
-pub mod Names
-pub mod Idents
-pub mod One
-pub mod Headers
-pub mod Bodies
-pub mod Seeing
-pub mod ResultPath
+pub mod BodyLemmas
+pub mod HeaderLemmas
+pub mod IdentLemmas
+pub mod MoneyLemmas
+pub mod NameLemmas
+pub mod PathLemmas
+pub mod ReplyLemmas
+pub mod UniqueLemmas

@@ -1,4 +1,4 @@
-pub mod Place
-pub mod Seen
+pub mod Expected
 pub mod Fault
-pub mod Told
+pub mod Grammar
+pub mod ReplyMembers

@@ -1,14 +1,24 @@
-//! What a till sees in a reply (nexo Sale to POI 3.0), read from its JSON tree.
+//! What a till reads of a reply (nexo Sale to POI 3.0): its category, result, condition, transaction and amount.
+//!
+//! The members are those of this profile's replies; every other member is ignored. A TransactionStatus is read as the
+//! reply that it repeats, but for its own category, result and condition. The laws tie what is read to what
+//! `sale_reply` writes, so a till that reads by this crate learns what the gateway sent.
+//!
+//! ```
+//! let tree = json_text::read(alloc, text)?;
+//! let reply = sale_seen::read_reply(&tree)?;
+//! if reply.result == ReplyResult::Success { .. }
+//! ```
 #![tactic(auto)]
 
+mod amount;
 mod laws;
-mod money;
-mod parts;
 mod reader;
-mod seen;
+mod reply;
+mod reply_members;
 #[cfg(test)]
 mod tests;
 
-pub use laws::{law_display, law_path, law_seen};
+pub use laws::{law_display, law_path, law_reply_read};
 pub use reader::read_reply;
-pub use seen::ReplySeen;
+pub use reply::ReplySeen;

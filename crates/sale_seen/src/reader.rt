@@ -3,18 +3,18 @@ ghost use Rattle.std.specs.Prelude.{◌≡◌, ◌≢◌, ◌↔◌, ℕ, ◌≤
 ghost use Rattle.std.specs.Option.{option_and_then};
 ghost use Rattle.gw_base.specs.Ident.{IsIdent};
 ghost use Rattle.json_text.specs.Tree.{Tree, string_of};
-ghost use Rattle.json_text.specs.View.{view};
+ghost use Rattle.json_text.specs.ValueOf.{value_of};
 ghost use Rattle.sale_values.specs.declared.header.Header.{Header};
-ghost use Rattle.sale_msg.specs.Message.{IsHeaded, LacksHeader};
+ghost use Rattle.sale_msg.specs.Grammar.{IsHeaded, LacksHeader};
 ghost use Rattle.sale_msg.specs.Path.{text_at};
 ghost use Rattle.sale_msg.specs.declared.table.Envelope.{Envelope};
-ghost use Rattle.sale_seen.specs.Fault.{HasOtherResult, IsUnseen, LacksResult, result_path};
-ghost use Rattle.sale_seen.specs.Place.{amount_in, response_of, transaction_in};
-ghost use Rattle.sale_seen.specs.Seen.{Finds, IsSeen, Seen, TellsCondition, TellsMinor, TellsResult, TellsTransaction, shown};
+ghost use Rattle.sale_seen.specs.Fault.{HasOtherResult, IsReplyFault, LacksResult, result_path};
+ghost use Rattle.sale_seen.specs.ReplyMembers.{amount_in, response_of, transaction_in};
+ghost use Rattle.sale_seen.specs.Grammar.{FindsMember, ReadsReply, ReadReply, NamesCondition, IsAmountMember, NamesResult, IsTransactionText, read_reply_value};
 
 use crate::ReplySeen;
-use crate::money::minor_of;
-use crate::parts::{amount, outcome, response, text};
+use crate::amount::minor_of;
+use crate::reply_members::{amount, outcome, response, text};
 use arrayvec::ArrayVec;
 use gw_base::{Condition, Ident};
 use json_text::Json;
@@ -22,19 +22,19 @@ use sale_msg::{find, read_header};
 use sale_reply::ReplyResult;
 use sale_values::{Header, SaleFault};
 
-/// Reads what a till sees in a reply, from the tree of its text. It takes no memory.
+/// Reads the result of a reply from the tree of its text. It takes no memory.
 ///
-/// The header is read as that of any message. What stands elsewhere than where nexo Sale to POI 3.0 puts it in this
+/// The header is read as that of any message. A member elsewhere than where nexo Sale to POI 3.0 puts it in this
 /// profile's replies is ignored.
 pub fn read_reply(tree: &Json) -> Result<ReplySeen, SaleFault>
-    // What is given is seen in the tree, and where something is seen it is given.
-    ensures ok { IfOk result (λ seen. IsSeen (view tree.now) (shown seen)) }
-    ensures every { (seen : Seen) → IsSeen (view tree.now) seen → IsOkAnd result (λ own. shown own ≡ seen) }
+    // What is returned is what the tree says, and where the tree says something it is returned.
+    ensures ok { IfOk result (λ seen. ReadsReply (value_of tree.now) (read_reply_value seen)) }
+    ensures every { (seen : ReadReply) → ReadsReply (value_of tree.now) seen → IsOkAnd result (λ own. read_reply_value own ≡ seen) }
 
-    // Each fault is told exactly where the tree has it.
-    ensures no_header { (path : List ℕ) → (result ≡ Err (SaleFault.NoHeader path)) ↔ LacksHeader (view tree.now) path }
-    ensures missing { (header : Header) (path : List ℕ) → (result ≡ Err (SaleFault.Missing header path)) ↔ LacksResult (view tree.now) header path }
-    ensures wrong { (header : Header) (path : List ℕ) → (result ≡ Err (SaleFault.Wrong header path)) ↔ HasOtherResult (view tree.now) header path }
+    // Each fault is returned exactly where the tree has it.
+    ensures no_header { (path : List ℕ) → (result ≡ Err (SaleFault.NoHeader path)) ↔ LacksHeader (value_of tree.now) path }
+    ensures missing { (header : Header) (path : List ℕ) → (result ≡ Err (SaleFault.Missing header path)) ↔ LacksResult (value_of tree.now) header path }
+    ensures wrong { (header : Header) (path : List ℕ) → (result ≡ Err (SaleFault.Wrong header path)) ↔ HasOtherResult (value_of tree.now) header path }
     ensures unserved { (header : Header) → result ≢ Err (SaleFault.Unserved header) }
 {
     match read_header(tree) {
@@ -43,10 +43,10 @@ pub fn read_reply(tree: &Json) -> Result<ReplySeen, SaleFault>
     }
 }
 
-/// What is seen beside this header in the object where it stands.
+/// The reply beside this header, in the object that both are in.
 fn read_body(header: &Header, object: &Json) -> Result<ReplySeen, SaleFault>
-    ensures { (message : Tree) (envelope : Envelope) → IsHeaded message envelope (view object.now) header.now
-        → MatchResult result (λ seen. IsSeen message (shown seen)) (IsUnseen message) }
+    ensures { (message : Tree) (envelope : Envelope) → IsHeaded message envelope (value_of object.now) header.now
+        → MatchResult result (λ seen. ReadsReply message (read_reply_value seen)) (IsReplyFault message) }
 {
     match response(object, header.category.as_bytes()) {
         None => Err(missing(header)),
@@ -55,13 +55,13 @@ fn read_body(header: &Header, object: &Json) -> Result<ReplySeen, SaleFault>
             Some(value) => match result_of(value) {
                 None => Err(wrong(header)),
                 Some(result) => {
-                    let told = outcome(header.category.as_bytes(), body);
+                    let within = outcome(header.category.as_bytes(), body);
                     Ok(ReplySeen {
                         category: header.category,
                         result,
                         condition: condition(body),
-                        transaction: transaction(told),
-                        minor: minor(told),
+                        transaction: transaction(within),
+                        minor: minor(within),
                     })
                 }
             },
@@ -120,7 +120,7 @@ fn path_of(text: &[u8]) -> Ident<100>
 
 /// The result of this name.
 fn result_of(value: &Json) -> Option<ReplyResult>
-    ensures { Finds (TellsResult (string_of (view value.now))) result }
+    ensures { FindsMember (NamesResult (string_of (value_of value.now))) result }
 {
     match value.as_str() {
         None => None,
@@ -133,9 +133,9 @@ fn result_of(value: &Json) -> Option<ReplyResult>
     }
 }
 
-/// The condition of the name that stands as a body's `ErrorCondition`.
+/// The condition of a body's `ErrorCondition`.
 fn condition(body: &Json) -> Option<Condition>
-    ensures { Finds (TellsCondition (text_at (codes "Response.ErrorCondition") (view body.now))) result }
+    ensures { FindsMember (NamesCondition (text_at (codes "Response.ErrorCondition") (value_of body.now))) result }
 {
     match text(body, "Response.ErrorCondition") {
         None => None,
@@ -145,7 +145,7 @@ fn condition(body: &Json) -> Option<Condition>
 
 /// The text that identifies the transaction of an outcome, where it is 1 to 80 printable bytes.
 fn transaction(outcome: Option<&Json>) -> Option<ArrayVec<u8, 80>>
-    ensures { Finds (TellsTransaction (option_and_then transaction_in (option_map (λ v. view v.now) outcome.entry)))
+    ensures { FindsMember (IsTransactionText (option_and_then transaction_in (option_map (λ v. value_of v.now) outcome.entry)))
         (option_map (λ text. text.items) result) }
 {
     match outcome {
@@ -171,9 +171,9 @@ fn identifier(text: &[u8]) -> Option<ArrayVec<u8, 80>>
     }
 }
 
-/// The amount of an outcome in minor units, where it is written with two digits behind the point and has 64 bits.
+/// The amount of an outcome in minor units, where it is written with two digits after the point and has 64 bits.
 fn minor(outcome: Option<&Json>) -> Option<u64>
-    ensures { Finds (TellsMinor (option_and_then amount_in (option_map (λ v. view v.now) outcome.entry))) result }
+    ensures { FindsMember (IsAmountMember (option_and_then amount_in (option_map (λ v. value_of v.now) outcome.entry))) result }
 {
     match outcome {
         None => None,

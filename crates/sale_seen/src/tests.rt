@@ -1,6 +1,6 @@
 //! Replies as a till receives them.
 
-use crate::money::minor_of;
+use crate::amount::minor_of;
 use crate::{ReplySeen, read_reply};
 use gw_base::Ident;
 use json_text::read;
@@ -9,7 +9,7 @@ use sale_values::SaleFault;
 use std::alloc::{AllocError, Global};
 use std::test::Fail;
 
-/// What is seen in the text, in words; an absent value is `-`.
+/// What is read of the text, in words; an absent value is `-`.
 fn told(alloc: Global, text: &str) -> Result<String, AllocError> {
     match read(alloc, text.as_bytes()) {
         Err(_) => String::from_str(alloc, "no tree"),

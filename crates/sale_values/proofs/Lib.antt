@@ -1,4 +1,4 @@
-pub mod Utf8
+pub mod HeaderLemmas
 pub mod MoneyLemmas
-pub mod Objects
-pub mod Headers
+pub mod ObjectLemmas
+pub mod Utf8Lemmas

@@ -7,11 +7,11 @@ use Rattle.std.proofs.lemmas.Fmt.{decimal_by_steps}
 use Rattle.std.proofs.lemmas.List.{append-nil}
 use Rattle.std.proofs.lemmas.Bool.Decides.{nat_tests}
 use Rattle.std.proofs.lemmas.Bool.{eqb-true}
-use Rattle.gw_base.specs.Amount.{decimal_value, fraction_of, is_empty, is_amount, is_whole, minor_units, minor_value, minor_with, rest_of, whole_of}
+use Rattle.gw_base.specs.Amount.{decimal_value, fraction_of, has_no_digits, is_amount, is_whole, minor_units, minor_units_of, minor_units_with, rest_of, whole_of}
 use Rattle.gw_base.specs.Digits.{digits}
 use Rattle.gw_base.specs.Limits.{IsAmount}
 use Rattle.gw_base.proofs.AmountLemmas.{decimal_value-snoc}
-use Rattle.json_text.specs.Number.{IsDigit, AreDigits, IsInt, IsNumber}
+use Rattle.json_text.specs.Number.{IsDigit, AreDigits, IsInt, IsNumberText}
 use Rattle.sale_values.specs.Money.{money_text}
 
 -- a digit
@@ -65,8 +65,8 @@ whole_is : (text : List ℕ) → list_all is_ascii_digit text ≡ true → IsTri
 whole_is [] h t = absurd t
 whole_is (x ∷ text) h t = rw h (by (x == 48) refl)
   where
-    by : (b : Bool) → (x == 48) ≡ b → (not b || is_empty text) ≡ true
-    by true e = ap is_empty (t (eqb-true x 48 e))
+    by : (b : Bool) → (x == 48) ≡ b → (not b || has_no_digits text) ≡ true
+    by true e = ap has_no_digits (t (eqb-true x 48 e))
     by false e = refl
 
 prefix_is : (text rest : List ℕ) → list_all is_ascii_digit text ≡ true → prefix_len is_ascii_digit (text ++ 0x2E ∷ rest) ≡ length text
@@ -83,13 +83,13 @@ fraction_is m h = rw (digit_is (m / 10 % 10) (omega arith), digit_is (m % 10) (o
 amount_is : (n : ℕ) → IsAmount n → is_amount n ≡ true
 amount_is n h = let low = h.0 in let high = h.1 in grind (arith, nat_tests)
 
-value_is : (n : ℕ) (text : List ℕ) → decimal_value text ≡ n / 100 → minor_value text (digits 2 (n % 100)) ≡ n
+value_is : (n : ℕ) (text : List ℕ) → decimal_value text ≡ n / 100 → minor_units_of text (digits 2 (n % 100)) ≡ n
 value_is n text e = omega (arith, e)
 
 chosen : (n : ℕ) (text fraction : List ℕ) → is_whole text ≡ true → list_all (λ digit. digit == 0x30) (drop 2 fraction) ≡ true
-    → minor_value text fraction ≡ n → is_amount n ≡ true → minor_with text (Some fraction) ≡ Some n
+    → minor_units_of text fraction ≡ n → is_amount n ≡ true → minor_units_with text (Some fraction) ≡ Some n
 chosen n text fraction w z v a =
-    let b : is_amount (minor_value text fraction) ≡ true = ap is_amount v ∙ a in rw (w, z, b) (ap (λ (x : ℕ). Some x) v)
+    let b : is_amount (minor_units_of text fraction) ≡ true = ap is_amount v ∙ a in rw (w, z, b) (ap (λ (x : ℕ). Some x) v)
 
 -- the minor units that were written
 pub money_again : (n : ℕ) → IsAmount n → minor_units (money_text n) ≡ Some n
@@ -99,13 +99,13 @@ money_again n h =
     let whole = decimal (n / 100) in
     let text : List ℕ = whole ++ 0x2E ∷ digits 2 (n % 100) in
     let count = prefix_is whole (digits 2 (n % 100)) s.digits in
-    let front : whole_of text ≡ whole =
+    let prefix : whole_of text ≡ whole =
     ap (λ k. take k text) count ∙ take-append_seam whole (0x2E ∷ digits 2 (n % 100)) in
     let back : rest_of text ≡ 0x2E ∷ digits 2 (n % 100) =
     ap (λ k. drop k text) count ∙ drop-append_seam whole (0x2E ∷ digits 2 (n % 100)) in
-    ap (λ w. minor_with w (fraction_of (rest_of text))) front
-    ∙ ap (λ r. minor_with whole (fraction_of r)) back
-    ∙ ap (minor_with whole) (fraction_is (n % 100) (omega arith))
+    ap (λ w. minor_units_with w (fraction_of (rest_of text))) prefix
+    ∙ ap (λ r. minor_units_with whole (fraction_of r)) back
+    ∙ ap (minor_units_with whole) (fraction_is (n % 100) (omega arith))
     ∙ chosen n whole (digits 2 (n % 100)) (whole_is whole s.digits s.trim) refl (value_is n whole s.value) (amount_is n h)
 
 -- ---- the text is a number's
@@ -132,7 +132,7 @@ fraction_digits : (m : ℕ) → m < 100 → AreDigits (digits 2 m)
 fraction_digits m h = ((omega arith, omega arith), ((omega arith, omega arith), tt))
 
 -- what is written is a number
-pub money_number : (n : ℕ) → n < 2 ^ 64 → IsNumber (money_text n)
+pub money_number : (n : ℕ) → n < 2 ^ 64 → IsNumberText (money_text n)
 unfolding money_text
 money_number n h =
     let s = decimal_spells (n / 100) (omega arith) in
@@ -146,15 +146,15 @@ money_number n h =
       rest_is = record { frac = rest; exp = []; parts = refl; frac_is = (refl, (d.0, d.1)); exp_is = tt };
     })
 
--- ---- the text tells the money
+-- ---- the text determines the money
 
 -- the number before the point
 abbrev wholes : List ℕ → ℕ
 wholes text = decimal_value (whole_of text)
 
-whole_front : (n : ℕ) → n < 2 ^ 64 → whole_of (money_text n) ≡ decimal (n / 100)
+whole_prefix : (n : ℕ) → n < 2 ^ 64 → whole_of (money_text n) ≡ decimal (n / 100)
 unfolding money_text
-whole_front n h =
+whole_prefix n h =
     let s = decimal_spells (n / 100) (omega arith) in
     let whole = decimal (n / 100) in
     let rest : List ℕ = 0x2E ∷ digits 2 (n % 100) in
@@ -168,13 +168,13 @@ fraction_back n h =
     let rest : List ℕ = 0x2E ∷ digits 2 (n % 100) in
     ap (λ k. drop k (whole ++ rest)) (prefix_is whole (digits 2 (n % 100)) s.digits) ∙ drop-append_seam whole rest
 
--- the number that the digits behind a point spell
+-- the number that the digits after a point spell
 abbrev cents_of : List ℕ → ℕ
 cents_of [] = 0
 cents_of (point ∷ digits) = decimal_value digits
 
 wholes_is : (n : ℕ) → n < 2 ^ 64 → wholes (money_text n) ≡ n / 100
-wholes_is n h = let s = decimal_spells (n / 100) (omega arith) in ap decimal_value (whole_front n h) ∙ s.value
+wholes_is n h = let s = decimal_spells (n / 100) (omega arith) in ap decimal_value (whole_prefix n h) ∙ s.value
 
 cents_is : (n : ℕ) → n < 2 ^ 64 → cents_of (rest_of (money_text n)) ≡ n % 100
 cents_is n h = ap cents_of (fraction_back n h) ∙ omega arith
@@ -187,7 +187,7 @@ money_one m n small low e =
     omega arith
 
 -- decimal digits are a number
-pub decimal_number : (n : ℕ) → n < 2 ^ 64 → IsNumber (decimal n)
+pub decimal_number : (n : ℕ) → n < 2 ^ 64 → IsNumberText (decimal n)
 decimal_number n h =
     let s = decimal_spells n h in
     inl (record {

@@ -1,6 +1,6 @@
 -- The key of the message that a reference names.
 use Rattle.std.specs.Prelude.{unwrap_or}
-use Rattle.gw_base.specs.declared.money.Key.{Key}
+use Rattle.gw_base.specs.declared.key.Key.{Key}
 use Rattle.sale_values.specs.declared.header.Header.{Header}
 use Rattle.sale_values.specs.declared.request.Reference.{Reference}
 

@@ -1,6 +1,6 @@
-pub mod Names
-pub mod Key
-pub mod Members
-pub mod Money
-pub mod Header
+pub mod CanonicalHeader
 pub mod HeaderTexts
+pub mod Key
+pub mod MemberShapes
+pub mod Money
+pub mod Names

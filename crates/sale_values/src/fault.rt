@@ -1,6 +1,8 @@
 //! Why a message is no message of a till.
 use crate::Header;
 use gw_base::Ident;
+use std::error::Error;
+use std::fmt;
 
 /// Why a message is refused, with the path of the member in question: names divided by points.
 #[derive(Clone, Copy, PartialEq, Eq, Debug)]
@@ -14,3 +16,16 @@ pub enum SaleFault {
     /// The category isn't one of this profile.
     Unserved { header: Header },
 }
+
+impl fmt::Display for SaleFault {
+    fn fmt<W: fmt::Write>(&self, f: &mut fmt::Formatter<W>) -> fmt::Result {
+        match self {
+            SaleFault::NoHeader { path } => write!(f, "no header: {path}"),
+            SaleFault::Missing { path, .. } => write!(f, "{path} is missing"),
+            SaleFault::Wrong { path, .. } => write!(f, "{path} is of another form"),
+            SaleFault::Unserved { header } => write!(f, "{} is not served", header.category),
+        }
+    }
+}
+
+impl Error for SaleFault {}

@@ -4,10 +4,10 @@ ghost use Rattle.std.specs.Str.{IsUtf8};
 ghost use Rattle.gw_base.specs.Amount.{minor_units};
 ghost use Rattle.gw_base.specs.Ident.{IsIdent};
 ghost use Rattle.gw_base.specs.Limits.{IsAmount};
-ghost use Rattle.json_text.specs.Number.{IsNumber};
+ghost use Rattle.json_text.specs.Number.{IsNumberText};
 ghost use Rattle.json_text.specs.Spellable.{IsSpellableAt};
 ghost use Rattle.json_text.specs.Tree.{object};
-ghost use Rattle.sale_values.specs.Header.{header_members};
+ghost use Rattle.sale_values.specs.CanonicalHeader.{header_members};
 ghost use Rattle.sale_values.specs.HeaderTexts.{HasUtf8Texts};
 ghost use Rattle.sale_values.specs.Money.{money_text};
 ghost use Rattle.sale_values.specs.Names.{class_name, kind_name, period_name};
@@ -18,7 +18,7 @@ ghost use Rattle.sale_values.specs.declared.names.Period.{Period};
 
 /// Money of 64 bits is written as a number, no two sums alike, and an amount so that it is read again.
 pub fn law_money()
-    ensures number { (n : ℕ) → n < 2 ^ 64 → IsNumber (money_text n) }
+    ensures number { (n : ℕ) → n < 2 ^ 64 → IsNumberText (money_text n) }
     ensures minor { (n : ℕ) → IsAmount n → minor_units (money_text n) ≡ Some n }
     ensures one { (m n : ℕ) → m < 2 ^ 64 → n < 2 ^ 64 → money_text m ≡ money_text n → m ≡ n }
 {}

@@ -4,18 +4,18 @@
 mod fault;
 mod header;
 mod laws;
-mod lists;
+mod money_text;
 mod names;
+mod outputs;
 mod request;
-mod written;
 
 pub use fault::SaleFault;
 pub use header::Header;
 pub use laws::{law_header, law_money, law_texts};
-pub use lists::{Outputs, Texts};
+pub use money_text::money;
 pub use names::{Class, Kind, Period, law_names};
+pub use outputs::{Outputs, Texts};
 pub use request::{Incoming, Output, PaymentAsk, Reference, ReversalAsk, SaleRequest};
-pub use written::money;
 
 #[cfg(test)]
 mod tests;

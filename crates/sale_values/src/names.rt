@@ -21,7 +21,7 @@ pub enum Kind {
     Notification,
 }
 
-/// nexo's `ReconciliationType`: whose totals are told, and by whom the period is closed.
+/// nexo's `ReconciliationType`: whose totals are meant, and by whom the period is closed.
 #[derive(Clone, Copy, PartialEq, Eq, Debug)]
 pub enum Period {
     SaleReconciliation,
@@ -31,7 +31,7 @@ pub enum Period {
 }
 
 impl Class {
-    /// The text that stands as `MessageClass` in a header.
+    /// The text of a header's `MessageClass`.
     pub fn name(self) -> &'static str
         ensures { result.now ≡ class_name self }
     {
@@ -60,7 +60,7 @@ impl Class {
 }
 
 impl Kind {
-    /// The text that stands as `MessageType` in a header.
+    /// The text of a header's `MessageType`.
     pub fn name(self) -> &'static str
         ensures { result.now ≡ kind_name self }
     {
@@ -71,7 +71,7 @@ impl Kind {
         }
     }
 
-    /// The kind of this name; `None` where there is none.
+    /// The message type of this name; `None` where there is none.
     pub fn from_name(name: &[u8]) -> Option<Kind>
         ensures { MatchOption result ((k : Kind) → kind_name k ≢ name.now) (λ k. kind_name k ≡ name.now) }
     {
@@ -89,7 +89,7 @@ impl Kind {
 }
 
 impl Period {
-    /// The text that stands as `ReconciliationType` in a message.
+    /// The text of a message's `ReconciliationType`.
     pub fn name(self) -> &'static str
         ensures { result.now ≡ period_name self }
     {
@@ -121,7 +121,7 @@ impl Period {
     }
 }
 
-/// No two classes, kinds or types of reconciliation have the same name.
+/// No two classes, message types or types of reconciliation have one name.
 pub fn law_names()
     ensures classes { (a b : Class) → class_name a ≡ class_name b → a ≡ b }
     ensures kinds { (a b : Kind) → kind_name a ≡ kind_name b → a ≡ b }

@@ -13,7 +13,7 @@ pub struct PaymentAsk {
     pub currency: [u8; 3],
     /// The `RequestedAmount` in minor units, 1 to 999,999,999,999.
     pub amount: u64,
-    /// The `PaymentType` where it is told; an absent one stands for `Normal`.
+    /// The `PaymentType`; an absent one means `Normal`.
     pub kind: Option<Text>,
 }
 
@@ -22,7 +22,7 @@ pub struct PaymentAsk {
 pub struct ReversalAsk {
     /// The `TransactionID` of the original's `POITransactionID`.
     pub transaction: Ident<80>,
-    /// The `ReversedAmount` in minor units; an absent one stands for the original's amount.
+    /// The `ReversedAmount` in minor units; an absent one means the original's amount.
     pub amount: Option<u64>,
 }
 
@@ -61,7 +61,7 @@ pub struct Output {
     pub qualify: Ident<40>,
     /// The `ResponseRequiredFlag`; true where it is absent.
     pub required: bool,
-    /// The texts of `OutputText`, where it is told.
+    /// The texts of `OutputText`, where it is there.
     pub texts: Option<Texts>,
 }
 
@@ -86,6 +86,6 @@ pub enum SaleRequest {
 #[derive(Clone, Debug, Drop)]
 pub enum Incoming {
     Request(Header, SaleRequest),
-    /// A response or a notification, which gets no answer.
+    /// A response or a notification, which gets no reply.
     Silent,
 }

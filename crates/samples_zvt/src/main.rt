@@ -3,9 +3,9 @@
 #![tactic(auto)]
 
 ghost use Rattle.std.specs.Prelude.{◌^◌, ◌<◌, ◌≤◌, length};
-ghost use Rattle.zvt_msg.specs.Command.{HasDigits};
+ghost use Rattle.zvt_msg.specs.CommandGrammar.{HasCommandDigits};
 ghost use Rattle.zvt_msg.specs.Message.{value_of};
-ghost use Rattle.zvt_msg.specs.MessageWriting.{HasForm, written};
+ghost use Rattle.zvt_msg.specs.MessageCanonical.{HasPtMessageForm, canonical_pt_message};
 
 use arrayvec::ArrayVec;
 use std::fmt::Display;
@@ -20,6 +20,9 @@ const PASSWORD: [u8; 3] = [0x12, 0x34, 0x56];
 /// The data of a block: an object of a receipt, and two lines.
 const BLOCK: &[u8] = b"\x06\x15\x1f\x07\x01\x01\x25\x0f\x07\x05Hallo\x07\x06M\x81ller";
 
+/// The longest line of a display. Eight of them take the long form of the length.
+const LONGEST: &[u8] = b"0123456789012345678901234567890123456789";
+
 fn print_apdu(rt: &impl Print, bytes: &[u8], what: impl Display + Drop) -> io::Result<()> {
     for byte in bytes {
         print!(rt; "{byte:02x}")?;
@@ -28,7 +31,7 @@ fn print_apdu(rt: &impl Print, bytes: &[u8], what: impl Display + Drop) -> io::R
 }
 
 fn print_command(rt: &impl Print, command: &Command, what: impl Display + Drop) -> io::Result<()>
-    requires { HasDigits command.now }
+    requires { HasCommandDigits command.now }
 {
     let mut out = ArrayVec::new();
     write_command(command, &mut out);
@@ -40,8 +43,8 @@ fn print_message(
     message: &PtMessage<'_>,
     what: impl Display + Drop,
 ) -> io::Result<()>
-    requires form { HasForm (value_of message.now) }
-    requires fits { length (written (value_of message.now)) ≤ 512 }
+    requires form { HasPtMessageForm (value_of message.now) }
+    requires fits { length (canonical_pt_message (value_of message.now)) ≤ 512 }
 {
     let mut out = ArrayVec::new();
     write_pt(message, &mut out);
@@ -95,11 +98,11 @@ fn print_others(rt: &impl Print) -> io::Result<()> {
     print_command(rt, &Command::Stop, "stop")
 }
 
-/// A display of the bytes of `Hallo`, so many lines of them.
-fn print_show(rt: &impl Print, count: usize) -> io::Result<()> {
+/// A display of so many lines of this text.
+fn print_show(rt: &impl Print, text: &[u8], count: usize) -> io::Result<()> {
     let mut lines = Lines::new();
     for _ in 0..count.min(8) {
-        let _room = lines.try_push(Line::try_from(b"Hallo".as_slice()).unwrap_or_default());
+        let _room = lines.try_push(Line::try_from(text).unwrap_or_default());
     }
     print_command(
         rt,
@@ -172,7 +175,8 @@ fn main(rt: HostRuntime) -> io::Result<()> {
     print_authorise(&rt, 1_099, 978)?;
     print_authorise(&rt, 999_999_999_999, 826)?;
     print_others(&rt)?;
-    print_show(&rt, 1)?;
-    print_show(&rt, 8)?;
+    print_show(&rt, b"Hallo", 1)?;
+    print_show(&rt, b"Hallo", 8)?;
+    print_show(&rt, LONGEST, 8)?;
     print_messages(&rt)
 }

@@ -1,4 +1,4 @@
-pub mod AnswerLemmas
-pub mod Fronts
-pub mod Splits
-pub mod Streams
+pub mod DecodeLemmas
+pub mod DecodeStreamLemmas
+pub mod ResultLemmas
+pub mod StreamLemmas

@@ -1,6 +1,6 @@
-pub mod Apdu
-pub mod Calls
-pub mod Found
-pub mod Front
-pub mod Split
+pub mod Decode
+pub mod DecodeStream
+pub mod Grammar
+pub mod Results
 pub mod Stream
+pub mod inner

@@ -1,3 +1,5 @@
+//! The fault of a stream of APDUs.
+
 use std::error::Error;
 use std::fmt;
 

@@ -1,17 +1,17 @@
+//! Reading the first APDU of bytes.
+
 ghost use Rattle.std.specs.Prelude.{◌≡◌};
-ghost use Rattle.zvt_apdu.specs.Apdu.{AreBytes};
-ghost use Rattle.zvt_apdu.specs.Front.{front_of, front_of_body};
-ghost use Rattle.zvt_apdu.specs.Found.{Finds};
+ghost use Rattle.gw_bytes.specs.Bytes.{AreBytes};
+ghost use Rattle.zvt_apdu.specs.Decode.{decode_apdu, decode_apdu_data};
+ghost use Rattle.zvt_apdu.specs.inner.FirstApdu.{ReturnsFirstApdu};
 
 use crate::apdu::Apdu;
 use crate::fault::ApduFault;
+use gw_bytes::LONGEST_APDU_DATA;
 
-/// The longest data that this profile takes from a terminal.
-const LONGEST_BODY: u16 = 12_000;
-
-/// The APDU at the front and what follows it, or `None` where the bytes are less than one.
+/// The first APDU of the bytes and what follows it, or `None` where the bytes are less than one.
 pub(crate) fn first_apdu(bytes: &[u8]) -> Result<Option<(Apdu<'_>, &[u8])>, ApduFault>
-    ensures front { Finds result (front_of bytes.now) }
+    ensures computes { ReturnsFirstApdu result (decode_apdu bytes.now) }
     ensures bytes { AreBytes bytes.now }
 {
     match bytes {
@@ -25,16 +25,17 @@ pub(crate) fn first_apdu(bytes: &[u8]) -> Result<Option<(Apdu<'_>, &[u8])>, Apdu
     }
 }
 
-/// The same, where the header was read and `bytes` follow it.
+/// The APDU whose header was read, with its data from the `bytes` after the header.
 fn with_body(
     class: u8,
     instr: u8,
     length: u16,
     bytes: &[u8],
 ) -> Result<Option<(Apdu<'_>, &[u8])>, ApduFault>
-    ensures { Finds result (front_of_body class instr length bytes.now) }
+    ensures { ReturnsFirstApdu result (decode_apdu_data class instr length bytes.now) }
 {
-    if length > LONGEST_BODY {
+    // Checked before the data are there: an APDU above the limit is never whole, and isn't waited for.
+    if length > LONGEST_APDU_DATA {
         return Err(ApduFault::TooLong { length });
     }
     let length = usize::from(length);

@@ -1,10 +1,12 @@
+//! The reader of a stream of APDUs.
+
 ghost use Rattle.std.specs.Prelude.{◌≡◌, ◌≤◌, ◌↔◌, ℕ, List, [], ◌++◌, length, drop, vec_len, vec_capacity, IsNone, IsOkAnd, IfOk, IsErrOf};
 ghost use Rattle.std.specs.Borrow.{sem};
 ghost use Rattle.std.specs.Io.BufRead.{Rests};
 ghost use Rattle.zvt_apdu.specs.contracts.reader.ApduReader.{the_row};
-ghost use Rattle.zvt_apdu.specs.Apdu.{ApduValue, BeginsWith, IsProperFront, IsTooLong};
-ghost use Rattle.zvt_apdu.specs.Calls.{Answers, IsApdu, Leaves};
-ghost use Rattle.zvt_apdu.specs.Front.{Front, front_of};
+ghost use Rattle.zvt_apdu.specs.Grammar.{ApduValue, BeginsWithApdu, IsProperApduPrefix, BeginsTooLongApdu};
+ghost use Rattle.zvt_apdu.specs.Results.{ReturnsApdu, IsApdu, LeavesBytes};
+ghost use Rattle.zvt_apdu.specs.Decode.{DecodedApdu, decode_apdu};
 
 use crate::apdu::Apdu;
 use crate::fault::ApduFault;
@@ -12,13 +14,13 @@ use crate::header::first_apdu;
 use std::alloc::{AllocError, Global};
 use std::marker::Model;
 
-/// Room for the longest front of an APDU, 12,004 bytes, and a piece behind it.
+/// Room for what may wait and a chunk: a proper prefix of an APDU has at most 12,004 bytes, and a chunk 4,096.
 const BUFFER: usize = 16_384;
 
-/// Reads the APDUs of a stream that comes in pieces of any size.
+/// Reads the APDUs of a stream that arrives in chunks of any size.
 ///
 /// Contracts see a reader as the bytes that wait: those fed since it was made or cleared, and not given as APDUs yet.
-/// After each piece call `next` until it answers `None`. After a fault the reader answers the same fault until it is
+/// After each chunk call `next` until it returns `None`. After a fault the reader returns the same fault until it is
 /// cleared.
 #[derive(Debug, Drop)]
 pub struct ApduReader {
@@ -56,32 +58,32 @@ impl ApduReader {
         self.start = 0;
     }
 
-    /// Takes the next piece of the stream, of at most 4,096 bytes.
+    /// Takes the next chunk of the stream, of at most 4,096 bytes.
     ///
-    /// What waits is moved to the front of the buffer where APDUs were given since the last piece, so that each byte of
-    /// a stream is moved once at most.
-    pub fn feed(&mut self, piece: &[u8])
-        requires piece { length piece.now ≤ 4096 }
+    /// What waits is moved to the beginning of the buffer here and not at each APDU, so that each byte of a stream is
+    /// moved once at most.
+    pub fn feed(&mut self, chunk: &[u8])
+        requires chunk { length chunk.now ≤ 4096 }
         // `next` has given every APDU before.
-        requires waits { front_of self.old ≡ Front.Partial }
-        ensures { self.new ≡ self.old ++ piece.now }
+        requires waits { decode_apdu self.old ≡ DecodedApdu.Incomplete }
+        ensures { self.new ≡ self.old ++ chunk.now }
     {
-        drop_front(&mut self.bytes, self.start);
+        drop_prefix(&mut self.bytes, self.start);
         self.start = 0;
-        self.bytes.extend_from_slice(piece).unwrap();
+        self.bytes.extend_from_slice(chunk).unwrap();
     }
 
     /// The next APDU. Its data borrows from the buffer.
     pub fn next(&mut self) -> Result<Option<Apdu<'_>>, ApduFault>
-        ensures whole { (apdu : ApduValue) → IsApdu result apdu ↔ ((rest : List ℕ) × BeginsWith self.old apdu rest) }
-        ensures none { IsOkAnd result IsNone ↔ IsProperFront self.old }
-        ensures too_long { (n : ℕ) → IsErrOf result (ApduFault.TooLong n) ↔ IsTooLong self.old n }
+        ensures whole { (apdu : ApduValue) → IsApdu result apdu ↔ ((rest : List ℕ) × BeginsWithApdu self.old apdu rest) }
+        ensures none { IsOkAnd result IsNone ↔ IsProperApduPrefix self.old }
+        ensures too_long { (n : ℕ) → IsErrOf result (ApduFault.TooLong n) ↔ BeginsTooLongApdu self.old n }
 
-        // The same by the function that computes it.
-        ensures front { Answers result (front_of self.old) }
+        // The result, by the function that decodes the bytes that wait.
+        ensures computes { ReturnsApdu result (decode_apdu self.old) }
 
-        // An APDU that was given waits no more; else all that waited does.
-        ensures* ends { sem 𝓛 (Rests the_row self.entry (λ new. Leaves self.old result new)) }
+        // The bytes of an APDU that was given wait no more; without one all bytes still wait.
+        ensures* ends { sem 𝓛 (Rests the_row self.entry (λ new. LeavesBytes self.old result new)) }
     {
         let Some((apdu, rest)) = first_apdu(&self.bytes[self.start..])? else {
             return Ok(None);
@@ -91,8 +93,8 @@ impl ApduReader {
     }
 }
 
-/// Drops the first `count` bytes, and moves the others to the front. Nothing moves where none is dropped.
-fn drop_front(bytes: &mut Vec<u8>, count: usize)
+/// Drops the first `count` bytes, and moves the others to the beginning. Nothing moves where none is dropped.
+fn drop_prefix(bytes: &mut Vec<u8>, count: usize)
     requires { count ≤ vec_len bytes.old }
     ensures items { bytes.new.items ≡ drop count bytes.old.items }
     ensures capacity { vec_capacity bytes.new ≡ vec_capacity bytes.old }

@@ -1,12 +1,14 @@
+//! Tests: chunks of any size, the limit, and the forms of a length.
+
 ghost use Rattle.std.specs.Prelude.{◌≡◌, ◌≤◌, length, OnOk};
-ghost use Rattle.zvt_apdu.specs.Front.{Front, front_of};
+ghost use Rattle.zvt_apdu.specs.Decode.{DecodedApdu, decode_apdu};
 
 use crate::{ApduFault, ApduReader, write_apdu};
 use arrayvec::ArrayVec;
 use std::process::Abort;
 use std::test::Fail;
 
-/// Class, instruction and the place of the data in the stream.
+/// Class, instruction, and where the data begin and end in the stream.
 type Row = (u8, u8, usize, usize);
 
 const TEN: [Row; 10] = [
@@ -25,25 +27,25 @@ const TEN: [Row; 10] = [
 const BEFORE: &[u8] =
     b"\x80\x00\x00\x06\x0f\x00\x04\x0f\x13\x27\x00\x04\x00\x00\x00\x00\x10\x99\x0b\x00\x01\x23\x87\x00\x17\xe5\x01\x02\x06\xd1\xff\x03\x00\x00\x41\x42\x84\x83\x00\x06\x1e\x01\x6c\x06\xd3\xff\x2c\x01";
 
-const BEHIND: &[u8] = b"\x04\xff\x01\x0a\x06\xd1\x02\x00\xff\x80\x00\xff\x00\x00";
+const AFTER: &[u8] = b"\x04\xff\x01\x0a\x06\xd1\x02\x00\xff\x80\x00\xff\x00\x00";
 
-/// Feeds a piece, and compares each APDU that is whole then with the row of its number.
-fn compare_piece(
+/// Feeds a chunk, and compares each APDU that is whole then with the row of its number.
+fn compare_chunk(
     rt: &impl Abort,
     reader: &mut ApduReader,
-    piece: &[u8],
+    chunk: &[u8],
     stream: &[u8],
     rows: &[Row],
     given: &mut usize,
 ) -> Result<(), ApduFault>
-    requires piece { length piece.now ≤ 4096 }
-    requires waits { front_of reader.old ≡ Front.Partial }
-    ensures { OnOk result (front_of reader.new ≡ Front.Partial) }
+    requires chunk { length chunk.now ≤ 4096 }
+    requires waits { decode_apdu reader.old ≡ DecodedApdu.Incomplete }
+    ensures { OnOk result (decode_apdu reader.new ≡ DecodedApdu.Incomplete) }
 {
-    reader.feed(piece);
+    reader.feed(chunk);
     while let Some(apdu) = reader.next()? {
         let row = rows.get(*given).expect(rt, "no more APDUs than rows");
-        let body = stream.get(row.2..row.3).expect(rt, "a place in the stream");
+        let body = stream.get(row.2..row.3).expect(rt, "a range of the stream");
         assert_eq!(rt; (apdu.class, apdu.instr), (row.0, row.1));
         assert!(rt; apdu.body == body, "the data of APDU {}", *given);
         *given = given.saturating_add(1);
@@ -52,12 +54,12 @@ fn compare_piece(
 }
 
 #[test]
-fn every_cut_into_three_pieces_gives_the_same(rt: HostRuntime) -> Result<(), Fail> {
+fn every_cut_into_three_chunks_gives_the_same(rt: HostRuntime) -> Result<(), Fail> {
     let mut stream = Vec::from_slice(rt.alloc(), BEFORE)?;
     for _ in 0..300 {
         stream.push(0x41)?;
     }
-    stream.extend_from_slice(BEHIND)?;
+    stream.extend_from_slice(AFTER)?;
     let stream = stream.as_slice();
     assert!(rt; stream.len() <= 4096);
     let mut reader = ApduReader::new(rt.alloc())?;
@@ -65,8 +67,8 @@ fn every_cut_into_three_pieces_gives_the_same(rt: HostRuntime) -> Result<(), Fai
         for second in first..=stream.len() {
             let mut given = 0;
             reader.clear();
-            compare_piece(&rt, &mut reader, &stream[..first], stream, &TEN, &mut given)?;
-            compare_piece(
+            compare_chunk(&rt, &mut reader, &stream[..first], stream, &TEN, &mut given)?;
+            compare_chunk(
                 &rt,
                 &mut reader,
                 &stream[first..second],
@@ -74,7 +76,7 @@ fn every_cut_into_three_pieces_gives_the_same(rt: HostRuntime) -> Result<(), Fai
                 &TEN,
                 &mut given,
             )?;
-            compare_piece(
+            compare_chunk(
                 &rt,
                 &mut reader,
                 &stream[second..],
@@ -88,13 +90,30 @@ fn every_cut_into_three_pieces_gives_the_same(rt: HostRuntime) -> Result<(), Fai
     Ok(())
 }
 
+/// The example of the crate's documentation.
+#[test]
+fn the_example(rt: HostRuntime) -> Result<(), Fail> {
+    let mut reader = ApduReader::new(rt.alloc())?;
+    reader.feed(b"\x80\x00\x00\x06\x0f");
+    let apdu = reader.next()?.expect(&rt, "an APDU");
+    assert_eq!(rt; (apdu.class, apdu.instr, apdu.body.len()), (0x80, 0x00, 0));
+    if reader.next()?.is_none() {
+        reader.feed(b"\x00");
+        let apdu = reader.next()?.expect(&rt, "an APDU");
+        assert_eq!(rt; (apdu.class, apdu.instr, apdu.body.len()), (0x06, 0x0F, 0));
+    } else {
+        assert!(rt; false, "`06 0F` is less than an APDU");
+    }
+    Ok(())
+}
+
 #[test]
 fn byte_after_byte(rt: HostRuntime) -> Result<(), Fail> {
     let stream = b"\x80\x00\x03\xaa\xbb\xcc\x06\x10";
     let mut reader = ApduReader::new(rt.alloc())?;
     let mut given = 0;
     for byte in stream {
-        compare_piece(
+        compare_chunk(
             &rt,
             &mut reader,
             &[*byte],

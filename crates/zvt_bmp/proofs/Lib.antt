@@ -1,6 +1,6 @@
-pub mod Again
-pub mod Digits
-pub mod Lengths
-pub mod Seen
-pub mod Telling
-pub mod Values
+pub mod CanonicalLemmas
+pub mod DecodeLemmas
+pub mod DigitLemmas
+pub mod PutLemmas
+pub mod LengthLemmas
+pub mod ValueLemmas

@@ -1,7 +1,6 @@
-pub mod Fields
-pub mod Found
-pub mod Reading
-pub mod Sizes
+pub mod Canonical
+pub mod Decode
+pub mod Grammar
 pub mod Table
-pub mod Value
-pub mod Writing
+pub mod ValueGrammar
+pub mod inner

@@ -1,14 +1,17 @@
+//! The values of a status, and their reading.
+
 ghost use Rattle.gw_base.specs.Bcd.{bcd_value, is_bcd};
 ghost use Rattle.std.specs.Prelude.{◌≡◌, ◌<◌, ◌≤◌, ◌↔◌, ◌^◌, length, Some, None, MatchResult, IfOk, IfSome, if◌then◌else◌};
 ghost use Rattle.std.specs.Bool.{OnTrue, OnFalse};
-ghost use Rattle.zvt_bmp.specs.Sizes.{HasSize};
+ghost use Rattle.zvt_bmp.specs.inner.Sizes.{HasFieldSize};
 ghost use Rattle.zvt_bmp.specs.declared.fields.Fields.{Fields};
 ghost use Rattle.zvt_bmp.specs.declared.fields.FieldFault.{FieldFault};
-ghost use Rattle.zvt_bmp.specs.Fields.{AreFields, IsFirstFault};
-ghost use Rattle.zvt_bmp.specs.Found.{FindsField};
-ghost use Rattle.zvt_bmp.specs.Reading.{has_seen, put, nothing, field_at, fields_of};
+ghost use Rattle.zvt_bmp.specs.Grammar.{SpellsStatus, IsFirstStatusFault};
+ghost use Rattle.zvt_bmp.specs.inner.Results.{ReturnsStatusField};
+ghost use Rattle.zvt_bmp.specs.Canonical.{HasFieldDigits};
+ghost use Rattle.zvt_bmp.specs.Decode.{may_not_repeat, put_field, no_fields_yet, decode_status_field, decode_status};
 
-use crate::form::{Form, LengthFault};
+use crate::length_form::{LengthFault, LengthForm};
 use gw_base::bcd_read;
 use std::error::Error;
 use std::fmt;
@@ -26,11 +29,11 @@ pub struct Fields {
     pub receipt: Option<u16>,
     /// The currency's two bytes, of the first field `49`.
     pub currency: Option<[u8; 2]>,
-    /// The place of the first number that is not known, or the length of the data.
+    /// The offset of the first number that is not known, or the length of the data.
     pub tail: usize,
 }
 
-/// Why data are no fields. A place is that of the field's number.
+/// Why data are no fields. An offset is that of the field's number.
 #[derive(Clone, Copy, Debug, PartialEq, Eq, Hash)]
 pub enum FieldFault {
     /// The data end inside the field.
@@ -58,17 +61,18 @@ impl Error for FieldFault {}
 
 /// What is known of the fields read so far.
 #[derive(Clone, Copy, Debug, PartialEq, Eq)]
-pub(crate) struct Seen {
+pub(crate) struct FieldsSoFar {
     pub(crate) fields: Fields,
-    /// A receipt number was there, in digits or not.
+    /// A receipt number was there, in digits or not: one that isn't in digits leaves no value, and still may not come
+    /// again.
     pub(crate) receipt: bool,
 }
 
-impl Seen {
-    fn nothing() -> Seen
-        ensures { result ≡ nothing }
+impl FieldsSoFar {
+    fn no_fields_yet() -> FieldsSoFar
+        ensures { result ≡ no_fields_yet }
     {
-        Seen {
+        FieldsSoFar {
             fields: Fields {
                 result: None,
                 amount: None,
@@ -81,9 +85,9 @@ impl Seen {
         }
     }
 
-    /// Whether a field of this number was there that may not come again.
+    /// Whether a field of this number was read that may not come again.
     fn has(&self, number: u8) -> bool
-        ensures { result ≡ has_seen self.now number }
+        ensures { result ≡ may_not_repeat self.now number }
     {
         match number {
             0x27 => self.fields.result.is_some(),
@@ -104,12 +108,13 @@ fn digits(bytes: &[u8]) -> Option<u64>
     bcd_read(bytes).ok()
 }
 
-impl Seen {
+impl FieldsSoFar {
     /// Adds the value of a field; `false` where it should be in digits and is not, and then nothing is added.
-    fn put(&mut self, number: u8, value: &[u8]) -> bool
-        requires { HasSize number value.now }
-        ensures some { OnTrue result (put self.old number value.now ≡ Some self.new) }
-        ensures none { OnFalse result ((put self.old number value.now ≡ None) × (self.new ≡ self.old)) }
+    fn put_field(&mut self, number: u8, value: &[u8]) -> bool
+        requires { HasFieldSize number value.now }
+        ensures some { OnTrue result (put_field self.old number value.now ≡ Some self.new) }
+        ensures none { OnFalse result ((put_field self.old number value.now ≡ None) × (self.new ≡ self.old)) }
+        ensures digits { HasFieldDigits self.old.fields → HasFieldDigits self.new.fields }
     {
         match number {
             0x27 => self.fields.result = Some(value[0]),
@@ -137,27 +142,30 @@ impl Seen {
         true
     }
 
-    /// Reads the field at the front of the bytes, which stand at this place of the data: what follows it, or `None`
-    /// where the tail begins.
-    #[tactic(auto, unfolding(crate::specs::Reading::field_at))]
+    /// Reads the field that the bytes begin with, which are at this offset of the data: what follows it, or `None` where
+    /// the tail begins.
+    #[tactic(auto, unfolding(crate::specs::Decode::decode_status_field))]
     fn read_field<'a>(&mut self, at: usize, bytes: &'a [u8]) -> Result<Option<&'a [u8]>, FieldFault>
-        ensures field { FindsField self.old self.new result (field_at self.old at bytes.now) }
+        ensures field { ReturnsStatusField self.old self.new result (decode_status_field self.old at bytes.now) }
         ensures shorter { IfOk result (λ found. IfSome found (λ rest. length rest.now < length bytes.now)) }
+        ensures digits { HasFieldDigits self.old.fields → HasFieldDigits self.new.fields }
     {
         let [number, bytes @ ..] = bytes else {
             return Ok(None);
         };
-        let Some(form) = Form::of(*number) else {
+        let Some(form) = LengthForm::of(*number) else {
+            // The length of a field that isn't known can't be known either, so reading ends here.
             return Ok(None);
         };
+        // Looked at before the value is read: a repetition is reported even where the value is faulty too.
         if self.has(*number) {
             return Err(FieldFault::Twice { number: *number });
         }
         match form.value(bytes) {
             Err(LengthFault::Wrong) => Err(FieldFault::BadLength { at }),
-            Err(LengthFault::Cut) => Err(FieldFault::Short { at }),
+            Err(LengthFault::Truncated) => Err(FieldFault::Short { at }),
             Ok((value, rest)) => {
-                if !self.put(*number, value) {
+                if !self.put_field(*number, value) {
                     return Err(FieldFault::NotDigits { at });
                 }
                 Ok(Some(rest))
@@ -168,24 +176,30 @@ impl Seen {
 
 /// Reads the known fields, up to the first number that is not known.
 pub fn read_fields(bytes: &[u8]) -> Result<Fields, FieldFault>
-    ensures found { (fields : Fields) → (result ≡ Ok fields) ↔ AreFields bytes.now fields }
-    ensures fault { (fault : FieldFault) → (result ≡ Err fault) ↔ IsFirstFault bytes.now fault }
+    ensures found { (fields : Fields) → (result ≡ Ok fields) ↔ SpellsStatus bytes.now fields }
+    ensures fault { (fault : FieldFault) → (result ≡ Err fault) ↔ IsFirstStatusFault bytes.now fault }
 
-    // The same by the function that computes it.
-    ensures front { result ≡ fields_of bytes.now }
+    // The result, by the function that computes it.
+    ensures computes { result ≡ decode_status bytes.now }
+
+    // Each number has at most as many digits as its field, so what was read can be written again.
+    ensures digits { IfOk result HasFieldDigits }
 {
     read_all(bytes)
 }
 
+/// What [`read_fields`] returns, by the function that computes it. It is apart from it for the prover alone: the relation
+/// follows from this.
 fn read_all(bytes: &[u8]) -> Result<Fields, FieldFault>
-    ensures { result ≡ fields_of bytes.now }
+    ensures computes { result ≡ decode_status bytes.now }
+    ensures digits { IfOk result HasFieldDigits }
 {
-    let mut seen = Seen::nothing();
+    let mut so_far = FieldsSoFar::no_fields_yet();
     let mut rest = bytes;
-    while let Some(after) = seen.read_field(bytes.len() - rest.len(), rest)? {
+    while let Some(after) = so_far.read_field(bytes.len() - rest.len(), rest)? {
         rest = after;
     }
-    let mut fields = seen.fields;
+    let mut fields = so_far.fields;
     fields.tail = bytes.len() - rest.len();
     Ok(fields)
 }

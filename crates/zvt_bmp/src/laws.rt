@@ -2,22 +2,22 @@
 ghost use Rattle.std.specs.Prelude.{◌≡◌, ◌↔◌, List, ℕ, length, Result, Ok, IfSome};
 ghost use Rattle.zvt_bmp.specs.declared.fields.Fields.{Fields};
 ghost use Rattle.zvt_bmp.specs.declared.fields.FieldFault.{FieldFault};
-ghost use Rattle.zvt_bmp.specs.Fields.{Tell};
-ghost use Rattle.zvt_bmp.specs.Reading.{fields_of};
-ghost use Rattle.zvt_bmp.specs.Writing.{HasDigits, written};
+ghost use Rattle.zvt_bmp.specs.Grammar.{SpellsStatusOrFault};
+ghost use Rattle.zvt_bmp.specs.Decode.{decode_status};
+ghost use Rattle.zvt_bmp.specs.Canonical.{HasFieldDigits, canonical_status};
 
 use gw_base::law_bcd;
 
-/// The function that computes what data tell is the grammar: data tell their fields or their first fault, and nothing
-/// else.
-pub fn law_fields()
-    ensures { (bytes : List ℕ) (told : Result Fields FieldFault) → (fields_of bytes ≡ told) ↔ Tell bytes told }
+/// The function that computes the status that data spell agrees with the grammar: data spell one status or have one first
+/// fault.
+pub fn law_decode_status()
+    ensures { (bytes : List ℕ) (result : Result Fields FieldFault) → (decode_status bytes ≡ result) ↔ SpellsStatusOrFault bytes result }
 {}
 
-/// Fields that were written are read again as the same fields, with the written length as the place of the tail.
+/// Fields that were written are read again as the same fields, with the written length as the offset of the tail.
 pub fn law_read_again()
-    ensures { (fields : Fields) → HasDigits fields → IfSome fields.currency (λ currency. length currency ≡ 2)
-        → fields_of (written fields) ≡ Ok (record fields { tail = length (written fields) }) }
+    ensures { (fields : Fields) → HasFieldDigits fields → IfSome fields.currency (λ currency. length currency ≡ 2)
+        → decode_status (canonical_status fields) ≡ Ok (record fields { tail = length (canonical_status fields) }) }
 {
     law_bcd();
 }

@@ -1,3 +1,5 @@
+//! Tests: faults, values, and the written form.
+
 use crate::{FieldFault, Fields, read_fields, write_fields};
 use arrayvec::ArrayVec;
 use std::test::Fail;
@@ -10,6 +12,21 @@ const NOTHING: Fields = Fields {
     currency: None,
     tail: 0,
 };
+
+/// The example of the crate's documentation.
+#[test]
+fn the_example(rt: HostRuntime) -> Result<(), Fail> {
+    let fields = Fields {
+        result: Some(0),
+        trace: Some(123),
+        tail: 6,
+        ..NOTHING
+    };
+    assert_eq!(rt; read_fields(b"\x27\x00\x0b\x00\x01\x23")?, fields);
+    let fault = read_fields(b"\x27\x00\x0b\x00").err();
+    assert_eq!(rt; fault, Some(FieldFault::Short { at: 2 }));
+    Ok(())
+}
 
 #[test]
 fn faults(rt: HostRuntime) {
@@ -82,4 +99,57 @@ fn written_form(rt: HostRuntime) {
     );
     let bytes = b"\x27\x6c\x04\x99\x99\x99\x99\x99\x99\x0b\x00\x00\x07\x87\x99\x99\x49\x09\x78";
     assert!(rt; out.as_slice() == bytes.as_slice());
+}
+
+/// Number, length and size of each field of the table.
+const FIELDS: [(u8, &[u8], usize); 33] = [
+    (0x19, b"", 1),
+    (0x27, b"", 1),
+    (0x8A, b"", 1),
+    (0x8C, b"", 1),
+    (0xA0, b"", 1),
+    (0x0D, b"", 2),
+    (0x0E, b"", 2),
+    (0x17, b"", 2),
+    (0x49, b"", 2),
+    (0x87, b"", 2),
+    (0x0B, b"", 3),
+    (0x0C, b"", 3),
+    (0x37, b"", 3),
+    (0x88, b"", 3),
+    (0xAA, b"", 3),
+    (0x29, b"", 4),
+    (0xBA, b"", 5),
+    (0x04, b"", 6),
+    (0x3B, b"", 8),
+    (0x2A, b"", 15),
+    (0x22, b"\xf1\xf2", 12),
+    (0x23, b"\xf1\xf2", 12),
+    (0x2D, b"\xf1\xf2", 12),
+    (0x8B, b"\xf1\xf2", 12),
+    (0xA7, b"\xf1\xf2", 12),
+    (0x24, b"\xf1\xf0\xf2", 102),
+    (0x2E, b"\xf1\xf0\xf2", 102),
+    (0x3C, b"\xf1\xf0\xf2", 102),
+    (0x60, b"\xf1\xf0\xf2", 102),
+    (0x92, b"\xf1\xf0\xf2", 102),
+    (0x9A, b"\xf1\xf0\xf2", 102),
+    (0xAF, b"\xf1\xf0\xf2", 102),
+    (0x06, b"\x81\x90", 144),
+];
+
+#[test]
+fn each_field_has_its_length(rt: HostRuntime) -> Result<(), Fail> {
+    for (number, length, size) in FIELDS {
+        let mut data = vec![in rt.alloc(); number]?;
+        data.extend_from_slice(length)?;
+        for _ in 0..size {
+            data.push(0x00)?;
+        }
+        let tail = data.len();
+        data.push(0xFF)?;
+        let fields = read_fields(data.as_slice())?;
+        assert_eq!(rt; fields.tail, tail, "field {number:02X}");
+    }
+    Ok(())
 }

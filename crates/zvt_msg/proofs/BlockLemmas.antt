@@ -1,18 +1,18 @@
--- The functions that compute what a block is are its definition.
+-- The functions that compute a block agree with its definition.
 use Rattle.std.proofs.Common.{◌≡◌, ℕ, zero, suc, ◌+◌, ◌-◌, ◌<◌, ◌≤◌, Bool, true, false, cond, eqb, List, [], ◌∷◌, ◌++◌, length, Option, Some, None, Result, Ok, Err, inl, inr, refl, sym, ap, subst, ◌∙◌, arith}
 use Rattle.std.specs.Prelude.{◌⊎◌, ◌&&◌, ◌==◌}
 use Rattle.std.proofs.lemmas.Bool.{cases_eq, eq-eqb, ne_eqb, eqb-true, and_parts}
 use Rattle.std.proofs.lemmas.List.{append-nil}
 use Rattle.zvt_tlv.specs.declared.fault.TlvFault.{TlvFault}
-use Rattle.zvt_tlv.specs.Object.{ObjectValue, Spells, BeginsWith}
-use Rattle.zvt_tlv.specs.Objects.{Splits, Fills, IsUnlawful, IsEnd}
-use Rattle.zvt_tlv.specs.Reading.{object_of}
-use Rattle.zvt_tlv.specs.Split.{Split, split_of}
-use Rattle.zvt_tlv.proofs.Readings.{begins_found, found_begins, none_unlawful, unlawful_none, unlawful_some}
-use Rattle.zvt_tlv.proofs.Splitting.{begins_shrinks, split_is, only_split, fills_is}
-use Rattle.zvt_msg.specs.Block.{container_tag, text_tag, IsContainer, IsLawful, AreLawful, AreWhole, IsBlock, StopsHere, StopsInside, StopsWith, IsBlockFault}
-use Rattle.zvt_msg.specs.BlockReading.{contained, container_of, left_inside, left_of, in_container, block_of}
-use Rattle.zvt_msg.proofs.LeftLemmas.{value_shrinks, nothing, left_ends, left_goes_on, left_stops}
+use Rattle.zvt_tlv.specs.Grammar.{ObjectValue, SpellsTlvObject, BeginsWithTlvObject}
+use Rattle.zvt_tlv.specs.GrammarOfObjects.{BeginsWithTlvObjects, SpellsTlvObjects, IsMalformedTlvObject, IsEndOfTlvObjects}
+use Rattle.zvt_tlv.specs.Decode.{decode_tlv_object}
+use Rattle.zvt_tlv.specs.DecodeObjects.{DecodedTlvObjects, decode_tlv_objects}
+use Rattle.zvt_tlv.proofs.DecodeLemmas.{begins_found, found_begins, none_unlawful, unlawful_none, unlawful_some}
+use Rattle.zvt_tlv.proofs.DecodeObjectsLemmas.{begins_shrinks, split_is, only_split, fills_is}
+use Rattle.zvt_msg.specs.BlockGrammar.{container_tag, text_tag, SpellsContainer, IsWellFormedInside, AreWellFormedInside, AreWholeObjects, SpellsBlock, IsMalformedHere, IsMalformedInside, IsMalformedWith, IsBlockFault}
+use Rattle.zvt_msg.specs.BlockDecode.{container_value, decode_container, left_inside, bytes_left, decode_in_container, decode_block}
+use Rattle.zvt_msg.proofs.BytesLeftLemmas.{value_shrinks, nothing, left_ends, left_goes_on, left_stops}
 
 -- ---- the container
 
@@ -23,9 +23,9 @@ nil_of_length (x ∷ xs) e = absurd (omega arith)
 abbrev container : List ℕ → ObjectValue
 container bytes = record { tag = container_tag; value = bytes }
 
-container_found : (body bytes : List ℕ) → IsContainer body bytes → container_of body ≡ Some bytes
+container_found : (body bytes : List ℕ) → SpellsContainer body bytes → decode_container body ≡ Some bytes
 container_found body bytes spells =
-    ap contained (begins_found body (container bytes) [] (body, spells, sym (append-nil body)))
+    ap container_value (begins_found body (container bytes) [] (body, spells, sym (append-nil body)))
 
 abbrev kept : List ℕ → Option (List ℕ)
 kept bytes = Some bytes
@@ -33,137 +33,137 @@ kept bytes = Some bytes
 kept_is : (x y : List ℕ) → kept x ≡ kept y → x ≡ y
 kept_is x y e = cc
 
-container_by : (body bytes : List ℕ) (object : ObjectValue) (rest : List ℕ) (test : Bool) → ((object.tag == container_tag) && (length rest == 0)) ≡ test → cond test (kept object.value) None ≡ kept bytes → BeginsWith body object rest → IsContainer body bytes
+container_by : (body bytes : List ℕ) (object : ObjectValue) (rest : List ℕ) (test : Bool) → ((object.tag == container_tag) && (length rest == 0)) ≡ test → cond test (kept object.value) None ≡ kept bytes → BeginsWithTlvObject body object rest → SpellsContainer body bytes
 container_by body bytes object rest false is e begins = absurd cc
-container_by body bytes object rest true is e (front, spells, parts) =
+container_by body bytes object rest true is e (prefix, spells, parts) =
     let tests = and_parts (eqb object.tag container_tag) (eqb (length rest) 0) is in
     let empty = nil_of_length rest (eqb-true _ _ tests.1) in
-    let whole : body ≡ front = parts ∙ ap (λ (r : List ℕ). front ++ r) empty ∙ append-nil front in
+    let whole : body ≡ prefix = parts ∙ ap (λ (r : List ℕ). prefix ++ r) empty ∙ append-nil prefix in
     let tag : object.tag ≡ container_tag = eqb-true _ _ tests.0 in
     let same : object ≡ container bytes = ap (λ (t : ℕ). record { tag = t; value = object.value }) tag ∙ ap container (kept_is object.value bytes e) in
-    subst (λ (b : List ℕ). Spells b (container bytes)) (sym whole) (subst (Spells front) same spells)
+    subst (λ (b : List ℕ). SpellsTlvObject b (container bytes)) (sym whole) (subst (SpellsTlvObject prefix) same spells)
 
-container_at : (body bytes : List ℕ) (found : Option (ObjectValue × List ℕ)) → object_of body ≡ found → contained found ≡ kept bytes → IsContainer body bytes
+container_at : (body bytes : List ℕ) (found : Option (ObjectValue × List ℕ)) → decode_tlv_object body ≡ found → container_value found ≡ kept bytes → SpellsContainer body bytes
 container_at body bytes None is e = absurd cc
 container_at body bytes (Some (object, rest)) is e =
     container_by body bytes object rest _ refl e (found_begins body object rest is)
 
-found_container : (body bytes : List ℕ) → container_of body ≡ Some bytes → IsContainer body bytes
-found_container body bytes e = container_at body bytes (object_of body) refl e
+found_container : (body bytes : List ℕ) → decode_container body ≡ Some bytes → SpellsContainer body bytes
+found_container body bytes e = container_at body bytes (decode_tlv_object body) refl e
 
-container_shorter : (body bytes : List ℕ) → IsContainer body bytes → length bytes < length body
+container_shorter : (body bytes : List ℕ) → SpellsContainer body bytes → length bytes < length body
 container_shorter body bytes spells =
     omega (arith, value_shrinks body (container bytes) [] (body, spells, sym (append-nil body)))
 
--- ---- what is lawful inside of an object
+-- ---- what is well-formed inside of an object
 
-lawful_with : (object : ObjectValue) → (object.tag ≡ text_tag) ⊎ (object.tag ≡ text_tag → ⊥) → IsLawful object → left_inside object ≡ 0
+lawful_with : (object : ObjectValue) → (object.tag ≡ text_tag) ⊎ (object.tag ≡ text_tag → ⊥) → IsWellFormedInside object → left_inside object ≡ 0
 lawful_with object (inl is) lawful =
     let inner = lawful is in
-    rw (eq-eqb object.tag text_tag is) (ap (λ (s : Split). length s.rest) ((fills_is object.value inner.0).0 inner.1))
+    rw (eq-eqb object.tag text_tag is) (ap (λ (s : DecodedTlvObjects). length s.rest) ((fills_is object.value inner.0).0 inner.1))
 lawful_with object (inr other) lawful = rw (ne_eqb object.tag text_tag other) refl
 
-lawful_zero : (object : ObjectValue) → IsLawful object → left_inside object ≡ 0
+lawful_zero : (object : ObjectValue) → IsWellFormedInside object → left_inside object ≡ 0
 lawful_zero object lawful = lawful_with object (cases_eq object.tag text_tag) lawful
 
-abbrev split : List ObjectValue → List ℕ → Split
+abbrev split : List ObjectValue → List ℕ → DecodedTlvObjects
 split objects rest = record { objects = objects; rest = rest }
 
-filled_at : (value : List ℕ) → length (split_of value).rest ≡ 0 → Fills value (split_of value).objects
-filled_at value e = subst (Splits value (split_of value).objects) (nil_of_length _ e) (split_is value).0
+filled_at : (value : List ℕ) → length (decode_tlv_objects value).rest ≡ 0 → SpellsTlvObjects value (decode_tlv_objects value).objects
+filled_at value e = subst (BeginsWithTlvObjects value (decode_tlv_objects value).objects) (nil_of_length _ e) (split_is value).0
 
-zero_lawful : (object : ObjectValue) → left_inside object ≡ 0 → IsLawful object
-zero_lawful object e is = ((split_of object.value).objects, filled_at object.value (rw (eq-eqb object.tag text_tag is) at e))
+zero_lawful : (object : ObjectValue) → left_inside object ≡ 0 → IsWellFormedInside object
+zero_lawful object e is = ((decode_tlv_objects object.value).objects, filled_at object.value (rw (eq-eqb object.tag text_tag is) at e))
 
-ends_unlawful : (rest : List ℕ) → IsEnd rest → 0 < length rest → IsUnlawful rest
+ends_unlawful : (rest : List ℕ) → IsEndOfTlvObjects rest → 0 < length rest → IsMalformedTlvObject rest
 ends_unlawful rest (inl empty) some = absurd (omega (arith, ap length empty))
 ends_unlawful rest (inr unlawful) some = unlawful
 
-stops_with : (bytes : List ℕ) (object : ObjectValue) (rest : List ℕ) → BeginsWith bytes object rest → (object.tag ≡ text_tag) ⊎ (object.tag ≡ text_tag → ⊥) → 0 < left_inside object → StopsInside bytes (left_inside object + length rest)
+stops_with : (bytes : List ℕ) (object : ObjectValue) (rest : List ℕ) → BeginsWithTlvObject bytes object rest → (object.tag ≡ text_tag) ⊎ (object.tag ≡ text_tag → ⊥) → 0 < left_inside object → IsMalformedInside bytes (left_inside object + length rest)
 stops_with bytes object rest begins (inl is) some =
-    let left : left_inside object ≡ length (split_of object.value).rest = rw (eq-eqb object.tag text_tag is) refl in
+    let left : left_inside object ≡ length (decode_tlv_objects object.value).rest = rw (eq-eqb object.tag text_tag is) refl in
     let parts = split_is object.value in
-    (object, rest, (split_of object.value).objects, (split_of object.value).rest, begins, is, parts.0, ends_unlawful _ parts.1 (omega (arith, left)), ap (λ (n : ℕ). n + length rest) left)
+    (object, rest, (decode_tlv_objects object.value).objects, (decode_tlv_objects object.value).rest, begins, is, parts.0, ends_unlawful _ parts.1 (omega (arith, left)), ap (λ (n : ℕ). n + length rest) left)
 stops_with bytes object rest begins (inr other) some =
     let none : left_inside object ≡ 0 = rw (ne_eqb object.tag text_tag other) refl in
     absurd (omega (arith, none))
 
--- ---- the first object that is not lawful
+-- ---- the first malformed object
 
 abbrev Left : List ℕ → ℕ → Type 0
-Left bytes left = ((left ≡ 0) × AreWhole bytes) ⊎ ((0 < left) × StopsWith bytes left)
+Left bytes left = ((left ≡ 0) × AreWholeObjects bytes) ⊎ ((0 < left) × IsMalformedWith bytes left)
 
-left_here : (bytes : List ℕ) → object_of bytes ≡ None → Left bytes (left_of bytes)
+left_here : (bytes : List ℕ) → decode_tlv_object bytes ≡ None → Left bytes (bytes_left bytes)
 left_here [] e = inl (left_ends [] e, ([], refl, tt))
 left_here (b ∷ bytes) e =
     let ends = left_ends (b ∷ bytes) e in
     let unlawful = none_unlawful (b ∷ bytes) (λ empty. absurd cc) e in
     inr (omega (arith, ends), ([], b ∷ bytes, refl, tt, inl (unlawful, ends)))
 
-left_more : (bytes : List ℕ) (object : ObjectValue) (rest : List ℕ) (left : ℕ) → BeginsWith bytes object rest → IsLawful object → Left rest left → Left bytes left
+left_more : (bytes : List ℕ) (object : ObjectValue) (rest : List ℕ) (left : ℕ) → BeginsWithTlvObject bytes object rest → IsWellFormedInside object → Left rest left → Left bytes left
 left_more bytes object rest left begins lawful (inl (none, (objects, fills, others))) =
     inl (none, (object ∷ objects, (rest, begins, fills), (lawful, others)))
 left_more bytes object rest left begins lawful (inr (some, (before, last, splits, others, stops))) =
     inr (some, (object ∷ before, last, (rest, begins, splits), (lawful, others), stops))
 
-left_by : (bytes : List ℕ) (object : ObjectValue) (rest : List ℕ) → object_of bytes ≡ Some (object, rest) → (left_inside object ≡ 0) ⊎ (left_inside object ≡ 0 → ⊥) → Left rest (left_of rest) → Left bytes (left_of bytes)
+left_by : (bytes : List ℕ) (object : ObjectValue) (rest : List ℕ) → decode_tlv_object bytes ≡ Some (object, rest) → (left_inside object ≡ 0) ⊎ (left_inside object ≡ 0 → ⊥) → Left rest (bytes_left rest) → Left bytes (bytes_left bytes)
 left_by bytes object rest e (inl none) others =
-    rw (left_goes_on bytes object rest e none) (left_more bytes object rest (left_of rest) (found_begins bytes object rest e) (zero_lawful object none) others)
+    rw (left_goes_on bytes object rest e none) (left_more bytes object rest (bytes_left rest) (found_begins bytes object rest e) (zero_lawful object none) others)
 left_by bytes object rest e (inr some) others =
     let more : 0 < left_inside object = omega (arith, some) in
     let inside = stops_with bytes object rest (found_begins bytes object rest e) (cases_eq object.tag text_tag) more in
     rw (left_stops bytes object rest e more) (inr (omega (arith, more), ([], bytes, refl, tt, inr inside)))
 
-left_at : (bytes : List ℕ) (found : Option (ObjectValue × List ℕ)) → object_of bytes ≡ found → ((rest : List ℕ) → length rest < length bytes → Left rest (left_of rest)) → Left bytes (left_of bytes)
+left_at : (bytes : List ℕ) (found : Option (ObjectValue × List ℕ)) → decode_tlv_object bytes ≡ found → ((rest : List ℕ) → length rest < length bytes → Left rest (bytes_left rest)) → Left bytes (bytes_left bytes)
 left_at bytes None e others = left_here bytes e
 left_at bytes (Some (object, rest)) e others =
     left_by bytes object rest e (cases_eq (left_inside object) 0) (others rest (begins_shrinks bytes object rest (found_begins bytes object rest e)))
 
-left_within : (n : ℕ) (bytes : List ℕ) → length bytes ≤ n → Left bytes (left_of bytes)
-left_within zero bytes few = left_at bytes (object_of bytes) refl (λ rest shorter. absurd (omega arith))
-left_within (suc n) bytes few = left_at bytes (object_of bytes) refl (λ rest shorter. left_within n rest (omega arith))
+left_within : (n : ℕ) (bytes : List ℕ) → length bytes ≤ n → Left bytes (bytes_left bytes)
+left_within zero bytes few = left_at bytes (decode_tlv_object bytes) refl (λ rest shorter. absurd (omega arith))
+left_within (suc n) bytes few = left_at bytes (decode_tlv_object bytes) refl (λ rest shorter. left_within n rest (omega arith))
 
-left_is : (bytes : List ℕ) → Left bytes (left_of bytes)
+left_is : (bytes : List ℕ) → Left bytes (bytes_left bytes)
 left_is bytes = left_within (length bytes) bytes (omega arith)
 
 -- ---- and no other is
 
-whole_fills : (objects : List ObjectValue) (bytes : List ℕ) → Fills bytes objects → AreLawful objects → left_of bytes ≡ 0
-whole_fills [] bytes fills lawful = ap left_of fills ∙ left_ends [] nothing
+whole_fills : (objects : List ObjectValue) (bytes : List ℕ) → SpellsTlvObjects bytes objects → AreWellFormedInside objects → bytes_left bytes ≡ 0
+whole_fills [] bytes fills lawful = ap bytes_left fills ∙ left_ends [] nothing
 whole_fills (object ∷ objects) bytes (rest, begins, fills) lawful =
     left_goes_on bytes object rest (begins_found bytes object rest begins) (lawful_zero object lawful.0) ∙ whole_fills objects rest fills lawful.1
 
-pub whole_zero : (bytes : List ℕ) → AreWhole bytes → left_of bytes ≡ 0
+pub whole_zero : (bytes : List ℕ) → AreWholeObjects bytes → bytes_left bytes ≡ 0
 whole_zero bytes (objects, fills, lawful) = whole_fills objects bytes fills lawful
 
-some_bytes : (bytes : List ℕ) → IsUnlawful bytes → 0 < length bytes
+some_bytes : (bytes : List ℕ) → IsMalformedTlvObject bytes → 0 < length bytes
 some_bytes [] unlawful = absurd (unlawful_some [] unlawful refl)
 some_bytes (b ∷ bytes) unlawful = omega arith
 
-stops_here : (bytes : List ℕ) (left : ℕ) → StopsHere bytes left ⊎ StopsInside bytes left → left_of bytes ≡ left
-stops_here bytes left (inl (unlawful, is)) = left_ends bytes (unlawful_none bytes (object_of bytes) unlawful refl) ∙ sym is
+stops_here : (bytes : List ℕ) (left : ℕ) → IsMalformedHere bytes left ⊎ IsMalformedInside bytes left → bytes_left bytes ≡ left
+stops_here bytes left (inl (unlawful, is)) = left_ends bytes (unlawful_none bytes (decode_tlv_object bytes) unlawful refl) ∙ sym is
 stops_here bytes left (inr (object, after, inner, broken, begins, tag, splits, unlawful, is)) =
-    let same : split_of object.value ≡ split inner broken = only_split object.value inner broken splits (inr unlawful) in
-    let inside : left_inside object ≡ length broken = rw (eq-eqb object.tag text_tag tag) (ap (λ (s : Split). length s.rest) same) in
+    let same : decode_tlv_objects object.value ≡ split inner broken = only_split object.value inner broken splits (inr unlawful) in
+    let inside : left_inside object ≡ length broken = rw (eq-eqb object.tag text_tag tag) (ap (λ (s : DecodedTlvObjects). length s.rest) same) in
     left_stops bytes object after (begins_found bytes object after begins) (omega (arith, inside, some_bytes broken unlawful))
     ∙ ap (λ (n : ℕ). n + length after) inside ∙ sym is
 
-stops_behind : (before : List ObjectValue) (bytes rest : List ℕ) (left : ℕ) → Splits bytes before rest → AreLawful before → StopsHere rest left ⊎ StopsInside rest left → left_of bytes ≡ left
-stops_behind [] bytes rest left splits lawful stops = ap left_of splits ∙ stops_here rest left stops
+stops_behind : (before : List ObjectValue) (bytes rest : List ℕ) (left : ℕ) → BeginsWithTlvObjects bytes before rest → AreWellFormedInside before → IsMalformedHere rest left ⊎ IsMalformedInside rest left → bytes_left bytes ≡ left
+stops_behind [] bytes rest left splits lawful stops = ap bytes_left splits ∙ stops_here rest left stops
 stops_behind (object ∷ before) bytes rest left (more, begins, splits) lawful stops =
     left_goes_on bytes object more (begins_found bytes object more begins) (lawful_zero object lawful.0) ∙ stops_behind before more rest left splits lawful.1 stops
 
-stops_left : (bytes : List ℕ) (left : ℕ) → StopsWith bytes left → left_of bytes ≡ left
+stops_left : (bytes : List ℕ) (left : ℕ) → IsMalformedWith bytes left → bytes_left bytes ≡ left
 stops_left bytes left (before, rest, splits, lawful, stops) = stops_behind before bytes rest left splits lawful stops
 
 -- ---- how many bytes these are
 
-splits_shorter : (objects : List ObjectValue) (bytes rest : List ℕ) → Splits bytes objects rest → length rest ≤ length bytes
+splits_shorter : (objects : List ObjectValue) (bytes rest : List ℕ) → BeginsWithTlvObjects bytes objects rest → length rest ≤ length bytes
 splits_shorter [] bytes rest splits = omega (arith, ap length splits)
 splits_shorter (object ∷ objects) bytes rest (more, begins, splits) =
     omega (arith, begins_shrinks bytes object more begins, splits_shorter objects more rest splits)
 
-stop_size : (rest : List ℕ) (left : ℕ) → StopsHere rest left ⊎ StopsInside rest left → (0 < left) × (left ≤ length rest)
+stop_size : (rest : List ℕ) (left : ℕ) → IsMalformedHere rest left ⊎ IsMalformedInside rest left → (0 < left) × (left ≤ length rest)
 stop_size rest left (inl (unlawful, is)) = let some = some_bytes rest unlawful in (omega arith, omega arith)
 stop_size rest left (inr (object, after, inner, broken, begins, tag, splits, unlawful, is)) =
     let some = some_bytes broken unlawful in
@@ -171,7 +171,7 @@ stop_size rest left (inr (object, after, inner, broken, begins, tag, splits, unl
     let shorter = value_shrinks rest object after begins in
     (omega arith, omega arith)
 
-stops_size : (bytes : List ℕ) (left : ℕ) → StopsWith bytes left → (0 < left) × (left ≤ length bytes)
+stops_size : (bytes : List ℕ) (left : ℕ) → IsMalformedWith bytes left → (0 < left) × (left ≤ length bytes)
 stops_size bytes left (before, rest, splits, lawful, stops) =
     let size = stop_size rest left stops in
     let shorter = splits_shorter before bytes rest splits in
@@ -181,40 +181,40 @@ stops_size bytes left (before, rest, splits, lawful, stops) =
 
 -- what the body is, by what is computed of it
 abbrev pub BlockIs : List ℕ → Result (List ℕ) TlvFault → Type 0
-BlockIs body (Ok bytes) = IsBlock body bytes
+BlockIs body (Ok bytes) = SpellsBlock body bytes
 BlockIs body (Err fault) = IsBlockFault body fault.at
 
-block_left : (body bytes : List ℕ) → IsContainer body bytes → Left bytes (left_of bytes) → BlockIs body (in_container (length body) (kept bytes))
+block_left : (body bytes : List ℕ) → SpellsContainer body bytes → Left bytes (bytes_left bytes) → BlockIs body (decode_in_container (length body) (kept bytes))
 block_left body bytes is (inl (none, whole)) = rw none (is, whole)
 block_left body bytes is (inr (some, stops)) =
-    let test : eqb (left_of bytes) 0 ≡ false = ne_eqb _ _ (λ e. omega (arith, some)) in
-    let size = stops_size bytes (left_of bytes) stops in
-    let place : (length body - left_of bytes) + left_of bytes ≡ length body = omega (arith, size.1, container_shorter body bytes is) in
-    rw test (inr (bytes, left_of bytes, is, stops, place))
+    let test : eqb (bytes_left bytes) 0 ≡ false = ne_eqb _ _ (λ e. omega (arith, some)) in
+    let size = stops_size bytes (bytes_left bytes) stops in
+    let offset : (length body - bytes_left bytes) + bytes_left bytes ≡ length body = omega (arith, size.1, container_shorter body bytes is) in
+    rw test (inr (bytes, bytes_left bytes, is, stops, offset))
 
-block_by : (body : List ℕ) (found : Option (List ℕ)) → container_of body ≡ found → BlockIs body (in_container (length body) found)
+block_by : (body : List ℕ) (found : Option (List ℕ)) → decode_container body ≡ found → BlockIs body (decode_in_container (length body) found)
 block_by body None e = inl (refl, λ bytes is. let some = container_found body bytes is in cc (some, e))
 block_by body (Some bytes) e = block_left body bytes (found_container body bytes e) (left_is bytes)
 
-pub block_is : (body : List ℕ) → BlockIs body (block_of body)
-block_is body = block_by body (container_of body) refl
+pub block_is : (body : List ℕ) → BlockIs body (decode_block body)
+block_is body = block_by body (decode_container body) refl
 
-pub only_block : (body bytes : List ℕ) → IsBlock body bytes → block_of body ≡ Ok bytes
+pub only_block : (body bytes : List ℕ) → SpellsBlock body bytes → decode_block body ≡ Ok bytes
 only_block body bytes (is, whole) =
-    ap (in_container (length body)) (container_found body bytes is) ∙ rw (whole_zero bytes whole) refl
+    ap (decode_in_container (length body)) (container_found body bytes is) ∙ rw (whole_zero bytes whole) refl
 
-none_contained : (body : List ℕ) (found : Option (List ℕ)) → container_of body ≡ found → ((bytes : List ℕ) → IsContainer body bytes → ⊥) → found ≡ None
+none_contained : (body : List ℕ) (found : Option (List ℕ)) → decode_container body ≡ found → ((bytes : List ℕ) → SpellsContainer body bytes → ⊥) → found ≡ None
 none_contained body None e none = refl
 none_contained body (Some bytes) e none = absurd (none bytes (found_container body bytes e))
 
 abbrev fault_at : ℕ → TlvFault
 fault_at at = record { at = at }
 
-pub only_block_fault : (body : List ℕ) (fault : TlvFault) → IsBlockFault body fault.at → block_of body ≡ Err fault
+pub only_block_fault : (body : List ℕ) (fault : TlvFault) → IsBlockFault body fault.at → decode_block body ≡ Err fault
 only_block_fault body fault (inl (is, none)) =
-    ap (in_container (length body)) (none_contained body (container_of body) refl none) ∙ ap (λ (at : ℕ). Err (fault_at at)) (sym is)
-only_block_fault body fault (inr (bytes, left, is, stops, place)) =
+    ap (decode_in_container (length body)) (none_contained body (decode_container body) refl none) ∙ ap (λ (at : ℕ). Err (fault_at at)) (sym is)
+only_block_fault body fault (inr (bytes, left, is, stops, offset)) =
     let same = stops_left bytes left stops in
     let size = stops_size bytes left stops in
     let test : eqb left 0 ≡ false = ne_eqb _ _ (λ e. omega (arith, size.0)) in
-    ap (in_container (length body)) (container_found body bytes is) ∙ rw (same, test) (ap (λ (at : ℕ). Err (fault_at at)) (omega (arith, place)))
+    ap (decode_in_container (length body)) (container_found body bytes is) ∙ rw (same, test) (ap (λ (at : ℕ). Err (fault_at at)) (omega (arith, offset)))

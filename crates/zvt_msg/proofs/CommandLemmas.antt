@@ -1,4 +1,4 @@
--- The function that computes the command of an APDU is the definition, and each command has one APDU.
+-- The function that computes the command of an APDU agrees with the definition, and each command has one APDU.
 use Rattle.std.proofs.Common.{◌≡◌, ℕ, ◌+◌, ◌*◌, ◌^◌, ◌<◌, ◌≤◌, Bool, true, false, cond, eqb, List, [], ◌∷◌, ◌++◌, length, take, drop, Option, Some, None, refl, sym, ap, subst, ◌∙◌, arith}
 use Rattle.std.specs.Prelude.{◌↔◌, ◌&&◌, IsNone}
 use Rattle.std.proofs.lemmas.Bool.{eq-eqb, eqb-true, and_parts}
@@ -6,24 +6,24 @@ use Rattle.std.proofs.lemmas.List.{take_at, drop_at, take-append-drop, length-ap
 use Rattle.arrayvec.specs.ArrayVec.{ArrayVec}
 use Rattle.gw_base.specs.Bcd.{bcd_value, bcd_of, is_bcd}
 use Rattle.gw_base.proofs.BcdLemmas.{length-bcd_of, bcd_value_bound, bcd_of-value, bcd_value-of, bcd_passes, passes_bcd}
-use Rattle.zvt_apdu.specs.Apdu.{ApduValue}
+use Rattle.zvt_apdu.specs.Grammar.{ApduValue}
 use Rattle.zvt_msg.specs.declared.command.Command.{Command}
 use Rattle.zvt_msg.specs.declared.command.Command.TheVariants.{Register, Authorise, Enquire, Reverse, EndOfDay, Stop, Show}
-use Rattle.zvt_msg.specs.Messages.{Has}
-use Rattle.zvt_msg.specs.Command.{IsPassword, SpellsNumber, AreShort, Spells, HasDigits, HasSizes}
-use Rattle.zvt_msg.specs.CommandReading.{password_of, number_of, lines_of, register_with, register_at, register_of, authorise_with, authorise_at, authorise_of, reverse_with, reverse_at, reverse_of, enquire_with, end_of_day_with, stop_of, show_with, show_of, command_by, command_of}
-use Rattle.zvt_msg.specs.CommandWriting.{body_of, apdu_of, written_lines}
-use Rattle.zvt_msg.proofs.DisplaySpellings.{AreFound, lines_found, found_lines, lines_are, lines_spell}
+use Rattle.zvt_msg.specs.MessageGrammar.{HasClassAndInstruction}
+use Rattle.zvt_msg.specs.CommandGrammar.{IsPassword, SpellsBcdNumber, AreShortLines, SpellsCommand, HasCommandDigits, HasCommandSizes}
+use Rattle.zvt_msg.specs.CommandDecode.{decode_password, decode_bcd_number, decode_display_lines, register_with, register_at, decode_register, authorise_with, authorise_at, decode_authorise, reverse_with, reverse_at, decode_reverse, enquire_with, end_of_day_with, decode_stop, show_with, decode_show, decode_command_by, decode_command}
+use Rattle.zvt_msg.specs.CommandCanonical.{command_data, command_apdu, canonical_display_lines}
+use Rattle.zvt_msg.proofs.DisplayGrammarLemmas.{AreFound, lines_found, found_lines, lines_are, lines_spell}
 
 -- ---- passwords and numbers
 
-pub number_with : (count : ℕ) (bytes : List ℕ) → length bytes ≡ count → cond (is_bcd bytes) (Some (bcd_value bytes)) None ≡ number_of count bytes
+pub number_with : (count : ℕ) (bytes : List ℕ) → length bytes ≡ count → cond (is_bcd bytes) (Some (bcd_value bytes)) None ≡ decode_bcd_number count bytes
 number_with count bytes is = rw (eq-eqb (length bytes) count is) refl
 
-password_found : (bytes : List ℕ) → IsPassword bytes → password_of bytes ≡ Some bytes
+password_found : (bytes : List ℕ) → IsPassword bytes → decode_password bytes ≡ Some bytes
 password_found bytes (size, digits) = rw (eq-eqb (length bytes) 3 size, bcd_passes bytes digits) refl
 
-number_found : (count : ℕ) (bytes : List ℕ) (n : ℕ) → SpellsNumber count bytes n → number_of count bytes ≡ Some n
+number_found : (count : ℕ) (bytes : List ℕ) (n : ℕ) → SpellsBcdNumber count bytes n → decode_bcd_number count bytes ≡ Some n
 number_found count bytes n (size, digits, value) = rw (eq-eqb (length bytes) count size, bcd_passes bytes digits) (ap (λ (m : ℕ). Some m) value)
 
 abbrev some : {A : Type 0} → A → Option A
@@ -39,119 +39,119 @@ password_by bytes password true is e =
     let same = some_is bytes password e in
     (subst IsPassword same (eqb-true _ _ tests.0, passes_bcd bytes tests.1), same)
 
-found_password : (bytes password : List ℕ) → password_of bytes ≡ Some password → IsPassword password × (bytes ≡ password)
+found_password : (bytes password : List ℕ) → decode_password bytes ≡ Some password → IsPassword password × (bytes ≡ password)
 found_password bytes password e = password_by bytes password _ refl e
 
-number_by : (count : ℕ) (bytes : List ℕ) (n : ℕ) (test : Bool) → (eqb (length bytes) count && is_bcd bytes) ≡ test → cond test (some (bcd_value bytes)) None ≡ some n → SpellsNumber count bytes n
+number_by : (count : ℕ) (bytes : List ℕ) (n : ℕ) (test : Bool) → (eqb (length bytes) count && is_bcd bytes) ≡ test → cond test (some (bcd_value bytes)) None ≡ some n → SpellsBcdNumber count bytes n
 number_by count bytes n false is e = absurd cc
 number_by count bytes n true is e =
     let tests = and_parts (eqb (length bytes) count) (is_bcd bytes) is in
     (eqb-true _ _ tests.0, passes_bcd bytes tests.1, some_is (bcd_value bytes) n e)
 
-found_number : (count : ℕ) (bytes : List ℕ) (n : ℕ) → number_of count bytes ≡ Some n → SpellsNumber count bytes n
+found_number : (count : ℕ) (bytes : List ℕ) (n : ℕ) → decode_bcd_number count bytes ≡ Some n → SpellsBcdNumber count bytes n
 found_number count bytes n e = number_by count bytes n _ refl e
 
 -- ---- the command that was found is spelt
 
 abbrev Is : ApduValue → Option Command → Type 0
 Is apdu None = Unit {0}
-Is apdu (Some command) = Spells apdu command
+Is apdu (Some command) = SpellsCommand apdu command
 
 by_test : (apdu : ApduValue) (test : Bool) (x y : Option Command) → (test ≡ true → Is apdu x) → Is apdu y → Is apdu (cond test x y)
 by_test apdu true x y first second = first refl
 by_test apdu false x y first second = second
 
--- a body whose front is a password
-front_is : (body password rest : List ℕ) → take 3 body ≡ password → drop 3 body ≡ rest → body ≡ password ++ rest
-front_is body password rest first second =
+-- data that begin with a password
+prefix_is : (body password rest : List ℕ) → take 3 body ≡ password → drop 3 body ≡ rest → body ≡ password ++ rest
+prefix_is body password rest first second =
     sym (take-append-drop 3 body) ∙ ap (λ (f : List ℕ). f ++ drop 3 body) first ∙ ap (λ (r : List ℕ). password ++ r) second
 
-register_number : (apdu : ApduValue) → Has apdu 0x06 0x00 → (password : Option (List ℕ)) (config : ℕ) (number : List ℕ) (currency : Option ℕ) → password_of (take 3 apdu.body) ≡ password → drop 3 apdu.body ≡ config ∷ number → number_of 2 number ≡ currency → Is apdu (register_with password config currency)
+register_number : (apdu : ApduValue) → HasClassAndInstruction apdu 0x06 0x00 → (password : Option (List ℕ)) (config : ℕ) (number : List ℕ) (currency : Option ℕ) → decode_password (take 3 apdu.body) ≡ password → drop 3 apdu.body ≡ config ∷ number → decode_bcd_number 2 number ≡ currency → Is apdu (register_with password config currency)
 register_number apdu has None config number currency first rest second = tt
 register_number apdu has (Some password) config number None first rest second = tt
 register_number apdu has (Some password) config number (Some currency) first rest second =
     let is = found_password (take 3 apdu.body) password first in
-    (has, number, is.0, found_number 2 number currency second, front_is apdu.body password (config ∷ number) is.1 rest)
+    (has, number, is.0, found_number 2 number currency second, prefix_is apdu.body password (config ∷ number) is.1 rest)
 
-register_rest : (apdu : ApduValue) → Has apdu 0x06 0x00 → (rest : List ℕ) → drop 3 apdu.body ≡ rest → Is apdu (register_at (password_of (take 3 apdu.body)) rest)
+register_rest : (apdu : ApduValue) → HasClassAndInstruction apdu 0x06 0x00 → (rest : List ℕ) → drop 3 apdu.body ≡ rest → Is apdu (register_at (decode_password (take 3 apdu.body)) rest)
 register_rest apdu has [] e = tt
-register_rest apdu has (config ∷ number) e = register_number apdu has (password_of (take 3 apdu.body)) config number (number_of 2 number) refl e refl
+register_rest apdu has (config ∷ number) e = register_number apdu has (decode_password (take 3 apdu.body)) config number (decode_bcd_number 2 number) refl e refl
 
-reverse_number : (apdu : ApduValue) → Has apdu 0x06 0x30 → (password : Option (List ℕ)) (number : List ℕ) (receipt : Option ℕ) → password_of (take 3 apdu.body) ≡ password → drop 3 apdu.body ≡ 0x87 ∷ number → number_of 2 number ≡ receipt → Is apdu (reverse_with password receipt)
+reverse_number : (apdu : ApduValue) → HasClassAndInstruction apdu 0x06 0x30 → (password : Option (List ℕ)) (number : List ℕ) (receipt : Option ℕ) → decode_password (take 3 apdu.body) ≡ password → drop 3 apdu.body ≡ 0x87 ∷ number → decode_bcd_number 2 number ≡ receipt → Is apdu (reverse_with password receipt)
 reverse_number apdu has None number receipt first rest second = tt
 reverse_number apdu has (Some password) number None first rest second = tt
 reverse_number apdu has (Some password) number (Some receipt) first rest second =
     let is = found_password (take 3 apdu.body) password first in
-    (has, number, is.0, found_number 2 number receipt second, front_is apdu.body password (0x87 ∷ number) is.1 rest)
+    (has, number, is.0, found_number 2 number receipt second, prefix_is apdu.body password (0x87 ∷ number) is.1 rest)
 
-reverse_rest : (apdu : ApduValue) → Has apdu 0x06 0x30 → (rest : List ℕ) → drop 3 apdu.body ≡ rest → Is apdu (reverse_at (password_of (take 3 apdu.body)) rest)
+reverse_rest : (apdu : ApduValue) → HasClassAndInstruction apdu 0x06 0x30 → (rest : List ℕ) → drop 3 apdu.body ≡ rest → Is apdu (reverse_at (decode_password (take 3 apdu.body)) rest)
 reverse_rest apdu has [] e = tt
 reverse_rest apdu has (b ∷ number) e =
-    by_test apdu (eqb b 0x87) _ _ (λ is. reverse_number apdu has (password_of (take 3 apdu.body)) number (number_of 2 number) refl (e ∙ ap (λ (a : ℕ). a ∷ number) (eqb-true _ _ is)) refl) tt
+    by_test apdu (eqb b 0x87) _ _ (λ is. reverse_number apdu has (decode_password (take 3 apdu.body)) number (decode_bcd_number 2 number) refl (e ∙ ap (λ (a : ℕ). a ∷ number) (eqb-true _ _ is)) refl) tt
 
-authorise_number : (apdu : ApduValue) → Has apdu 0x06 0x01 → (digits number : List ℕ) (amount currency : Option ℕ) → apdu.body ≡ 0x04 ∷ (digits ++ 0x49 ∷ number) → number_of 6 digits ≡ amount → number_of 2 number ≡ currency → Is apdu (authorise_with amount currency)
+authorise_number : (apdu : ApduValue) → HasClassAndInstruction apdu 0x06 0x01 → (digits number : List ℕ) (amount currency : Option ℕ) → apdu.body ≡ 0x04 ∷ (digits ++ 0x49 ∷ number) → decode_bcd_number 6 digits ≡ amount → decode_bcd_number 2 number ≡ currency → Is apdu (authorise_with amount currency)
 authorise_number apdu has digits number None currency e first second = tt
 authorise_number apdu has digits number (Some amount) None e first second = tt
 authorise_number apdu has digits number (Some amount) (Some currency) e first second =
     (has, digits, number, found_number 6 digits amount first, found_number 2 number currency second, e)
 
-authorise_rest : (apdu : ApduValue) → Has apdu 0x06 0x01 → (bytes rest : List ℕ) → apdu.body ≡ 0x04 ∷ bytes → drop 6 bytes ≡ rest → Is apdu (authorise_at (number_of 6 (take 6 bytes)) rest)
+authorise_rest : (apdu : ApduValue) → HasClassAndInstruction apdu 0x06 0x01 → (bytes rest : List ℕ) → apdu.body ≡ 0x04 ∷ bytes → drop 6 bytes ≡ rest → Is apdu (authorise_at (decode_bcd_number 6 (take 6 bytes)) rest)
 authorise_rest apdu has bytes [] e r = tt
 authorise_rest apdu has bytes (b ∷ number) e r =
     by_test apdu (eqb b 0x49) _ _ (λ is.
     let whole : bytes ≡ take 6 bytes ++ 0x49 ∷ number = sym (take-append-drop 6 bytes) ∙ ap (λ (t : List ℕ). take 6 bytes ++ t) (r ∙ ap (λ (a : ℕ). a ∷ number) (eqb-true _ _ is)) in
-    authorise_number apdu has (take 6 bytes) number (number_of 6 (take 6 bytes)) (number_of 2 number) (e ∙ ap (λ (t : List ℕ). 0x04 ∷ t) whole) refl refl) tt
+    authorise_number apdu has (take 6 bytes) number (decode_bcd_number 6 (take 6 bytes)) (decode_bcd_number 2 number) (e ∙ ap (λ (t : List ℕ). 0x04 ∷ t) whole) refl refl) tt
 
-authorise_body : (apdu : ApduValue) → Has apdu 0x06 0x01 → (body : List ℕ) → apdu.body ≡ body → Is apdu (authorise_of body)
+authorise_body : (apdu : ApduValue) → HasClassAndInstruction apdu 0x06 0x01 → (body : List ℕ) → apdu.body ≡ body → Is apdu (decode_authorise body)
 authorise_body apdu has [] e = tt
 authorise_body apdu has (b ∷ bytes) e =
     by_test apdu (eqb b 0x04) _ _ (λ is. authorise_rest apdu has bytes (drop 6 bytes) (e ∙ ap (λ (a : ℕ). a ∷ bytes) (eqb-true _ _ is)) refl) tt
 
-enquire_by : (apdu : ApduValue) → Has apdu 0x06 0x20 → (password : Option (List ℕ)) → password_of apdu.body ≡ password → Is apdu (enquire_with password)
+enquire_by : (apdu : ApduValue) → HasClassAndInstruction apdu 0x06 0x20 → (password : Option (List ℕ)) → decode_password apdu.body ≡ password → Is apdu (enquire_with password)
 enquire_by apdu has None e = tt
 enquire_by apdu has (Some password) e = let is = found_password apdu.body password e in (has, is.0, is.1)
 
-end_of_day_by : (apdu : ApduValue) → Has apdu 0x06 0x50 → (password : Option (List ℕ)) → password_of apdu.body ≡ password → Is apdu (end_of_day_with password)
+end_of_day_by : (apdu : ApduValue) → HasClassAndInstruction apdu 0x06 0x50 → (password : Option (List ℕ)) → decode_password apdu.body ≡ password → Is apdu (end_of_day_with password)
 end_of_day_by apdu has None e = tt
 end_of_day_by apdu has (Some password) e = let is = found_password apdu.body password e in (has, is.0, is.1)
 
-stop_by : (apdu : ApduValue) → Has apdu 0x06 0xB0 → (body : List ℕ) → apdu.body ≡ body → Is apdu (stop_of body)
+stop_by : (apdu : ApduValue) → HasClassAndInstruction apdu 0x06 0xB0 → (body : List ℕ) → apdu.body ≡ body → Is apdu (decode_stop body)
 stop_by apdu has [] e = (has, e)
 stop_by apdu has (b ∷ body) e = tt
 
-show_lines : (apdu : ApduValue) → Has apdu 0x06 0xE0 → (text : List ℕ) (lines : Option (List (ArrayVec ℕ))) → apdu.body ≡ 0xF0 ∷ 0x05 ∷ text → AreFound 8 0xF1 text lines → Is apdu (show_with lines)
+show_lines : (apdu : ApduValue) → HasClassAndInstruction apdu 0x06 0xE0 → (text : List ℕ) (lines : Option (List (ArrayVec ℕ))) → apdu.body ≡ 0xF0 ∷ 0x05 ∷ text → AreFound 8 0xF1 text lines → Is apdu (show_with lines)
 show_lines apdu has text None e found = tt
 show_lines apdu has text (Some lines) e (few, short, spells) = (has, text, (few, short), spells, e)
 
-lines_are_found : (text : List ℕ) → AreFound 8 0xF1 text (lines_of text)
-unfolding lines_of
+lines_are_found : (text : List ℕ) → AreFound 8 0xF1 text (decode_display_lines text)
+unfolding decode_display_lines
 lines_are_found text = found_lines 8 0xF1 text
 
-show_by : (apdu : ApduValue) → Has apdu 0x06 0xE0 → (body : List ℕ) → apdu.body ≡ body → Is apdu (show_of body)
+show_by : (apdu : ApduValue) → HasClassAndInstruction apdu 0x06 0xE0 → (body : List ℕ) → apdu.body ≡ body → Is apdu (decode_show body)
 show_by apdu has [] e = tt
 show_by apdu has (b ∷ []) e = tt
 show_by apdu has (b ∷ c ∷ text) e =
     by_test apdu (eqb b 0xF0 && eqb c 0x05) _ _ (λ is.
     let tests = and_parts (eqb b 0xF0) (eqb c 0x05) is in
-    show_lines apdu has text (lines_of text) (e ∙ ap (λ (a : ℕ). a ∷ c ∷ text) (eqb-true _ _ tests.0) ∙ ap (λ (a : ℕ). 0xF0 ∷ a ∷ text) (eqb-true _ _ tests.1)) (lines_are_found text)) tt
+    show_lines apdu has text (decode_display_lines text) (e ∙ ap (λ (a : ℕ). a ∷ c ∷ text) (eqb-true _ _ tests.0) ∙ ap (λ (a : ℕ). 0xF0 ∷ a ∷ text) (eqb-true _ _ tests.1)) (lines_are_found text)) tt
 
-command_is : (apdu : ApduValue) → Is apdu (command_of apdu)
-unfolding command_of
+command_is : (apdu : ApduValue) → Is apdu (decode_command apdu)
+unfolding decode_command
 command_is apdu =
     by_test apdu (eqb apdu.class 0x06) _ _ (λ class.
     let six = eqb-true apdu.class 0x06 class in
     by_test apdu (eqb apdu.instr 0x00) _ _ (λ i. register_rest apdu (six, eqb-true _ _ i) (drop 3 apdu.body) refl)
     (by_test apdu (eqb apdu.instr 0x01) _ _ (λ i. authorise_body apdu (six, eqb-true _ _ i) apdu.body refl)
-    (by_test apdu (eqb apdu.instr 0x20) _ _ (λ i. enquire_by apdu (six, eqb-true _ _ i) (password_of apdu.body) refl)
+    (by_test apdu (eqb apdu.instr 0x20) _ _ (λ i. enquire_by apdu (six, eqb-true _ _ i) (decode_password apdu.body) refl)
     (by_test apdu (eqb apdu.instr 0x30) _ _ (λ i. reverse_rest apdu (six, eqb-true _ _ i) (drop 3 apdu.body) refl)
-    (by_test apdu (eqb apdu.instr 0x50) _ _ (λ i. end_of_day_by apdu (six, eqb-true _ _ i) (password_of apdu.body) refl)
+    (by_test apdu (eqb apdu.instr 0x50) _ _ (λ i. end_of_day_by apdu (six, eqb-true _ _ i) (decode_password apdu.body) refl)
     (by_test apdu (eqb apdu.instr 0xB0) _ _ (λ i. stop_by apdu (six, eqb-true _ _ i) apdu.body refl)
     (by_test apdu (eqb apdu.instr 0xE0) _ _ (λ i. show_by apdu (six, eqb-true _ _ i) apdu.body refl) tt))))))) tt
 
 -- ---- a command that is spelt is found
 
-of_instr : (apdu : ApduValue) (instr : ℕ) → Has apdu 0x06 instr → command_of apdu ≡ command_by instr apdu.body
-unfolding command_of
+of_instr : (apdu : ApduValue) (instr : ℕ) → HasClassAndInstruction apdu 0x06 instr → decode_command apdu ≡ decode_command_by instr apdu.body
+unfolding decode_command
 of_instr apdu instr (class, is) = rw (class, is) refl
 
 behind_password : (password rest : List ℕ) → IsPassword password → (take 3 (password ++ rest) ≡ password) × (drop 3 (password ++ rest) ≡ rest)
@@ -160,52 +160,52 @@ behind_password password rest is = (take_at password rest 3 is.0, drop_at passwo
 lines_kept : (lines : ArrayVec (ArrayVec ℕ)) (text : List ℕ) (found : Option (List (ArrayVec ℕ))) → found ≡ Some lines.items → show_with found ≡ Some (Show lines)
 lines_kept lines text found e = ap show_with e
 
-pub spelt_found : (apdu : ApduValue) (command : Command) → Spells apdu command → command_of apdu ≡ Some command
-unfolding lines_of
+pub spelt_found : (apdu : ApduValue) (command : Command) → SpellsCommand apdu command → decode_command apdu ≡ Some command
+unfolding decode_display_lines
 spelt_found apdu (Register password config currency) (has, number, is_password, is_number, is) =
-    let front = behind_password password (config ∷ number) is_password in
-    of_instr apdu 0x00 has ∙ ap register_of is
-    ∙ ap (λ (t : List ℕ). register_at (password_of t) (drop 3 (password ++ config ∷ number))) front.0
-    ∙ ap (register_at (password_of password)) front.1
+    let prefix = behind_password password (config ∷ number) is_password in
+    of_instr apdu 0x00 has ∙ ap decode_register is
+    ∙ ap (λ (t : List ℕ). register_at (decode_password t) (drop 3 (password ++ config ∷ number))) prefix.0
+    ∙ ap (register_at (decode_password password)) prefix.1
     ∙ rw (password_found password is_password, number_found 2 number currency is_number) refl
 spelt_found apdu (Authorise amount currency) (has, digits, number, is_amount, is_currency, is) =
-    of_instr apdu 0x01 has ∙ ap authorise_of is
-    ∙ ap (λ (t : List ℕ). authorise_at (number_of 6 t) (drop 6 (digits ++ 0x49 ∷ number))) (take_at digits (0x49 ∷ number) 6 is_amount.0)
-    ∙ ap (authorise_at (number_of 6 digits)) (drop_at digits (0x49 ∷ number) 6 is_amount.0)
+    of_instr apdu 0x01 has ∙ ap decode_authorise is
+    ∙ ap (λ (t : List ℕ). authorise_at (decode_bcd_number 6 t) (drop 6 (digits ++ 0x49 ∷ number))) (take_at digits (0x49 ∷ number) 6 is_amount.0)
+    ∙ ap (authorise_at (decode_bcd_number 6 digits)) (drop_at digits (0x49 ∷ number) 6 is_amount.0)
     ∙ rw (number_found 6 digits amount is_amount, number_found 2 number currency is_currency) refl
 spelt_found apdu (Enquire password) (has, is_password, is) =
-    of_instr apdu 0x20 has ∙ ap (λ (b : List ℕ). enquire_with (password_of b)) is ∙ ap enquire_with (password_found password is_password)
+    of_instr apdu 0x20 has ∙ ap (λ (b : List ℕ). enquire_with (decode_password b)) is ∙ ap enquire_with (password_found password is_password)
 spelt_found apdu (Reverse password receipt) (has, number, is_password, is_number, is) =
-    let front = behind_password password (0x87 ∷ number) is_password in
-    of_instr apdu 0x30 has ∙ ap reverse_of is
-    ∙ ap (λ (t : List ℕ). reverse_at (password_of t) (drop 3 (password ++ 0x87 ∷ number))) front.0
-    ∙ ap (reverse_at (password_of password)) front.1
+    let prefix = behind_password password (0x87 ∷ number) is_password in
+    of_instr apdu 0x30 has ∙ ap decode_reverse is
+    ∙ ap (λ (t : List ℕ). reverse_at (decode_password t) (drop 3 (password ++ 0x87 ∷ number))) prefix.0
+    ∙ ap (reverse_at (decode_password password)) prefix.1
     ∙ rw (password_found password is_password, number_found 2 number receipt is_number) refl
 spelt_found apdu (EndOfDay password) (has, is_password, is) =
-    of_instr apdu 0x50 has ∙ ap (λ (b : List ℕ). end_of_day_with (password_of b)) is ∙ ap end_of_day_with (password_found password is_password)
-spelt_found apdu Stop (has, is) = of_instr apdu 0xB0 has ∙ ap stop_of is
+    of_instr apdu 0x50 has ∙ ap (λ (b : List ℕ). end_of_day_with (decode_password b)) is ∙ ap end_of_day_with (password_found password is_password)
+spelt_found apdu Stop (has, is) = of_instr apdu 0xB0 has ∙ ap decode_stop is
 spelt_found apdu (Show lines) (has, text, fits, spells, is) =
-    of_instr apdu 0xE0 has ∙ ap show_of is ∙ lines_kept lines text (lines_of text) (lines_found lines.items 8 0xF1 text fits.0 fits.1 spells)
+    of_instr apdu 0xE0 has ∙ ap decode_show is ∙ lines_kept lines text (decode_display_lines text) (lines_found lines.items 8 0xF1 text fits.0 fits.1 spells)
 
 -- ---- the clauses of the call
 
-pub some_clause : (apdu : ApduValue) (command : Command) → (command_of apdu ≡ Some command) ↔ Spells apdu command
+pub some_clause : (apdu : ApduValue) (command : Command) → (decode_command apdu ≡ Some command) ↔ SpellsCommand apdu command
 some_clause apdu command = ((λ e. subst (Is apdu) e (command_is apdu)), spelt_found apdu command)
 
-none_by : (apdu : ApduValue) (found : Option Command) → command_of apdu ≡ found → ((command : Command) → ¬ Spells apdu command) → IsNone found
+none_by : (apdu : ApduValue) (found : Option Command) → decode_command apdu ≡ found → ((command : Command) → ¬ SpellsCommand apdu command) → IsNone found
 none_by apdu None e none = refl
 none_by apdu (Some command) e none = absurd (none command (subst (Is apdu) e (command_is apdu)))
 
-none_at : (apdu : ApduValue) (found : Option Command) → command_of apdu ≡ found → IsNone found → (command : Command) → ¬ Spells apdu command
+none_at : (apdu : ApduValue) (found : Option Command) → decode_command apdu ≡ found → IsNone found → (command : Command) → ¬ SpellsCommand apdu command
 none_at apdu None e is command spells = let there = spelt_found apdu command spells in cc (there, e)
 none_at apdu (Some other) e is command spells = absurd cc
 
-pub none_clause : (apdu : ApduValue) → IsNone (command_of apdu) ↔ ((command : Command) → ¬ Spells apdu command)
-none_clause apdu = (none_at apdu (command_of apdu) refl, none_by apdu (command_of apdu) refl)
+pub none_clause : (apdu : ApduValue) → IsNone (decode_command apdu) ↔ ((command : Command) → ¬ SpellsCommand apdu command)
+none_clause apdu = (none_at apdu (decode_command apdu) refl, none_by apdu (decode_command apdu) refl)
 
 -- ---- the one spelling
 
-number_digits : (count : ℕ) (bytes : List ℕ) (n : ℕ) → SpellsNumber count bytes n → (n < 100 ^ count) × (bytes ≡ bcd_of count n)
+number_digits : (count : ℕ) (bytes : List ℕ) (n : ℕ) → SpellsBcdNumber count bytes n → (n < 100 ^ count) × (bytes ≡ bcd_of count n)
 number_digits count bytes n (size, digits, value) =
     let small = bcd_value_bound bytes digits in
     let same = bcd_of-value bytes digits in (
@@ -213,20 +213,20 @@ number_digits count bytes n (size, digits, value) =
       sym same ∙ ap (λ (k : ℕ). bcd_of k (bcd_value bytes)) size ∙ ap (bcd_of count) value,
     )
 
-digits_spell : (count n : ℕ) → n < 100 ^ count → SpellsNumber count (bcd_of count n) n
+digits_spell : (count n : ℕ) → n < 100 ^ count → SpellsBcdNumber count (bcd_of count n) n
 digits_spell count n small = let again = bcd_value-of count n small in (length-bcd_of count n, again.0, again.1)
 
 abbrev six : ℕ → List ℕ → ApduValue
 six instr body = record { class = 0x06; instr = instr; body = body }
 
-apdu_is : (apdu : ApduValue) (instr : ℕ) (body : List ℕ) → Has apdu 0x06 instr → apdu.body ≡ body → apdu ≡ six instr body
+apdu_is : (apdu : ApduValue) (instr : ℕ) (body : List ℕ) → HasClassAndInstruction apdu 0x06 instr → apdu.body ≡ body → apdu ≡ six instr body
 apdu_is apdu instr body (class, is) same =
     ap (λ (c : ℕ). record { class = c; instr = apdu.instr; body = apdu.body }) class ∙ ap (λ (i : ℕ). six i apdu.body) is ∙ ap (six instr) same
 
 abbrev Written : ApduValue → Command → Type 0
-Written apdu command = HasDigits command × HasSizes command × (apdu ≡ apdu_of command)
+Written apdu command = HasCommandDigits command × HasCommandSizes command × (apdu ≡ command_apdu command)
 
-pub spelt_written : (apdu : ApduValue) (command : Command) → Spells apdu command → Written apdu command
+pub spelt_written : (apdu : ApduValue) (command : Command) → SpellsCommand apdu command → Written apdu command
 spelt_written apdu (Register password config currency) (has, number, is_password, is_number, is) =
     let n = number_digits 2 number currency is_number in
     ((is_password.1, n.0), is_password.0, apdu_is apdu 0x00 (password ++ config ∷ bcd_of 2 currency) has (is ∙ ap (λ (d : List ℕ). password ++ config ∷ d) n.1))
@@ -241,9 +241,9 @@ spelt_written apdu (Reverse password receipt) (has, number, is_password, is_numb
 spelt_written apdu (EndOfDay password) (has, is_password, is) = (is_password.1, is_password.0, apdu_is apdu 0x50 password has is)
 spelt_written apdu Stop (has, is) = (tt, tt, apdu_is apdu 0xB0 [] has is)
 spelt_written apdu (Show lines) (has, text, fits, spells, is) =
-    (tt, fits, apdu_is apdu 0xE0 (0xF0 ∷ 0x05 ∷ written_lines 0xF1 lines.items) has (is ∙ ap (λ (t : List ℕ). 0xF0 ∷ 0x05 ∷ t) (lines_are lines.items 0xF1 text spells)))
+    (tt, fits, apdu_is apdu 0xE0 (0xF0 ∷ 0x05 ∷ canonical_display_lines 0xF1 lines.items) has (is ∙ ap (λ (t : List ℕ). 0xF0 ∷ 0x05 ∷ t) (lines_are lines.items 0xF1 text spells)))
 
-pub written_spells : (command : Command) → HasDigits command → HasSizes command → Spells (apdu_of command) command
+pub written_spells : (command : Command) → HasCommandDigits command → HasCommandSizes command → SpellsCommand (command_apdu command) command
 written_spells (Register password config currency) (digits, small) size =
     ((refl, refl), bcd_of 2 currency, (size, digits), digits_spell 2 currency small, refl)
 written_spells (Authorise amount currency) (few, small) size =
@@ -254,28 +254,28 @@ written_spells (Reverse password receipt) (digits, small) size =
 written_spells (EndOfDay password) digits size = ((refl, refl), (size, digits), refl)
 written_spells Stop digits size = ((refl, refl), refl)
 written_spells (Show lines) digits fits =
-    ((refl, refl), written_lines 0xF1 lines.items, fits, lines_spell lines.items 0xF1 fits.1, refl)
+    ((refl, refl), canonical_display_lines 0xF1 lines.items, fits, lines_spell lines.items 0xF1 fits.1, refl)
 
-pub written_clause : (apdu : ApduValue) (command : Command) → Spells apdu command ↔ Written apdu command
+pub written_clause : (apdu : ApduValue) (command : Command) → SpellsCommand apdu command ↔ Written apdu command
 written_clause apdu command = (
   spelt_written apdu command,
-  λ (digits, sizes, is). subst (λ (a : ApduValue). Spells a command) (sym is) (written_spells command digits sizes),
+  λ (digits, sizes, is). subst (λ (a : ApduValue). SpellsCommand a command) (sym is) (written_spells command digits sizes),
 )
 
-pub one_spelling : (a b : ApduValue) (command : Command) → Spells a command → Spells b command → a ≡ b
+pub one_spelling : (a b : ApduValue) (command : Command) → SpellsCommand a command → SpellsCommand b command → a ≡ b
 one_spelling a b command first second = (spelt_written a command first).2 ∙ sym (spelt_written b command second).2
 
-pub one_command : (apdu : ApduValue) (a b : Command) → Spells apdu a → Spells apdu b → a ≡ b
+pub one_command : (apdu : ApduValue) (a b : Command) → SpellsCommand apdu a → SpellsCommand apdu b → a ≡ b
 one_command apdu a b first second = some_is a b (sym (spelt_found apdu a first) ∙ spelt_found apdu b second)
 
 -- ---- how long it is
 
-lines_size : (lines : List (ArrayVec ℕ)) (number : ℕ) → AreShort lines → length (written_lines number lines) ≤ 43 * length lines
+lines_size : (lines : List (ArrayVec ℕ)) (number : ℕ) → AreShortLines lines → length (canonical_display_lines number lines) ≤ 43 * length lines
 lines_size [] number short = omega arith
 lines_size (line ∷ lines) number short =
-    omega (arith, short.0, lines_size lines (number + 1) short.1, length-append line.items (written_lines (number + 1) lines))
+    omega (arith, short.0, lines_size lines (number + 1) short.1, length-append line.items (canonical_display_lines (number + 1) lines))
 
-pub body_size : (command : Command) → HasSizes command → length (body_of command) ≤ 12000
+pub body_size : (command : Command) → HasCommandSizes command → length (command_data command) ≤ 12000
 body_size (Register password config currency) size =
     omega (arith, size, length-append password (config ∷ bcd_of 2 currency), length-bcd_of 2 currency)
 body_size (Authorise amount currency) size =

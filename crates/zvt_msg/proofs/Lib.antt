@@ -1,8 +1,8 @@
-pub mod AgainLemmas
 pub mod BlockLemmas
+pub mod BlockLineLemmas
+pub mod BytesLeftLemmas
+pub mod CanonicalLemmas
 pub mod CommandLemmas
+pub mod DisplayGrammarLemmas
 pub mod DisplayLemmas
-pub mod DisplaySpellings
-pub mod LeftLemmas
-pub mod LineLemmas
 pub mod MessageLemmas

@@ -1,46 +1,46 @@
--- The function that computes what an APDU tells is the definition.
+-- The function that computes the message of an APDU agrees with the definition.
 use Rattle.std.proofs.Common.{◌≡◌, ℕ, Bool, true, false, cond, eqb, List, [], ◌∷◌, Option, Some, None, Result, Ok, Err, inl, inr, refl, sym, ap, subst, ◌∙◌}
 use Rattle.std.specs.Prelude.{◌↔◌, unwrap_or}
 use Rattle.std.proofs.lemmas.Bool.{eqb-true}
-use Rattle.zvt_apdu.specs.Apdu.{ApduValue}
+use Rattle.zvt_apdu.specs.Grammar.{ApduValue}
 use Rattle.zvt_tlv.specs.declared.fault.TlvFault.{TlvFault}
 use Rattle.zvt_bmp.specs.declared.fields.Fields.{Fields}
 use Rattle.zvt_bmp.specs.declared.fields.FieldFault.{FieldFault}
-use Rattle.zvt_bmp.specs.Fields.{Tell}
-use Rattle.zvt_bmp.specs.Reading.{fields_of}
-use Rattle.zvt_bmp.proofs.Telling.{fields_tell, only_told}
+use Rattle.zvt_bmp.specs.Grammar.{SpellsStatusOrFault}
+use Rattle.zvt_bmp.specs.Decode.{decode_status}
+use Rattle.zvt_bmp.proofs.DecodeLemmas.{fields_tell, only_told}
 use Rattle.zvt_msg.specs.declared.fault.PtFault.{PtFault}
 use Rattle.zvt_msg.specs.declared.fault.PtFault.TheVariants.{Field, Tlv}
 use Rattle.zvt_msg.specs.declared.message.PtMessage.{PtMessage}
 use Rattle.zvt_msg.specs.Message.{MessageValue, value_of}
-use Rattle.zvt_msg.specs.Messages.{Kind, IsOfKind, IsFirst, IsCode, IsText, Says, HasFault, Tells}
-use Rattle.zvt_msg.specs.BlockReading.{block_of}
-use Rattle.zvt_msg.specs.MessageReading.{kind_of, first_of, behind_first, of_fields, of_block, told_by, told_of}
-use Rattle.zvt_msg.specs.Found.{IsMessage, Answers}
+use Rattle.zvt_msg.specs.MessageGrammar.{ControlField, HasControlField, IsFirstByte, IsFirstByteOrZero, IsLineText, SpellsPtMessage, HasPtFault, SpellsPtMessageOrFault}
+use Rattle.zvt_msg.specs.BlockDecode.{decode_block}
+use Rattle.zvt_msg.specs.MessageDecode.{control_field_of, first_byte_of, after_first_byte, status_or_fault, block_or_fault, decode_pt_message_by, decode_pt_message}
+use Rattle.zvt_msg.specs.Results.{IsPtMessage, ReturnsPtMessage}
 use Rattle.zvt_msg.proofs.BlockLemmas.{BlockIs, block_is, only_block, only_block_fault}
 
--- ---- the kind
+-- ---- the control field
 
-kind_found : (apdu : ApduValue) (kind : Kind) → IsOfKind apdu kind → kind_of apdu.class apdu.instr ≡ Some kind
-kind_found apdu Kind.Ack (class, instr) = rw (class, instr) refl
-kind_found apdu Kind.Nack class = rw class refl
-kind_found apdu Kind.Intermediate (class, instr) = rw (class, instr) refl
-kind_found apdu Kind.Line (class, instr) = rw (class, instr) refl
-kind_found apdu Kind.Block (class, instr) = rw (class, instr) refl
-kind_found apdu Kind.Status (class, instr) = rw (class, instr) refl
-kind_found apdu Kind.Completion (class, instr) = rw (class, instr) refl
-kind_found apdu Kind.Abort (class, instr) = rw (class, instr) refl
+kind_found : (apdu : ApduValue) (kind : ControlField) → HasControlField apdu kind → control_field_of apdu.class apdu.instr ≡ Some kind
+kind_found apdu ControlField.Ack (class, instr) = rw (class, instr) refl
+kind_found apdu ControlField.Nack class = rw class refl
+kind_found apdu ControlField.Intermediate (class, instr) = rw (class, instr) refl
+kind_found apdu ControlField.Line (class, instr) = rw (class, instr) refl
+kind_found apdu ControlField.Block (class, instr) = rw (class, instr) refl
+kind_found apdu ControlField.Status (class, instr) = rw (class, instr) refl
+kind_found apdu ControlField.Completion (class, instr) = rw (class, instr) refl
+kind_found apdu ControlField.Abort (class, instr) = rw (class, instr) refl
 
--- the APDU is of this kind, if one was found
-abbrev IsSome : ApduValue → Option Kind → Type 0
+-- the APDU has this control field, if one was found
+abbrev IsSome : ApduValue → Option ControlField → Type 0
 IsSome apdu None = Unit {0}
-IsSome apdu (Some kind) = IsOfKind apdu kind
+IsSome apdu (Some kind) = HasControlField apdu kind
 
-by_test : (apdu : ApduValue) (test : Bool) (x y : Option Kind) → (test ≡ true → IsSome apdu x) → (test ≡ false → IsSome apdu y) → IsSome apdu (cond test x y)
+by_test : (apdu : ApduValue) (test : Bool) (x y : Option ControlField) → (test ≡ true → IsSome apdu x) → (test ≡ false → IsSome apdu y) → IsSome apdu (cond test x y)
 by_test apdu true x y first second = first refl
 by_test apdu false x y first second = second refl
 
-found_some : (apdu : ApduValue) → IsSome apdu (kind_of apdu.class apdu.instr)
+found_some : (apdu : ApduValue) → IsSome apdu (control_field_of apdu.class apdu.instr)
 found_some apdu =
     by_test apdu (eqb apdu.class 0x80) _ _ (λ class. by_test apdu (eqb apdu.instr 0x00) _ _ (λ instr. (eqb-true _ _ class, eqb-true _ _ instr)) (λ _. tt))
     (λ _. by_test apdu (eqb apdu.class 0x84) _ _ (λ class. eqb-true _ _ class)
@@ -52,99 +52,99 @@ found_some apdu =
     (λ _. by_test apdu (eqb apdu.instr 0x1E) _ _ (λ instr. (eqb-true _ _ class, eqb-true _ _ instr)) (λ _. tt)))))
     (λ _. tt))))
 
--- the APDU is of this kind, or of none
-abbrev KindIs : ApduValue → Option Kind → Type 0
-KindIs apdu None = (kind : Kind) → ¬ IsOfKind apdu kind
-KindIs apdu (Some kind) = IsOfKind apdu kind
+-- the APDU has this control field, or none
+abbrev KindIs : ApduValue → Option ControlField → Type 0
+KindIs apdu None = (kind : ControlField) → ¬ HasControlField apdu kind
+KindIs apdu (Some kind) = HasControlField apdu kind
 
-kind_by : (apdu : ApduValue) (found : Option Kind) → kind_of apdu.class apdu.instr ≡ found → IsSome apdu found → KindIs apdu found
+kind_by : (apdu : ApduValue) (found : Option ControlField) → control_field_of apdu.class apdu.instr ≡ found → IsSome apdu found → KindIs apdu found
 kind_by apdu None e is = λ kind of. let some = kind_found apdu kind of in cc (some, e)
 kind_by apdu (Some kind) e is = is
 
-kind_is : (apdu : ApduValue) → KindIs apdu (kind_of apdu.class apdu.instr)
-kind_is apdu = kind_by apdu (kind_of apdu.class apdu.instr) refl (found_some apdu)
+kind_is : (apdu : ApduValue) → KindIs apdu (control_field_of apdu.class apdu.instr)
+kind_is apdu = kind_by apdu (control_field_of apdu.class apdu.instr) refl (found_some apdu)
 
-none_found : (apdu : ApduValue) (found : Option Kind) → ((kind : Kind) → ¬ IsOfKind apdu kind) → KindIs apdu found → found ≡ None
+none_found : (apdu : ApduValue) (found : Option ControlField) → ((kind : ControlField) → ¬ HasControlField apdu kind) → KindIs apdu found → found ≡ None
 none_found apdu None none is = refl
 none_found apdu (Some kind) none is = absurd (none kind is)
 
 -- ---- what the body carries
 
-first_is : (body : List ℕ) → IsFirst body (first_of body)
+first_is : (body : List ℕ) → IsFirstByte body (first_byte_of body)
 first_is [] = refl
 first_is (byte ∷ bytes) = (bytes, refl)
 
-only_first : (body : List ℕ) (first : Option ℕ) → IsFirst body first → first_of body ≡ first
-only_first body None empty = ap first_of empty
-only_first body (Some byte) (more, is) = ap first_of is
+only_first : (body : List ℕ) (first : Option ℕ) → IsFirstByte body first → first_byte_of body ≡ first
+only_first body None empty = ap first_byte_of empty
+only_first body (Some byte) (more, is) = ap first_byte_of is
 
-code_is : (body : List ℕ) → IsCode body (unwrap_or (first_of body) 0)
+code_is : (body : List ℕ) → IsFirstByteOrZero body (unwrap_or (first_byte_of body) 0)
 code_is [] = inr (refl, refl)
 code_is (byte ∷ bytes) = inl (bytes, refl)
 
-only_code : (body : List ℕ) (code : ℕ) → IsCode body code → unwrap_or (first_of body) 0 ≡ code
-only_code body code (inl (more, is)) = ap (λ (b : List ℕ). unwrap_or (first_of b) 0) is
-only_code body code (inr (empty, is)) = ap (λ (b : List ℕ). unwrap_or (first_of b) 0) empty ∙ sym is
+only_code : (body : List ℕ) (code : ℕ) → IsFirstByteOrZero body code → unwrap_or (first_byte_of body) 0 ≡ code
+only_code body code (inl (more, is)) = ap (λ (b : List ℕ). unwrap_or (first_byte_of b) 0) is
+only_code body code (inr (empty, is)) = ap (λ (b : List ℕ). unwrap_or (first_byte_of b) 0) empty ∙ sym is
 
-text_is : (body : List ℕ) → IsText body (behind_first body)
+text_is : (body : List ℕ) → IsLineText body (after_first_byte body)
 text_is [] = inr (refl, refl)
 text_is (byte ∷ bytes) = inl (byte, refl)
 
-only_text : (body text : List ℕ) → IsText body text → behind_first body ≡ text
-only_text body text (inl (attribute, is)) = ap behind_first is
-only_text body text (inr (empty, is)) = ap behind_first empty ∙ sym is
+only_text : (body text : List ℕ) → IsLineText body text → after_first_byte body ≡ text
+only_text body text (inl (attribute, is)) = ap after_first_byte is
+only_text body text (inr (empty, is)) = ap after_first_byte empty ∙ sym is
 
--- ---- what the APDU tells
+-- ---- what the APDU spells
 
-tells_fields : (apdu : ApduValue) (told : Result Fields FieldFault) → IsOfKind apdu Kind.Status → Tell apdu.body told → Tells apdu (of_fields told)
+tells_fields : (apdu : ApduValue) (told : Result Fields FieldFault) → HasControlField apdu ControlField.Status → SpellsStatusOrFault apdu.body told → SpellsPtMessageOrFault apdu (status_or_fault told)
 tells_fields apdu (Ok fields) is tell = (is, tell)
 tells_fields apdu (Err fault) is tell = (is, tell)
 
-tells_block : (apdu : ApduValue) (told : Result (List ℕ) TlvFault) → IsOfKind apdu Kind.Block → BlockIs apdu.body told → Tells apdu (of_block told)
+tells_block : (apdu : ApduValue) (told : Result (List ℕ) TlvFault) → HasControlField apdu ControlField.Block → BlockIs apdu.body told → SpellsPtMessageOrFault apdu (block_or_fault told)
 tells_block apdu (Ok bytes) is block = (is, block)
 tells_block apdu (Err fault) is block = (is, block)
 
-tells_by : (apdu : ApduValue) (found : Option Kind) → KindIs apdu found → Tells apdu (told_by found apdu)
+tells_by : (apdu : ApduValue) (found : Option ControlField) → KindIs apdu found → SpellsPtMessageOrFault apdu (decode_pt_message_by found apdu)
 tells_by apdu None is = is
-tells_by apdu (Some Kind.Ack) is = is
-tells_by apdu (Some Kind.Nack) is = (is, refl)
-tells_by apdu (Some Kind.Intermediate) is = (is, code_is apdu.body)
-tells_by apdu (Some Kind.Line) is = (is, text_is apdu.body)
-tells_by apdu (Some Kind.Block) is = tells_block apdu (block_of apdu.body) is (block_is apdu.body)
-tells_by apdu (Some Kind.Status) is = tells_fields apdu (fields_of apdu.body) is (fields_tell apdu.body)
-tells_by apdu (Some Kind.Completion) is = is
-tells_by apdu (Some Kind.Abort) is = (is, first_is apdu.body)
+tells_by apdu (Some ControlField.Ack) is = is
+tells_by apdu (Some ControlField.Nack) is = (is, refl)
+tells_by apdu (Some ControlField.Intermediate) is = (is, code_is apdu.body)
+tells_by apdu (Some ControlField.Line) is = (is, text_is apdu.body)
+tells_by apdu (Some ControlField.Block) is = tells_block apdu (decode_block apdu.body) is (block_is apdu.body)
+tells_by apdu (Some ControlField.Status) is = tells_fields apdu (decode_status apdu.body) is (fields_tell apdu.body)
+tells_by apdu (Some ControlField.Completion) is = is
+tells_by apdu (Some ControlField.Abort) is = (is, first_is apdu.body)
 
-pub tells : (apdu : ApduValue) → Tells apdu (told_of apdu)
-unfolding told_of
-tells apdu = tells_by apdu (kind_of apdu.class apdu.instr) (kind_is apdu)
+pub tells : (apdu : ApduValue) → SpellsPtMessageOrFault apdu (decode_pt_message apdu)
+unfolding decode_pt_message
+tells apdu = tells_by apdu (control_field_of apdu.class apdu.instr) (kind_is apdu)
 
 -- ---- and nothing else
 
-of_kind : (apdu : ApduValue) (kind : Kind) → IsOfKind apdu kind → told_of apdu ≡ told_by (Some kind) apdu
-unfolding told_of
-of_kind apdu kind is = ap (λ (found : Option Kind). told_by found apdu) (kind_found apdu kind is)
+of_kind : (apdu : ApduValue) (kind : ControlField) → HasControlField apdu kind → decode_pt_message apdu ≡ decode_pt_message_by (Some kind) apdu
+unfolding decode_pt_message
+of_kind apdu kind is = ap (λ (found : Option ControlField). decode_pt_message_by found apdu) (kind_found apdu kind is)
 
-of_none : (apdu : ApduValue) → ((kind : Kind) → ¬ IsOfKind apdu kind) → told_of apdu ≡ Ok MessageValue.Other
-unfolding told_of
-of_none apdu none = ap (λ (found : Option Kind). told_by found apdu) (none_found apdu (kind_of apdu.class apdu.instr) none (kind_is apdu))
+of_none : (apdu : ApduValue) → ((kind : ControlField) → ¬ HasControlField apdu kind) → decode_pt_message apdu ≡ Ok MessageValue.Other
+unfolding decode_pt_message
+of_none apdu none = ap (λ (found : Option ControlField). decode_pt_message_by found apdu) (none_found apdu (control_field_of apdu.class apdu.instr) none (kind_is apdu))
 
-only_says : (apdu : ApduValue) (message : MessageValue) → Says apdu message → told_of apdu ≡ Ok message
-only_says apdu MessageValue.Ack is = of_kind apdu Kind.Ack is
-only_says apdu (MessageValue.Nack code) (is, same) = of_kind apdu Kind.Nack is ∙ ap (λ (c : ℕ). Ok (MessageValue.Nack c)) same
-only_says apdu (MessageValue.Intermediate code) (is, first) = of_kind apdu Kind.Intermediate is ∙ ap (λ (c : ℕ). Ok (MessageValue.Intermediate c)) (only_code apdu.body code first)
-only_says apdu (MessageValue.Line text) (is, behind) = of_kind apdu Kind.Line is ∙ ap (λ (t : List ℕ). Ok (MessageValue.Line t)) (only_text apdu.body text behind)
-only_says apdu (MessageValue.Block objects) (is, block) = of_kind apdu Kind.Block is ∙ ap of_block (only_block apdu.body objects block)
-only_says apdu (MessageValue.Status fields) (is, are) = of_kind apdu Kind.Status is ∙ ap of_fields (only_told apdu.body (Ok fields) are)
-only_says apdu MessageValue.Completion is = of_kind apdu Kind.Completion is
-only_says apdu (MessageValue.Abort code) (is, first) = of_kind apdu Kind.Abort is ∙ ap (λ (c : Option ℕ). Ok (MessageValue.Abort c)) (only_first apdu.body code first)
+only_says : (apdu : ApduValue) (message : MessageValue) → SpellsPtMessage apdu message → decode_pt_message apdu ≡ Ok message
+only_says apdu MessageValue.Ack is = of_kind apdu ControlField.Ack is
+only_says apdu (MessageValue.Nack code) (is, same) = of_kind apdu ControlField.Nack is ∙ ap (λ (c : ℕ). Ok (MessageValue.Nack c)) same
+only_says apdu (MessageValue.Intermediate code) (is, first) = of_kind apdu ControlField.Intermediate is ∙ ap (λ (c : ℕ). Ok (MessageValue.Intermediate c)) (only_code apdu.body code first)
+only_says apdu (MessageValue.Line text) (is, behind) = of_kind apdu ControlField.Line is ∙ ap (λ (t : List ℕ). Ok (MessageValue.Line t)) (only_text apdu.body text behind)
+only_says apdu (MessageValue.Block objects) (is, block) = of_kind apdu ControlField.Block is ∙ ap block_or_fault (only_block apdu.body objects block)
+only_says apdu (MessageValue.Status fields) (is, are) = of_kind apdu ControlField.Status is ∙ ap status_or_fault (only_told apdu.body (Ok fields) are)
+only_says apdu MessageValue.Completion is = of_kind apdu ControlField.Completion is
+only_says apdu (MessageValue.Abort code) (is, first) = of_kind apdu ControlField.Abort is ∙ ap (λ (c : Option ℕ). Ok (MessageValue.Abort c)) (only_first apdu.body code first)
 only_says apdu MessageValue.Other none = of_none apdu none
 
-only_fault : (apdu : ApduValue) (fault : PtFault) → HasFault apdu fault → told_of apdu ≡ Err fault
-only_fault apdu (Field fault) (is, first) = of_kind apdu Kind.Status is ∙ ap of_fields (only_told apdu.body (Err fault) first)
-only_fault apdu (Tlv fault) (is, first) = of_kind apdu Kind.Block is ∙ ap of_block (only_block_fault apdu.body fault first)
+only_fault : (apdu : ApduValue) (fault : PtFault) → HasPtFault apdu fault → decode_pt_message apdu ≡ Err fault
+only_fault apdu (Field fault) (is, first) = of_kind apdu ControlField.Status is ∙ ap status_or_fault (only_told apdu.body (Err fault) first)
+only_fault apdu (Tlv fault) (is, first) = of_kind apdu ControlField.Block is ∙ ap block_or_fault (only_block_fault apdu.body fault first)
 
-pub only_tells : (apdu : ApduValue) (told : Result MessageValue PtFault) → Tells apdu told → told_of apdu ≡ told
+pub only_tells : (apdu : ApduValue) (told : Result MessageValue PtFault) → SpellsPtMessageOrFault apdu told → decode_pt_message apdu ≡ told
 only_tells apdu (Ok message) says = only_says apdu message says
 only_tells apdu (Err fault) has = only_fault apdu fault has
 
@@ -162,19 +162,19 @@ failed fault = Err fault
 failed_is : (a b : PtFault) → failed a ≡ failed b → a ≡ b
 failed_is a b e = cc
 
-pub message_clause : (apdu : ApduValue) (answer : Result PtMessage PtFault) → Answers answer (told_of apdu) → (message : MessageValue) → IsMessage answer message ↔ Says apdu message
+pub message_clause : (apdu : ApduValue) (answer : Result PtMessage PtFault) → ReturnsPtMessage answer (decode_pt_message apdu) → (message : MessageValue) → IsPtMessage answer message ↔ SpellsPtMessage apdu message
 message_clause apdu (Ok found) is message = (
-  (λ same. subst (Says apdu) same (subst (Tells apdu) is (tells apdu))),
+  (λ same. subst (SpellsPtMessage apdu) same (subst (SpellsPtMessageOrFault apdu) is (tells apdu))),
   λ says. said_is (value_of found) message (sym is ∙ only_says apdu message says),
 )
 message_clause apdu (Err fault) is message =
     ((λ h. absurd h), λ says. let other = only_says apdu message says in absurd (cc (is, other)))
 
-pub fault_clause : (apdu : ApduValue) (answer : Result PtMessage PtFault) → Answers answer (told_of apdu) → (fault : PtFault) → (answer ≡ Err fault) ↔ HasFault apdu fault
+pub fault_clause : (apdu : ApduValue) (answer : Result PtMessage PtFault) → ReturnsPtMessage answer (decode_pt_message apdu) → (fault : PtFault) → (answer ≡ Err fault) ↔ HasPtFault apdu fault
 fault_clause apdu (Ok found) is fault =
     ((λ e. absurd cc), λ has. let other = only_fault apdu fault has in absurd (cc (is, other)))
 fault_clause apdu (Err found) is fault = (
-  (λ e. subst (HasFault apdu) (answer_is found fault e) (subst (Tells apdu) is (tells apdu))),
+  (λ e. subst (HasPtFault apdu) (answer_is found fault e) (subst (SpellsPtMessageOrFault apdu) is (tells apdu))),
   λ has. ap (λ (f : PtFault). Err f) (failed_is found fault (sym is ∙ only_fault apdu fault has)),
 ) where
   answer_is : (a b : PtFault) → (let x : Result PtMessage PtFault = Err a in x) ≡ Err b → a ≡ b

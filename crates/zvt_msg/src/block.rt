@@ -1,8 +1,10 @@
+//! The objects of a block to print.
+
 ghost use Rattle.std.specs.Prelude.{◌≡◌, ◌≤◌, length, IfSome};
-ghost use Rattle.zvt_tlv.specs.Object.{value_of};
-ghost use Rattle.zvt_tlv.specs.Split.{split_of};
-ghost use Rattle.zvt_msg.specs.BlockReading.{container_of, left_inside, left_of, block_of};
-ghost use Rattle.zvt_msg.specs.Found.{FindsObject, FindsBlock, FindsBytes};
+ghost use Rattle.zvt_tlv.specs.Grammar.{value_of};
+ghost use Rattle.zvt_tlv.specs.DecodeObjects.{decode_tlv_objects};
+ghost use Rattle.zvt_msg.specs.BlockDecode.{decode_container, left_inside, bytes_left, decode_block};
+ghost use Rattle.zvt_msg.specs.inner.Results.{ReturnsNextTlvObject, ReturnsBlock, ReturnsContainer};
 
 use zvt_tlv::{Object, Tlv, TlvFault};
 
@@ -15,10 +17,10 @@ pub(crate) const TEXT: u32 = 0x25;
 /// The tag of a line.
 pub(crate) const LINE: u32 = 0x07;
 
-/// The objects of a block, which fill the container that its data are, or the place in the data of the first that is
-/// not lawful. Data that are no container have their fault at 0.
+/// The objects of a block, which fill the container that its data are, or the offset in the data of the first that is
+/// malformed. Data that are no container have their fault at 0.
 pub(crate) fn read_block(body: &[u8]) -> Result<&[u8], TlvFault>
-    ensures { FindsBlock result (block_of body.now) }
+    ensures { ReturnsBlock result (decode_block body.now) }
 {
     let Some(bytes) = container(body) else {
         return Err(TlvFault { at: 0 });
@@ -34,33 +36,34 @@ pub(crate) fn read_block(body: &[u8]) -> Result<&[u8], TlvFault>
 
 /// The value of the container that the data are.
 fn container(body: &[u8]) -> Option<&[u8]>
-    ensures value { FindsBytes result (container_of body.now) }
+    ensures value { ReturnsContainer result (decode_container body.now) }
     ensures within { IfSome result (λ bytes. length bytes.now ≤ length body.now) }
 {
     let mut tlv = Tlv::over(body);
     let object = next_object(&mut tlv)?;
-    if object.tag != CONTAINER || tlv.at() < body.len() {
+    if object.tag != CONTAINER || tlv.offset() < body.len() {
         return None;
     }
     Some(object.value)
 }
 
-/// How many of the bytes are left from the first object on that is not lawful: 0 where all are, also those inside.
+/// How many of the bytes are left from the first malformed object on, which may be inside of one that holds lines: 0 where
+/// there is none. The number left is counted from the end, since an object inside knows nothing of what is before it.
 fn left(bytes: &[u8]) -> usize
-    ensures left { result ≡ left_of bytes.now }
+    ensures left { result ≡ bytes_left bytes.now }
     ensures bound { result ≤ length bytes.now }
 {
     let mut tlv = Tlv::over(bytes);
     while let Some(object) = next_object(&mut tlv) {
         let inside = left_inside(&object);
         if inside > 0 {
-            return inside + (bytes.len() - tlv.at());
+            return inside + (bytes.len() - tlv.offset());
         }
     }
-    bytes.len() - tlv.at()
+    bytes.len() - tlv.offset()
 }
 
-/// The same among the objects inside of one that holds lines.
+/// How many of an object's bytes are left from the first malformed object inside of it on: 0 where it holds no lines.
 fn left_inside(object: &Object<'_>) -> usize
     ensures left { result ≡ left_inside (value_of object.now) }
     ensures bound { result ≤ length object.now.value.now }
@@ -72,19 +75,19 @@ fn left_inside(object: &Object<'_>) -> usize
     }
 }
 
-/// The same of objects in which nothing is looked for.
+/// How many of the bytes are left from the first malformed object on. Nothing is looked for inside of the objects.
 fn left_over(bytes: &[u8]) -> usize
-    ensures left { result ≡ length (split_of bytes.now).rest }
+    ensures left { result ≡ length (decode_tlv_objects bytes.now).rest }
     ensures bound { result ≤ length bytes.now }
 {
     let mut tlv = Tlv::over(bytes);
     while let Some(_) = next_object(&mut tlv) {}
-    bytes.len() - tlv.at()
+    bytes.len() - tlv.offset()
 }
 
-/// The next object; `None` where no lawful one follows, and then the reader stays.
+/// The next object; `None` where no well-formed one follows, and then the reader stays.
 pub(crate) fn next_object<'a>(tlv: &mut Tlv<'a>) -> Option<Object<'a>>
-    ensures { FindsObject tlv.old result tlv.new }
+    ensures { ReturnsNextTlvObject tlv.old result tlv.new }
 {
     match tlv.next() {
         Ok(object) => object,

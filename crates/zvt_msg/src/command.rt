@@ -1,3 +1,5 @@
+//! A command to a terminal.
+
 use arrayvec::ArrayVec;
 
 /// A text line of a terminal's display, in the terminal's character set: at most 40 bytes.
@@ -6,7 +8,7 @@ pub type Line = ArrayVec<u8, 40>;
 /// The lines of a terminal's display, from the top: at most eight.
 pub type Lines = ArrayVec<Line, 8>;
 
-/// A command of the till to a terminal. A password is its six digits in three bytes, two in each, and a currency its
+/// A command to a terminal. A password is its six digits in three bytes, two in each, and a currency its
 /// number of ISO 4217.
 #[derive(Clone, Debug, PartialEq, Eq, Drop)]
 pub enum Command {
@@ -34,7 +36,7 @@ pub enum Command {
     EndOfDay {
         password: [u8; 3],
     },
-    /// `06 B0`, abort.
+    /// `06 B0`, which asks a terminal to abort its transaction (ZVT: "abort").
     Stop,
     /// `06 E0`, display of a text.
     Show {

@@ -1,28 +1,32 @@
+//! Reading a command.
+
 ghost use Rattle.std.specs.Prelude.{◌≡◌, ◌↔◌, ◌^◌, ◌<◌, ◌≤◌, length, take, drop, Some, IsNone, IfSome};
-ghost use Rattle.zvt_apdu.specs.Apdu.{value_of};
+ghost use Rattle.zvt_apdu.specs.Grammar.{value_of};
 ghost use Rattle.zvt_msg.specs.declared.command.Command.{Command};
-ghost use Rattle.zvt_msg.specs.Command.{Spells};
-ghost use Rattle.zvt_msg.specs.CommandReading.{password_of, number_of, register_of, authorise_of, reverse_of, enquire_with, end_of_day_with, stop_of, show_of, command_by, command_of};
+ghost use Rattle.zvt_msg.specs.CommandGrammar.{SpellsCommand};
+ghost use Rattle.zvt_msg.specs.CommandDecode.{decode_password, decode_bcd_number, decode_register, decode_authorise, decode_reverse, enquire_with, end_of_day_with, decode_stop, decode_show, decode_command_by, decode_command};
 
 use crate::command::Command;
-use crate::display::read_lines;
+use crate::display_reading::read_lines;
 use gw_base::bcd_read;
 use zvt_apdu::Apdu;
 
-/// The command that an APDU of a till spells.
+/// The command that an APDU to a terminal spells.
 pub fn read_command(apdu: &Apdu<'_>) -> Option<Command>
-    ensures some { (command : Command) → (result ≡ Some command) ↔ Spells (value_of apdu.now) command }
-    ensures none { IsNone result ↔ ((command : Command) → ¬ Spells (value_of apdu.now) command) }
+    ensures some { (command : Command) → (result ≡ Some command) ↔ SpellsCommand (value_of apdu.now) command }
+    ensures none { IsNone result ↔ ((command : Command) → ¬ SpellsCommand (value_of apdu.now) command) }
 
-    // The same by the function that computes it.
-    ensures front { result ≡ command_of (value_of apdu.now) }
+    // The result, by the function that computes it.
+    ensures computes { result ≡ decode_command (value_of apdu.now) }
 {
     recognise(apdu)
 }
 
-#[tactic(auto, unfolding(crate::specs::CommandReading::command_of))]
+/// What [`read_command`] returns, by the function that computes it. It is apart from it for the prover alone: the relation
+/// follows from this.
+#[tactic(auto, unfolding(crate::specs::CommandDecode::decode_command))]
 fn recognise(apdu: &Apdu<'_>) -> Option<Command>
-    ensures { result ≡ command_of (value_of apdu.now) }
+    ensures { result ≡ decode_command (value_of apdu.now) }
 {
     if apdu.class != 0x06 {
         return None;
@@ -40,7 +44,7 @@ fn recognise(apdu: &Apdu<'_>) -> Option<Command>
 }
 
 fn read_register(body: &[u8]) -> Option<Command>
-    ensures { result ≡ register_of body.now }
+    ensures { result ≡ decode_register body.now }
 {
     if body.len() < 3 {
         return None;
@@ -57,7 +61,7 @@ fn read_register(body: &[u8]) -> Option<Command>
 }
 
 fn read_authorise(body: &[u8]) -> Option<Command>
-    ensures { result ≡ authorise_of body.now }
+    ensures { result ≡ decode_authorise body.now }
 {
     let [0x04, rest @ ..] = body else {
         return None;
@@ -76,7 +80,7 @@ fn read_authorise(body: &[u8]) -> Option<Command>
 }
 
 fn read_enquire(body: &[u8]) -> Option<Command>
-    ensures { result ≡ enquire_with (password_of body.now) }
+    ensures { result ≡ enquire_with (decode_password body.now) }
 {
     Some(Command::Enquire {
         password: read_password(body)?,
@@ -84,7 +88,7 @@ fn read_enquire(body: &[u8]) -> Option<Command>
 }
 
 fn read_reverse(body: &[u8]) -> Option<Command>
-    ensures { result ≡ reverse_of body.now }
+    ensures { result ≡ decode_reverse body.now }
 {
     if body.len() < 3 {
         return None;
@@ -100,7 +104,7 @@ fn read_reverse(body: &[u8]) -> Option<Command>
 }
 
 fn read_end_of_day(body: &[u8]) -> Option<Command>
-    ensures { result ≡ end_of_day_with (password_of body.now) }
+    ensures { result ≡ end_of_day_with (decode_password body.now) }
 {
     Some(Command::EndOfDay {
         password: read_password(body)?,
@@ -108,7 +112,7 @@ fn read_end_of_day(body: &[u8]) -> Option<Command>
 }
 
 fn read_stop(body: &[u8]) -> Option<Command>
-    ensures { result ≡ stop_of body.now }
+    ensures { result ≡ decode_stop body.now }
 {
     match body {
         [] => Some(Command::Stop),
@@ -117,7 +121,7 @@ fn read_stop(body: &[u8]) -> Option<Command>
 }
 
 fn read_show(body: &[u8]) -> Option<Command>
-    ensures { result ≡ show_of body.now }
+    ensures { result ≡ decode_show body.now }
 {
     match body {
         [0xF0, 0x05, text @ ..] => Some(Command::Show {
@@ -129,7 +133,7 @@ fn read_show(body: &[u8]) -> Option<Command>
 
 /// Six digits in three bytes.
 fn read_password(bytes: &[u8]) -> Option<[u8; 3]>
-    ensures { result ≡ password_of bytes.now }
+    ensures { result ≡ decode_password bytes.now }
 {
     let [first, second, third] = bytes else {
         return None;
@@ -141,7 +145,7 @@ fn read_password(bytes: &[u8]) -> Option<[u8; 3]>
 /// The number whose digits fill so many bytes.
 fn read_number(count: usize, bytes: &[u8]) -> Option<u64>
     requires { count ≤ 6 }
-    ensures number { result ≡ number_of count bytes.now }
+    ensures number { result ≡ decode_bcd_number count bytes.now }
     ensures bound { IfSome result (λ number. number < 100 ^ count) }
 {
     if bytes.len() != count {

@@ -1,8 +1,10 @@
+//! The writing of a command.
+
 ghost use Rattle.std.specs.Prelude.{◌≡◌, ◌+◌, ◌*◌, ◌^◌, ◌<◌, ◌≤◌, [], ◌∷◌, ◌++◌, length};
 ghost use Rattle.arrayvec.specs.ArrayVec.{array_vec_len};
 ghost use Rattle.gw_base.specs.Bcd.{bcd_of};
-ghost use Rattle.zvt_msg.specs.Command.{HasDigits};
-ghost use Rattle.zvt_msg.specs.CommandWriting.{llvar_of, written_lines, instr_of, body_of, written};
+ghost use Rattle.zvt_msg.specs.CommandGrammar.{HasCommandDigits};
+ghost use Rattle.zvt_msg.specs.CommandCanonical.{canonical_llvar, canonical_display_lines, instruction_of, command_data, canonical_command};
 
 use crate::command::{Command, Line, Lines};
 use arrayvec::ArrayVec;
@@ -12,16 +14,17 @@ use zvt_apdu::write_apdu;
 /// Writes the one APDU that spells a command.
 pub fn write_command(command: &Command, out: &mut ArrayVec<u8, 512>)
     requires empty { out.old.items ≡ [] }
-    requires digits { HasDigits command.now }
-    ensures { out.new.items ≡ written command.now }
+    requires digits { HasCommandDigits command.now }
+    ensures { out.new.items ≡ canonical_command command.now }
 {
+    // The length of the data comes before them, so they are written apart first: at most 346 bytes.
     let mut body = ArrayVec::new();
     write_body(command, &mut body);
     write_apdu(0x06, instr(command), body.as_slice(), out);
 }
 
 fn instr(command: &Command) -> u8
-    ensures { result ≡ instr_of command.now }
+    ensures { result ≡ instruction_of command.now }
 {
     match command {
         Command::Register { .. } => 0x00,
@@ -36,8 +39,8 @@ fn instr(command: &Command) -> u8
 
 fn write_body(command: &Command, body: &mut ArrayVec<u8, 512>)
     requires empty { body.old.items ≡ [] }
-    requires digits { HasDigits command.now }
-    ensures body { body.new.items ≡ body_of command.now }
+    requires digits { HasCommandDigits command.now }
+    ensures body { body.new.items ≡ command_data command.now }
     ensures bound { array_vec_len body.new ≤ 346 }
 {
     match command {
@@ -76,7 +79,7 @@ fn write_bytes(bytes: &[u8], out: &mut ArrayVec<u8, 512>)
     out.try_extend_from_slice(bytes).unwrap();
 }
 
-/// The number of a field, and its value's decimal digits in so many bytes.
+/// Appends the number of a field, and its value's decimal digits in so many bytes.
 fn write_tagged(number: u8, count: usize, value: u64, out: &mut ArrayVec<u8, 512>)
     requires count { count ≤ 6 }
     requires digits { value < 100 ^ count }
@@ -88,7 +91,7 @@ fn write_tagged(number: u8, count: usize, value: u64, out: &mut ArrayVec<u8, 512
     write_number(count, value, out);
 }
 
-/// The decimal digits of a number, in so many bytes.
+/// Appends the decimal digits of a number, in so many bytes.
 fn write_number(count: usize, value: u64, out: &mut ArrayVec<u8, 512>)
     requires count { count ≤ 6 }
     requires digits { value < 100 ^ count }
@@ -104,7 +107,7 @@ fn write_number(count: usize, value: u64, out: &mut ArrayVec<u8, 512>)
 
 fn write_lines(lines: &Lines, out: &mut ArrayVec<u8, 512>)
     requires { array_vec_len out.old ≤ 2 }
-    ensures lines { out.new.items ≡ out.old.items ++ written_lines 0xF1 lines.now.items }
+    ensures lines { out.new.items ≡ out.old.items ++ canonical_display_lines 0xF1 lines.now.items }
     ensures bound { array_vec_len out.new ≤ 346 }
 {
     let mut number = 0xF1;
@@ -116,7 +119,7 @@ fn write_lines(lines: &Lines, out: &mut ArrayVec<u8, 512>)
 
 fn write_line(number: u8, line: &Line, out: &mut ArrayVec<u8, 512>)
     requires { array_vec_len out.old ≤ 400 }
-    ensures line { out.new.items ≡ out.old.items ++ number ∷ (llvar_of (array_vec_len line.now) ++ line.now.items) }
+    ensures line { out.new.items ≡ out.old.items ++ number ∷ (canonical_llvar (array_vec_len line.now) ++ line.now.items) }
     ensures len { array_vec_len out.new ≤ array_vec_len out.old + 43 }
 {
     let length = line.len() as u8;

@@ -1,14 +1,16 @@
+//! The faults of a message.
+
 use std::error::Error;
 use std::fmt;
 use zvt_bmp::FieldFault;
 use zvt_tlv::TlvFault;
 
-/// Why an APDU is no message. A place is one in the APDU's data.
+/// Why an APDU is no message. An offset is one in the APDU's data.
 #[derive(Clone, Copy, Debug, PartialEq, Eq, Hash)]
 pub enum PtFault {
     /// The first faulty field of a status.
     Field(FieldFault),
-    /// A block that is no container, told at 0, or its first object that is not lawful.
+    /// A block that is no container, reported at 0, or its first malformed object.
     Tlv(TlvFault),
 }
 

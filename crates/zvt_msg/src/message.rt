@@ -1,3 +1,5 @@
+//! A message of a terminal.
+
 use zvt_bmp::Fields;
 
 /// A message of a terminal. Texts and objects borrow from the APDU that was read.
@@ -7,7 +9,7 @@ pub enum PtMessage<'a> {
     Ack,
     /// `84 xx`, negative acknowledgement, with its code.
     Nack(u8),
-    /// `04 FF`, intermediate status, with its code; 0 where none is told.
+    /// `04 FF`, intermediate status, with its code; 0 where there is none.
     Intermediate(u8),
     /// `06 D1`, a line to print, in the terminal's character set.
     Line(&'a [u8]),
@@ -17,7 +19,7 @@ pub enum PtMessage<'a> {
     Status(Fields),
     /// `06 0F`, completion.
     Completion,
-    /// `06 1E`, abort, with its code, if one is told.
+    /// `06 1E`, abort, with its code, if there is one.
     Abort(Option<u8>),
     /// Every other APDU.
     Other,

@@ -1,12 +1,15 @@
-ghost use Rattle.std.specs.Prelude.{◌≡◌, ◌↔◌, Err};
-ghost use Rattle.zvt_apdu.specs.Apdu.{value_of};
-ghost use Rattle.zvt_bmp.specs.Reading.{fields_of};
+//! Reading a message of a terminal.
+
+ghost use Rattle.std.specs.Prelude.{◌≡◌, ◌↔◌, Err, IfOk};
+ghost use Rattle.zvt_apdu.specs.Grammar.{value_of};
+ghost use Rattle.zvt_bmp.specs.Decode.{decode_status};
 ghost use Rattle.zvt_msg.specs.declared.fault.PtFault.{PtFault};
-ghost use Rattle.zvt_msg.specs.Message.{MessageValue};
-ghost use Rattle.zvt_msg.specs.Messages.{Says, HasFault};
-ghost use Rattle.zvt_msg.specs.BlockReading.{block_of};
-ghost use Rattle.zvt_msg.specs.MessageReading.{first_of, behind_first, of_fields, of_block, told_of};
-ghost use Rattle.zvt_msg.specs.Found.{IsMessage, Answers};
+ghost use Rattle.zvt_msg.specs.Message.{MessageValue, value_of as message_value};
+ghost use Rattle.zvt_msg.specs.Numbers.{HasNumbers};
+ghost use Rattle.zvt_msg.specs.MessageGrammar.{SpellsPtMessage, HasPtFault};
+ghost use Rattle.zvt_msg.specs.BlockDecode.{decode_block};
+ghost use Rattle.zvt_msg.specs.MessageDecode.{first_byte_of, after_first_byte, status_or_fault, block_or_fault, decode_pt_message};
+ghost use Rattle.zvt_msg.specs.Results.{IsPtMessage, ReturnsPtMessage};
 
 use crate::block::read_block;
 use crate::fault::PtFault;
@@ -14,27 +17,33 @@ use crate::message::PtMessage;
 use zvt_apdu::Apdu;
 use zvt_bmp::read_fields;
 
-/// The message that an APDU of a terminal says. Its text or objects borrow from the APDU's data.
+/// The message that an APDU of a terminal spells. Its text or objects borrow from the APDU's data.
 pub fn read_pt<'a>(apdu: &Apdu<'a>) -> Result<PtMessage<'a>, PtFault>
-    ensures message { (message : MessageValue) → IsMessage result message ↔ Says (value_of apdu.now) message }
-    ensures fault { (fault : PtFault) → (result ≡ Err fault) ↔ HasFault (value_of apdu.now) fault }
+    ensures message { (message : MessageValue) → IsPtMessage result message ↔ SpellsPtMessage (value_of apdu.now) message }
+    ensures fault { (fault : PtFault) → (result ≡ Err fault) ↔ HasPtFault (value_of apdu.now) fault }
 
-    // The same by the function that computes it.
-    ensures front { Answers result (told_of (value_of apdu.now)) }
+    // The result, by the function that computes it.
+    ensures computes { ReturnsPtMessage result (decode_pt_message (value_of apdu.now)) }
+
+    // A status that was read can be written again.
+    ensures numbers { IfOk result (λ message. HasNumbers (message_value message)) }
 {
     read_message(apdu)
 }
 
-#[tactic(auto, unfolding(crate::specs::MessageReading::told_of))]
+/// What [`read_pt`] returns, by the function that computes it. It is apart from it for the prover alone: the relation
+/// follows from this.
+#[tactic(auto, unfolding(crate::specs::MessageDecode::decode_pt_message))]
 fn read_message<'a>(apdu: &Apdu<'a>) -> Result<PtMessage<'a>, PtFault>
-    ensures { Answers result (told_of (value_of apdu.now)) }
+    ensures computes { ReturnsPtMessage result (decode_pt_message (value_of apdu.now)) }
+    ensures numbers { IfOk result (λ message. HasNumbers (message_value message)) }
 {
     match (apdu.class, apdu.instr) {
         (0x80, 0x00) => Ok(PtMessage::Ack),
         (0x84, code) => Ok(PtMessage::Nack(code)),
         (0x04, 0xFF) => Ok(PtMessage::Intermediate(first(apdu.body).unwrap_or(0))),
         (0x04, 0x0F) => status(apdu.body),
-        (0x06, 0xD1) => Ok(PtMessage::Line(behind_first(apdu.body))),
+        (0x06, 0xD1) => Ok(PtMessage::Line(after_first_byte(apdu.body))),
         (0x06, 0xD3) => block(apdu.body),
         (0x06, 0x0F) => Ok(PtMessage::Completion),
         (0x06, 0x1E) => Ok(PtMessage::Abort(first(apdu.body))),
@@ -43,13 +52,13 @@ fn read_message<'a>(apdu: &Apdu<'a>) -> Result<PtMessage<'a>, PtFault>
 }
 
 fn first(body: &[u8]) -> Option<u8>
-    ensures { result ≡ first_of body.now }
+    ensures { result ≡ first_byte_of body.now }
 {
     body.first().copied()
 }
 
-fn behind_first(body: &[u8]) -> &[u8]
-    ensures { result.now ≡ behind_first body.now }
+fn after_first_byte(body: &[u8]) -> &[u8]
+    ensures { result.now ≡ after_first_byte body.now }
 {
     match body {
         [] => &[],
@@ -58,7 +67,8 @@ fn behind_first(body: &[u8]) -> &[u8]
 }
 
 fn status(body: &[u8]) -> Result<PtMessage<'_>, PtFault>
-    ensures { Answers result (of_fields (fields_of body.now)) }
+    ensures computes { ReturnsPtMessage result (status_or_fault (decode_status body.now)) }
+    ensures numbers { IfOk result (λ message. HasNumbers (message_value message)) }
 {
     match read_fields(body) {
         Ok(fields) => Ok(PtMessage::Status(fields)),
@@ -67,7 +77,8 @@ fn status(body: &[u8]) -> Result<PtMessage<'_>, PtFault>
 }
 
 fn block(body: &[u8]) -> Result<PtMessage<'_>, PtFault>
-    ensures { Answers result (of_block (block_of body.now)) }
+    ensures computes { ReturnsPtMessage result (block_or_fault (decode_block body.now)) }
+    ensures numbers { IfOk result (λ message. HasNumbers (message_value message)) }
 {
     match read_block(body) {
         Ok(objects) => Ok(PtMessage::Block(objects)),

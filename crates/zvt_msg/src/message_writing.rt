@@ -1,8 +1,10 @@
+//! The writing of a message of a terminal.
+
 ghost use Rattle.std.specs.Prelude.{◌≡◌, ◌+◌, ◌≤◌, ◌++◌, length};
 ghost use Rattle.arrayvec.specs.ArrayVec.{array_vec_len};
-ghost use Rattle.zvt_bmp.specs.Writing.{HasDigits};
+ghost use Rattle.zvt_bmp.specs.Canonical.{HasFieldDigits};
 ghost use Rattle.zvt_msg.specs.Message.{MessageValue, value_of};
-ghost use Rattle.zvt_msg.specs.MessageWriting.{HasForm, written};
+ghost use Rattle.zvt_msg.specs.MessageCanonical.{HasPtMessageForm, canonical_pt_message};
 
 use crate::block::CONTAINER;
 use crate::message::PtMessage;
@@ -14,9 +16,9 @@ use zvt_tlv::write_object;
 /// Appends the one APDU of a message: a line with the attribute 0, a block with the shortest length, a status with its
 /// known fields alone.
 pub fn write_pt(message: &PtMessage<'_>, out: &mut ArrayVec<u8, 512>)
-    requires form { HasForm (value_of message.now) }
-    requires fits { array_vec_len out.old + length (written (value_of message.now)) ≤ 512 }
-    ensures { out.new.items ≡ out.old.items ++ written (value_of message.now) }
+    requires form { HasPtMessageForm (value_of message.now) }
+    requires fits { array_vec_len out.old + length (canonical_pt_message (value_of message.now)) ≤ 512 }
+    ensures { out.new.items ≡ out.old.items ++ canonical_pt_message (value_of message.now) }
 {
     match message {
         PtMessage::Ack => write_apdu(0x80, 0x00, &[], out),
@@ -28,13 +30,15 @@ pub fn write_pt(message: &PtMessage<'_>, out: &mut ArrayVec<u8, 512>)
         PtMessage::Completion => write_apdu(0x06, 0x0F, &[], out),
         PtMessage::Abort(None) => write_apdu(0x06, 0x1E, &[], out),
         PtMessage::Abort(Some(code)) => write_apdu(0x06, 0x1E, &[*code], out),
+        // `Other` has no spelling, so that the condition rules it out.
         PtMessage::Other => unreachable!(),
     }
 }
 
+/// A line has an attribute byte before its text; 0 asks for none.
 fn write_line(text: &[u8], out: &mut ArrayVec<u8, 512>)
-    requires { array_vec_len out.old + length (written (MessageValue.Line text.now)) ≤ 512 }
-    ensures { out.new.items ≡ out.old.items ++ written (MessageValue.Line text.now) }
+    requires { array_vec_len out.old + length (canonical_pt_message (MessageValue.Line text.now)) ≤ 512 }
+    ensures { out.new.items ≡ out.old.items ++ canonical_pt_message (MessageValue.Line text.now) }
 {
     let mut body: ArrayVec<u8, 512> = ArrayVec::new();
     body.push(0x00);
@@ -43,8 +47,8 @@ fn write_line(text: &[u8], out: &mut ArrayVec<u8, 512>)
 }
 
 fn write_block(objects: &[u8], out: &mut ArrayVec<u8, 512>)
-    requires { array_vec_len out.old + length (written (MessageValue.Block objects.now)) ≤ 512 }
-    ensures { out.new.items ≡ out.old.items ++ written (MessageValue.Block objects.now) }
+    requires { array_vec_len out.old + length (canonical_pt_message (MessageValue.Block objects.now)) ≤ 512 }
+    ensures { out.new.items ≡ out.old.items ++ canonical_pt_message (MessageValue.Block objects.now) }
 {
     let mut body = ArrayVec::new();
     write_object(CONTAINER, objects, &mut body);
@@ -52,9 +56,9 @@ fn write_block(objects: &[u8], out: &mut ArrayVec<u8, 512>)
 }
 
 fn write_status(fields: &Fields, out: &mut ArrayVec<u8, 512>)
-    requires digits { HasDigits fields.now }
-    requires fits { array_vec_len out.old + length (written (MessageValue.Status fields.now)) ≤ 512 }
-    ensures { out.new.items ≡ out.old.items ++ written (MessageValue.Status fields.now) }
+    requires digits { HasFieldDigits fields.now }
+    requires fits { array_vec_len out.old + length (canonical_pt_message (MessageValue.Status fields.now)) ≤ 512 }
+    ensures { out.new.items ≡ out.old.items ++ canonical_pt_message (MessageValue.Status fields.now) }
 {
     let mut body = ArrayVec::new();
     write_fields(fields, &mut body);

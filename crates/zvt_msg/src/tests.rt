@@ -1,6 +1,8 @@
+//! Tests: messages, faults, lines, commands, and what is written.
+
 ghost use Rattle.std.specs.Prelude.{◌≤◌, length};
 ghost use Rattle.zvt_msg.specs.Message.{value_of};
-ghost use Rattle.zvt_msg.specs.MessageWriting.{HasForm, written};
+ghost use Rattle.zvt_msg.specs.MessageCanonical.{HasPtMessageForm, canonical_pt_message};
 
 use crate::{
     Command, Line, Lines, Lines437, PtFault, PtMessage, law_commands, read_command, read_pt,
@@ -12,6 +14,25 @@ use std::test::Fail;
 use zvt_apdu::Apdu;
 use zvt_bmp::{FieldFault, Fields};
 use zvt_tlv::TlvFault;
+
+/// The example of the crate's documentation.
+#[test]
+fn the_example(rt: HostRuntime) {
+    let apdu = Apdu {
+        class: 0x84,
+        instr: 0x83,
+        body: b"",
+    };
+    assert_eq!(rt; read_pt(&apdu), Ok(PtMessage::Nack(0x83)));
+    let mut out = ArrayVec::new();
+    let command = Command::Authorise {
+        amount: 1_099,
+        currency: 978,
+    };
+    write_command(&command, &mut out);
+    let bytes = b"\x06\x01\x0a\x04\x00\x00\x00\x00\x10\x99\x49\x09\x78";
+    assert!(rt; out.as_slice() == bytes.as_slice());
+}
 
 #[test]
 fn messages(rt: HostRuntime) {
@@ -226,10 +247,62 @@ fn commands(rt: HostRuntime) -> Result<(), Fail> {
             instr: *instr,
             body,
         };
-        let (read, written) = read_and_written(&apdu).ok_or("no command")?;
+        let (read, canonical_pt_message) = read_and_written(&apdu).ok_or("no command")?;
         assert!(rt; read == command);
-        assert!(rt; written.as_slice() == bytes);
+        assert!(rt; canonical_pt_message.as_slice() == bytes);
     }
+    Ok(())
+}
+
+/// Eight lines of 40 characters: 346 bytes of data, whose length takes the long form.
+#[test]
+fn long_display(rt: HostRuntime) -> Result<(), Fail> {
+    let mut lines = Lines::new();
+    for _ in 0..8 {
+        lines.try_push(Line::try_from([0x41; 40].as_slice())?)?;
+    }
+    let mut bytes = [0x41; 351];
+    bytes[..7].copy_from_slice(b"\x06\xe0\xff\x5a\x01\xf0\x05");
+    for (number, line) in (0xF1..=0xF8).zip(bytes[7..].chunks_exact_mut(43)) {
+        line[0] = number;
+        line[1] = 0xF4;
+        line[2] = 0xF0;
+    }
+    let apdu = Apdu {
+        class: 0x06,
+        instr: 0xE0,
+        body: &bytes[5..],
+    };
+    let (read, written) = read_and_written(&apdu).ok_or("no command")?;
+    assert!(rt; read == Command::Show { lines });
+    assert!(rt; written.as_slice() == bytes.as_slice());
+    Ok(())
+}
+
+/// Five lines of 40 characters and one of 35: 255 bytes of data, the fewest whose length takes the long form.
+#[test]
+fn shortest_long_display(rt: HostRuntime) -> Result<(), Fail> {
+    let mut lines = Lines::new();
+    for _ in 0..5 {
+        lines.try_push(Line::try_from([0x41; 40].as_slice())?)?;
+    }
+    lines.try_push(Line::try_from([0x41; 35].as_slice())?)?;
+    let mut bytes = [0x41; 260];
+    bytes[..7].copy_from_slice(b"\x06\xe0\xff\xff\x00\xf0\x05");
+    bytes[222..225].copy_from_slice(b"\xf6\xf3\xf5");
+    for (number, line) in (0xF1..=0xF5).zip(bytes[7..222].chunks_exact_mut(43)) {
+        line[0] = number;
+        line[1] = 0xF4;
+        line[2] = 0xF0;
+    }
+    let apdu = Apdu {
+        class: 0x06,
+        instr: 0xE0,
+        body: &bytes[5..],
+    };
+    let (read, written) = read_and_written(&apdu).ok_or("no command")?;
+    assert!(rt; read == Command::Show { lines });
+    assert!(rt; written.as_slice() == bytes.as_slice());
     Ok(())
 }
 
@@ -255,8 +328,8 @@ fn no_commands(rt: HostRuntime) {
 }
 
 fn check_written(rt: &impl Abort, message: &PtMessage<'_>, bytes: &[u8])
-    requires form { HasForm (value_of message.now) }
-    requires fits { length (written (value_of message.now)) ≤ 512 }
+    requires form { HasPtMessageForm (value_of message.now) }
+    requires fits { length (canonical_pt_message (value_of message.now)) ≤ 512 }
 {
     let mut out = ArrayVec::new();
     write_pt(message, &mut out);

@@ -1,5 +1,7 @@
-pub mod After
-pub mod Ends
-pub mod EndsLaws
-pub mod Last
-pub mod Stops
+pub mod EndLawLemmas
+pub mod EndLemmas
+pub mod LimitLemmas
+pub mod StatusLemmas
+pub mod StepLemmas
+pub mod StopLemmas
+pub mod WishLemmas

@@ -1,17 +1,17 @@
--- What came in a dialogue since its command was sent, and what it says.
+-- What came in a dialogue since its command was sent, and what follows from it.
 use Rattle.std.specs.Prelude.{ℕ, ℤ, pos, ◌+ℤ◌, Bool, true, false, not, ◌&&◌, ◌==◌, List, [], ◌∷◌, Option, None, Some, if◌then◌else◌}
 use Rattle.std.specs.List.{list_any, filter_map, last_or}
 use Rattle.zvt_bmp.specs.declared.fields.Fields.{Fields}
 use Rattle.zvt_msg.specs.Message.{MessageValue, Ack, Nack, Intermediate, Line, Block, Status, Completion, Abort, Other}
-use Rattle.zvt_talk.specs.declared.kind.Kind.{Kind}
+use Rattle.zvt_talk.specs.declared.dialogue_kind.DialogueKind.{DialogueKind}
 use Rattle.zvt_talk.specs.Dialogue.{Dialogue, is_display}
 
 -- what comes in a dialogue, one after another
 pub data Came : Type 0 where
   -- a message of the terminal, at this moment
   Message : (message : MessageValue) → (at : ℤ) → Came
-  -- a wish to abort what the dialogue serves
-  Wish : Came
+  -- a stop is wished of what the dialogue serves
+  StopWished : Came
 
 -- ---- messages
 
@@ -40,38 +40,38 @@ is_ack (Abort code) = false
 is_ack Other = false
 
 -- a completion or an abort by the terminal: the first of these ends a dialogue that was begun
-abbrev pub is_last : MessageValue → Bool
-is_last Ack = false
-is_last (Nack code) = false
-is_last (Intermediate code) = false
-is_last (Line text) = false
-is_last (Block objects) = false
-is_last (Status fields) = false
-is_last Completion = true
-is_last (Abort code) = true
-is_last Other = false
+abbrev pub is_completion_or_abort : MessageValue → Bool
+is_completion_or_abort Ack = false
+is_completion_or_abort (Nack code) = false
+is_completion_or_abort (Intermediate code) = false
+is_completion_or_abort (Line text) = false
+is_completion_or_abort (Block objects) = false
+is_completion_or_abort (Status fields) = false
+is_completion_or_abort Completion = true
+is_completion_or_abort (Abort code) = true
+is_completion_or_abort Other = false
 
 -- the fields of a status
-abbrev pub fields_of : MessageValue → Option Fields
-fields_of Ack = None
-fields_of (Nack code) = None
-fields_of (Intermediate code) = None
-fields_of (Line text) = None
-fields_of (Block objects) = None
-fields_of (Status fields) = Some fields
-fields_of Completion = None
-fields_of (Abort code) = None
-fields_of Other = None
+abbrev pub status_fields_of : MessageValue → Option Fields
+status_fields_of Ack = None
+status_fields_of (Nack code) = None
+status_fields_of (Intermediate code) = None
+status_fields_of (Line text) = None
+status_fields_of (Block objects) = None
+status_fields_of (Status fields) = Some fields
+status_fields_of Completion = None
+status_fields_of (Abort code) = None
+status_fields_of Other = None
 
 -- a message that is taken
 abbrev pub taken_message : Came → Option MessageValue
 taken_message (Message message at) = if is_taken message then Some message else None
-taken_message Wish = None
+taken_message StopWished = None
 
 -- the moment of a message that is taken
 abbrev pub taken_moment : Came → Option ℤ
 taken_moment (Message message at) = if is_taken message then Some at else None
-taken_moment Wish = None
+taken_moment StopWished = None
 
 -- the messages that the dialogue took, the oldest first
 abbrev pub messages : List Came → List MessageValue
@@ -85,7 +85,7 @@ moments came = filter_map taken_moment came
 
 -- the statuses heard, the oldest first
 abbrev pub statuses : List Came → List Fields
-statuses came = filter_map fields_of (messages came)
+statuses came = filter_map status_fields_of (messages came)
 
 -- the last status heard
 abbrev pub last_status : List Came → Option Fields
@@ -108,34 +108,34 @@ is_asked [] = true
 is_asked (message ∷ more) = false
 
 -- the first message taken acknowledges the command, and more is to come, as in each dialogue but a display
-abbrev pub was_begun : Kind → List MessageValue → Bool
+abbrev pub was_begun : DialogueKind → List MessageValue → Bool
 was_begun kind [] = false
 was_begun kind (message ∷ more) = is_ack message && not (is_display kind)
 
 -- the dialogue was begun, and goes on
-abbrev pub is_begun : Kind → List MessageValue → Bool
-is_begun kind taken = was_begun kind taken && not (list_any is_last taken)
+abbrev pub is_begun : DialogueKind → List MessageValue → Bool
+is_begun kind taken = was_begun kind taken && not (list_any is_completion_or_abort taken)
 
 -- it is neither asked nor begun
-abbrev pub has_ended : Kind → List MessageValue → Bool
+abbrev pub has_ended : DialogueKind → List MessageValue → Bool
 has_ended kind taken = not (is_asked taken) && not (is_begun kind taken)
 
--- an abort was wished, and no completion or abort came before
-abbrev pub is_wished : List Came → Bool
-is_wished [] = false
-is_wished (Wish ∷ came) = true
-is_wished (Message message at ∷ came) = not (is_last message) && is_wished came
+-- a stop was wished, and no completion or abort came before
+abbrev pub is_stop_wished : List Came → Bool
+is_stop_wished [] = false
+is_stop_wished (StopWished ∷ came) = true
+is_stop_wished (Message message at ∷ came) = not (is_completion_or_abort message) && is_stop_wished came
 
--- `06 B0` was sent: an abort was wished in time, and the dialogue was begun
-abbrev pub is_stopped : Kind → List Came → Bool
-is_stopped kind came = was_begun kind (messages came) && is_wished came
+-- `06 B0` was sent: a stop was wished in time, and the dialogue was begun
+abbrev pub is_stop_sent : DialogueKind → List Came → Bool
+is_stop_sent kind came = was_begun kind (messages came) && is_stop_wished came
 
 -- ---- the deadline
 
--- so many seconds for the first answer, and then so many from the last message taken
+-- so many seconds until the first message, and then so many from the last message taken
 abbrev pub due : Dialogue → Option ℤ → ℤ
-due dialogue None = dialogue.sent +ℤ pos dialogue.answer
-due dialogue (Some at) = at +ℤ pos dialogue.pause
+due dialogue None = dialogue.sent +ℤ pos dialogue.answer_time
+due dialogue (Some at) = at +ℤ pos dialogue.command_time
 
 -- the moment until which the terminal may be silent
 abbrev pub deadline : Dialogue → List Came → ℤ

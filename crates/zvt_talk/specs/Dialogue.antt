@@ -3,37 +3,37 @@ use Rattle.std.specs.Prelude.{ℕ, ℤ, Bool, true, false, Option, None, Some}
 use Rattle.std.specs.Option.{option_map}
 use Rattle.zvt_msg.specs.declared.command.Command.{Command}
 use Rattle.zvt_msg.specs.declared.command.Command.TheVariants as command
-use Rattle.zvt_talk.specs.declared.kind.Kind.{Kind}
-use Rattle.zvt_talk.specs.declared.kind.Kind.TheVariants.{Registration, Enquiry, Payment, Reversal, EndOfDay, Display}
+use Rattle.zvt_talk.specs.declared.dialogue_kind.DialogueKind.{DialogueKind}
+use Rattle.zvt_talk.specs.declared.dialogue_kind.DialogueKind.TheVariants.{Registration, Enquiry, Payment, Reversal, EndOfDay, Display}
 
--- the dialogue that a command begins; the abort of one begins none
-abbrev pub kind_of : Command → Option Kind
-kind_of (command.Register password config currency) = Some Registration
-kind_of (command.Authorise amount currency) = Some Payment
-kind_of (command.Enquire password) = Some Enquiry
-kind_of (command.Reverse password receipt) = Some Reversal
-kind_of (command.EndOfDay password) = Some EndOfDay
-kind_of command.Stop = None
-kind_of (command.Show lines) = Some Display
+-- the dialogue that a command begins; a stop begins none
+abbrev pub dialogue_kind_of : Command → Option DialogueKind
+dialogue_kind_of (command.Register password config currency) = Some Registration
+dialogue_kind_of (command.Authorise amount currency) = Some Payment
+dialogue_kind_of (command.Enquire password) = Some Enquiry
+dialogue_kind_of (command.Reverse password receipt) = Some Reversal
+dialogue_kind_of (command.EndOfDay password) = Some EndOfDay
+dialogue_kind_of command.Stop = None
+dialogue_kind_of (command.Show lines) = Some Display
 
 -- one dialogue, with the limits on its silence
 pub record Dialogue : Type 0 where
-  pub kind : Kind
-  -- the code by which the terminal tells an enquiry that it has no transaction
+  pub kind : DialogueKind
+  -- the code by which the terminal reports to an enquiry that it has no transaction
   pub none : ℕ
-  -- the seconds for the first answer, and those from one message to the next
-  pub answer : ℕ
-  pub pause : ℕ
+  -- the seconds until the command is answered, and those from one message to the next
+  pub answer_time : ℕ
+  pub command_time : ℕ
   -- the moment at which the command was sent
   pub sent : ℤ
 
 -- the dialogue of a command
 abbrev pub dialogue_of : Command → ℕ → ℕ → ℕ → ℤ → Option Dialogue
-dialogue_of command none answer pause sent =
-    option_map (λ kind. record { kind = kind; none = none; answer = answer; pause = pause; sent = sent }) (kind_of command)
+dialogue_of command none answer_time command_time sent =
+    option_map (λ kind. record { kind = kind; none = none; answer_time = answer_time; command_time = command_time; sent = sent }) (dialogue_kind_of command)
 
 -- the terminal answers a display with an acknowledgement alone, and with it the dialogue is done
-abbrev pub is_display : Kind → Bool
+abbrev pub is_display : DialogueKind → Bool
 is_display Registration = false
 is_display Enquiry = false
 is_display Payment = false

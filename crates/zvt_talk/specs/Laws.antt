@@ -1,18 +1,18 @@
 -- What the table says, in words of its own.
-use Rattle.std.specs.Prelude.{◌≡◌, ◌≢◌, ℕ, ◌≤◌, ◌⊎◌, Bool, false, List, [], Option, None, Some, IsTrue}
-use Rattle.gw_base.specs.declared.money.Figures.{Figures}
+use Rattle.std.specs.Prelude.{◌≡◌, ◌≢◌, ℕ, ◌≤◌, ◌⊎◌, Bool, false, List, [], ◌∷◌, Option, None, Some, IsTrue}
+use Rattle.gw_base.specs.declared.figures.Figures.{Figures}
 use Rattle.zvt_bmp.specs.declared.fields.Fields.{Fields}
 use Rattle.zvt_msg.specs.Message.{MessageValue, Ack, Nack, Intermediate, Line, Block, Status, Completion, Abort, Other}
-use Rattle.zvt_talk.specs.declared.kind.Kind.{Kind}
-use Rattle.zvt_talk.specs.declared.kind.Kind.TheVariants.{Registration, Enquiry, Payment, Reversal, EndOfDay, Display}
-use Rattle.zvt_talk.specs.declared.heard.Heard.{Heard}
-use Rattle.zvt_talk.specs.declared.heard.Heard.TheVariants as heard
+use Rattle.zvt_talk.specs.declared.dialogue_kind.DialogueKind.{DialogueKind}
+use Rattle.zvt_talk.specs.declared.dialogue_kind.DialogueKind.TheVariants.{Registration, Enquiry, Payment, Reversal, EndOfDay, Display}
+use Rattle.zvt_talk.specs.declared.meaning.Heard.{Heard}
+use Rattle.zvt_talk.specs.declared.meaning.Heard.TheVariants as heard
 use Rattle.zvt_talk.specs.Dialogue.{Dialogue}
-use Rattle.zvt_talk.specs.Came.{Came, messages, statuses, last_status, said_approved}
+use Rattle.zvt_talk.specs.Came.{Came, Message, StopWished, messages, statuses, last_status, said_approved}
 use Rattle.zvt_talk.specs.Table.{trace_of}
 
 -- a payment or a reversal
-abbrev pub IsTransaction : Kind → Type 0
+abbrev pub IsTransaction : DialogueKind → Type 0
 IsTransaction Registration = ⊥
 IsTransaction Enquiry = ⊥
 IsTransaction Payment = Unit {0}
@@ -21,7 +21,7 @@ IsTransaction EndOfDay = ⊥
 IsTransaction Display = ⊥
 
 -- an enquiry
-abbrev pub IsEnquiry : Kind → Type 0
+abbrev pub IsEnquiry : DialogueKind → Type 0
 IsEnquiry Registration = ⊥
 IsEnquiry Enquiry = Unit {0}
 IsEnquiry Payment = ⊥
@@ -30,7 +30,7 @@ IsEnquiry EndOfDay = ⊥
 IsEnquiry Display = ⊥
 
 -- a registration or an end of day
-abbrev pub IsService : Kind → Type 0
+abbrev pub IsService : DialogueKind → Type 0
 IsService Registration = Unit {0}
 IsService Enquiry = ⊥
 IsService Payment = ⊥
@@ -39,13 +39,22 @@ IsService EndOfDay = Unit {0}
 IsService Display = ⊥
 
 -- an enquiry or a display
-abbrev pub IsEnquiryOrDisplay : Kind → Type 0
+abbrev pub IsEnquiryOrDisplay : DialogueKind → Type 0
 IsEnquiryOrDisplay Registration = ⊥
 IsEnquiryOrDisplay Enquiry = Unit {0}
 IsEnquiryOrDisplay Payment = ⊥
 IsEnquiryOrDisplay Reversal = ⊥
 IsEnquiryOrDisplay EndOfDay = ⊥
 IsEnquiryOrDisplay Display = Unit {0}
+
+-- any other dialogue than a display
+abbrev pub IsNoDisplay : DialogueKind → Type 0
+IsNoDisplay Registration = Unit {0}
+IsNoDisplay Enquiry = Unit {0}
+IsNoDisplay Payment = Unit {0}
+IsNoDisplay Reversal = Unit {0}
+IsNoDisplay EndOfDay = Unit {0}
+IsNoDisplay Display = ⊥
 
 -- the status has full figures, and they are these
 pub record HasFigures (status : Fields) (figures : Figures) : Type 0 where
@@ -64,7 +73,7 @@ pub record Approves (dialogue : Dialogue) (came : List Came) (message : MessageV
   pub approved : status.result ≡ Some 0
   pub full : HasFigures status figures
 
--- the answer to the command is a refusal
+-- the command is refused at once
 pub record RefusedAtOnce (came : List Came) (message : MessageValue) (code : ℕ) (number : Option ℕ) : Type 0 where
   pub asked : messages came ≡ []
   pub refusal : message ≡ Nack code
@@ -82,8 +91,8 @@ pub record RefusedLater (came : List Came) (message : MessageValue) (code : ℕ)
   pub its_number : number ≡ trace_of (last_status came)
 
 -- the terminal refuses with this code, which isn't 00
-abbrev pub Refuses : List Came → MessageValue → ℕ → Option ℕ → Type 0
-Refuses came message code number = (code ≢ 0) × (RefusedAtOnce came message code number ⊎ RefusedLater came message code number)
+abbrev pub RefusesCommand : List Came → MessageValue → ℕ → Option ℕ → Type 0
+RefusesCommand came message code number = (code ≢ 0) × (RefusedAtOnce came message code number ⊎ RefusedLater came message code number)
 
 -- a result that isn't there, or 00
 abbrev pub IsNoRefusal : Option ℕ → Type 0
@@ -96,25 +105,25 @@ HasNoRefusal None = Unit {0}
 HasNoRefusal (Some status) = IsNoRefusal status.result
 
 -- an acknowledgement or a refusal
-abbrev pub IsAnswer : MessageValue → Type 0
-IsAnswer message = (message ≡ Ack) ⊎ ((code : ℕ) × (message ≡ Nack code))
+abbrev pub IsAckOrNack : MessageValue → Type 0
+IsAckOrNack message = (message ≡ Ack) ⊎ ((code : ℕ) × (message ≡ Nack code))
 
--- an approved transaction is told with full figures, another one without
-abbrev pub ToldWith : Fields → ℕ → Option Figures → Type 0
-ToldWith status code None = code ≢ 0
-ToldWith status code (Some figures) = (code ≡ 0) × HasFigures status figures
+-- an approved transaction is reported with full figures, another one without
+abbrev pub IsReportedWith : Fields → ℕ → Option Figures → Type 0
+IsReportedWith status code None = code ≢ 0
+IsReportedWith status code (Some figures) = (code ≡ 0) × HasFigures status figures
 
 -- the last transaction is the one of the last status
-pub record TellsLast (came : List Came) (message : MessageValue) (number : ℕ) (approved : Option Figures) (code : ℕ) : Type 0 where
+pub record ReportsLastTransaction (came : List Came) (message : MessageValue) (number : ℕ) (approved : Option Figures) (code : ℕ) : Type 0 where
   pub completion : message ≡ Completion
   pub status : Fields
   pub last : last_status came ≡ Some status
   pub its_code : status.result ≡ Some code
   pub its_number : status.trace ≡ Some number
-  pub told : ToldWith status code approved
+  pub told : IsReportedWith status code approved
 
 -- there is no transaction: no status was heard, and the terminal aborts with the configured code
-pub record TellsNone (dialogue : Dialogue) (came : List Came) (message : MessageValue) (number : ℕ) (approved : Option Figures) (code : ℕ) : Type 0 where
+pub record ReportsNoTransaction (dialogue : Dialogue) (came : List Came) (message : MessageValue) (number : ℕ) (approved : Option Figures) (code : ℕ) : Type 0 where
   pub begun : messages came ≢ []
   pub abort : message ≡ Abort (Some code)
   pub configured : code ≡ dialogue.none
@@ -125,17 +134,17 @@ pub record TellsNone (dialogue : Dialogue) (came : List Came) (message : Message
 
 -- ---- what leaves open how a dialogue ended
 
--- no answer to a command: neither an acknowledgement nor a refusal with a code above 00, and not outside the table
-abbrev pub IsNoAnswer : MessageValue → Type 0
-IsNoAnswer Ack = ⊥
-IsNoAnswer (Nack code) = code ≡ 0
-IsNoAnswer (Intermediate code) = Unit {0}
-IsNoAnswer (Line text) = Unit {0}
-IsNoAnswer (Block objects) = Unit {0}
-IsNoAnswer (Status fields) = Unit {0}
-IsNoAnswer Completion = Unit {0}
-IsNoAnswer (Abort code) = Unit {0}
-IsNoAnswer Other = ⊥
+-- no clear reply to a command: neither an acknowledgement nor a refusal with a code above 00, and not outside the table
+abbrev pub LeavesCommandUnclear : MessageValue → Type 0
+LeavesCommandUnclear Ack = ⊥
+LeavesCommandUnclear (Nack code) = code ≡ 0
+LeavesCommandUnclear (Intermediate code) = Unit {0}
+LeavesCommandUnclear (Line text) = Unit {0}
+LeavesCommandUnclear (Block objects) = Unit {0}
+LeavesCommandUnclear (Status fields) = Unit {0}
+LeavesCommandUnclear Completion = Unit {0}
+LeavesCommandUnclear (Abort code) = Unit {0}
+LeavesCommandUnclear Other = ⊥
 
 -- the terminal aborts without a code, or with 00
 abbrev pub AbortsWithoutCode : MessageValue → Type 0
@@ -219,7 +228,7 @@ IsServiceEnd heard.Unclear = Unit {0}
 IsServiceEnd heard.Stray = ⊥
 
 -- the ends that a dialogue of this kind may have
-abbrev pub IsEndOf : Kind → Heard → Type 0
+abbrev pub IsEndOf : DialogueKind → Heard → Type 0
 IsEndOf Registration end = IsServiceEnd end
 IsEndOf Enquiry end = IsEnquiryEnd end
 IsEndOf Payment end = IsTransactionEnd end
@@ -227,16 +236,48 @@ IsEndOf Reversal end = IsTransactionEnd end
 IsEndOf EndOfDay end = IsServiceEnd end
 IsEndOf Display end = IsServiceEnd end
 
--- this tells that `06 B0` is to be sent now
-abbrev pub tells_stop : Heard → Bool
-tells_stop (heard.Begun stop) = stop
-tells_stop (heard.Note code) = false
-tells_stop heard.Line = false
-tells_stop heard.Block = false
-tells_stop heard.Seen = false
-tells_stop (heard.Approved figures) = false
-tells_stop heard.Done = false
-tells_stop (heard.Told number approved code) = false
-tells_stop (heard.Declined code number) = false
-tells_stop heard.Unclear = false
-tells_stop heard.Stray = false
+-- this says that `06 B0` is to be sent now
+abbrev pub says_stop : Heard → Bool
+says_stop (heard.Begun stop) = stop
+says_stop (heard.Note code) = false
+says_stop heard.Line = false
+says_stop heard.Block = false
+says_stop heard.Seen = false
+says_stop (heard.Approved figures) = false
+says_stop heard.Done = false
+says_stop (heard.Told number approved code) = false
+says_stop (heard.Declined code number) = false
+says_stop heard.Unclear = false
+says_stop heard.Stray = false
+
+-- ---- what goes on
+
+-- no stop was wished
+abbrev pub HasNoWish : List Came → Type 0
+HasNoWish [] = Unit {0}
+HasNoWish (Message message at ∷ came) = HasNoWish came
+HasNoWish (StopWished ∷ came) = ⊥
+
+-- a stop was wished
+abbrev pub HasWish : List Came → Type 0
+HasWish [] = ⊥
+HasWish (Message message at ∷ came) = HasWish came
+HasWish (StopWished ∷ came) = Unit {0}
+
+-- the command, which is no display, is acknowledged
+pub record AcknowledgesCommand (dialogue : Dialogue) (came : List Came) (message : MessageValue) : Type 0 where
+  pub asked : messages came ≡ []
+  pub acknowledgement : message ≡ Ack
+  pub no_display : IsNoDisplay dialogue.kind
+
+-- the command was answered, and this is a line
+abbrev pub BringsLine : List Came → MessageValue → Type 0
+BringsLine came message = (messages came ≢ []) × ((text : List ℕ) × (message ≡ Line text))
+
+-- the command was answered, and this is a block
+abbrev pub BringsBlock : List Came → MessageValue → Type 0
+BringsBlock came message = (messages came ≢ []) × ((objects : List ℕ) × (message ≡ Block objects))
+
+-- the command was answered, and this is a status
+abbrev pub BringsStatus : List Came → MessageValue → Type 0
+BringsStatus came message = (messages came ≢ []) × ((fields : Fields) × (message ≡ Status fields))

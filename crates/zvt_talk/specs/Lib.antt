@@ -1,6 +1,7 @@
-pub mod Dialogue
 pub mod Came
+pub mod Dialogue
+pub mod Laws
+pub mod Limits
 pub mod Table
 pub mod Talk
-pub mod Kept
-pub mod Laws
+pub mod TalkSteps

@@ -1,16 +1,16 @@
 -- The table of the dialogue: what a message means, by the phase, by the command, and by the statuses heard before it.
 use Rattle.std.specs.Prelude.{ℕ, Bool, true, false, ◌&&◌, ◌==◌, nat_le, Option, None, Some, if◌then◌else◌}
-use Rattle.gw_base.specs.declared.money.Figures.{Figures}
+use Rattle.gw_base.specs.declared.figures.Figures.{Figures}
 use Rattle.zvt_bmp.specs.declared.fields.Fields.{Fields}
 use Rattle.zvt_msg.specs.Message.{MessageValue, Ack, Nack, Intermediate, Line, Block, Status, Completion, Abort, Other}
-use Rattle.zvt_talk.specs.declared.kind.Kind.{Kind}
-use Rattle.zvt_talk.specs.declared.kind.Kind.TheVariants.{Registration, Enquiry, Payment, Reversal, EndOfDay, Display}
-use Rattle.zvt_talk.specs.declared.heard.Heard.{Heard}
-use Rattle.zvt_talk.specs.declared.heard.Heard.TheVariants as heard
+use Rattle.zvt_talk.specs.declared.dialogue_kind.DialogueKind.{DialogueKind}
+use Rattle.zvt_talk.specs.declared.dialogue_kind.DialogueKind.TheVariants.{Registration, Enquiry, Payment, Reversal, EndOfDay, Display}
+use Rattle.zvt_talk.specs.declared.meaning.Heard.{Heard}
+use Rattle.zvt_talk.specs.declared.meaning.Heard.TheVariants as heard
 use Rattle.zvt_talk.specs.declared.statuses.Statuses.{Statuses}
 use Rattle.zvt_talk.specs.Dialogue.{is_display}
 
--- ---- what the last status tells
+-- ---- what follows from the last status
 
 -- no figures where the number or the amount is 0
 abbrev pub positive_figures : ℕ → ℕ → ℕ → Option Figures
@@ -42,24 +42,24 @@ abbrev pub declined_unless : Bool → Statuses → ℕ → Heard
 declined_unless true statuses code = heard.Unclear
 declined_unless false statuses code = declined statuses code
 
--- ---- asked: the answer to the command
+-- ---- asked: the first message after the command
 
--- a display is done; else the dialogue is begun, and `06 B0` is sent where an abort was wished
+-- a display is done; else the dialogue is begun, and `06 B0` is sent where a stop was wished
 abbrev pub acknowledged : Bool → Bool → Heard
-acknowledged true wished = heard.Done
-acknowledged false wished = heard.Begun wished
+acknowledged true stop_wished = heard.Done
+acknowledged false stop_wished = heard.Begun stop_wished
 
--- `wished`: an abort was wished
-abbrev pub first_answer : Kind → Bool → MessageValue → Heard
-first_answer kind wished Ack = acknowledged (is_display kind) wished
-first_answer kind wished (Nack code) = if code == 0 then heard.Unclear else heard.Declined code None
-first_answer kind wished (Intermediate code) = heard.Unclear
-first_answer kind wished (Line text) = heard.Unclear
-first_answer kind wished (Block objects) = heard.Unclear
-first_answer kind wished (Status fields) = heard.Unclear
-first_answer kind wished Completion = heard.Unclear
-first_answer kind wished (Abort code) = heard.Unclear
-first_answer kind wished Other = heard.Stray
+-- by whether a stop was wished
+abbrev pub meaning_when_asked : DialogueKind → Bool → MessageValue → Heard
+meaning_when_asked kind stop_wished Ack = acknowledged (is_display kind) stop_wished
+meaning_when_asked kind stop_wished (Nack code) = if code == 0 then heard.Unclear else heard.Declined code None
+meaning_when_asked kind stop_wished (Intermediate code) = heard.Unclear
+meaning_when_asked kind stop_wished (Line text) = heard.Unclear
+meaning_when_asked kind stop_wished (Block objects) = heard.Unclear
+meaning_when_asked kind stop_wished (Status fields) = heard.Unclear
+meaning_when_asked kind stop_wished Completion = heard.Unclear
+meaning_when_asked kind stop_wished (Abort code) = heard.Unclear
+meaning_when_asked kind stop_wished Other = heard.Stray
 
 -- ---- begun: an abort by the terminal
 
@@ -69,18 +69,18 @@ enquiry_aborted none None code = if code == none then heard.Told 0 None code els
 enquiry_aborted none (Some status) code = heard.Unclear
 
 -- by the dialogue; a display is never begun
-abbrev pub aborted_with : Kind → ℕ → Statuses → ℕ → Heard
-aborted_with Registration none statuses code = declined statuses code
-aborted_with Enquiry none statuses code = enquiry_aborted none statuses.last code
-aborted_with Payment none statuses code = declined_unless statuses.approved statuses code
-aborted_with Reversal none statuses code = declined_unless statuses.approved statuses code
-aborted_with EndOfDay none statuses code = declined statuses code
-aborted_with Display none statuses code = heard.Unclear
+abbrev pub meaning_of_abort_with : DialogueKind → ℕ → Statuses → ℕ → Heard
+meaning_of_abort_with Registration none statuses code = declined statuses code
+meaning_of_abort_with Enquiry none statuses code = enquiry_aborted none statuses.last code
+meaning_of_abort_with Payment none statuses code = declined_unless statuses.approved statuses code
+meaning_of_abort_with Reversal none statuses code = declined_unless statuses.approved statuses code
+meaning_of_abort_with EndOfDay none statuses code = declined statuses code
+meaning_of_abort_with Display none statuses code = heard.Unclear
 
 -- without a code, and with 00, nothing is known
-abbrev pub aborted : Kind → ℕ → Statuses → Option ℕ → Heard
-aborted kind none statuses None = heard.Unclear
-aborted kind none statuses (Some code) = if code == 0 then heard.Unclear else aborted_with kind none statuses code
+abbrev pub meaning_of_abort : DialogueKind → ℕ → Statuses → Option ℕ → Heard
+meaning_of_abort kind none statuses None = heard.Unclear
+meaning_of_abort kind none statuses (Some code) = if code == 0 then heard.Unclear else meaning_of_abort_with kind none statuses code
 
 -- ---- begun: a completion
 
@@ -100,17 +100,17 @@ abbrev pub transaction_completed : Statuses → Option Fields → Heard
 transaction_completed statuses None = heard.Unclear
 transaction_completed statuses (Some status) = transaction_result statuses status status.result
 
--- an approved transaction is told with full figures
-abbrev pub told_with : ℕ → Option Figures → Heard
-told_with number None = heard.Unclear
-told_with number (Some figures) = heard.Told number (Some figures) 0
+-- an approved transaction is reported with full figures
+abbrev pub enquiry_approved : ℕ → Option Figures → Heard
+enquiry_approved number None = heard.Unclear
+enquiry_approved number (Some figures) = heard.Told number (Some figures) 0
 
--- by the result and the trace number of the last status; another transaction is told by its number and code alone
+-- by the result and the trace number of the last status; another transaction is reported by its number and code alone
 abbrev pub enquiry_result : Fields → Option ℕ → Option ℕ → Heard
 enquiry_result status None trace = heard.Unclear
 enquiry_result status (Some code) None = heard.Unclear
 enquiry_result status (Some code) (Some number) =
-    if code == 0 then told_with number (full_figures status) else heard.Told number None code
+    if code == 0 then enquiry_approved number (full_figures status) else heard.Told number None code
 
 -- without a status nothing is known
 abbrev pub enquiry_completed : Option Fields → Heard
@@ -128,24 +128,24 @@ service_completed statuses None = heard.Done
 service_completed statuses (Some status) = service_result statuses status.result
 
 -- by the dialogue; a display is never begun
-abbrev pub completed : Kind → Statuses → Heard
-completed Registration statuses = service_completed statuses statuses.last
-completed Enquiry statuses = enquiry_completed statuses.last
-completed Payment statuses = transaction_completed statuses statuses.last
-completed Reversal statuses = transaction_completed statuses statuses.last
-completed EndOfDay statuses = service_completed statuses statuses.last
-completed Display statuses = heard.Unclear
+abbrev pub meaning_of_completion : DialogueKind → Statuses → Heard
+meaning_of_completion Registration statuses = service_completed statuses statuses.last
+meaning_of_completion Enquiry statuses = enquiry_completed statuses.last
+meaning_of_completion Payment statuses = transaction_completed statuses statuses.last
+meaning_of_completion Reversal statuses = transaction_completed statuses statuses.last
+meaning_of_completion EndOfDay statuses = service_completed statuses statuses.last
+meaning_of_completion Display statuses = heard.Unclear
 
 -- ---- begun
 
 -- an acknowledgement or a refusal answers `06 B0`, or nothing
-abbrev pub later_answer : Kind → ℕ → Statuses → MessageValue → Heard
-later_answer kind none statuses Ack = heard.Stray
-later_answer kind none statuses (Nack code) = heard.Stray
-later_answer kind none statuses (Intermediate code) = heard.Note code
-later_answer kind none statuses (Line text) = heard.Line
-later_answer kind none statuses (Block objects) = heard.Block
-later_answer kind none statuses (Status fields) = heard.Seen
-later_answer kind none statuses Completion = completed kind statuses
-later_answer kind none statuses (Abort code) = aborted kind none statuses code
-later_answer kind none statuses Other = heard.Stray
+abbrev pub meaning_when_begun : DialogueKind → ℕ → Statuses → MessageValue → Heard
+meaning_when_begun kind none statuses Ack = heard.Stray
+meaning_when_begun kind none statuses (Nack code) = heard.Stray
+meaning_when_begun kind none statuses (Intermediate code) = heard.Note code
+meaning_when_begun kind none statuses (Line text) = heard.Line
+meaning_when_begun kind none statuses (Block objects) = heard.Block
+meaning_when_begun kind none statuses (Status fields) = heard.Seen
+meaning_when_begun kind none statuses Completion = meaning_of_completion kind statuses
+meaning_when_begun kind none statuses (Abort code) = meaning_of_abort kind none statuses code
+meaning_when_begun kind none statuses Other = heard.Stray

@@ -1,25 +1,25 @@
--- What a talk tells and keeps, after everything that came in its dialogue.
+-- What a message means for a dialogue, and what is kept of it, after everything that came.
 use Rattle.std.specs.Prelude.{ℕ, ℤ, Bool, true, false, List, [], ◌∷◌, ◌++◌, Option, None, Some, if◌then◌else◌}
 use Rattle.zvt_msg.specs.Message.{MessageValue}
-use Rattle.zvt_talk.specs.declared.kind.Kind.{Kind}
-use Rattle.zvt_talk.specs.declared.heard.Heard.{Heard}
-use Rattle.zvt_talk.specs.declared.heard.Heard.TheVariants as heard
+use Rattle.zvt_talk.specs.declared.dialogue_kind.DialogueKind.{DialogueKind}
+use Rattle.zvt_talk.specs.declared.meaning.Heard.{Heard}
+use Rattle.zvt_talk.specs.declared.meaning.Heard.TheVariants as heard
 use Rattle.zvt_talk.specs.declared.phase.Phase.{Phase}
 use Rattle.zvt_talk.specs.declared.phase.Phase.TheVariants.{Asked, Begun, Ended}
 use Rattle.zvt_talk.specs.declared.statuses.Statuses.{Statuses}
 use Rattle.zvt_talk.specs.Dialogue.{Dialogue}
-use Rattle.zvt_talk.specs.Came.{Came, Message, Wish, messages, last_status, said_approved, is_asked, is_begun, is_wished, is_stopped, deadline}
-use Rattle.zvt_talk.specs.Table.{first_answer, later_answer}
+use Rattle.zvt_talk.specs.Came.{Came, Message, StopWished, messages, last_status, said_approved, is_asked, is_begun, is_stop_wished, is_stop_sent, deadline}
+use Rattle.zvt_talk.specs.Table.{meaning_when_asked, meaning_when_begun}
 
 -- what the statuses said
 abbrev pub statuses_of : List Came → Statuses
 statuses_of came = record { last = last_status came; approved = said_approved came }
 
--- what a message means behind all that came before it, while the dialogue goes on
-abbrev pub answer : Dialogue → List Came → MessageValue → Heard
-answer dialogue came message =
-    if is_asked (messages came) then first_answer dialogue.kind (is_wished came) message
-    else later_answer dialogue.kind dialogue.none (statuses_of came) message
+-- what a message means after all that came before it, while the dialogue goes on
+abbrev pub meaning : Dialogue → List Came → MessageValue → Heard
+meaning dialogue came message =
+    if is_asked (messages came) then meaning_when_asked dialogue.kind (is_stop_wished came) message
+    else meaning_when_begun dialogue.kind dialogue.none (statuses_of came) message
 
 -- this ends the dialogue
 abbrev pub is_end : Heard → Bool
@@ -38,9 +38,9 @@ is_end heard.Stray = false
 -- what the first message of the rest means that ends the dialogue
 abbrev pub end_from : Dialogue → List Came → List Came → Option Heard
 end_from dialogue before [] = None
-end_from dialogue before (Wish ∷ rest) = end_from dialogue (before ++ Wish ∷ []) rest
+end_from dialogue before (StopWished ∷ rest) = end_from dialogue (before ++ StopWished ∷ []) rest
 end_from dialogue before (Message message at ∷ rest) =
-    if is_end (answer dialogue before message) then Some (answer dialogue before message)
+    if is_end (meaning dialogue before message) then Some (meaning dialogue before message)
     else end_from dialogue (before ++ Message message at ∷ []) rest
 
 -- how a dialogue ended after all that came, if it has
@@ -50,36 +50,36 @@ end_of dialogue came = end_from dialogue [] came
 -- ---- what a talk keeps
 
 -- a few facts of all that came
-pub record TalkValue : Type 0 where
-  pub kind : Kind
+pub record TalkFacts : Type 0 where
+  pub kind : DialogueKind
   pub none : ℕ
-  pub pause : ℕ
+  pub command_time : ℕ
   pub deadline : ℤ
   pub phase : Phase
 
 -- how far the dialogue is, with what counts from there on
-abbrev pub phase_of : Kind → List Came → Phase
+abbrev pub phase_of : DialogueKind → List Came → Phase
 phase_of kind came =
-    if is_asked (messages came) then Asked (is_wished came)
-    else if is_begun kind (messages came) then Begun (is_stopped kind came) (statuses_of came)
-    else Ended (is_stopped kind came)
+    if is_asked (messages came) then Asked (is_stop_wished came)
+    else if is_begun kind (messages came) then Begun (is_stop_sent kind came) (statuses_of came)
+    else Ended (is_stop_sent kind came)
 
 -- the talk of a dialogue, after all that came
-abbrev pub talk_after : Dialogue → List Came → TalkValue
+abbrev pub talk_after : Dialogue → List Came → TalkFacts
 talk_after dialogue came = record {
   kind = dialogue.kind;
   none = dialogue.none;
-  pause = dialogue.pause;
+  command_time = dialogue.command_time;
   deadline = deadline dialogue came;
   phase = phase_of dialogue.kind came;
 }
 
 -- asked or begun
-abbrev pub is_open : Phase → Bool
-is_open (Asked wished) = true
-is_open (Begun stopped statuses) = true
-is_open (Ended stopped) = false
+abbrev pub is_open_phase : Phase → Bool
+is_open_phase (Asked stop_wished) = true
+is_open_phase (Begun stop_sent statuses) = true
+is_open_phase (Ended stop_sent) = false
 
 -- the dialogue has not ended
-abbrev pub goes_on : TalkValue → Bool
-goes_on talk = is_open talk.phase
+abbrev pub talk_goes_on : TalkFacts → Bool
+talk_goes_on talk = is_open_phase talk.phase

@@ -1,44 +1,45 @@
 //! Laws of the table, in words of the subject. Each function does nothing: its contract is the law.
-ghost use Rattle.std.specs.Prelude.{◌≡◌, ◌≢◌, ◌↔◌, ◌⊎◌, ◌||◌, ◌&&◌, not, ℕ, ℤ, List, [], ◌∷◌, ◌++◌, Option, Some, IsTrue, IsFalse, is_some, if◌then◌else◌, None};
-ghost use Rattle.gw_base.specs.declared.money.Figures.{Figures};
-ghost use Rattle.zvt_msg.specs.Message.{MessageValue, Ack, Nack, Completion, Other};
-ghost use Rattle.zvt_talk.specs.declared.heard.Heard.{Heard};
-ghost use Rattle.zvt_talk.specs.declared.heard.Heard.TheVariants as heard;
-ghost use Rattle.zvt_talk.specs.declared.kind.Kind.TheVariants.{Display};
+ghost use Rattle.std.specs.Prelude.{◌≡◌, ◌≢◌, ◌^◌, ◌↔◌, ◌⊎◌, ◌||◌, ◌&&◌, not, ℕ, ℤ, pos, ◌+ℤ◌, ◌<◌, Bool, true, false, List, [], ◌∷◌, ◌++◌, Option, Some, IsTrue, IsFalse, is_some, if◌then◌else◌, None};
+ghost use Rattle.gw_base.specs.declared.figures.Figures.{Figures};
+ghost use Rattle.zvt_msg.specs.Message.{MessageValue, Ack, Nack, Intermediate, Completion, Other};
+ghost use Rattle.zvt_talk.specs.declared.meaning.Heard.{Heard};
+ghost use Rattle.zvt_talk.specs.declared.meaning.Heard.TheVariants as heard;
+ghost use Rattle.zvt_talk.specs.declared.dialogue_kind.DialogueKind.TheVariants.{Display};
 ghost use Rattle.zvt_talk.specs.Dialogue.{Dialogue};
-ghost use Rattle.zvt_talk.specs.Came.{Came, Message, Wish, messages, statuses, last_status, said_approved, has_ended, is_begun, is_stopped};
-ghost use Rattle.zvt_talk.specs.Talk.{answer, end_of, is_end, phase_of, talk_after, goes_on};
-ghost use Rattle.zvt_talk.specs.Laws.{AbortsApproved, AbortsEnquiry, AbortsWithoutCode, Approves, HasNoRefusal, IsAnswer, IsEndOf, IsEnquiry, IsEnquiryOrDisplay, IsNoAnswer, IsService, IsTransaction, LeavesEnquiryOpen, LeavesTransactionOpen, RefusedAtOnce, RefusedLater, Refuses, TellsLast, TellsNone, tells_stop};
+ghost use Rattle.zvt_talk.specs.Came.{Came, Message, StopWished, messages, statuses, last_status, said_approved, has_ended, is_begun, is_stop_sent, is_stop_wished, deadline};
+ghost use Rattle.zvt_talk.specs.Talk.{meaning, end_of, is_end, phase_of, talk_after, talk_goes_on};
+ghost use Rattle.zvt_talk.specs.Limits.{AreAtLeastOne, AreWithinFields, HaveNumbers};
+ghost use Rattle.zvt_talk.specs.Laws.{AbortsApproved, AbortsEnquiry, AbortsWithoutCode, AcknowledgesCommand, Approves, BringsBlock, BringsLine, BringsStatus, HasNoRefusal, HasNoWish, HasWish, IsAckOrNack, IsEndOf, IsEnquiry, IsEnquiryOrDisplay, LeavesCommandUnclear, IsService, IsTransaction, LeavesEnquiryOpen, LeavesTransactionOpen, RefusedAtOnce, RefusedLater, RefusesCommand, ReportsLastTransaction, ReportsNoTransaction, says_stop};
 
 /// A message approves exactly where it completes a payment or a reversal whose last status said that it is approved, with
 /// full figures.
 pub fn law_approved()
     ensures { (dialogue : Dialogue) (came : List Came) (message : MessageValue) (figures : Figures)
-        → (answer dialogue came message ≡ heard.Approved figures) ↔ Approves dialogue came message figures }
+        → (meaning dialogue came message ≡ heard.Approved figures) ↔ Approves dialogue came message figures }
 {}
 
 /// When a dialogue is declined. A payment or a reversal never is once a status said that it is approved.
 pub fn law_declined()
     ensures transaction { (dialogue : Dialogue) (came : List Came) (message : MessageValue) (code : ℕ) (number : Option ℕ)
-        → IsTransaction dialogue.kind → (answer dialogue came message ≡ heard.Declined code number)
-        ↔ (IsFalse (said_approved came) × Refuses came message code number) }
+        → IsTransaction dialogue.kind → (meaning dialogue came message ≡ heard.Declined code number)
+        ↔ (IsFalse (said_approved came) × RefusesCommand came message code number) }
     ensures service { (dialogue : Dialogue) (came : List Came) (message : MessageValue) (code : ℕ) (number : Option ℕ)
-        → IsService dialogue.kind → (answer dialogue came message ≡ heard.Declined code number)
-        ↔ Refuses came message code number }
+        → IsService dialogue.kind → (meaning dialogue came message ≡ heard.Declined code number)
+        ↔ RefusesCommand came message code number }
     ensures other { (dialogue : Dialogue) (came : List Came) (message : MessageValue) (code : ℕ) (number : Option ℕ)
-        → IsEnquiryOrDisplay dialogue.kind → (answer dialogue came message ≡ heard.Declined code number)
+        → IsEnquiryOrDisplay dialogue.kind → (meaning dialogue came message ≡ heard.Declined code number)
         ↔ ((code ≢ 0) × RefusedAtOnce came message code number) }
     ensures never { (dialogue : Dialogue) (came : List Came) (message : MessageValue) (code : ℕ) (number : Option ℕ)
         → IsTransaction dialogue.kind → IsTrue (said_approved came)
-        → answer dialogue came message ≢ heard.Declined code number }
+        → meaning dialogue came message ≢ heard.Declined code number }
 {
     law_transaction_declined();
 }
 
-/// The same for a payment or a reversal, by the phases.
+/// When a payment or a reversal is declined, by the phases. For the prover alone: `law_declined` follows from it.
 fn law_transaction_declined()
     ensures { (dialogue : Dialogue) (came : List Came) (message : MessageValue) (code : ℕ) (number : Option ℕ)
-        → IsTransaction dialogue.kind → (answer dialogue came message ≡ heard.Declined code number)
+        → IsTransaction dialogue.kind → (meaning dialogue came message ≡ heard.Declined code number)
         ↔ ((code ≢ 0) × (RefusedAtOnce came message code number
         ⊎ (RefusedLater came message code number × IsFalse (said_approved came)))) }
 {}
@@ -46,97 +47,161 @@ fn law_transaction_declined()
 /// When a registration, an end of day or a display is done.
 pub fn law_done()
     ensures service { (dialogue : Dialogue) (came : List Came) (message : MessageValue) → IsService dialogue.kind
-        → (answer dialogue came message ≡ heard.Done)
+        → (meaning dialogue came message ≡ heard.Done)
         ↔ ((messages came ≢ []) × (message ≡ Completion) × HasNoRefusal (last_status came)) }
     ensures display { (dialogue : Dialogue) (came : List Came) (message : MessageValue) → dialogue.kind ≡ Display
-        → (answer dialogue came message ≡ heard.Done) ↔ ((messages came ≡ []) × (message ≡ Ack)) }
+        → (meaning dialogue came message ≡ heard.Done) ↔ ((messages came ≡ []) × (message ≡ Ack)) }
 {}
 
-/// When a dialogue ends and it isn't clear how, by how far it is. A display ends with the answer to its command.
-#[tactic(auto, using(crate::proofs::Last::no_status))]
+/// When a dialogue ends and it isn't clear how, by how far it is. A display ends with the first message.
+#[tactic(auto, using(crate::proofs::StatusLemmas::no_status))]
 pub fn law_unclear()
     ensures asked { (dialogue : Dialogue) (came : List Came) (message : MessageValue) → messages came ≡ []
-        → (answer dialogue came message ≡ heard.Unclear) ↔ IsNoAnswer message }
+        → (meaning dialogue came message ≡ heard.Unclear) ↔ LeavesCommandUnclear message }
     ensures transaction { (dialogue : Dialogue) (came : List Came) (message : MessageValue) → messages came ≢ []
-        → IsTransaction dialogue.kind → (answer dialogue came message ≡ heard.Unclear)
+        → IsTransaction dialogue.kind → (meaning dialogue came message ≡ heard.Unclear)
         ↔ (AbortsWithoutCode message ⊎ (AbortsApproved came message
         ⊎ ((message ≡ Completion) × LeavesTransactionOpen came (last_status came)))) }
     ensures enquiry { (dialogue : Dialogue) (came : List Came) (message : MessageValue) → messages came ≢ []
-        → IsEnquiry dialogue.kind → (answer dialogue came message ≡ heard.Unclear)
+        → IsEnquiry dialogue.kind → (meaning dialogue came message ≡ heard.Unclear)
         ↔ (AbortsWithoutCode message ⊎ (AbortsEnquiry dialogue came message
         ⊎ ((message ≡ Completion) × LeavesEnquiryOpen (last_status came)))) }
     ensures service { (dialogue : Dialogue) (came : List Came) (message : MessageValue) → messages came ≢ []
-        → IsService dialogue.kind → (answer dialogue came message ≡ heard.Unclear) ↔ AbortsWithoutCode message }
+        → IsService dialogue.kind → (meaning dialogue came message ≡ heard.Unclear) ↔ AbortsWithoutCode message }
 {}
 
-/// A message means nothing exactly where it is outside the table, or an answer that comes when the command was answered.
+/// A message means nothing exactly where it is outside the table, or an acknowledgement or a refusal that comes after the
+/// command was answered.
 pub fn law_stray()
     ensures { (dialogue : Dialogue) (came : List Came) (message : MessageValue)
-        → (answer dialogue came message ≡ heard.Stray)
-        ↔ ((message ≡ Other) ⊎ ((messages came ≢ []) × IsAnswer message)) }
+        → (meaning dialogue came message ≡ heard.Stray)
+        ↔ ((message ≡ Other) ⊎ ((messages came ≢ []) × IsAckOrNack message)) }
 {}
 
 /// A completion without a status neither approves nor declines a payment or a reversal.
 pub fn law_no_status()
     ensures { (dialogue : Dialogue) (came : List Came) → IsTransaction dialogue.kind
         → IsTrue (is_begun dialogue.kind (messages came)) → statuses came ≡ []
-        → answer dialogue came Completion ≡ heard.Unclear }
+        → meaning dialogue came Completion ≡ heard.Unclear }
 {}
 
-/// What an enquiry tells of the terminal's last transaction.
-#[tactic(auto, using(crate::proofs::Last::no_status))]
+/// What an enquiry reports of the terminal's last transaction.
+#[tactic(auto, using(crate::proofs::StatusLemmas::no_status))]
 pub fn law_told()
     ensures { (dialogue : Dialogue) (came : List Came) (message : MessageValue) (number : ℕ) (approved : Option Figures) (code : ℕ)
-        → IsEnquiry dialogue.kind → (answer dialogue came message ≡ heard.Told number approved code)
-        ↔ (TellsLast came message number approved code ⊎ TellsNone dialogue came message number approved code) }
+        → IsEnquiry dialogue.kind → (meaning dialogue came message ≡ heard.Told number approved code)
+        ↔ (ReportsLastTransaction came message number approved code ⊎ ReportsNoTransaction dialogue came message number approved code) }
 {}
 
 /// In a dialogue that was begun, an acknowledgement or a refusal answers `06 B0`, or nothing: it ends nothing, and nothing
 /// but the deadline changes.
 pub fn law_answer_to_stop()
     ensures ack { (dialogue : Dialogue) (came : List Came) → IsTrue (is_begun dialogue.kind (messages came))
-        → answer dialogue came Ack ≡ heard.Stray }
+        → meaning dialogue came Ack ≡ heard.Stray }
     ensures ack_stays { (dialogue : Dialogue) (came : List Came) (at : ℤ) → IsTrue (is_begun dialogue.kind (messages came))
         → phase_of dialogue.kind (came ++ Message Ack at ∷ []) ≡ phase_of dialogue.kind came }
     ensures nack { (dialogue : Dialogue) (came : List Came) (code : ℕ) → IsTrue (is_begun dialogue.kind (messages came))
-        → answer dialogue came (Nack code) ≡ heard.Stray }
+        → meaning dialogue came (Nack code) ≡ heard.Stray }
     ensures nack_stays { (dialogue : Dialogue) (came : List Came) (code : ℕ) (at : ℤ)
         → IsTrue (is_begun dialogue.kind (messages came))
         → phase_of dialogue.kind (came ++ Message (Nack code) at ∷ []) ≡ phase_of dialogue.kind came }
 {}
 
-/// `06 B0` is told once: exactly where it was not sent before and is sent afterwards.
+/// `06 B0` is asked for once: exactly where it was not sent before and is sent afterwards.
 pub fn law_stop()
     ensures message { (dialogue : Dialogue) (came : List Came) (message : MessageValue) (at : ℤ)
-        → IsTrue (goes_on (talk_after dialogue came))
-        → tells_stop (answer dialogue came message)
-        ≡ (is_stopped dialogue.kind (came ++ Message message at ∷ []) && not (is_stopped dialogue.kind came)) }
+        → IsTrue (talk_goes_on (talk_after dialogue came))
+        → says_stop (meaning dialogue came message)
+        ≡ (is_stop_sent dialogue.kind (came ++ Message message at ∷ []) && not (is_stop_sent dialogue.kind came)) }
     ensures wish { (dialogue : Dialogue) (came : List Came)
-        → (is_begun dialogue.kind (messages came) && not (is_stopped dialogue.kind came))
-        ≡ (is_stopped dialogue.kind (came ++ Wish ∷ []) && not (is_stopped dialogue.kind came)) }
-    ensures stays { (dialogue : Dialogue) (came more : List Came) → IsTrue (is_stopped dialogue.kind came)
-        → IsTrue (is_stopped dialogue.kind (came ++ more)) }
+        → (is_begun dialogue.kind (messages came) && not (is_stop_sent dialogue.kind came))
+        ≡ (is_stop_sent dialogue.kind (came ++ StopWished ∷ []) && not (is_stop_sent dialogue.kind came)) }
+    ensures stays { (dialogue : Dialogue) (came more : List Came) → IsTrue (is_stop_sent dialogue.kind came)
+        → IsTrue (is_stop_sent dialogue.kind (came ++ more)) }
 {}
 
 /// A dialogue has ended exactly where it has an end, and that is the meaning of the message that ended it. The ends of a
-/// payment or a reversal are approved, declined and unclear, those of an enquiry told, declined and unclear, and those of
+/// payment or a reversal are approved, declined and unclear, those of an enquiry reported, declined and unclear, and those of
 /// the others done, declined and unclear.
 pub fn law_ends()
     ensures ended { (dialogue : Dialogue) (came : List Came)
         → has_ended dialogue.kind (messages came) ≡ is_some (end_of dialogue came) }
     ensures goes_on { (dialogue : Dialogue) (came : List Came)
-        → goes_on (talk_after dialogue came) ≡ not (has_ended dialogue.kind (messages came)) }
+        → talk_goes_on (talk_after dialogue came) ≡ not (has_ended dialogue.kind (messages came)) }
     ensures by_message { (dialogue : Dialogue) (came : List Came) (message : MessageValue) (at : ℤ)
-        → IsTrue (goes_on (talk_after dialogue came)) → end_of dialogue (came ++ Message message at ∷ [])
-        ≡ (if is_end (answer dialogue came message) then Some (answer dialogue came message) else None) }
+        → IsTrue (talk_goes_on (talk_after dialogue came)) → end_of dialogue (came ++ Message message at ∷ [])
+        ≡ (if is_end (meaning dialogue came message) then Some (meaning dialogue came message) else None) }
     ensures kinds { (dialogue : Dialogue) (came : List Came) (end : Heard)
         → end_of dialogue came ≡ Some end → IsEndOf dialogue.kind end }
 {
     law_meanings();
 }
 
-/// What ends a dialogue is an end that its kind may have.
+/// What ends a dialogue is an end that its kind may have. For the prover alone: `law_ends` follows from it.
 fn law_meanings()
     ensures { (dialogue : Dialogue) (came : List Came) (message : MessageValue)
-        → IsTrue (is_end (answer dialogue came message)) → IsEndOf dialogue.kind (answer dialogue came message) }
+        → IsTrue (is_end (meaning dialogue came message)) → IsEndOf dialogue.kind (meaning dialogue came message) }
+{}
+
+/// What is reported of a transaction fits the fields that it came in, where the messages were read; and its number and its
+/// amount aren't 0 where it is approved, whatever the messages.
+pub fn law_figures()
+    ensures approved { (dialogue : Dialogue) (came : List Came) (message : MessageValue) (figures : Figures)
+        → HaveNumbers (messages came) → meaning dialogue came message ≡ heard.Approved figures → AreWithinFields figures }
+    ensures some { (dialogue : Dialogue) (came : List Came) (message : MessageValue) (figures : Figures)
+        → meaning dialogue came message ≡ heard.Approved figures → AreAtLeastOne figures }
+    ensures told { (dialogue : Dialogue) (came : List Came) (message : MessageValue) (number : ℕ) (figures : Figures) (code : ℕ)
+        → HaveNumbers (messages came) → meaning dialogue came message ≡ heard.Told number (Some figures) code
+        → AreWithinFields figures }
+    ensures told_some { (dialogue : Dialogue) (came : List Came) (message : MessageValue) (number : ℕ) (figures : Figures) (code : ℕ)
+        → meaning dialogue came message ≡ heard.Told number (Some figures) code → AreAtLeastOne figures }
+    ensures told_number { (dialogue : Dialogue) (came : List Came) (message : MessageValue) (number : ℕ) (approved : Option Figures) (code : ℕ)
+        → HaveNumbers (messages came) → meaning dialogue came message ≡ heard.Told number approved code → number < 100 ^ 3 }
+{
+    law_approved();
+    law_told();
+    law_meanings();
+}
+
+/// A dialogue is begun exactly where its command, which is no display, is acknowledged, and a stop is to be sent with it
+/// exactly where one was wished before.
+pub fn law_begun()
+    ensures without_wish { (dialogue : Dialogue) (came : List Came) (message : MessageValue)
+        → (meaning dialogue came message ≡ heard.Begun false) ↔ (AcknowledgesCommand dialogue came message × HasNoWish came) }
+    ensures with_wish { (dialogue : Dialogue) (came : List Came) (message : MessageValue)
+        → (meaning dialogue came message ≡ heard.Begun true) ↔ (AcknowledgesCommand dialogue came message × HasWish came) }
+{
+    law_acknowledged();
+}
+
+/// When a dialogue is begun, by the wish that counts. For the prover alone: `law_begun` follows from it.
+fn law_acknowledged()
+    ensures { (dialogue : Dialogue) (came : List Came) (message : MessageValue) (stop : Bool)
+        → (meaning dialogue came message ≡ heard.Begun stop)
+        ↔ (AcknowledgesCommand dialogue came message × (is_stop_wished came ≡ stop)) }
+{}
+
+/// What is noted to be shown, what is to be printed, and which status is seen: each exactly where the command was answered
+/// before and the terminal sends that.
+pub fn law_goes_on()
+    ensures note { (dialogue : Dialogue) (came : List Came) (message : MessageValue) (code : ℕ)
+        → (meaning dialogue came message ≡ heard.Note code) ↔ ((messages came ≢ []) × (message ≡ Intermediate code)) }
+    ensures line { (dialogue : Dialogue) (came : List Came) (message : MessageValue)
+        → (meaning dialogue came message ≡ heard.Line) ↔ BringsLine came message }
+    ensures block { (dialogue : Dialogue) (came : List Came) (message : MessageValue)
+        → (meaning dialogue came message ≡ heard.Block) ↔ BringsBlock came message }
+    ensures seen { (dialogue : Dialogue) (came : List Came) (message : MessageValue)
+        → (meaning dialogue came message ≡ heard.Seen) ↔ BringsStatus came message }
+{}
+
+/// Until when the terminal may be silent: so many seconds from the command on, and so many from each message on. A message
+/// outside the table, or a wish, puts nothing off.
+pub fn law_deadline()
+    ensures command { (dialogue : Dialogue) → deadline dialogue [] ≡ dialogue.sent +ℤ pos dialogue.answer_time }
+    ensures message { (dialogue : Dialogue) (came : List Came) (message : MessageValue) (at : ℤ) → message ≢ Other
+        → deadline dialogue (came ++ Message message at ∷ []) ≡ at +ℤ pos dialogue.command_time }
+    ensures other { (dialogue : Dialogue) (came : List Came) (at : ℤ)
+        → deadline dialogue (came ++ Message Other at ∷ []) ≡ deadline dialogue came }
+    ensures wish { (dialogue : Dialogue) (came : List Came)
+        → deadline dialogue (came ++ StopWished ∷ []) ≡ deadline dialogue came }
 {}

@@ -1,10 +1,10 @@
 //! How far a dialogue is.
 ghost use Rattle.std.specs.Prelude.{◌≡◌};
 ghost use Rattle.zvt_msg.specs.Message.{value_of};
-ghost use Rattle.zvt_talk.specs.Kept.{may_stop, next_phase, was_stopped, wished_phase};
+ghost use Rattle.zvt_talk.specs.TalkSteps.{may_send_stop, next_phase, was_stop_sent, phase_after_wish};
 
 use crate::Heard;
-use crate::kind::Kind;
+use crate::dialogue_kind::DialogueKind;
 use crate::statuses::Statuses;
 use zvt_msg::PtMessage;
 
@@ -12,74 +12,83 @@ use zvt_msg::PtMessage;
 pub(crate) enum Phase {
     /// The terminal has not answered the command.
     Asked {
-        /// An abort is wished.
-        wished: bool,
+        /// A stop is wished, and is sent once the command is acknowledged.
+        stop_wished: bool,
     },
     /// The command is acknowledged.
     Begun {
         /// `06 B0` was sent.
-        stopped: bool,
+        stop_sent: bool,
         statuses: Statuses,
     },
     Ended {
         /// `06 B0` was sent.
-        stopped: bool,
+        stop_sent: bool,
     },
 }
 
 impl Phase {
-    /// The phase behind a message that is taken.
-    pub(crate) fn after(self, kind: Kind, message: &PtMessage<'_>) -> Phase
+    /// The phase after a message that is taken.
+    pub(crate) fn after(self, kind: DialogueKind, message: &PtMessage<'_>) -> Phase
         ensures { result ≡ next_phase kind self (value_of message.now) }
     {
         match self {
-            Phase::Asked { wished } => match message {
+            Phase::Asked { stop_wished } => match message {
                 PtMessage::Ack if !kind.is_display() => Phase::Begun {
-                    stopped: wished,
+                    stop_sent: stop_wished,
                     statuses: Statuses::none(),
                 },
-                _ => Phase::Ended { stopped: false },
+                _ => Phase::Ended { stop_sent: false },
             },
-            Phase::Begun { stopped, statuses } => match message {
+            Phase::Begun {
+                stop_sent,
+                statuses,
+            } => match message {
                 PtMessage::Status(fields) => Phase::Begun {
-                    stopped,
+                    stop_sent,
                     statuses: statuses.with(*fields),
                 },
-                PtMessage::Completion | PtMessage::Abort(_) => Phase::Ended { stopped },
+                PtMessage::Completion | PtMessage::Abort(_) => Phase::Ended { stop_sent },
                 _ => self,
             },
             Phase::Ended { .. } => self,
         }
     }
 
-    /// The phase behind a wish to abort.
-    pub(crate) fn wished(self) -> Phase
-        ensures { result ≡ wished_phase self }
+    /// The phase after a stop is wished.
+    pub(crate) fn after_wish(self) -> Phase
+        ensures { result ≡ phase_after_wish self }
     {
         match self {
-            Phase::Asked { .. } => Phase::Asked { wished: true },
+            Phase::Asked { .. } => Phase::Asked { stop_wished: true },
             Phase::Begun { statuses, .. } => Phase::Begun {
-                stopped: true,
+                stop_sent: true,
                 statuses,
             },
             Phase::Ended { .. } => self,
         }
     }
 
-    /// Whether `06 B0` is to be sent at a wish to abort.
-    pub(crate) fn may_stop(self) -> bool
-        ensures { result ≡ may_stop self }
+    /// Whether `06 B0` is to be sent when a stop is wished.
+    pub(crate) fn may_send_stop(self) -> bool
+        ensures { result ≡ may_send_stop self }
     {
-        matches!(self, Phase::Begun { stopped: false, .. })
+        matches!(
+            self,
+            Phase::Begun {
+                stop_sent: false,
+                ..
+            }
+        )
     }
 
     /// Whether `06 B0` was sent.
-    pub(crate) fn was_stopped(self) -> bool
-        ensures { result ≡ was_stopped self }
+    pub(crate) fn was_stop_sent(self) -> bool
+        ensures { result ≡ was_stop_sent self }
     {
         match self {
             Phase::Asked { .. } => false,
-            Phase::Begun { stopped, .. } | Phase::Ended { stopped } => stopped,
+            Phase::Begun { stop_sent, .. } | Phase::Ended { stop_sent } => stop_sent,
         }
     }
 }

@@ -1,7 +1,7 @@
 //! What the statuses of a dialogue have said.
 ghost use Rattle.std.specs.Prelude.{◌≡◌};
 ghost use Rattle.zvt_talk.specs.Table.{declined, declined_unless, full_figures};
-ghost use Rattle.zvt_talk.specs.Kept.{no_statuses, with_fields};
+ghost use Rattle.zvt_talk.specs.TalkSteps.{no_statuses, with_fields};
 
 use crate::Heard;
 use gw_base::Figures;
@@ -44,7 +44,8 @@ impl Statuses {
         }
     }
 
-    /// The same for a payment or a reversal: nothing is declined once a status said that it is approved.
+    /// Declined with this code, for a payment or a reversal. Once a status said that it is approved, a later code may
+    /// contradict it, and so it is unclear: what was approved is never reported as declined.
     pub(crate) fn declined_unless_approved(self, code: u8) -> Heard
         ensures { result ≡ declined_unless self.approved self code }
     {

@@ -1,44 +1,45 @@
-//! A dialogue as it is kept.
+//! A dialogue, by the few facts that are kept of it.
 ghost use Rattle.std.specs.Prelude.{◌≡◌, ◌≢◌, not, ◌&&◌, List, [], ◌∷◌, ◌++◌, IsTrue, IfSome};
 ghost use Rattle.gw_base.specs.Moment.{IsMoment};
 ghost use Rattle.zvt_msg.specs.Message.{value_of};
 ghost use Rattle.zvt_talk.specs.Dialogue.{Dialogue, dialogue_of};
-ghost use Rattle.zvt_talk.specs.Came.{Came, Message, Wish, messages, deadline, is_begun, is_stopped};
-ghost use Rattle.zvt_talk.specs.Talk.{answer, goes_on, is_end, talk_after};
-ghost use Rattle.zvt_talk.specs.Kept.{heard_by, may_stop, next_talk, was_stopped, wished_talk};
+ghost use Rattle.zvt_talk.specs.Came.{Came, Message, StopWished, messages, deadline, is_begun, is_stop_sent};
+ghost use Rattle.zvt_talk.specs.Talk.{meaning, talk_goes_on, is_end, talk_after};
+ghost use Rattle.zvt_talk.specs.TalkSteps.{meaning_for_talk, may_send_stop, next_talk, was_stop_sent, talk_after_wish};
 
 use crate::Heard;
-use crate::answers::{first_answer, later_answer};
-use crate::kind::Kind;
+use crate::dialogue_kind::DialogueKind;
 use crate::phase::Phase;
+use crate::table::{meaning_when_asked, meaning_when_begun};
 use std::marker::Model;
 use zvt_msg::{Command, PtMessage};
 
-/// One dialogue: a command that was sent, and what is kept of what came since.
+/// One dialogue: a command that was sent, and the few facts that are kept of what came since. The messages themselves
+/// aren't kept, so that a dialogue takes no memory, however long it lasts; the contracts speak of all that came.
 #[derive(Clone, Copy, Debug, PartialEq, Eq)]
 pub struct Talk {
-    kind: Kind,
-    /// The code by which the terminal tells an enquiry that it has no transaction.
+    kind: DialogueKind,
+    /// The code by which the terminal reports to an enquiry that it has no transaction.
     none: u8,
     /// Seconds from one message to the next.
-    pause: u32,
+    command_time: u32,
     deadline: i64,
     phase: Phase,
 }
 
 impl Model for Talk {
-    ghost use Rattle.zvt_talk.specs.Talk.{TalkValue};
+    ghost use Rattle.zvt_talk.specs.Talk.{TalkFacts};
 
-    ghost Value = { TalkValue };
+    ghost Value = { TalkFacts };
 
-    ghost view = { λ t. record { kind = t.kind; none = t.none; pause = t.pause; deadline = t.deadline; phase = t.phase } };
+    ghost view = { λ t. record { kind = t.kind; none = t.none; command_time = t.command_time; deadline = t.deadline; phase = t.phase } };
 
-    ghost inverse = { λ t. record { kind = t.kind; none = t.none; pause = t.pause; deadline = t.deadline; phase = t.phase } };
+    ghost inverse = { λ t. record { kind = t.kind; none = t.none; command_time = t.command_time; deadline = t.deadline; phase = t.phase } };
 }
 
 impl Talk {
-    /// The dialogue that begins with this command, sent now. The terminal tells an enquiry by the code `none` that it has
-    /// no transaction. The first answer is due in `answer` seconds, and each message in `command_time` seconds from the
+    /// The dialogue that begins with this command, sent now. By the code `none` the terminal reports to an enquiry
+    /// that it has no transaction. The first answer is due in `answer` seconds, and each message in `command_time` seconds from the
     /// one before.
     pub fn start(command: &Command, none: u8, answer: u32, command_time: u32, now: i64) -> Talk
         requires not_stop { command.now ≢ Command.Stop }
@@ -46,31 +47,31 @@ impl Talk {
 
         // After nothing that came.
         ensures talk { IfSome (dialogue_of command.now none answer command_time now) (λ dialogue. result ≡ talk_after dialogue []) }
-        ensures goes_on { IsTrue (goes_on result) }
+        ensures goes_on { IsTrue (talk_goes_on result) }
     {
         Talk {
-            kind: Kind::of(command),
+            kind: DialogueKind::of(command),
             none,
-            pause: command_time,
+            command_time,
             deadline: now + i64::from(answer),
-            phase: Phase::Asked { wished: false },
+            phase: Phase::Asked { stop_wished: false },
         }
     }
 
-    /// Takes a message of the terminal, which came now, and tells what it means.
+    /// Takes a message of the terminal, which came now, and returns what it means.
     pub fn take(&mut self, message: &PtMessage<'_>, now: i64) -> Heard
-        requires goes_on { IsTrue (goes_on self.old) }
+        requires goes_on { IsTrue (talk_goes_on self.old) }
         requires moment { IsMoment now }
 
-        // After all that came in a dialogue the message means what the table says, and it is added to what came.
-        ensures answer { (dialogue : Dialogue) (came : List Came) → self.old ≡ talk_after dialogue came
-            → result ≡ answer dialogue came (value_of message.now) }
+        // After all that came in a dialogue the message means what the table says, and then it is part of what came.
+        ensures meaning { (dialogue : Dialogue) (came : List Came) → self.old ≡ talk_after dialogue came
+            → result ≡ meaning dialogue came (value_of message.now) }
         ensures added { (dialogue : Dialogue) (came : List Came) → self.old ≡ talk_after dialogue came
             → self.new ≡ talk_after dialogue (came ++ Message (value_of message.now) now ∷ []) }
-        ensures ends { goes_on self.new ≡ not (is_end result) }
+        ensures ends { talk_goes_on self.new ≡ not (is_end result) }
 
-        // The same by what is kept alone.
-        ensures heard { result ≡ heard_by self.old (value_of message.now) }
+        // The meaning and the talk after it, by the few facts that are kept.
+        ensures computes { result ≡ meaning_for_talk self.old (value_of message.now) }
         ensures next { self.new ≡ next_talk self.old (value_of message.now) now }
     {
         let heard = self.heard(message);
@@ -83,60 +84,66 @@ impl Talk {
         requires { IsMoment now }
         ensures { self.new ≡ next_talk self.old (value_of message.now) now }
     {
+        // A message outside the table changes nothing, so that it doesn't put off the deadline either.
         if matches!(message, PtMessage::Other) {
             return;
         }
-        self.deadline = now + i64::from(self.pause);
+        self.deadline = now + i64::from(self.command_time);
         self.phase = self.phase.after(self.kind, message);
     }
 
+    /// What the message means in the phase that the dialogue is in.
     fn heard(&self, message: &PtMessage<'_>) -> Heard
-        ensures { result ≡ heard_by self.now (value_of message.now) }
+        ensures { result ≡ meaning_for_talk self.now (value_of message.now) }
     {
         match self.phase {
-            Phase::Asked { wished } => first_answer(self.kind, wished, message),
-            Phase::Begun { statuses, .. } => later_answer(self.kind, self.none, statuses, message),
+            Phase::Asked { stop_wished } => meaning_when_asked(self.kind, stop_wished, message),
+            Phase::Begun { statuses, .. } => meaning_when_begun(
+                self.kind, self.none, statuses, message,
+            ),
             Phase::Ended { .. } => Heard::Stray,
         }
     }
 
-    /// Adds a wish to abort what the dialogue serves. True where `06 B0` is to be sent now.
+    /// Wishes a stop of what the dialogue serves. True where `06 B0` is to be sent now; where the command isn't answered
+    /// yet, [`Heard::Begun`] says later that it is.
     pub fn abort(&mut self) -> bool
         // Where the dialogue is begun and goes on, and `06 B0` was not sent yet.
         ensures sent { (dialogue : Dialogue) (came : List Came) → self.old ≡ talk_after dialogue came
-            → result ≡ (is_begun dialogue.kind (messages came) && not (is_stopped dialogue.kind came)) }
+            → result ≡ (is_begun dialogue.kind (messages came) && not (is_stop_sent dialogue.kind came)) }
         ensures added { (dialogue : Dialogue) (came : List Came) → self.old ≡ talk_after dialogue came
-            → self.new ≡ talk_after dialogue (came ++ Wish ∷ []) }
+            → self.new ≡ talk_after dialogue (came ++ StopWished ∷ []) }
 
-        // The same by what is kept alone.
-        ensures stop { result ≡ may_stop self.old.phase }
-        ensures next { self.new ≡ wished_talk self.old }
+        // Whether to send it and the talk after it, by the few facts that are kept.
+        ensures computes { result ≡ may_send_stop self.old.phase }
+        ensures next { self.new ≡ talk_after_wish self.old }
     {
-        let stop = self.phase.may_stop();
-        self.wish();
+        let stop = self.phase.may_send_stop();
+        self.wish_stop();
         stop
     }
 
-    fn wish(&mut self)
-        ensures { self.new ≡ wished_talk self.old }
+    /// Keeps that a stop is wished.
+    fn wish_stop(&mut self)
+        ensures { self.new ≡ talk_after_wish self.old }
     {
-        self.phase = self.phase.wished();
+        self.phase = self.phase.after_wish();
     }
 
     /// Whether `06 B0` was sent in this dialogue.
     pub fn aborted(&self) -> bool
         ensures sent { (dialogue : Dialogue) (came : List Came) → self.now ≡ talk_after dialogue came
-            → result ≡ is_stopped dialogue.kind came }
-        ensures kept { result ≡ was_stopped self.now.phase }
+            → result ≡ is_stop_sent dialogue.kind came }
+        ensures computes { result ≡ was_stop_sent self.now.phase }
     {
-        self.phase.was_stopped()
+        self.phase.was_stop_sent()
     }
 
     /// The moment at which the terminal has been silent for too long.
     pub fn deadline(&self) -> i64
         ensures due { (dialogue : Dialogue) (came : List Came) → self.now ≡ talk_after dialogue came
             → result ≡ deadline dialogue came }
-        ensures kept { result ≡ self.now.deadline }
+        ensures computes { result ≡ self.now.deadline }
     {
         self.deadline
     }

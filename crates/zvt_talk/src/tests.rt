@@ -1,3 +1,5 @@
+//! Tests: the table by phase and dialogue, stops, and deadlines.
+
 ghost use Rattle.std.specs.Prelude.{◌≢◌};
 
 use crate::{Heard, Talk};
@@ -9,7 +11,7 @@ use zvt_msg::{Command, PtMessage};
 
 const NOW: i64 = 1_741_342_264;
 
-/// The code by which the terminal tells that it has no transaction.
+/// The code by which the terminal reports that it has no transaction.
 const NONE: u8 = 0x83;
 
 const PASSWORD: [u8; 3] = [0x12, 0x34, 0x56];
@@ -78,8 +80,9 @@ fn last(number: u32, approved: Option<Figures>, code: u8) -> Heard {
     }
 }
 
-/// What the messages come to: the end of the dialogue, or what the last of them means.
-fn told(command: &Command, messages: &[PtMessage<'_>]) -> Heard
+/// What the messages come to: the end of the dialogue, or what the last of them means. The example of the crate's
+/// documentation is one of the rows below.
+fn end_of(command: &Command, messages: &[PtMessage<'_>]) -> Heard
     requires { command.now ≢ Command.Stop }
 {
     let mut talk = Talk::start(command, NONE, 5, 90, NOW);
@@ -110,16 +113,16 @@ fn in_each(messages: &[PtMessage<'_>]) -> [Heard; 6] {
         lines: ArrayVec::new(),
     };
     [
-        told(&register, messages),
-        told(&end_of_day, messages),
-        told(&enquire, messages),
-        told(&PAYMENT, messages),
-        told(&reverse, messages),
-        told(&show, messages),
+        end_of(&register, messages),
+        end_of(&end_of_day, messages),
+        end_of(&enquire, messages),
+        end_of(&PAYMENT, messages),
+        end_of(&reverse, messages),
+        end_of(&show, messages),
     ]
 }
 
-/// The answer to the command, in every dialogue. A message outside the table in front of it changes nothing.
+/// The answer to the command, in every dialogue. A message outside the table before it changes nothing.
 #[test]
 fn asked(rt: HostRuntime) {
     for (message, wanted) in [
@@ -253,14 +256,14 @@ fn begun(rt: HostRuntime) {
 /// A field that isn't known ends what is read of a status.
 #[test]
 fn status_with_an_unknown_field(rt: HostRuntime) -> Result<(), Fail> {
-    let behind = b"\x27\x00\x04\x00\x00\x00\x00\x10\x99\x0b\x00\x01\x23\x87\x00\x17\xe5\x01\x02";
+    let after = b"\x27\x00\x04\x00\x00\x00\x00\x10\x99\x0b\x00\x01\x23\x87\x00\x17\xe5\x01\x02";
     let before = b"\xe5\x01\x02\x27\x00\x04\x00\x00\x00\x00\x10\x99\x0b\x00\x01\x23\x87\x00\x17";
     for (data, wanted) in [
-        (behind.as_slice(), Heard::Approved(FIGURES)),
+        (after.as_slice(), Heard::Approved(FIGURES)),
         (before.as_slice(), Heard::Unclear),
     ] {
         let status = with(read_fields(data)?);
-        assert_eq!(rt; told(&PAYMENT, &[ACK, status, END]), wanted, "{data:?}");
+        assert_eq!(rt; end_of(&PAYMENT, &[ACK, status, END]), wanted, "{data:?}");
     }
     Ok(())
 }

@@ -1,3 +1,3 @@
-pub mod AnswerLemmas
-pub mod Readings
-pub mod Splitting
+pub mod DecodeLemmas
+pub mod DecodeObjectsLemmas
+pub mod ResultLemmas

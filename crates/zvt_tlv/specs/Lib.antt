@@ -1,6 +1,6 @@
-pub mod Found
-pub mod Object
-pub mod Objects
-pub mod Reading
-pub mod Split
-pub mod Tlv
+pub mod Decode
+pub mod DecodeObjects
+pub mod Grammar
+pub mod GrammarOfObjects
+pub mod Reader
+pub mod Results

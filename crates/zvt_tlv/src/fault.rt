@@ -1,7 +1,9 @@
+//! The fault of TLV objects.
+
 use std::error::Error;
 use std::fmt;
 
-/// The place, in bytes, of the first object that is not lawful: one that is cut, has a tag of more than three bytes, or
+/// The offset, in bytes, of the first object that is malformed: it is truncated, has a tag of more than three bytes, or
 /// has a length that begins with `80` or with a byte above `82`.
 #[derive(Clone, Copy, Debug, PartialEq, Eq, Hash)]
 pub struct TlvFault {

@@ -1,8 +1,10 @@
+//! One TLV object: read from the beginning of bytes, and written.
+
 ghost use Rattle.std.specs.Prelude.{◌≡◌, ◌+◌, ◌<◌, ◌≤◌, ◌++◌, ◌↔◌, ℕ, length, Some, IsNone, IfSome};
 ghost use Rattle.arrayvec.specs.ArrayVec.{array_vec_len};
-ghost use Rattle.zvt_tlv.specs.Object.{HasLength, IsTag, tag_bytes, written_length, written};
-ghost use Rattle.zvt_tlv.specs.Reading.{tag_of, length_of, object_of};
-ghost use Rattle.zvt_tlv.specs.Found.{FindsTag, FindsLength, FindsObject};
+ghost use Rattle.zvt_tlv.specs.Grammar.{BeginsWithTlvLength, IsTag, canonical_tag, canonical_tlv_length, canonical_tlv_object};
+ghost use Rattle.zvt_tlv.specs.Decode.{decode_tag, decode_tlv_length, decode_tlv_object};
+ghost use Rattle.zvt_tlv.specs.Results.{ReturnsTag, ReturnsTlvLength, ReturnsFirstTlvObject};
 
 use arrayvec::ArrayVec;
 
@@ -14,8 +16,9 @@ pub struct Object<'a> {
     pub value: &'a [u8],
 }
 
+/// The tag that the bytes begin with, and what follows it.
 fn first_tag(bytes: &[u8]) -> Option<(u32, &[u8])>
-    ensures { FindsTag result (tag_of bytes.now) }
+    ensures { ReturnsTag result (decode_tag bytes.now) }
 {
     match bytes {
         [first, rest @ ..] if *first % 32 != 31 => Some((u32::from(*first), rest)),
@@ -29,22 +32,24 @@ fn first_tag(bytes: &[u8]) -> Option<(u32, &[u8])>
     }
 }
 
-/// The length at the front of the bytes and how many bytes it takes itself: one below `80`, two behind `81`, three
-/// behind `82`, high byte first. `None` where they begin with no whole length of these forms.
+/// The length that the bytes begin with, and how many bytes it takes itself: one below `80`; two with `81` before the
+/// length's byte; three with `82` before its two bytes, the high one first. `None` where they begin with no whole length of these forms.
 pub fn tlv_length(bytes: &[u8]) -> Option<(usize, usize)>
-    ensures some { (n size : ℕ) → (result ≡ Some (n, size)) ↔ HasLength bytes.now n size }
-    ensures none { IsNone result ↔ ((n size : ℕ) → HasLength bytes.now n size → ⊥) }
+    ensures some { (n size : ℕ) → (result ≡ Some (n, size)) ↔ BeginsWithTlvLength bytes.now n size }
+    ensures none { IsNone result ↔ ((n size : ℕ) → BeginsWithTlvLength bytes.now n size → ⊥) }
     ensures within { IfSome result (λ found. found.1 ≤ length bytes.now) }
 
-    // The same by the function that computes it.
-    ensures front { FindsLength bytes.now result (length_of bytes.now) }
+    // The result, by the function that computes it.
+    ensures computes { ReturnsTlvLength bytes.now result (decode_tlv_length bytes.now) }
 {
     first_length(bytes)
 }
 
+/// What [`tlv_length`] returns, by the function that computes it. It is apart from it for the prover alone: the relation
+/// follows from this.
 fn first_length(bytes: &[u8]) -> Option<(usize, usize)>
     ensures within { IfSome result (λ found. found.1 ≤ length bytes.now) }
-    ensures front { FindsLength bytes.now result (length_of bytes.now) }
+    ensures computes { ReturnsTlvLength bytes.now result (decode_tlv_length bytes.now) }
 {
     match bytes {
         [length, ..] if *length < 0x80 => Some((usize::from(*length), 1)),
@@ -54,10 +59,10 @@ fn first_length(bytes: &[u8]) -> Option<(usize, usize)>
     }
 }
 
-/// The object at the front and what follows it.
-#[tactic(auto, unfolding(crate::specs::Reading::object_of))]
+/// The object that the bytes begin with, and what follows it.
+#[tactic(auto, unfolding(crate::specs::Decode::decode_tlv_object))]
 pub(crate) fn first_object(bytes: &[u8]) -> Option<(Object<'_>, &[u8])>
-    ensures { FindsObject result (object_of bytes.now) }
+    ensures { ReturnsFirstTlvObject result (decode_tlv_object bytes.now) }
 {
     let (tag, bytes) = first_tag(bytes)?;
     let (length, size) = first_length(bytes)?;
@@ -72,18 +77,19 @@ pub(crate) fn first_object(bytes: &[u8]) -> Option<(Object<'_>, &[u8])>
 /// Appends an object: the bytes of its tag, its length in the shortest form, its value.
 pub fn write_object(tag: u32, value: &[u8], out: &mut ArrayVec<u8, 512>)
     requires tag { IsTag tag }
-    requires fits { array_vec_len out.old + length (written tag value.now) ≤ 512 }
-    ensures { out.new.items ≡ out.old.items ++ written tag value.now }
+    requires fits { array_vec_len out.old + length (canonical_tlv_object tag value.now) ≤ 512 }
+    ensures { out.new.items ≡ out.old.items ++ canonical_tlv_object tag value.now }
 {
     write_tag(tag, out);
+    // The buffer bounds the value, so that its length fits.
     write_length(value.len() as u16, out);
     out.try_extend_from_slice(value).unwrap();
 }
 
 fn write_tag(tag: u32, out: &mut ArrayVec<u8, 512>)
     requires tag { tag < 16777216 }
-    requires fits { array_vec_len out.old + length (tag_bytes tag) ≤ 512 }
-    ensures { out.new.items ≡ out.old.items ++ tag_bytes tag }
+    requires fits { array_vec_len out.old + length (canonical_tag tag) ≤ 512 }
+    ensures { out.new.items ≡ out.old.items ++ canonical_tag tag }
 {
     let [_, first, second, third] = tag.to_be_bytes();
     if tag < 0x100 {
@@ -99,8 +105,8 @@ fn write_tag(tag: u32, out: &mut ArrayVec<u8, 512>)
 }
 
 fn write_length(n: u16, out: &mut ArrayVec<u8, 512>)
-    requires { array_vec_len out.old + length (written_length n) ≤ 512 }
-    ensures { out.new.items ≡ out.old.items ++ written_length n }
+    requires { array_vec_len out.old + length (canonical_tlv_length n) ≤ 512 }
+    ensures { out.new.items ≡ out.old.items ++ canonical_tlv_length n }
 {
     let [high, low] = n.to_be_bytes();
     if n < 0x80 {

@@ -1,8 +1,10 @@
+//! Tests: objects and faults, lengths, and written objects.
+
 use crate::{Tlv, TlvFault, tlv_length, write_object};
 use arrayvec::ArrayVec;
 use std::test::Fail;
 
-/// Bytes, the tags of their objects in order, and the place of the first that is not lawful.
+/// Bytes, the tags of their objects in order, and the offset of the first that is malformed.
 const OBJECTS: &[(&[u8], &[u32], Option<usize>)] = &[
     (b"", &[], None),
     (b"\x07\x02AB", &[0x07], None),
@@ -20,6 +22,17 @@ const OBJECTS: &[(&[u8], &[u32], Option<usize>)] = &[
     (b"\x07\x01A\x07\x02A", &[0x07], Some(3)),
     (b"\x07\x81", &[], Some(0)),
 ];
+
+/// The example of the crate's documentation.
+#[test]
+fn the_example(rt: HostRuntime) -> Result<(), Fail> {
+    let mut tlv = Tlv::over(b"\x07\x02AB\x25\x80");
+    let object = tlv.next()?.expect(&rt, "an object");
+    assert_eq!(rt; object.tag, 0x07);
+    assert!(rt; object.value == b"AB".as_slice());
+    assert_eq!(rt; tlv.next().err(), Some(TlvFault { at: 4 }));
+    Ok(())
+}
 
 #[test]
 fn objects_and_faults(rt: HostRuntime) -> Result<(), Fail> {

@@ -1,7 +1,9 @@
+//! The reader of the objects of bytes.
+
 ghost use Rattle.std.specs.Prelude.{◌≡◌, ◌↔◌, ℕ, List, [], IsNone, IsOkAnd, IsErrOf};
-ghost use Rattle.zvt_tlv.specs.Object.{ObjectValue, BeginsWith};
-ghost use Rattle.zvt_tlv.specs.Objects.{IsUnlawful};
-ghost use Rattle.zvt_tlv.specs.Tlv.{Answers, IsObject, Leaves, Place};
+ghost use Rattle.zvt_tlv.specs.Grammar.{ObjectValue, BeginsWithTlvObject};
+ghost use Rattle.zvt_tlv.specs.GrammarOfObjects.{IsMalformedTlvObject};
+ghost use Rattle.zvt_tlv.specs.Reader.{ReturnsTlvObject, IsTlvObject, LeavesTlvReader, TlvReaderValue};
 
 use crate::fault::TlvFault;
 use crate::object::{Object, first_object};
@@ -9,7 +11,7 @@ use std::marker::Model;
 
 /// Reads the objects of bytes one after another.
 ///
-/// Contracts see a reader as the bytes that it has not read yet, and their place in the whole.
+/// Contracts see a reader as the bytes that it has not read yet, and their offset in the whole.
 #[derive(Clone, Debug, Drop)]
 pub struct Tlv<'a> {
     at: usize,
@@ -18,9 +20,9 @@ pub struct Tlv<'a> {
 
 impl<'a> Model for Tlv<'a> {
     ghost use Rattle.std.specs.Prelude.{◌+◌, ◌^◌, ◌<◌, length};
-    ghost use Rattle.zvt_tlv.specs.Tlv.{Place};
+    ghost use Rattle.zvt_tlv.specs.Reader.{TlvReaderValue};
 
-    ghost Value = { Place };
+    ghost Value = { TlvReaderValue };
 
     ghost view = { λ r. record { at = r.at; rest = r.rest.now } };
 
@@ -35,23 +37,23 @@ impl<'a> Tlv<'a> {
         Tlv { at: 0, rest: bytes }
     }
 
-    /// The place, in the whole bytes, of those that are not read yet.
-    pub fn at(&self) -> usize
+    /// The offset, in the whole bytes, of those that are not read yet.
+    pub fn offset(&self) -> usize
         ensures { result ≡ self.now.at }
     {
         self.at
     }
 
-    /// The next object, or `None` at the end. At an object that is not lawful the reader stays.
+    /// The next object, or `None` at the end. At a malformed object the reader stays, and returns the same fault again.
     pub fn next(&mut self) -> Result<Option<Object<'a>>, TlvFault>
         ensures whole { (object : ObjectValue)
-            → IsObject result object ↔ ((rest : List ℕ) × BeginsWith self.old.rest object rest) }
+            → IsTlvObject result object ↔ ((rest : List ℕ) × BeginsWithTlvObject self.old.rest object rest) }
         ensures none { IsOkAnd result IsNone ↔ (self.old.rest ≡ []) }
-        ensures fault { (at : ℕ) → (result ≡ Err (record { at = at })) ↔ ((at ≡ self.old.at) × IsUnlawful self.old.rest) }
+        ensures fault { (at : ℕ) → (result ≡ Err (record { at = at })) ↔ ((at ≡ self.old.at) × IsMalformedTlvObject self.old.rest) }
 
-        // The same by the function that computes it.
-        ensures front { Answers result self.old }
-        ensures moves { Leaves self.old result self.new }
+        // The result, by the function that decodes what is left, and what is left then.
+        ensures computes { ReturnsTlvObject result self.old }
+        ensures moves { LeavesTlvReader self.old result self.new }
     {
         if self.rest.is_empty() {
             return Ok(None);

@@ -1,4 +1,4 @@
-use Rattle.gw_rules.proofs.FrontLemmas.{restart-lawful}
+use Rattle.gw_rules.proofs.PrefixLemmas.{restart-lawful}
 use Rattle.gw_rules.proofs.law_crash.Goals as goal
 
 pub returns : goal.returns

@@ -4,12 +4,12 @@ ghost use Rattle.std.specs.Option.{option_to_list};
 ghost use Rattle.gw_site.specs.Outside.{Outside, outside_of};
 ghost use Rattle.gw_site.specs.declared.turn.Turn.TheVariants.{Polled};
 ghost use Rattle.gw_rules.specs.Plays.{Play, Fits, PlaysLines, met, play_after, play_of, rests};
-ghost use Rattle.gw_rules.specs.Script.{Line, script_of};
+ghost use Rattle.gw_rules.specs.Script.{PlayedLine, script_of};
 ghost use Rattle.gw_run.specs.PlaysProp.{plays_prop};
-ghost use Rattle.gw_run.specs.ScriptRead.{line_seen, script_seen};
+ghost use Rattle.gw_run.specs.ScriptRead.{line_value, script_value};
 
 use crate::line::Script;
-use crate::player::met::{Found, sought};
+use crate::player::next_event::{Found, sought};
 use gw_site::Turn;
 use std::alloc::Global;
 
@@ -23,11 +23,11 @@ pub(super) struct Played<'a> {
     /// The moment of the last `at` line passed.
     pub(super) moment: i64,
     /// Nothing is added any more.
-    pub(super) short: bool,
+    pub(super) dark: bool,
     pub(super) log: Vec<Turn>,
-    pub(super) ghost read_is: { script_of script.now ≡ Ok (script_seen read) },
-    pub(super) ghost plays: { PlaysLines (map line_seen read.lines.items) log.items } by { plays_prop (map line_seen read.lines.items) log.items },
-    pub(super) ghost stands: { short ≡ false → play_of (map line_seen read.lines.items) log.items ≡ rests moment (map line_seen (drop at read.lines.items)) },
+    pub(super) ghost read_is: { script_of script.now ≡ Ok (script_value read) },
+    pub(super) ghost plays: { PlaysLines (map line_value read.lines.items) log.items } by { plays_prop (map line_value read.lines.items) log.items },
+    pub(super) ghost stands: { dark ≡ false → play_of (map line_value read.lines.items) log.items ≡ rests moment (map line_value (drop at read.lines.items)) },
     pub(super) ghost within: { at ≤ length read.lines.items },
 }
 
@@ -61,13 +61,13 @@ impl<'a> Played<'a> {
     ghost use Rattle.std.specs.Option.{option_copied};
     ghost use Rattle.gw_run.specs.PlayerTills.{outside_with};
     ghost use Rattle.gw_run.specs.PlayerMet.{due_of, MayCome};
-    ghost use Rattle.gw_run.specs.ScriptRead.{event_seen};
+    ghost use Rattle.gw_run.specs.ScriptRead.{event_value};
 
     /// Nothing of this script, which the text was read as, is played yet.
     pub(super) fn new(alloc: Global, script: &'a [u8], read: Script) -> Played<'a>
-        requires { script_of script.now ≡ Ok (script_seen read) }
+        requires { script_of script.now ≡ Ok (script_value read) }
         ensures script { result.script.now ≡ script.now }
-        ensures short { result.short ≡ false }
+        ensures dark { result.dark ≡ false }
         ensures log { result.log.items ≡ [] }
     {
         Played {
@@ -75,16 +75,16 @@ impl<'a> Played<'a> {
             read,
             at: 0,
             moment: 0,
-            short: false,
+            dark: false,
             log: Vec::new(alloc),
         }
     }
 
     /// What a poll meets, where these tills are there and this one opened last.
     pub(super) fn found(&self, tills: &[u64], opened: Option<u64>) -> Found<'_>
-        ensures met { met (outside_with tills.now opened) self.now.moment (map line_seen (drop self.now.at self.now.read.lines.items))
-            ≡ record { lines = map line_seen (drop result.behind self.now.read.lines.items); moment = result.now; due = due_of (option_map event_seen (option_copied result.event)) } }
-        ensures may_come { MayCome (outside_with tills.now opened) (option_map event_seen (option_copied result.event)) }
+        ensures met { met (outside_with tills.now opened) self.now.moment (map line_value (drop self.now.at self.now.read.lines.items))
+            ≡ record { lines = map line_value (drop result.behind self.now.read.lines.items); moment = result.now; due = due_of (option_map event_value (option_copied result.event)) } }
+        ensures may_come { MayCome (outside_with tills.now opened) (option_map event_value (option_copied result.event)) }
         ensures within { result.behind ≤ length self.now.read.lines.items }
     {
         sought(&self.read.lines, self.at, self.moment, tills, opened)
@@ -93,32 +93,32 @@ impl<'a> Played<'a> {
     /// Adds the turn of a call. False where nothing is added: memory was
     /// refused, now or before.
     pub(super) fn add(&mut self, turn: Turn) -> bool
-        requires fits { (o : Outside) (moment : ℤ) (lines : List Line) → Fits o (rests moment lines) turn }
+        requires fits { (o : Outside) (moment : ℤ) (lines : List PlayedLine) → Fits o (rests moment lines) turn }
         requires stays { (o : Outside) (p : Play) → play_after o p turn ≡ p }
-        ensures added { result ≡ true → (self.old.short ≡ false) × (self.new.short ≡ false) × (self.new.log.items ≡ self.old.log.items ++ turn ∷ []) }
-        ensures refused { result ≡ false → (self.new.short ≡ true) × (self.new.log.items ≡ self.old.log.items) }
+        ensures added { result ≡ true → (self.old.dark ≡ false) × (self.new.dark ≡ false) × (self.new.log.items ≡ self.old.log.items ++ turn ∷ []) }
+        ensures refused { result ≡ false → (self.new.dark ≡ true) × (self.new.log.items ≡ self.old.log.items) }
         ensures script { self.new.script.now ≡ self.old.script.now }
     {
-        if self.short {
+        if self.dark {
             return false;
         }
         if grown(&mut self.log, turn) {
             true
         } else {
-            self.short = true;
+            self.dark = true;
             false
         }
     }
 
-    /// Adds a poll at a moment and what it has brought, and passes the lines in front of a place. False where memory is
+    /// Adds a poll at a moment and what it has brought, and passes the lines before a place. False where memory is
     /// refused, and nothing is added.
     pub(super) fn add_poll(&mut self, now: i64, event: Option<Turn>, at: usize) -> bool
-        requires whole { self.old.short ≡ false }
+        requires whole { self.old.dark ≡ false }
         requires within { at ≤ length self.old.read.lines.items }
-        requires met { met (outside_of self.old.log.items) self.old.moment (map line_seen (drop self.old.at self.old.read.lines.items))
-            ≡ record { lines = map line_seen (drop at self.old.read.lines.items); moment = now; due = option_to_list event } }
-        ensures added { result ≡ true → (self.new.short ≡ false) × (self.new.log.items ≡ self.old.log.items ++ Polled now ∷ option_to_list event) }
-        ensures refused { result ≡ false → (self.new.short ≡ true) × (self.new.log.items ≡ self.old.log.items) }
+        requires met { met (outside_of self.old.log.items) self.old.moment (map line_value (drop self.old.at self.old.read.lines.items))
+            ≡ record { lines = map line_value (drop at self.old.read.lines.items); moment = now; due = option_to_list event } }
+        ensures added { result ≡ true → (self.new.dark ≡ false) × (self.new.log.items ≡ self.old.log.items ++ Polled now ∷ option_to_list event) }
+        ensures refused { result ≡ false → (self.new.dark ≡ true) × (self.new.log.items ≡ self.old.log.items) }
         ensures script { self.new.script.now ≡ self.old.script.now }
     {
         if grown_by(&mut self.log, Turn::Polled { now }, event) {
@@ -126,17 +126,17 @@ impl<'a> Played<'a> {
             self.moment = now;
             true
         } else {
-            self.short = true;
+            self.dark = true;
             false
         }
     }
 
     /// Nothing is added any more.
-    pub(super) fn shorten(&mut self)
-        ensures short { self.new.short ≡ true }
+    pub(super) fn darken(&mut self)
+        ensures dark { self.new.dark ≡ true }
         ensures log { self.new.log.items ≡ self.old.log.items }
         ensures script { self.new.script.now ≡ self.old.script.now }
     {
-        self.short = true;
+        self.dark = true;
     }
 }

@@ -1,3 +1,4 @@
+-- Proof of the contract of `print_block`: a block that was read has whole objects.
 use Rattle.std.proofs.Common.{ap}
 use Rattle.zvt_msg.specs.Message.{MessageValue, value_of}
 use Rattle.samples_zvt.proofs.print_block.Goals as goal

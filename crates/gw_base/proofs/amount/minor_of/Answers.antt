@@ -1,15 +1,15 @@
 use Rattle.std.proofs.Common.{◌≡◌, ℕ, List, take, drop, sym, ◌∙◌, ap, subst, arith, Option, Some, MatchOption}
 use Rattle.std.specs.Char.{is_ascii_digit}
 use Rattle.std.proofs.lemmas.List.Sums.{prefix_len-le-length}
-use Rattle.gw_base.specs.Amount.{fraction_of, minor_units, minor_with, rest_of, whole_of, IsAmountText}
+use Rattle.gw_base.specs.Amount.{fraction_of, minor_units, minor_units_with, rest_of, whole_of, SpellsAmount}
 use Rattle.gw_base.proofs.AmountLemmas.{minor_units-meaning}
 use Rattle.gw_base.proofs.amount.minor_of.Goals as goal
 
 -- the meaning of what was found
 meaning : (text : List ℕ) (found : Option ℕ) → found ≡ minor_units text
-    → MatchOption found ((minor : ℕ) → ¬ IsAmountText text minor) (IsAmountText text)
+    → MatchOption found ((minor : ℕ) → ¬ SpellsAmount text minor) (SpellsAmount text)
 meaning text found e =
-    let P : Option ℕ → Type 0 = λ r. MatchOption r ((minor : ℕ) → ¬ IsAmountText text minor) (IsAmountText text) in
+    let P : Option ℕ → Type 0 = λ r. MatchOption r ((minor : ℕ) → ¬ SpellsAmount text minor) (SpellsAmount text) in
     subst P (sym e) (minor_units-meaning text)
 
 pub split_at-requires : goal.split_at-requires
@@ -24,8 +24,8 @@ returns-in-Some-clause-value c =
     c.split_at.ensures.back ∙ ap (λ n. drop n c.args.numeral.now) c.whole_len.ensures in
     let fraction : Some c.in-Some.fraction.now ≡ fraction_of (rest_of c.args.numeral.now) =
     c.in-Some.ensures.value ∙ ap fraction_of rest in
-    c.minor_of_parts.ensures ∙ ap (λ w. minor_with w (Some c.in-Some.fraction.now)) whole
-    ∙ ap (minor_with (whole_of c.args.numeral.now)) fraction
+    c.minor_of_parts.ensures ∙ ap (λ w. minor_units_with w (Some c.in-Some.fraction.now)) whole
+    ∙ ap (minor_units_with (whole_of c.args.numeral.now)) fraction
 
 pub returns-in-Some-clause-amount : goal.returns-in-Some-clause-amount
 returns-in-Some-clause-amount c = meaning c.args.numeral.now _ (returns-in-Some-clause-value c)
@@ -35,7 +35,7 @@ unfolding minor_units
 returns-in-None-clause-value c =
     let rest : c.split_at.result.1.now ≡ rest_of c.args.numeral.now =
     c.split_at.ensures.back ∙ ap (λ n. drop n c.args.numeral.now) c.whole_len.ensures in
-    ap (minor_with (whole_of c.args.numeral.now)) (c.in-None.ensures.value ∙ ap fraction_of rest)
+    ap (minor_units_with (whole_of c.args.numeral.now)) (c.in-None.ensures.value ∙ ap fraction_of rest)
 
 pub returns-in-None-clause-amount : goal.returns-in-None-clause-amount
 returns-in-None-clause-amount c = meaning c.args.numeral.now _ (returns-in-None-clause-value c)

@@ -3,27 +3,27 @@ use Rattle.std.specs.declared.alloc.AllocError.{AllocError}
 use Rattle.std.proofs.lemmas.Int.{to_z-of_z}
 use Rattle.gw_run.specs.Tills.{rank}
 use Rattle.gw_run.specs.declared.engine.Served.TheVariants.{Waiting}
-use Rattle.gw_run.proofs.TurnLemmas.{piece-unheld, piece-waited, piece-gone, piece-memory}
+use Rattle.gw_run.proofs.RoundLemmas.{chunk-unheld, chunk-waited, chunk-gone, chunk-memory}
 use Rattle.gw_run.proofs.engine.on_bytes.Goals as goal
 
 pub returns-in-None-clause-keeps : goal.returns-in-None-clause-keeps
-returns-in-None-clause-keeps g c = λ setup polls named. piece-unheld _ setup c.args.tills.now.items polls c.args.now c.args.number c.args.bytes.now _
+returns-in-None-clause-keeps g c = λ setup polls named. chunk-unheld _ setup c.args.tills.now.items polls c.args.now c.args.number c.args.bytes.now _
     (ap (rank c.args.number) (sym c.deref.ensures.value) ∙ sym c.place_of.ensures.place ∙ c.in-None.is)
 
 pub returns-in-Ok-Gone-clause-keeps : goal.returns-in-Ok-Gone-clause-keeps
 returns-in-Ok-Gone-clause-keeps g c = λ setup polls named.
-    piece-gone AllocError _ _ setup c.args.tills.now.items c.drop_till.new.tills.items polls c.args.now c.args.number c.in-Some.at c.args.bytes.now c.index_mut.result.now c.read_piece.new.till
+    chunk-gone AllocError _ _ setup c.args.tills.now.items c.drop_till.new.tills.items polls c.args.now c.args.number c.in-Some.at c.args.bytes.now c.index_mut.result.now c.read_chunk.new.till
     (ap (rank c.args.number) (sym c.deref.ensures.value) ∙ sym c.place_of.ensures.place ∙ c.in-Some.is) (sym c.index_mut.ensures.value) c.in-Ok-Gone.ensures.number c.drop_till.ensures
     (λ o. rw c.in-Ok-Gone.field-0-is at (simp (to_z-of_z, c.ranges.now) at (c.in-Ok-Gone.ensures.keeps setup polls o named)))
 
 pub returns-in-Ok-Waiting-clause-keeps : goal.returns-in-Ok-Waiting-clause-keeps
 returns-in-Ok-Waiting-clause-keeps g c = λ setup polls named.
-    piece-waited AllocError _ _ setup c.args.tills.now.items polls c.args.now c.args.number c.in-Some.at c.args.bytes.now c.index_mut.result.now c.read_piece.new.till Waiting
+    chunk-waited AllocError _ _ setup c.args.tills.now.items polls c.args.now c.args.number c.in-Some.at c.args.bytes.now c.index_mut.result.now c.read_chunk.new.till Waiting
     (ap (rank c.args.number) (sym c.deref.ensures.value) ∙ sym c.place_of.ensures.place ∙ c.in-Some.is) (sym c.index_mut.ensures.value) c.in-Ok-Waiting.ensures.number
     (rw c.in-Ok-Waiting.field-0-is at c.in-Ok-Waiting.ensures.reader) (λ e. cc) (λ e. cc)
     (λ o. rw c.in-Ok-Waiting.field-0-is at (simp (to_z-of_z, c.ranges.now) at (c.in-Ok-Waiting.ensures.keeps setup polls o named)))
 
 pub returns-in-Err-clause-keeps : goal.returns-in-Err-clause-keeps
 returns-in-Err-clause-keeps g c = λ setup polls named.
-    piece-memory AllocError _ _ _ setup c.args.tills.now.items polls c.args.now c.args.number c.in-Some.at c.args.bytes.now c.index_mut.result.now c.read_piece.new.till
+    chunk-memory AllocError _ _ _ setup c.args.tills.now.items polls c.args.now c.args.number c.in-Some.at c.args.bytes.now c.index_mut.result.now c.read_chunk.new.till
     (ap (rank c.args.number) (sym c.deref.ensures.value) ∙ sym c.place_of.ensures.place ∙ c.in-Some.is) (sym c.index_mut.ensures.value) (λ o. simp (to_z-of_z, c.ranges.now) at (c.in-Err.ensures.keeps setup polls o named))

@@ -1,8 +1,8 @@
 use Rattle.std.proofs.Common.{◌+◌}
 use Rattle.std.proofs.lemmas.Int.{to_z-of_z}
-use Rattle.gw_rules.proofs.KeepsLemmas.{keeps-then}
+use Rattle.gw_rules.proofs.TripleLemmas.{keeps-then}
 use Rattle.gw_site.specs.declared.site.What.TheVariants.{TillOpened, TillBytes, TillClosed, PtBytes, PtClosed, Nothing, Stopped}
-use Rattle.gw_run.proofs.TurnLemmas.{at-what, rest-nothing, rest-pt-bytes, rest-pt-closed, rest-closed, rest-stopped, rest-opened, rest-heard}
+use Rattle.gw_run.proofs.RoundLemmas.{at-what, rest-nothing, rest-pt-bytes, rest-pt-closed, rest-closed, rest-stopped, rest-opened, rest-heard}
 use Rattle.gw_run.proofs.engine.on_event.Goals as goal
 
 pub returns-in-Stopped-clause-keeps : goal.returns-in-Stopped-clause-keeps

@@ -1,6 +1,6 @@
 use Rattle.std.proofs.Common.{◌∙◌, length, arith, sym, ap}
 use Rattle.gw_run.specs.Tills.{rank}
-use Rattle.gw_run.proofs.TurnLemmas.{no-memory, open-held, open-taken, open-crowded}
+use Rattle.gw_run.proofs.RoundLemmas.{no-memory, open-held, open-taken, open-crowded}
 use Rattle.gw_run.proofs.engine.on_open.Goals as goal
 
 pub returns-in-Some-clause-keeps : goal.returns-in-Some-clause-keeps

@@ -1,7 +1,7 @@
 use Rattle.std.proofs.Common.{◌∙◌, arith}
 use Rattle.std.proofs.lemmas.Int.{to_z-of_z}
-use Rattle.gw_rules.proofs.KeepsLemmas.{keeps-then}
-use Rattle.gw_run.specs.Turns.{ReadsOn}
+use Rattle.gw_rules.proofs.TripleLemmas.{keeps-then}
+use Rattle.gw_run.specs.Round.{ReadsOn}
 use Rattle.gw_run.specs.declared.engine.Served.TheVariants.{More}
 use Rattle.gw_run.proofs.engine.serve.Goals as goal
 

@@ -2,7 +2,7 @@ use Rattle.std.proofs.Common.{◌∙◌}
 use Rattle.std.specs.Prelude.{Some, None}
 use Rattle.std.proofs.lemmas.Int.{to_z-of_z}
 use Rattle.gw_base.specs.Moment.{moment_of}
-use Rattle.gw_run.specs.Answered.{IsNextOf}
+use Rattle.gw_run.specs.NextMessage.{IsNextOf}
 use Rattle.gw_run.specs.declared.engine.Next.TheVariants.{Waiting, Message, Unframed}
 use Rattle.gw_run.proofs.EngineLemmas.{serve-waiting, waiting-rest, serve-unframed, serve-silent, serve-answered, serve-unsent, takes-less}
 use Rattle.gw_run.proofs.engine.serve_next.Goals as goal

@@ -1,7 +1,7 @@
 use Rattle.std.proofs.Common.{◌∙◌, ap}
 use Rattle.gw_site.specs.declared.site.Failed.{Failed}
 use Rattle.json_text.specs.Canonical.{canonical}
-use Rattle.sale_frame.specs.Frame.{frame}
+use Rattle.sale_frame.specs.Grammar.{frame}
 use Rattle.gw_run.proofs.SendLemmas.{delivered, undelivered}
 use Rattle.gw_run.proofs.engine.tell.Goals as goal
 

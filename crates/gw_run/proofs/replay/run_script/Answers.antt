@@ -8,7 +8,7 @@ returns-in-Done c = record {
       let items = c.run_once-ended.new.site.play.log in
       let few : length items.items < 18446744073709551615 = (let a = items.ok in let b = items.small in omega arith) in
       let few_log : length log < 18446744073709551615 = rw (let n : items.items ≡ log = cc in sym n) few in
-      ran-whole _ _ script c.args.name gives log _ fresh (rw (c.script_setup-setup.ensures, c.in-Done.is) at c.run_once-ended.ensures.lawful) e (c.played.ensures log e) few_log c.is_short.result c.is_short.ensures;
+      ran-whole _ _ script c.args.name gives log _ fresh (rw (c.script_setup-setup.ensures, c.in-Done.is) at c.run_once-ended.ensures.lawful) e (c.played.ensures log e) few_log c.is_dark.result c.is_dark.ensures;
 }
 
 pub returns : goal.returns

@@ -1,6 +1,6 @@
 use Rattle.std.proofs.Common.{◌∙◌, ap, arith}
 use Rattle.gw_rules.specs.Script.{script_from, split_lines}
-use Rattle.gw_run.specs.ScriptRead.{script_seen}
+use Rattle.gw_run.specs.ScriptRead.{script_value}
 use Rattle.gw_run.proofs.ScriptLemmas.{line_taken}
 use Rattle.gw_run.proofs.script.read_script.Goals as goal
 
@@ -8,10 +8,10 @@ pub loop-rest-preserved : goal.loop-rest-preserved
 loop-rest-preserved c = record {
   counted = omega arith;
   read =
-      let script = script_seen c.loop-rest.script in
+      let script = script_value c.loop-rest.script in
       let number = c.loop-rest.number in
       let taken = rw c.if-not-branch.false at c.in_ok-add_text.ensures in
       c.loop-rest.invariant.read
       ∙ ap (λ texts. script_from script number texts) c.first_text.ensures.texts
-      ∙ line_taken script (script_seen c.add_text.new.script) number c.first_text.result.0.now (split_lines c.first_text.result.1.now) taken;
+      ∙ line_taken script (script_value c.add_text.new.script) number c.first_text.result.0.now (split_lines c.first_text.result.1.now) taken;
 }

@@ -1,12 +1,12 @@
 use Rattle.std.proofs.Common.{◌≡◌, ◌≤◌, ◌+◌, length}
 use Rattle.gw_rules.specs.Script.{script_from, script_of, split_lines}
-use Rattle.gw_run.specs.ScriptRead.{script_seen}
+use Rattle.gw_run.specs.ScriptRead.{script_value}
 use Rattle.gw_run.proofs.script.read_script.Given as goal
 
 abbrev pub invariant-loop-rest : goal.invariant-loop-rest
 invariant-loop-rest l = record {
   counted : l.number + length l.rest ≤ length l.bytes + 1;
-  read : script_of l.bytes ≡ script_from (script_seen l.script) l.number (split_lines l.rest);
+  read : script_of l.bytes ≡ script_from (script_value l.script) l.number (split_lines l.rest);
 }
 
 abbrev pub decreases-loop-rest : goal.decreases-loop-rest

@@ -1,12 +1,12 @@
 use Rattle.std.proofs.Common.{◌+◌, arith, ◌<◌, length}
 use Rattle.std.specs.Prelude.{string_bytes}
-use Rattle.gw_run.proofs.TextLemmas.{gathered_more, gathered_written, written_whole, written_front, written_part}
+use Rattle.gw_run.proofs.TextLemmas.{gathered_more, gathered_written, written_whole, written_prefix, written_part}
 use Rattle.gw_run.proofs.text.write_log.Goals as goal
-use Rattle.gw_run.proofs.text.write_log.Goals.{then-len-ge-PIECE+in_ok-write, else-len-ge-PIECE}
+use Rattle.gw_run.proofs.text.write_log.Goals.{then-len-ge-CHUNK+in_ok-write, else-len-ge-CHUNK}
 
 pub returns-in_err-push_line-clause-written : goal.returns-in_err-push_line-clause-written
 returns-in_err-push_line-clause-written g c =
-    written_front c.args.log.now c.loop-turn.turn-index _ _ _ c.from_residual.result c.from_residual.ensures.1 c.loop-turn.invariant.gathered
+    written_prefix c.args.log.now c.loop-turn.turn-index _ _ _ c.from_residual.result c.from_residual.ensures.1 c.loop-turn.invariant.gathered
 
 pub returns-in_err-write-clause-written : goal.returns-in_err-write-clause-written
 returns-in_err-write-clause-written g c =
@@ -23,13 +23,13 @@ loop-turn-preserved g c =
     let lt : index < length log = omega arith in
     let gathered = gathered_more log index c.turn-item.result _ (string_bytes c.push_line.new.lines) _ _ lt c.turn-item.is c.in_ok-push_line.ensures c.loop-turn.invariant.gathered in
     record {
-      gathered = elim c.if-len-ge-PIECE.branch [
-        | then-len-ge-PIECE+in_ok-write w ↦ rw (w.out-is, w.lines-is, w.clear.ensures.bytes) (gathered_written log (index + 1) _ _ _ _ gathered (rw w.as_bytes.ensures.value at w.in_ok-write.ensures.bytes))
-        | else-len-ge-PIECE w ↦ rw (w.out-is, w.lines-is) gathered
+      gathered = elim c.if-len-ge-CHUNK.branch [
+        | then-len-ge-CHUNK+in_ok-write w ↦ rw (w.out-is, w.lines-is, w.clear.ensures.bytes) (gathered_written log (index + 1) _ _ _ _ gathered (rw w.as_bytes.ensures.value at w.in_ok-write.ensures.bytes))
+        | else-len-ge-CHUNK w ↦ rw (w.out-is, w.lines-is) gathered
       ];
-      later = elim c.if-len-ge-PIECE.branch [
-        | then-len-ge-PIECE+in_ok-write w ↦ rw w.out-is (omega (arith, w.in_ok-write.ensures.cause.later))
-        | else-len-ge-PIECE w ↦ rw w.out-is c.loop-turn.invariant.later
+      later = elim c.if-len-ge-CHUNK.branch [
+        | then-len-ge-CHUNK+in_ok-write w ↦ rw w.out-is (omega (arith, w.in_ok-write.ensures.cause.later))
+        | else-len-ge-CHUNK w ↦ rw w.out-is c.loop-turn.invariant.later
       ];
     }
 

@@ -1,6 +1,6 @@
 use Rattle.std.specs.Prelude.{IfOk, length}
 use Rattle.std.proofs.Common.{◌≡◌, inl}
-use Rattle.jrn_log.proofs.GrowLemmas.{grows-then, grows-weaker, synced_same}
+use Rattle.jrn_log.proofs.SequenceLemmas.{grows-then, grows-weaker, synced_same}
 use Rattle.jrn_log.proofs.TurnLemmas.{sync_then_length}
 use Rattle.jrn_log.proofs.journal.synced_length.Goals as goal
 

@@ -1,4 +1,4 @@
-use Rattle.jrn_log.proofs.GrowLemmas.{grows-then}
+use Rattle.jrn_log.proofs.SequenceLemmas.{grows-then}
 use Rattle.jrn_log.proofs.TurnLemmas.{write_then_sync}
 use Rattle.jrn_log.proofs.write.write_synced.Goals as goal
 

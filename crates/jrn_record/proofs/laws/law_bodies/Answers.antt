@@ -5,8 +5,8 @@ use Rattle.jrn_record.proofs.laws.law_bodies.Goals as goal
 pub returns-clause-size : goal.returns-clause-size
 returns-clause-size c = λ item is. (body_of-places item is).0
 
-pub returns-clause-places : goal.returns-clause-places
-returns-clause-places c = λ item is. (body_of-places item is).1
+pub returns-clause-offsets : goal.returns-clause-offsets
+returns-clause-offsets c = λ item is. (body_of-places item is).1
 
 pub returns-clause-one_record : goal.returns-clause-one_record
 returns-clause-one_record c = body_of-injective

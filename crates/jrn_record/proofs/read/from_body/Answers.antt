@@ -1,8 +1,8 @@
 use Rattle.std.proofs.Common.{refl, sym, arith}
-use Rattle.jrn_record.specs.Spelling.{intent_fields, outcome_fields, settled_fields}
+use Rattle.jrn_record.specs.Grammar.{intent_fields, outcome_fields, settled_fields}
 use Rattle.jrn_record.specs.Table.{intent_table, outcome_table, settled_table}
 use Rattle.jrn_record.proofs.ReadLemmas.{no_kind}
-use Rattle.jrn_record.proofs.RunLemmas.{joined-agree}
+use Rattle.jrn_record.proofs.BodyLemmas.{joined-agree}
 use Rattle.jrn_record.proofs.read.from_body.Goals as goal
 
 pub returns-in_ok-read_intent-in-1 : goal.returns-in_ok-read_intent-in-1

@@ -1,12 +1,12 @@
 use Rattle.std.proofs.Common.{arith, sym, subst, pos, ℤ}
 use Rattle.std.proofs.lemmas.Result.{err_from_is_err_and}
 use Rattle.gw_base.specs.declared.currency.Currency.TheVariants.{Eur}
-use Rattle.jrn_record.specs.Limits.{HasOriginal, HasText, IsIntent}
-use Rattle.jrn_record.specs.Spelling.{intent_fields}
+use Rattle.jrn_record.specs.Limits.{HasOriginal, HasTillText, IsIntent}
+use Rattle.jrn_record.specs.Grammar.{intent_fields}
 use Rattle.jrn_record.specs.Table.{Agree, intent_table}
-use Rattle.jrn_record.specs.declared.values.Intent.{Intent}
-use Rattle.jrn_record.specs.declared.values.Deal.TheVariants.{Payment}
-use Rattle.jrn_record.proofs.MomentFits.{moment_back}
+use Rattle.jrn_record.specs.declared.records.Intent.{Intent}
+use Rattle.jrn_record.specs.declared.records.Deal.TheVariants.{Payment}
+use Rattle.jrn_record.proofs.MomentLemmas.{moment_back}
 use Rattle.jrn_record.proofs.ReadLemmas.{blank, blank_is, blank_option, blank_option_is, blank_original, blank_original_is, exit, intent_fault, same_deal, zero_moment}
 use Rattle.jrn_record.proofs.read.read_intent.Goals as goal
 
@@ -53,7 +53,7 @@ returns-in_err-transaction c =
     let agrees : Agree 5 (intent_fields draft) intent_table c.args.body.now = (sym c.requires, (c.in_ok-what.ensures.1, (c.in_ok-sale.ensures.1, (c.in_ok-poi.ensures.1, (c.in_ok-service.ensures.1, tt))))) in
     exit _ c.in_err-transaction.field-0.0 _ _ (err_from_is_err_and c.from_residual-in_err-transaction.result c.from_residual-in_err-transaction.ensures.1)
     (intent_fault c.args.body.now 5 _ draft (omega arith) c.in_err-transaction.ensures.0 is agrees (sym c.requires)
-    (λ item lawful a. c.in_err-transaction.ensures.1 item.transaction (subst (λ w. HasText w 80 item.transaction) (same_deal item.what c.in_ok-what.what _ a.1.0 c.in_ok-what.ensures.1) lawful.transaction) a.1.1.1.1.1.0))
+    (λ item lawful a. c.in_err-transaction.ensures.1 item.transaction (subst (λ w. HasTillText w 80 item.transaction) (same_deal item.what c.in_ok-what.what _ a.1.0 c.in_ok-what.ensures.1) lawful.transaction) a.1.1.1.1.1.0))
 
 pub returns-in_err-stamp : goal.returns-in_err-stamp
 returns-in_err-stamp c =
@@ -62,7 +62,7 @@ returns-in_err-stamp c =
     let agrees : Agree 6 (intent_fields draft) intent_table c.args.body.now = (sym c.requires, (c.in_ok-what.ensures.1, (c.in_ok-sale.ensures.1, (c.in_ok-poi.ensures.1, (c.in_ok-service.ensures.1, (c.in_ok-transaction.ensures.1, tt)))))) in
     exit _ c.in_err-stamp.field-0.0 _ _ (err_from_is_err_and c.from_residual-in_err-stamp.result c.from_residual-in_err-stamp.ensures.1)
     (intent_fault c.args.body.now 6 _ draft (omega arith) c.in_err-stamp.ensures.0 is agrees (sym c.requires)
-    (λ item lawful a. c.in_err-stamp.ensures.1 item.stamp (subst (λ w. HasText w 35 item.stamp) (same_deal item.what c.in_ok-what.what _ a.1.0 c.in_ok-what.ensures.1) lawful.stamp) a.1.1.1.1.1.1.0))
+    (λ item lawful a. c.in_err-stamp.ensures.1 item.stamp (subst (λ w. HasTillText w 35 item.stamp) (same_deal item.what c.in_ok-what.what _ a.1.0 c.in_ok-what.ensures.1) lawful.stamp) a.1.1.1.1.1.1.0))
 
 pub returns-in_err-amount : goal.returns-in_err-amount
 returns-in_err-amount c =

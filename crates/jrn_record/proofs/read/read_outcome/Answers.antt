@@ -1,9 +1,9 @@
 use Rattle.std.proofs.Common.{arith, sym, subst, pos, true}
 use Rattle.std.proofs.lemmas.Result.{err_from_is_err_and}
-use Rattle.jrn_record.specs.Limits.{HasReason, IsOutcome, IsTold}
-use Rattle.jrn_record.specs.Spelling.{outcome_fields}
+use Rattle.jrn_record.specs.Limits.{HasReason, IsOutcome, IsPresentWithin}
+use Rattle.jrn_record.specs.Grammar.{outcome_fields}
 use Rattle.jrn_record.specs.Table.{Agree, outcome_table}
-use Rattle.jrn_record.specs.declared.values.Outcome.{Outcome}
+use Rattle.jrn_record.specs.declared.records.Outcome.{Outcome}
 use Rattle.jrn_record.proofs.ReadLemmas.{blank_reason, blank_reason_is, blank_told, blank_told_is, exit, outcome_fault, same_approval, zero_moment, zero_told_is}
 use Rattle.jrn_record.proofs.read.read_outcome.Goals as goal
 
@@ -23,7 +23,7 @@ returns-in_err-number c =
     let agrees : Agree 3 (outcome_fields draft) outcome_table c.args.body.now = (sym c.requires, (c.in_ok-approved.ensures.1, (c.slot_at-slot.ensures.value, tt))) in
     exit _ c.in_err-number.field-0.0 _ _ (err_from_is_err_and c.from_residual-in_err-number.result c.from_residual-in_err-number.ensures.1)
     (outcome_fault c.args.body.now 3 _ draft (omega arith) c.in_err-number.ensures.0 is agrees (sym c.requires)
-    (λ item lawful a. c.in_err-number.ensures.1 item.number (subst (λ approved. IsTold approved 1 999999 item.number) (same_approval item.approved c.in_ok-approved.approved _ a.1.0 c.in_ok-approved.ensures.1) lawful.number) a.1.1.1.0))
+    (λ item lawful a. c.in_err-number.ensures.1 item.number (subst (λ approved. IsPresentWithin approved 1 999999 item.number) (same_approval item.approved c.in_ok-approved.approved _ a.1.0 c.in_ok-approved.ensures.1) lawful.number) a.1.1.1.0))
 
 pub returns-in_err-receipt : goal.returns-in_err-receipt
 returns-in_err-receipt c =
@@ -32,7 +32,7 @@ returns-in_err-receipt c =
     let agrees : Agree 4 (outcome_fields draft) outcome_table c.args.body.now = (sym c.requires, (c.in_ok-approved.ensures.1, (c.slot_at-slot.ensures.value, (c.in_ok-number.ensures.1, tt)))) in
     exit _ c.in_err-receipt.field-0.0 _ _ (err_from_is_err_and c.from_residual-in_err-receipt.result c.from_residual-in_err-receipt.ensures.1)
     (outcome_fault c.args.body.now 4 _ draft (omega arith) c.in_err-receipt.ensures.0 is agrees (sym c.requires)
-    (λ item lawful a. c.in_err-receipt.ensures.1 item.receipt (subst (λ approved. IsTold approved 0 9999 item.receipt) (same_approval item.approved c.in_ok-approved.approved _ a.1.0 c.in_ok-approved.ensures.1) lawful.receipt) a.1.1.1.1.0))
+    (λ item lawful a. c.in_err-receipt.ensures.1 item.receipt (subst (λ approved. IsPresentWithin approved 0 9999 item.receipt) (same_approval item.approved c.in_ok-approved.approved _ a.1.0 c.in_ok-approved.ensures.1) lawful.receipt) a.1.1.1.1.0))
 
 pub returns-in_err-amount : goal.returns-in_err-amount
 returns-in_err-amount c =
@@ -41,7 +41,7 @@ returns-in_err-amount c =
     let agrees : Agree 5 (outcome_fields draft) outcome_table c.args.body.now = (sym c.requires, (c.in_ok-approved.ensures.1, (c.slot_at-slot.ensures.value, (c.in_ok-number.ensures.1, (c.in_ok-receipt.ensures.1, tt))))) in
     exit _ c.in_err-amount.field-0.0 _ _ (err_from_is_err_and c.from_residual-in_err-amount.result c.from_residual-in_err-amount.ensures.1)
     (outcome_fault c.args.body.now 5 _ draft (omega arith) c.in_err-amount.ensures.0 is agrees (sym c.requires)
-    (λ item lawful a. c.in_err-amount.ensures.1 item.amount (subst (λ approved. IsTold approved 1 999999999999 item.amount) (same_approval item.approved c.in_ok-approved.approved _ a.1.0 c.in_ok-approved.ensures.1) lawful.amount) a.1.1.1.1.1.0))
+    (λ item lawful a. c.in_err-amount.ensures.1 item.amount (subst (λ approved. IsPresentWithin approved 1 999999999999 item.amount) (same_approval item.approved c.in_ok-approved.approved _ a.1.0 c.in_ok-approved.ensures.1) lawful.amount) a.1.1.1.1.1.0))
 
 pub returns-in_err-condition : goal.returns-in_err-condition
 returns-in_err-condition c =

@@ -2,10 +2,10 @@ use Rattle.std.proofs.Common.{arith, sym, pos}
 use Rattle.std.proofs.lemmas.Result.{err_from_is_err_and}
 use Rattle.gw_base.specs.declared.currency.Currency.TheVariants.{Eur}
 use Rattle.jrn_record.specs.Limits.{IsSettled}
-use Rattle.jrn_record.specs.Spelling.{settled_fields}
+use Rattle.jrn_record.specs.Grammar.{settled_fields}
 use Rattle.jrn_record.specs.Table.{Agree, settled_table}
-use Rattle.jrn_record.specs.declared.values.Settled.{Settled}
-use Rattle.jrn_record.specs.declared.values.How.TheVariants.{Sale}
+use Rattle.jrn_record.specs.declared.records.Settled.{Settled}
+use Rattle.jrn_record.specs.declared.records.How.TheVariants.{Sale}
 use Rattle.jrn_record.proofs.ReadLemmas.{blank, blank_is, exit, settled_fault, zero_moment}
 use Rattle.jrn_record.proofs.read.read_settled.Goals as goal
 

@@ -1,6 +1,6 @@
 use Rattle.std.proofs.Common.{[], ◌∷◌, ap, ◌∙◌, ◌++◌}
-use Rattle.jrn_record.specs.Spelling.{moment_field, text_field}
-use Rattle.jrn_record.proofs.MomentFits.{moment_back}
+use Rattle.jrn_record.specs.Grammar.{moment_field, text_field}
+use Rattle.jrn_record.proofs.MomentLemmas.{moment_back}
 use Rattle.jrn_record.proofs.WriteLemmas.{from_empty, last, then, then_three}
 use Rattle.jrn_record.proofs.write.put_settled.Goals as goal
 

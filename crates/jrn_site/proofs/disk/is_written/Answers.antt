@@ -9,4 +9,4 @@ loop-turn-preserved c =
     let log = c.args.log.now in
     let lt : c.loop-turn.turn-index < length log = omega arith in
     c.written_after-written.ensures (outside_of (take c.loop-turn.turn-index log)) c.loop-turn.invariant
-    ∙ sym (ap (λ (o : Outside). is_covered o.written c.args.place) (outside_take log c.loop-turn.turn-index c.turn-item.result lt c.turn-item.is))
+    ∙ sym (ap (λ (o : Outside). is_covered o.written c.args.offset) (outside_take log c.loop-turn.turn-index c.turn-item.result lt c.turn-item.is))

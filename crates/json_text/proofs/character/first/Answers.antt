@@ -1,7 +1,7 @@
 use Rattle.std.proofs.Common.{arith, refl, sym, subst, ℕ, inl, inr}
-use Rattle.json_text.specs.Stand.{inside}
-use Rattle.json_text.specs.CharacterLeft.{Starts, LeavesNone}
-use Rattle.json_text.proofs.CharacterSteps.{next_is, first_ascii, first_dead, first_two, first_e0, first_ed, first_mid, first_f0, first_f1, first_f4}
+use Rattle.json_text.specs.Scan.{inside}
+use Rattle.json_text.specs.inner.CharacterLeft.{Starts, LeavesNone}
+use Rattle.json_text.proofs.CharacterLemmas.{next_is, first_ascii, first_dead, first_two, first_e0, first_ed, first_mid, first_f0, first_f1, first_f4}
 use Rattle.json_text.proofs.character.first.Goals as goal
 
 pub returns-in-32-to-127 : goal.returns-in-32-to-127

@@ -1,6 +1,6 @@
 use Rattle.std.proofs.Common.{arith, sym, ◌+◌, ◌*◌}
 use Rattle.std.proofs.lemmas.Bool.Decides.{nat_tests}
-use Rattle.json_text.proofs.CharacterSteps.{first_digit, first_no_digit, unit_high, unit_whole, lone_low, hex_range, whole_is, in_code_range}
+use Rattle.json_text.proofs.CharacterLemmas.{first_digit, first_no_digit, unit_high, unit_whole, lone_low, hex_range, whole_is, in_code_range}
 use Rattle.json_text.proofs.character.in_first.Goals as goal
 use Rattle.json_text.proofs.character.in_first.Goals.{in_default-owed-via-in-3+else-contains-2, in_default-owed-via-in_default-1}
 

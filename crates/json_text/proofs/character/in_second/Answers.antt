@@ -1,5 +1,5 @@
 use Rattle.std.proofs.Common.{arith, sym}
-use Rattle.json_text.proofs.CharacterSteps.{second_four, second_three}
+use Rattle.json_text.proofs.CharacterLemmas.{second_four, second_three}
 use Rattle.json_text.proofs.character.in_second.Goals as goal
 
 pub returns-in-3 : goal.returns-in-3

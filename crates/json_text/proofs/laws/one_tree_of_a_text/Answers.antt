@@ -1,4 +1,4 @@
-use Rattle.json_text.proofs.Unique.{same_tree}
+use Rattle.json_text.proofs.UniqueLemmas.{same_tree}
 use Rattle.json_text.proofs.laws.one_tree_of_a_text.Goals as goal
 
 pub returns : goal.returns

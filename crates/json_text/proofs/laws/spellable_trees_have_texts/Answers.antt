@@ -1,4 +1,4 @@
-use Rattle.json_text.proofs.Written.{spellable_written, spelled_spellable}
+use Rattle.json_text.proofs.CanonicalLemmas.{spellable_written, spelled_spellable}
 use Rattle.json_text.proofs.laws.spellable_trees_have_texts.Goals as goal
 
 pub returns : goal.returns

@@ -1,7 +1,7 @@
 use Rattle.std.proofs.Common.{arith, map}
-use Rattle.json_text.specs.View.{view}
-use Rattle.json_text.specs.Reading.{levels}
-use Rattle.json_text.proofs.Answers.{next_item, list_closes, no_item}
+use Rattle.json_text.specs.ValueOf.{value_of}
+use Rattle.json_text.specs.inner.ReaderStates.{levels}
+use Rattle.json_text.proofs.ReaderLemmas.{next_item, list_closes, no_item}
 use Rattle.json_text.proofs.reader.after_item.Goals as goal
 
 pub returns-in_ok-push-in-44 : goal.returns-in_ok-push-in-44
@@ -11,4 +11,4 @@ pub returns-in-93 : goal.returns-in-93
 returns-in-93 c = list_closes c.args.state.now.stack _ c.args.items c.args.json c.args.byte c.in-93.is c.in_ok-push.ensures.items
 
 pub returns-in_default : goal.returns-in_default
-returns-in_default c = no_item (view c.args.json) (map view c.args.items.items) (levels c.args.state.now.stack.items) c.args.byte c.requires (omega arith) (omega arith)
+returns-in_default c = no_item (value_of c.args.json) (map value_of c.args.items.items) (levels c.args.state.now.stack.items) c.args.byte c.requires (omega arith) (omega arith)

@@ -1,7 +1,7 @@
 use Rattle.std.proofs.Common.{◌∙◌, string_bytes, ap}
 use Rattle.json_text.specs.Tree.{string}
-use Rattle.json_text.proofs.Trees.{view-Str}
-use Rattle.json_text.proofs.Answers.{string_closes, name_closes, name_repeats}
+use Rattle.json_text.proofs.TreeLemmas.{view-Str}
+use Rattle.json_text.proofs.ReaderLemmas.{string_closes, name_closes, name_repeats}
 use Rattle.json_text.proofs.reader.closed.Goals as goal
 
 pub returns-in-Value : goal.returns-in-Value

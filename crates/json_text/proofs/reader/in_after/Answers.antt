@@ -1,5 +1,5 @@
 use Rattle.std.proofs.Common.{sym}
-use Rattle.json_text.proofs.Answers.{after_space}
+use Rattle.json_text.proofs.ReaderLemmas.{after_space}
 use Rattle.json_text.proofs.reader.in_after.Goals as goal
 
 pub returns-then-is_white : goal.returns-then-is_white

@@ -1,5 +1,5 @@
 use Rattle.std.proofs.Common.{string_bytes}
-use Rattle.json_text.proofs.Answers.{character_goes, character_ends, character_wrong}
+use Rattle.json_text.proofs.ReaderLemmas.{character_goes, character_ends, character_wrong}
 use Rattle.json_text.proofs.reader.in_character.Goals as goal
 
 pub returns-in_ok-push-in-Whole : goal.returns-in_ok-push-in-Whole

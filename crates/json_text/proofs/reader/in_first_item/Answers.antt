@@ -1,5 +1,5 @@
 use Rattle.std.proofs.Common.{sym}
-use Rattle.json_text.proofs.Answers.{item_space, empty_list, first_result}
+use Rattle.json_text.proofs.ReaderLemmas.{item_space, empty_list, first_result}
 use Rattle.json_text.proofs.reader.in_first_item.Goals as goal
 
 pub returns-then-is_white : goal.returns-then-is_white

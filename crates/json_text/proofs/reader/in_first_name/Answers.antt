@@ -1,5 +1,5 @@
 use Rattle.std.proofs.Common.{sym, arith}
-use Rattle.json_text.proofs.Answers.{name_space, first_quote, empty_object, no_name}
+use Rattle.json_text.proofs.ReaderLemmas.{name_space, first_quote, empty_object, no_name}
 use Rattle.json_text.proofs.reader.in_first_name.Goals as goal
 
 pub returns-then-is_white : goal.returns-then-is_white

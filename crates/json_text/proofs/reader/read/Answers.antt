@@ -1,10 +1,10 @@
 use Rattle.std.proofs.Common.{arith, sym, subst, refl}
-use Rattle.json_text.specs.View.{view}
-use Rattle.json_text.specs.Fault.{Refuses}
+use Rattle.json_text.specs.ValueOf.{value_of}
+use Rattle.json_text.specs.Fault.{RefusesText}
 use Rattle.json_text.specs.declared.fault.ReadError.{ReadError}
-use Rattle.json_text.proofs.Follow.{end_spells, end_only, end_fault}
-use Rattle.json_text.proofs.Runs.{first_read, next_read, same_read, taken, untouched, refused, all_read}
-use Rattle.json_text.proofs.Answers.{state, stays_steps}
+use Rattle.json_text.proofs.FollowLemmas.{end_spells, end_only, end_fault}
+use Rattle.json_text.proofs.LoopLemmas.{first_read, next_read, same_read, taken, untouched, refused, all_read}
+use Rattle.json_text.proofs.ReaderLemmas.{state, stays_steps}
 use Rattle.json_text.proofs.reader.read.Goals as goal
 
 pub loop-at-init : goal.loop-at-init
@@ -30,14 +30,14 @@ loop-at-preserved c =
 pub returns-in-Err-step-clause-fault : goal.returns-in-Err-step-clause-fault
 returns-in-Err-step-clause-fault c =
     let e = untouched c.loop-at.state.mode c.take.new.mode _ _ c.in-Ok-false.field-0-test c.in-Ok-false.ensures in
-    subst (λ (e : ReadError). Refuses c.args.bytes.now e) (sym c.at.ensures)
+    subst (λ (e : ReadError). RefusesText c.args.bytes.now e) (sym c.at.ensures)
     (refused c.args.bytes.now c.loop-at.at _ _ _ c.in-Err-step.stop c.loop-at-test.true refl (same_read c.args.bytes.now c.loop-at.at _ _ _ e c.loop-at.invariant.read) c.in-Err-step.ensures)
 
 pub returns-in-Some-clause-spelled : goal.returns-in-Some-clause-spelled
-returns-in-Some-clause-spelled c = end_spells c.args.bytes.now _ _ (view c.in-Some.json) (all_read c.args.bytes.now c.loop-at.at _ _ (omega arith) c.loop-at.invariant.read) c.in-Some.ensures
+returns-in-Some-clause-spelled c = end_spells c.args.bytes.now _ _ (value_of c.in-Some.json) (all_read c.args.bytes.now c.loop-at.at _ _ (omega arith) c.loop-at.invariant.read) c.in-Some.ensures
 
 pub returns-in-Some-clause-only : goal.returns-in-Some-clause-only
-returns-in-Some-clause-only c = λ v. end_only c.args.bytes.now _ _ (view c.in-Some.json) (all_read c.args.bytes.now c.loop-at.at _ _ (omega arith) c.loop-at.invariant.read) c.in-Some.ensures v
+returns-in-Some-clause-only c = λ v. end_only c.args.bytes.now _ _ (value_of c.in-Some.json) (all_read c.args.bytes.now c.loop-at.at _ _ (omega arith) c.loop-at.invariant.read) c.in-Some.ensures v
 
 pub returns-in-None-clause-fault : goal.returns-in-None-clause-fault
 returns-in-None-clause-fault c = end_fault c.args.bytes.now _ _ (all_read c.args.bytes.now c.loop-at.at _ _ (omega arith) c.loop-at.invariant.read) c.in-None.ensures

@@ -1,7 +1,7 @@
 use Rattle.std.proofs.Common.{◌≡◌, drop}
 use Rattle.json_text.specs.Tree.{member_of}
-use Rattle.json_text.specs.View.{members_view}
+use Rattle.json_text.specs.ValueOf.{members_value}
 use Rattle.json_text.proofs.tree.find.Given as goal
 
-abbrev pub invariant-loop-key : goal.invariant-loop-key
-invariant-loop-key l = member_of l.name (members_view l.members) ≡ member_of l.name (members_view (drop l.key-index l.members))
+abbrev pub invariant-loop-own : goal.invariant-loop-own
+invariant-loop-own l = member_of l.name (members_value l.members) ≡ member_of l.name (members_value (drop l.own-index l.members))

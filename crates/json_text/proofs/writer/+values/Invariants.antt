@@ -1,11 +1,11 @@
 use Rattle.std.proofs.Common.{◌≡◌, ◌++◌, map, drop, nat_eq}
 use Rattle.json_text.specs.Tree.{no_items}
-use Rattle.json_text.specs.View.{view, items_onto, members_view}
+use Rattle.json_text.specs.ValueOf.{value_of, items_onto, members_value}
 use Rattle.json_text.specs.Canonical.{canonical_first, canonical_items, canonical_first_member, canonical_members}
 use Rattle.json_text.proofs.writer.+values.Given as goal
 
 abbrev pub invariant-write_items-loop-i : goal.invariant-write_items-loop-i
-invariant-write_items-loop-i l = l.out.items ++ canonical_items (nat_eq l.i 0) (items_onto (map view (drop l.i l.items)) no_items) ≡ l.fn.out.items ++ canonical_first (items_onto (map view l.items) no_items)
+invariant-write_items-loop-i l = l.out.items ++ canonical_items (nat_eq l.i 0) (items_onto (map value_of (drop l.i l.items)) no_items) ≡ l.fn.out.items ++ canonical_first (items_onto (map value_of l.items) no_items)
 
 abbrev pub invariant-write_members-loop-i : goal.invariant-write_members-loop-i
-invariant-write_members-loop-i l = l.out.items ++ canonical_members (nat_eq l.i 0) (members_view (drop l.i l.members)) ≡ l.fn.out.items ++ canonical_first_member (members_view l.members)
+invariant-write_members-loop-i l = l.out.items ++ canonical_members (nat_eq l.i 0) (members_value (drop l.i l.members)) ≡ l.fn.out.items ++ canonical_first_member (members_value l.members)

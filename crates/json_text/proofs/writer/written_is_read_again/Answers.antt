@@ -1,4 +1,4 @@
-use Rattle.json_text.proofs.Written.{spells_canonical}
+use Rattle.json_text.proofs.CanonicalLemmas.{spells_canonical}
 use Rattle.json_text.proofs.writer.written_is_read_again.Goals as goal
 
 pub returns : goal.returns

@@ -1,4 +1,4 @@
-use Rattle.sale_frame.proofs.ReadingLemmas.{frames_found}
+use Rattle.sale_frame.proofs.DecodeLemmas.{frames_found}
 use Rattle.sale_frame.proofs.laws.frame_found.Goals as goal
 
 pub returns : goal.returns

@@ -1,4 +1,4 @@
-use Rattle.sale_frame.proofs.ReadingLemmas.{reads_all}
+use Rattle.sale_frame.proofs.DecodeLemmas.{reads_all}
 use Rattle.sale_frame.proofs.laws.reading.Goals as goal
 
 pub returns : goal.returns

@@ -1,18 +1,18 @@
 use Rattle.std.proofs.Common.{codes, sym, refl}
-use Rattle.json_text.specs.View.{view}
+use Rattle.json_text.specs.ValueOf.{value_of}
 use Rattle.sale_msg.specs.declared.table.Form.TheVariants.{Object}
-use Rattle.sale_msg.proofs.Paths.{value_at-within}
-use Rattle.sale_msg.proofs.Rows.{required_there, required_as, optional_as}
+use Rattle.sale_msg.proofs.PathLemmas.{value_at-within}
+use Rattle.sale_msg.proofs.RowLemmas.{required_there, required_as, optional_as}
 use Rattle.sale_msg.proofs.body.abort.Goals as goal
 
 pub unreachable-requires : goal.unreachable-requires
 unreachable-requires c =
-    required_there (codes "AbortRequest.MessageReference") (codes "AbortRequest.MessageReference") Object (view c.args.body.now) c.requires.1.1.0 c.in-None.ensures
+    required_there (codes "AbortRequest.MessageReference") (codes "AbortRequest.MessageReference") Object (value_of c.args.body.now) c.requires.1.1.0 c.in-None.ensures
 
 pub reference-requires : goal.reference-requires
 reference-requires c =
-    let body = view c.args.body.now in
-    let object = view c.in-Some.object.now in
+    let body = value_of c.args.body.now in
+    let object = value_of c.in-Some.object.now in
     let there = sym c.in-Some.ensures in (
       required_as _ _ _ _ _ body object c.requires.1.1.1.0
           (value_at-within (codes "AbortRequest.MessageReference.ServiceID") (codes "AbortRequest.MessageReference") (codes "ServiceID") body object refl there),
@@ -28,4 +28,4 @@ reference-requires c =
     )
 
 pub returns : goal.returns
-returns c = (view c.in-Some.object.now, sym c.in-Some.ensures, c.reference.ensures)
+returns c = (value_of c.in-Some.object.now, sym c.in-Some.ensures, c.reference.ensures)

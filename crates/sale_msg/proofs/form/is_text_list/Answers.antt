@@ -1,7 +1,7 @@
-use Rattle.json_text.specs.View.{view}
-use Rattle.sale_msg.proofs.Forms.{text_list_form}
+use Rattle.json_text.specs.ValueOf.{value_of}
+use Rattle.sale_msg.proofs.FormLemmas.{text_list_form}
 use Rattle.sale_msg.proofs.form.is_text_list.Goals as goal
 
 pub returns-in-Some : goal.returns-in-Some
 returns-in-Some c =
-    text_list_form view (view c.args.value.now) c.in-Some.items.now c.have_texts.result c.in-Some.ensures c.have_texts.ensures
+    text_list_form value_of (value_of c.args.value.now) c.in-Some.items.now c.have_texts.result c.in-Some.ensures c.have_texts.ensures

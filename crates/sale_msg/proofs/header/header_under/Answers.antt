@@ -1,7 +1,7 @@
-use Rattle.json_text.specs.View.{view}
-use Rattle.sale_msg.proofs.Messages.{header_laxer}
+use Rattle.json_text.specs.ValueOf.{value_of}
+use Rattle.sale_msg.proofs.MessageLemmas.{header_laxer}
 use Rattle.sale_msg.proofs.header.header_under.Goals as goal
 
 pub header_of-requires : goal.header_of-requires
 header_of-requires c =
-    header_laxer c.args.envelope (view c.args.body.now) (rw c.header_table.ensures.rows_are at c.in-Ok.ensures)
+    header_laxer c.args.envelope (value_of c.args.body.now) (rw c.header_table.ensures.rows_are at c.in-Ok.ensures)

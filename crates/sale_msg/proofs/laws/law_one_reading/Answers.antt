@@ -1,4 +1,4 @@
-use Rattle.sale_msg.proofs.One.{message_one, fault_one, message_no_fault}
+use Rattle.sale_msg.proofs.UniqueLemmas.{message_one, fault_one, message_no_fault}
 use Rattle.sale_msg.proofs.laws.law_one_reading.Goals as goal
 
 pub returns : goal.returns

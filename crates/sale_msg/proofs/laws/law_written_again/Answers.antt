@@ -1,6 +1,6 @@
-use Rattle.sale_msg.specs.Written.{request_tree}
-use Rattle.sale_msg.proofs.Bodies.{request_again}
-use Rattle.sale_msg.proofs.Writable.{request_spellable}
+use Rattle.sale_msg.specs.Canonical.{request_tree}
+use Rattle.sale_msg.proofs.BodyLemmas.{request_again}
+use Rattle.sale_msg.proofs.SpellableLemmas.{request_spellable}
 use Rattle.sale_msg.proofs.laws.law_written_again.Goals as goal
 
 pub returns : goal.returns

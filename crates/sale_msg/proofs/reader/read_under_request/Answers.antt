@@ -1,18 +1,18 @@
 use Rattle.std.proofs.Common.{inr}
-use Rattle.json_text.specs.View.{view}
+use Rattle.json_text.specs.ValueOf.{value_of}
 use Rattle.sale_msg.specs.declared.table.Envelope.TheVariants as envelopes
-use Rattle.sale_msg.proofs.Messages.{kind_is_notification}
+use Rattle.sale_msg.proofs.MessageLemmas.{kind_is_notification}
 use Rattle.sale_msg.proofs.reader.read_under_request.Goals as goal
 
 pub returns-in_default : goal.returns-in_default
 returns-in_default c =
     λ message headed. (
       envelopes.Request,
-      view c.args.body.now,
+      value_of c.args.body.now,
       c.args.header.now,
       record {
         stands = headed.0;
         header_is = headed.1;
-        silent = inr (kind_is_notification (view c.args.body.now) c.args.header.now headed.1 c.in_default.not-Request);
+        silent = inr (kind_is_notification (value_of c.args.body.now) c.args.header.now headed.1 c.in_default.not-Request);
       },
     )

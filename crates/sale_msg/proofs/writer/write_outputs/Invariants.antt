@@ -1,6 +1,6 @@
 use Rattle.std.proofs.Common.{◌≡◌, ◌++◌, drop, nat_eq}
 use Rattle.json_text.specs.Canonical.{canonical_first, canonical_items}
-use Rattle.sale_msg.specs.Written.{output_items}
+use Rattle.sale_msg.specs.Canonical.{output_items}
 use Rattle.sale_msg.proofs.writer.write_outputs.Given as goal
 
 abbrev pub invariant-loop-i : goal.invariant-loop-i

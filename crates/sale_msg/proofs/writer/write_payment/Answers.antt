@@ -1,28 +1,28 @@
 use Rattle.std.proofs.Common.{◌≡◌, ◌++◌, codes, append_assoc}
-use Rattle.json_text.specs.Canonical.{canonical, written_text}
+use Rattle.json_text.specs.Canonical.{canonical, canonical_string}
 use Rattle.json_text.specs.Tree.{object}
-use Rattle.sale_msg.specs.Written.{payment_members}
-use Rattle.sale_msg.proofs.Spelled.{last, payment_front, payment_none, payment_some}
+use Rattle.sale_msg.specs.Canonical.{payment_members}
+use Rattle.sale_msg.proofs.WriterLemmas.{last, payment_prefix, payment_none, payment_some}
 use Rattle.sale_msg.proofs.writer.write_payment.Goals as goal
 
 pub returns-in-None : goal.returns-in-None
 returns-in-None c =
     let ask = c.args.ask.now in
-    let front = payment_front ask.transaction ask.stamp ask.currency ask.amount in
-    let q : c.write_money.new.out.items ≡ c.args.out.now.items ++ front =
+    let prefix = payment_prefix ask.transaction ask.stamp ask.currency ask.amount in
+    let q : c.write_money.new.out.items ≡ c.args.out.now.items ++ prefix =
     rw (c.in_ok-write_money.ensures, c.in_ok-extend_from_slice.ensures.items, c.in_ok-write_named-3.ensures, c.in_ok-write_named-2.ensures, c.in_ok-write_named.ensures)
     (simp (append_assoc, c.as_bytes.ensures.value, c.as_bytes-2.ensures.value)) in
     last c.extend_from_slice-in-None.result c.extend_from_slice-in-None.new.self.items c.write_money.new.out.items c.args.out.now.items
-    front (codes "}}}") (canonical (object (payment_members ask))) c.extend_from_slice-in-None.ensures.items q
+    prefix (codes "}}}") (canonical (object (payment_members ask))) c.extend_from_slice-in-None.ensures.items q
     (payment_none ask.transaction ask.stamp ask.currency ask.amount ask.kind c.in-None.is)
 
 pub returns-in_ok-write_named-in-Some : goal.returns-in_ok-write_named-in-Some
 returns-in_ok-write_named-in-Some c =
     let ask = c.args.ask.now in
-    let front = payment_front ask.transaction ask.stamp ask.currency ask.amount ++ (codes "}},\"PaymentData\":{\"PaymentType\":" ++ written_text c.in-Some.kind) in
-    let q : c.write_named-in-Some.new.out.items ≡ c.args.out.now.items ++ front =
+    let prefix = payment_prefix ask.transaction ask.stamp ask.currency ask.amount ++ (codes "}},\"PaymentData\":{\"PaymentType\":" ++ canonical_string c.in-Some.kind) in
+    let q : c.write_named-in-Some.new.out.items ≡ c.args.out.now.items ++ prefix =
     rw (c.in_ok-write_named-in-Some.ensures, c.in_ok-write_money.ensures, c.in_ok-extend_from_slice.ensures.items, c.in_ok-write_named-3.ensures, c.in_ok-write_named-2.ensures, c.in_ok-write_named.ensures)
     (simp (append_assoc, c.as_bytes.ensures.value, c.as_bytes-2.ensures.value, c.as_bytes-in-Some.ensures.value, c.as_str.ensures)) in
     last c.extend_from_slice-in-Some.result c.extend_from_slice-in-Some.new.self.items c.write_named-in-Some.new.out.items c.args.out.now.items
-    front (codes "}}") (canonical (object (payment_members ask))) c.extend_from_slice-in-Some.ensures.items q
+    prefix (codes "}}") (canonical (object (payment_members ask))) c.extend_from_slice-in-Some.ensures.items q
     (payment_some ask.transaction ask.stamp ask.currency ask.amount ask.kind c.in-Some.kind c.in-Some.is)

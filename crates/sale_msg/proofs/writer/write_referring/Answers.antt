@@ -1,15 +1,15 @@
 use Rattle.std.proofs.Common.{◌≡◌, ◌++◌, codes, append_assoc}
 use Rattle.json_text.specs.Canonical.{canonical}
 use Rattle.json_text.specs.Tree.{object}
-use Rattle.sale_msg.specs.Written.{referring_members}
-use Rattle.sale_msg.proofs.Spelled.{last, referring_front, referring_spelled}
+use Rattle.sale_msg.specs.Canonical.{referring_members}
+use Rattle.sale_msg.proofs.WriterLemmas.{last, referring_prefix, referring_spelled}
 use Rattle.sale_msg.proofs.writer.write_referring.Goals as goal
 
 pub returns : goal.returns
 returns c =
     let r = c.args.reference.now in
-    let q : c.write_optional-2.new.out.items ≡ c.args.out.now.items ++ referring_front r.service r.sale r.poi =
+    let q : c.write_optional-2.new.out.items ≡ c.args.out.now.items ++ referring_prefix r.service r.sale r.poi =
     rw (c.in_ok-write_optional-2.ensures, c.in_ok-write_optional.ensures, c.in_ok-write_named.ensures) (simp (append_assoc, c.as_bytes.ensures.value)) in
     last c.extend_from_slice.result c.extend_from_slice.new.self.items c.write_optional-2.new.out.items c.args.out.now.items
-    (referring_front r.service r.sale r.poi) (codes "}}") (canonical (object (referring_members r))) c.extend_from_slice.ensures.items q
+    (referring_prefix r.service r.sale r.poi) (codes "}}") (canonical (object (referring_members r))) c.extend_from_slice.ensures.items q
     (referring_spelled r.service r.sale r.poi)

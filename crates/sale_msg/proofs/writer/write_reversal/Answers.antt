@@ -1,16 +1,16 @@
 use Rattle.std.proofs.Common.{◌≡◌, ◌++◌, codes, append_assoc}
 use Rattle.json_text.specs.Canonical.{canonical}
 use Rattle.json_text.specs.Tree.{object}
-use Rattle.sale_msg.specs.Written.{reversal_members}
-use Rattle.sale_msg.proofs.Spelled.{last, reversal_front, reversal_spelled}
+use Rattle.sale_msg.specs.Canonical.{reversal_members}
+use Rattle.sale_msg.proofs.WriterLemmas.{last, reversal_prefix, reversal_spelled}
 use Rattle.sale_msg.proofs.writer.write_reversal.Goals as goal
 
 pub returns : goal.returns
 returns c =
     let ask = c.args.ask.now in
-    let q : c.write_optional_money.new.out.items ≡ c.args.out.now.items ++ reversal_front ask.transaction ask.amount =
+    let q : c.write_optional_money.new.out.items ≡ c.args.out.now.items ++ reversal_prefix ask.transaction ask.amount =
     rw (c.in_ok-write_optional_money.ensures, c.in_ok-extend_from_slice.ensures.items, c.in_ok-write_named.ensures)
     (simp (append_assoc, c.as_bytes.ensures.value)) in
     last c.extend_from_slice-2.result c.extend_from_slice-2.new.self.items c.write_optional_money.new.out.items c.args.out.now.items
-    (reversal_front ask.transaction ask.amount) (codes "}") (canonical (object (reversal_members ask))) c.extend_from_slice-2.ensures.items q
+    (reversal_prefix ask.transaction ask.amount) (codes "}") (canonical (object (reversal_members ask))) c.extend_from_slice-2.ensures.items q
     (reversal_spelled ask.transaction ask.amount)

@@ -1,6 +1,6 @@
 use Rattle.std.proofs.Common.{◌≡◌, ◌++◌, drop, nat_eq}
 use Rattle.json_text.specs.Canonical.{canonical_first, canonical_items}
-use Rattle.sale_msg.specs.Written.{text_items}
+use Rattle.sale_msg.specs.Canonical.{text_items}
 use Rattle.sale_msg.proofs.writer.write_texts.Given as goal
 
 abbrev pub invariant-loop-i : goal.invariant-loop-i

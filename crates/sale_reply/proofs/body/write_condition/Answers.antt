@@ -2,8 +2,8 @@ use Rattle.std.proofs.Common.{List, ℕ, Option, Some, None, ◌≡◌, [], refl
 use Rattle.std.specs.Prelude.{option_map}
 use Rattle.gw_base.specs.declared.condition.Condition.{Condition}
 use Rattle.gw_base.specs.Condition.{name_of}
-use Rattle.sale_reply.specs.Pieces.{next_optional}
-use Rattle.sale_reply.proofs.PieceLemmas.{nothing, spelled}
+use Rattle.sale_reply.specs.inner.Parts.{next_optional}
+use Rattle.sale_reply.proofs.PartLemmas.{nothing, spelled}
 use Rattle.sale_reply.proofs.body.write_condition.Goals as goal
 
 none_written : (name : List ℕ) (condition : Option Condition) → ((x : Condition) → condition ≡ Some x → ⊥)

@@ -1,6 +1,6 @@
 use Rattle.sale_reply.specs.Reply.{verdict_tree}
-use Rattle.sale_reply.proofs.PieceLemmas.{and_then, spelled}
-use Rattle.sale_reply.proofs.Spellings.{plain_parts}
+use Rattle.sale_reply.proofs.PartLemmas.{and_then, spelled}
+use Rattle.sale_reply.proofs.CanonicalLemmas.{plain_parts}
 use Rattle.sale_reply.proofs.body.write_plain.Goals as goal
 
 pub returns : goal.returns

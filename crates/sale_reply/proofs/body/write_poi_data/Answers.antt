@@ -1,7 +1,7 @@
 use Rattle.std.proofs.Common.{w64, rules}
 use Rattle.std.proofs.lemmas.Int.{to_z-of_z}
-use Rattle.sale_reply.proofs.PieceLemmas.{and_then, spelled}
-use Rattle.sale_reply.proofs.Spellings.{poi_data_parts}
+use Rattle.sale_reply.proofs.PartLemmas.{and_then, spelled}
+use Rattle.sale_reply.proofs.CanonicalLemmas.{poi_data_parts}
 use Rattle.sale_reply.proofs.body.write_poi_data.Goals as goal
 
 pub returns : goal.returns

@@ -1,5 +1,5 @@
-use Rattle.sale_reply.proofs.PieceLemmas.{and_then, spelled}
-use Rattle.sale_reply.proofs.Spellings.{reconciled_parts}
+use Rattle.sale_reply.proofs.PartLemmas.{and_then, spelled}
+use Rattle.sale_reply.proofs.CanonicalLemmas.{reconciled_parts}
 use Rattle.sale_reply.proofs.body.write_reconciled.Goals as goal
 
 pub returns : goal.returns

@@ -1,5 +1,5 @@
-use Rattle.sale_reply.proofs.PieceLemmas.{and_then, spelled}
-use Rattle.sale_reply.proofs.Spellings.{sale_data_parts}
+use Rattle.sale_reply.proofs.PartLemmas.{and_then, spelled}
+use Rattle.sale_reply.proofs.CanonicalLemmas.{sale_data_parts}
 use Rattle.sale_reply.proofs.body.write_sale_data.Goals as goal
 
 pub returns : goal.returns

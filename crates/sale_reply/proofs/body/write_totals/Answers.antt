@@ -1,5 +1,5 @@
-use Rattle.sale_reply.proofs.PieceLemmas.{and_then, spelled}
-use Rattle.sale_reply.proofs.Spellings.{totals_parts}
+use Rattle.sale_reply.proofs.PartLemmas.{and_then, spelled}
+use Rattle.sale_reply.proofs.CanonicalLemmas.{totals_parts}
 use Rattle.sale_reply.proofs.body.write_totals.Goals as goal
 
 pub returns : goal.returns

@@ -1,8 +1,8 @@
-use Rattle.sale_reply.proofs.PieceLemmas.{and_then, spelled}
-use Rattle.sale_reply.proofs.Spellings.{content_front_parts}
+use Rattle.sale_reply.proofs.PartLemmas.{and_then, spelled}
+use Rattle.sale_reply.proofs.CanonicalLemmas.{content_prefix_parts}
 use Rattle.sale_reply.proofs.device.open_content.Goals as goal
 
 pub returns : goal.returns
 returns c =
     spelled (and_then c.raw.ensures (and_then c.first_text.ensures (and_then c.next_name.ensures c.raw-2.ensures)))
-    (cc (content_front_parts))
+    (cc (content_prefix_parts))

@@ -1,6 +1,6 @@
 use Rattle.sale_reply.specs.Texts.{line_text}
-use Rattle.sale_reply.proofs.PieceLemmas.{and_then, spelled}
-use Rattle.sale_reply.proofs.Spellings.{text_parts}
+use Rattle.sale_reply.proofs.PartLemmas.{and_then, spelled}
+use Rattle.sale_reply.proofs.CanonicalLemmas.{text_parts}
 use Rattle.sale_reply.proofs.device.write_line.Goals as goal
 
 pub returns : goal.returns

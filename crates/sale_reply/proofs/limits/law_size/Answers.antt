@@ -1,5 +1,5 @@
-use Rattle.sale_reply.proofs.MessageSizes.{StampSizes}
-use Rattle.sale_reply.proofs.ReplySizes.{reply_size}
+use Rattle.sale_reply.proofs.BodySizeLemmas.{StampSizes}
+use Rattle.sale_reply.proofs.ReplySizeLemmas.{reply_size}
 use Rattle.sale_reply.proofs.limits.law_size.Goals as goal
 
 pub returns : goal.returns

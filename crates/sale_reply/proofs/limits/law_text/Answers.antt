@@ -1,5 +1,5 @@
 use Rattle.sale_reply.specs.Reply.{tree_of}
-use Rattle.sale_reply.proofs.ReplyTexts.{StampsPrintable, reply_spellable}
+use Rattle.sale_reply.proofs.SpellableLemmas.{StampsPrintable, reply_spellable}
 use Rattle.sale_reply.proofs.limits.law_text.Goals as goal
 
 pub returns : goal.returns

@@ -1,5 +1,5 @@
-use Rattle.sale_reply.proofs.PieceLemmas.{and_then, spelled}
-use Rattle.sale_reply.proofs.Spellings.{event_header_parts}
+use Rattle.sale_reply.proofs.PartLemmas.{and_then, spelled}
+use Rattle.sale_reply.proofs.CanonicalLemmas.{event_header_parts}
 use Rattle.sale_reply.proofs.write.write_event_header.Goals as goal
 
 pub returns : goal.returns

@@ -1,5 +1,5 @@
-use Rattle.sale_reply.proofs.PieceLemmas.{and_then, spelled}
-use Rattle.sale_reply.proofs.Spellings.{header_parts}
+use Rattle.sale_reply.proofs.PartLemmas.{and_then, spelled}
+use Rattle.sale_reply.proofs.CanonicalLemmas.{header_parts}
 use Rattle.sale_reply.proofs.write.write_header.Goals as goal
 
 pub returns : goal.returns

@@ -1,18 +1,18 @@
 use Rattle.std.proofs.Common.{codes}
-use Rattle.sale_reply.specs.Reply.{show_body, paper_body, plain_body, verdict_tree, told_body, status_body, diagnosis_body, display_body, print_body}
-use Rattle.sale_reply.proofs.PieceLemmas.{and_then, spelled}
-use Rattle.sale_reply.proofs.Spellings.{message_parts}
+use Rattle.sale_reply.specs.Reply.{display_request_body, print_request_body, plain_body, verdict_tree, result_body, status_body, diagnosis_body, display_body, print_body}
+use Rattle.sale_reply.proofs.PartLemmas.{and_then, spelled}
+use Rattle.sale_reply.proofs.CanonicalLemmas.{message_parts}
 use Rattle.sale_reply.proofs.write.write_message.Goals as goal
 
 pub returns-in-DisplayRequest : goal.returns-in-DisplayRequest
 returns-in-DisplayRequest c =
-    rw c.in-DisplayRequest.is (spelled (and_then c.open_request.ensures (and_then c.write_show.ensures c.raw.ensures))
-    (cc (message_parts (codes "SaleToPOIRequest") c.in-DisplayRequest.header (codes "Request") (show_body c.in-DisplayRequest.code))))
+    rw c.in-DisplayRequest.is (spelled (and_then c.open_request.ensures (and_then c.write_display_request.ensures c.raw.ensures))
+    (cc (message_parts (codes "SaleToPOIRequest") c.in-DisplayRequest.header (codes "Request") (display_request_body c.in-DisplayRequest.code))))
 
 pub returns-in-PrintRequest : goal.returns-in-PrintRequest
 returns-in-PrintRequest c =
-    rw c.in-PrintRequest.is (spelled (and_then c.open_request-in-PrintRequest.ensures (and_then c.write_paper.ensures c.raw-in-PrintRequest.ensures))
-    (cc (message_parts (codes "SaleToPOIRequest") c.in-PrintRequest.header (codes "Request") (paper_body c.in-PrintRequest.lines.items))))
+    rw c.in-PrintRequest.is (spelled (and_then c.open_request-in-PrintRequest.ensures (and_then c.write_print_request.ensures c.raw-in-PrintRequest.ensures))
+    (cc (message_parts (codes "SaleToPOIRequest") c.in-PrintRequest.header (codes "Request") (print_request_body c.in-PrintRequest.lines.items))))
 
 pub returns-in-Plain : goal.returns-in-Plain
 returns-in-Plain c =
@@ -21,13 +21,13 @@ returns-in-Plain c =
 
 pub returns-in-Told : goal.returns-in-Told
 returns-in-Told c =
-    rw c.in-Told.is (spelled (and_then c.open_response-in-Told.ensures (and_then c.write_told.ensures c.raw-in-Told.ensures))
-    (cc (message_parts (codes "SaleToPOIResponse") c.in-Told.header (codes "Response") (told_body c.in-Told.told))))
+    rw c.in-Told.is (spelled (and_then c.open_response-in-Told.ensures (and_then c.write_result_body.ensures c.raw-in-Told.ensures))
+    (cc (message_parts (codes "SaleToPOIResponse") c.in-Told.header (codes "Response") (result_body c.in-Told.told))))
 
 pub returns-in-Status : goal.returns-in-Status
 returns-in-Status c =
     rw c.in-Status.is (spelled (and_then c.open_response-in-Status.ensures (and_then c.write_status.ensures c.raw-in-Status.ensures))
-    (cc (message_parts (codes "SaleToPOIResponse") c.in-Status.header (codes "Response") (status_body c.in-Status.repeated (told_body c.in-Status.told)))))
+    (cc (message_parts (codes "SaleToPOIResponse") c.in-Status.header (codes "Response") (status_body c.in-Status.repeated (result_body c.in-Status.told)))))
 
 pub returns-in-Diagnosis : goal.returns-in-Diagnosis
 returns-in-Diagnosis c =

@@ -1,7 +1,7 @@
 use Rattle.std.proofs.Common.{◌≡◌, ◌≤◌, ◌+◌, ◌++◌, length, arith}
 use Rattle.json_text.specs.Canonical.{canonical}
 use Rattle.sale_reply.specs.Reply.{tree_of}
-use Rattle.sale_reply.proofs.Spellings.{reply_nonempty}
+use Rattle.sale_reply.proofs.CanonicalLemmas.{reply_nonempty}
 use Rattle.sale_reply.proofs.write.write_reply.Goals as goal
 
 pub end-requires-clause-begun : goal.end-requires-clause-begun

@@ -1,4 +1,4 @@
-use Rattle.sale_seen.proofs.Seeing.{display_lacks}
+use Rattle.sale_seen.proofs.ReplyLemmas.{display_lacks}
 use Rattle.sale_seen.proofs.laws.law_display.Goals as goal
 
 pub returns : goal.returns

@@ -1,4 +1,4 @@
-use Rattle.sale_seen.proofs.ResultPath.{path_leads}
+use Rattle.sale_seen.proofs.PathLemmas.{path_leads}
 use Rattle.sale_seen.proofs.laws.law_path.Goals as goal
 
 pub returns : goal.returns

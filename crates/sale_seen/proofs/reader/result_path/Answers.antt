@@ -1,7 +1,7 @@
 use Rattle.std.proofs.Common.{◌≡◌, ◌∙◌, ap, subst, sym}
 use Rattle.gw_base.specs.Ident.{IsIdent}
 use Rattle.sale_seen.specs.Fault.{result_path}
-use Rattle.sale_seen.proofs.Idents.{result_path-ident}
+use Rattle.sale_seen.proofs.IdentLemmas.{result_path-ident}
 use Rattle.sale_seen.proofs.reader.result_path.Goals as goal
 
 pub path_of-requires : goal.path_of-requires

@@ -1,4 +1,4 @@
-use Rattle.sale_values.proofs.Headers.{header_spellable}
+use Rattle.sale_values.proofs.HeaderLemmas.{header_spellable}
 use Rattle.sale_values.proofs.laws.law_header.Goals as goal
 
 pub returns : goal.returns

@@ -1,4 +1,4 @@
-use Rattle.sale_values.proofs.Utf8.{ident_utf8, class_utf8, kind_utf8, period_utf8}
+use Rattle.sale_values.proofs.Utf8Lemmas.{ident_utf8, class_utf8, kind_utf8, period_utf8}
 use Rattle.sale_values.proofs.laws.law_texts.Goals as goal
 
 pub returns : goal.returns

@@ -1,4 +1,5 @@
-use Rattle.zvt_bmp.proofs.Digits.{digits_value, digits_bound}
+-- Proof of the contract of `digits`.
+use Rattle.zvt_bmp.proofs.DigitLemmas.{digits_value, digits_bound}
 use Rattle.zvt_bmp.proofs.fields.digits.Goals as goal
 
 pub returns-clause-bound : goal.returns-clause-bound

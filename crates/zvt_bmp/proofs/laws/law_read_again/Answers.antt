@@ -1,4 +1,5 @@
-use Rattle.zvt_bmp.proofs.Again.{written_again}
+-- Proof of the contract of `law_read_again`.
+use Rattle.zvt_bmp.proofs.CanonicalLemmas.{written_again}
 use Rattle.zvt_bmp.proofs.laws.law_read_again.Goals as goal
 
 pub returns : goal.returns

@@ -1,16 +1,17 @@
+-- Proof of the contract of `left_over`.
 use Rattle.std.proofs.Common.{ℕ, List, length, sym, ap, ◌∙◌, arith}
-use Rattle.zvt_tlv.specs.Split.{Split}
-use Rattle.zvt_tlv.specs.Tlv.{Place}
-use Rattle.zvt_tlv.proofs.Splitting.{split_whole, split_none}
+use Rattle.zvt_tlv.specs.DecodeObjects.{DecodedTlvObjects}
+use Rattle.zvt_tlv.specs.Reader.{TlvReaderValue}
+use Rattle.zvt_tlv.proofs.DecodeObjectsLemmas.{split_whole, split_none}
 use Rattle.zvt_msg.proofs.block.left_over.Goals as goal
 
 pub loop-preserved : goal.loop-preserved
 loop-preserved c = record {
-  place = omega (arith, c.in-Some.ensures.place, c.loop.invariant.place);
-  same = ap (λ (s : Split). s.rest) (sym (split_whole c.loop.tlv.rest _ c.next_object.new.tlv.rest c.in-Some.ensures.found)) ∙ c.loop.invariant.same;
+  offset = omega (arith, c.in-Some.ensures.offset, c.loop.invariant.offset);
+  same = ap (λ (s : DecodedTlvObjects). s.rest) (sym (split_whole c.loop.tlv.rest _ c.next_object.new.tlv.rest c.in-Some.ensures.found)) ∙ c.loop.invariant.same;
 }
 
 pub returns-clause-left : goal.returns-clause-left
 returns-clause-left c =
-    let ends = ap (λ (s : Split). length s.rest) (split_none c.loop.tlv.rest c.in_default.ensures.0) in
-    omega (arith, ends, ap (λ (p : Place). p.at) c.in_default.ensures.1, ap (λ (r : List ℕ). length r) c.loop.invariant.same, c.loop.invariant.place, c.at.ensures)
+    let ends = ap (λ (s : DecodedTlvObjects). length s.rest) (split_none c.loop.tlv.rest c.in_default.ensures.0) in
+    omega (arith, ends, ap (λ (p : TlvReaderValue). p.at) c.in_default.ensures.1, ap (λ (r : List ℕ). length r) c.loop.invariant.same, c.loop.invariant.offset, c.offset.ensures)

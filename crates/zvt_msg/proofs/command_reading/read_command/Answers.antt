@@ -1,4 +1,5 @@
-use Rattle.zvt_apdu.specs.Apdu.{value_of}
+-- Proof of the contract of `read_command`.
+use Rattle.zvt_apdu.specs.Grammar.{value_of}
 use Rattle.zvt_msg.proofs.CommandLemmas.{some_clause, none_clause}
 use Rattle.zvt_msg.proofs.command_reading.read_command.Goals as goal
 

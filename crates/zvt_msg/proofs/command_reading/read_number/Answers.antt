@@ -1,6 +1,7 @@
+-- Proof of the contract of `read_number`.
 use Rattle.std.proofs.Common.{ℕ, ◌^◌, ◌<◌, subst, ◌∙◌}
 use Rattle.std.specs.Prelude.{IfSome}
-use Rattle.zvt_bmp.proofs.Digits.{digits_value, digits_bound}
+use Rattle.zvt_bmp.proofs.DigitLemmas.{digits_value, digits_bound}
 use Rattle.zvt_msg.proofs.CommandLemmas.{number_with}
 use Rattle.zvt_msg.proofs.command_reading.read_number.Goals as goal
 

@@ -1,4 +1,5 @@
-use Rattle.zvt_msg.proofs.AgainLemmas.{command_again, message_again}
+-- Proof of the contract of `law_read_again`.
+use Rattle.zvt_msg.proofs.CanonicalLemmas.{command_again, message_again}
 use Rattle.zvt_msg.proofs.laws.law_read_again.Goals as goal
 
 pub returns : goal.returns

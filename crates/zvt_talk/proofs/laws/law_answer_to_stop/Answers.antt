@@ -1,6 +1,7 @@
+-- Proof of the contract of `law_answer_to_stop`.
 use Rattle.std.proofs.Common.{refl}
 use Rattle.zvt_msg.specs.Message.{Ack, Nack}
-use Rattle.zvt_talk.proofs.Stops.{ack_same, nack_same, stray}
+use Rattle.zvt_talk.proofs.StopLemmas.{ack_same, nack_same, stray}
 use Rattle.zvt_talk.proofs.laws.law_answer_to_stop.Goals as goal
 
 pub returns-clause-ack : goal.returns-clause-ack

@@ -1,5 +1,6 @@
+-- Proof of the contract of `law_declined`.
 use Rattle.std.proofs.Common.{inl, inr}
-use Rattle.zvt_talk.proofs.Last.{nothing_said}
+use Rattle.zvt_talk.proofs.StatusLemmas.{nothing_said}
 use Rattle.zvt_talk.proofs.laws.law_declined.Goals as goal
 
 pub returns-clause-transaction : goal.returns-clause-transaction

@@ -1,5 +1,6 @@
+-- Proof of the contract of `law_ends`.
 use Rattle.std.proofs.Common.{[]}
-use Rattle.zvt_talk.proofs.EndsLaws.{ended_is, end_by_message, goes_on_is, kind_from}
+use Rattle.zvt_talk.proofs.EndLawLemmas.{ended_is, end_by_message, goes_on_is, kind_from}
 use Rattle.zvt_talk.proofs.laws.law_ends.Goals as goal
 
 pub returns-clause-ended : goal.returns-clause-ended

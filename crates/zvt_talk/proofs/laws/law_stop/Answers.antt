@@ -1,4 +1,5 @@
-use Rattle.zvt_talk.proofs.Stops.{message_stop, stopped_with, wish_stop}
+-- Proof of the contract of `law_stop`.
+use Rattle.zvt_talk.proofs.StopLemmas.{message_stop, stopped_with, wish_stop}
 use Rattle.zvt_talk.proofs.laws.law_stop.Goals as goal
 
 pub returns-clause-message : goal.returns-clause-message

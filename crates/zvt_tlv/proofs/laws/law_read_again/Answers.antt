@@ -1,4 +1,5 @@
-use Rattle.zvt_tlv.proofs.Readings.{written_spells, written_again}
+-- Proof of the contract of `law_read_again`.
+use Rattle.zvt_tlv.proofs.DecodeLemmas.{written_spells, written_again}
 use Rattle.zvt_tlv.proofs.laws.law_read_again.Goals as goal
 
 pub returns : goal.returns

@@ -3,7 +3,7 @@ use Rattle.gw_base.specs.declared.condition.Condition.TheVariants.{Aborted}
 use Rattle.gw_base.specs.Condition.{name_of}
 use Rattle.gw_base.proofs.condition.Condition.from_name.Given as goal
 
--- no condition before this place has the name
+-- no condition before this index has the name
 abbrev pub invariant-loop-condition : goal.invariant-loop-condition
 invariant-loop-condition l =
     (k : ℕ) → k < l.condition-index → name_of (get_or l.condition-items k Aborted) ≡ l.name → ⊥

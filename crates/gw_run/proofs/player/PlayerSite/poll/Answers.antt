@@ -6,7 +6,7 @@ use mir.Syntax.{w64}
 use mir.Val.{SFits}
 use Rattle.gw_site.specs.Outside.{outside_of}
 use Rattle.gw_run.specs.PlayerTills.{next_after, tills_after}
-use Rattle.gw_run.specs.ScriptRead.{event_seen, line_seen}
+use Rattle.gw_run.specs.ScriptRead.{event_value, line_value}
 use Rattle.gw_run.proofs.PlayLemmas.{may_come_with, met_with, told_same}
 use Rattle.gw_run.proofs.PlayerTillLemmas.{poll_next, poll_tills, was_added}
 use Rattle.gw_run.proofs.player.PlayerSite.poll.Goals as goal
@@ -17,8 +17,8 @@ add_poll-requires-clause-met c =
     let lines = s.play.read.lines.items in
     let found = c.found-found.result in
     let fits : SFits w64 found.now = search rules in
-    let same = met_with (outside_of s.play.log.items) c.deref.result.now s.opened (s.tills_are c.if-self.false ∙ sym c.deref.ensures.value) (s.next_is c.if-self.false) s.play.moment (map line_seen (drop s.play.at lines)) in
-    simp (to_z-of_z, fits) (same ∙ c.found-found.ensures.met ∙ ap (λ due. record { lines = map line_seen (drop found.behind lines); moment = found.now; due = due }) (sym c.in-Ok.ensures.brought.turn))
+    let same = met_with (outside_of s.play.log.items) c.deref.result.now s.opened (s.tills_are c.if-self.false ∙ sym c.deref.ensures.value) (s.next_is c.if-self.false) s.play.moment (map line_value (drop s.play.at lines)) in
+    simp (to_z-of_z, fits) (same ∙ c.found-found.ensures.met ∙ ap (λ due. record { lines = map line_value (drop found.behind lines); moment = found.now; due = due }) (sym c.in-Ok.ensures.brought.turn))
 
 pub invariant_of-self-2 : goal.invariant_of-self-2
 invariant_of-self-2 c =
@@ -26,7 +26,7 @@ invariant_of-self-2 c =
     let log = s.play.log.items in
     let new = c.add_poll.new.self in
     let brought = c.in-Ok.ensures.brought in
-    let added = was_added c.add_poll.result new.short c.add_poll.ensures.added c.add_poll.ensures.refused in
+    let added = was_added c.add_poll.result new.dark c.add_poll.ensures.added c.add_poll.ensures.refused in
     let turns = option_to_list c.in-Ok.brought.turn in
     let same = brought.what ∙ sym brought.turn in
     record {
@@ -37,5 +37,5 @@ invariant_of-self-2 c =
 pub returns-clause-promise : goal.returns-clause-promise
 returns-clause-promise c = λ log e.
     let s = c.args.self.now in
-    let may = may_come_with (outside_of s.play.log.items) c.deref.result.now s.opened (s.tills_are c.if-self.false ∙ sym c.deref.ensures.value) (s.next_is c.if-self.false) (option_map event_seen (option_copied c.found-found.result.event)) c.found-found.ensures.may_come in
+    let may = may_come_with (outside_of s.play.log.items) c.deref.result.now s.opened (s.tills_are c.if-self.false ∙ sym c.deref.ensures.value) (s.next_is c.if-self.false) (option_map event_value (option_copied c.found-found.result.event)) c.found-found.ensures.may_come in
     rw (← told_same e) (c.in-Ok.ensures.brought.promise (outside_of s.play.log.items) may)

@@ -2,7 +2,7 @@ use Rattle.std.proofs.Common.{◌∷◌, [], refl, ap}
 use Rattle.std.specs.Prelude.{Some, Err, true, false}
 use Rattle.gw_site.specs.Turns.{SentTillTurns}
 use Rattle.gw_site.specs.declared.turn.Turn.TheVariants.{SentTill}
-use Rattle.gw_run.specs.Player.{player_seen}
+use Rattle.gw_run.specs.Player.{player_observed}
 use Rattle.gw_run.proofs.PlayerLemmas.{call_grows, dark_grows}
 use Rattle.gw_run.proofs.player.PlayerSite.send_till.Goals as goal
 
@@ -10,11 +10,11 @@ pub returns-in-Err-clause-turns : goal.returns-in-Err-clause-turns
 returns-in-Err-clause-turns c =
     let old = c.args.self.now in
     let new = c.fail.new.self in
-    dark_grows (player_seen old) (player_seen new) (SentTillTurns c.args.till c.args.bytes.now (Err c.fail.result)) (SentTill c.args.till [] false ∷ []) ([], (c.args.bytes.now, refl), refl) c.fail.ensures.short (ap Some c.fail.ensures.log) c.fail.ensures.script
+    dark_grows (player_observed old) (player_observed new) (SentTillTurns c.args.till c.args.bytes.now (Err c.fail.result)) (SentTill c.args.till [] false ∷ []) ([], (c.args.bytes.now, refl), refl) c.fail.ensures.dark (ap Some c.fail.ensures.log) c.fail.ensures.script
 
 pub returns-in-Ok-clause-turns : goal.returns-in-Ok-clause-turns
 returns-in-Ok-clause-turns c =
     let old = c.args.self.now in
     let new = c.call.new.self in
-    call_grows (SentTillTurns c.args.till c.args.bytes.now) (player_seen old) (player_seen new) old.play.log.items new.play.log.items (SentTill c.args.till c.in-Ok.bytes true) (SentTill c.args.till [] false ∷ []) c.call.result refl refl c.call.ensures.script c.call.ensures.ok c.call.ensures.err
+    call_grows (SentTillTurns c.args.till c.args.bytes.now) (player_observed old) (player_observed new) old.play.log.items new.play.log.items (SentTill c.args.till c.in-Ok.bytes true) (SentTill c.args.till [] false ∷ []) c.call.result refl refl c.call.ensures.script c.call.ensures.ok c.call.ensures.err
     (λ done. rw c.in-Ok.ensures refl) (λ error. ([], (c.args.bytes.now, refl), refl))

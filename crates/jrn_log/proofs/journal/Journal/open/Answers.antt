@@ -1,22 +1,22 @@
 use Rattle.std.proofs.Common.{List, ℕ}
 use Rattle.std.specs.Prelude.{Ok, Err}
 use Rattle.gw_site.specs.Outside.{outside_of}
-use Rattle.jrn_log.specs.Stands.{Held}
-use Rattle.jrn_log.specs.Reading.{Sizes, NotSized}
+use Rattle.jrn_log.specs.Journal.{JournalValue}
+use Rattle.jrn_log.specs.inner.FileReader.{Sizes, NotSized}
 use Rattle.jrn_log.specs.declared.fault.OpenFault.TheVariants.{Disk}
 use Rattle.jrn_log.proofs.OpenLemmas.{open_grows, open_turns, open_fails, sync_fails, sized_before, opens_with, ok_not_long, ok_not_cut, fault_long, fault_cut, opened_rests, opening_images}
 use Rattle.jrn_log.proofs.journal.Journal.open.Goals as goal
 
 pub returns-in-Err-clause-images : goal.returns-in-Err-clause-images
-returns-in-Err-clause-images g c = opening_images {T = Held} (Err Disk) _ _ (sync_fails _ _ c.in-Err.ensures.turns)
+returns-in-Err-clause-images g c = opening_images {T = JournalValue} (Err Disk) _ _ (sync_fails _ _ c.in-Err.ensures.turns)
 
 pub returns-in-Err-sized_bodies-clause-too_long : goal.returns-in-Err-sized_bodies-clause-too_long
 returns-in-Err-sized_bodies-clause-too_long g c = λ log e.
     fault_long c.args.slots (outside_of log).file c.in-Err-sized_bodies.fault
     (sized_before _ _ c.in-Ok.size (λ file. NotSized c.args.slots file c.in-Err-sized_bodies.fault) c.in-Ok.ensures.turns c.in-Ok.ensures.size c.in-Err-sized_bodies.ensures.sized log e)
 
-pub returns-in-Err-sized_bodies-clause-cut : goal.returns-in-Err-sized_bodies-clause-cut
-returns-in-Err-sized_bodies-clause-cut g c = λ log e.
+pub returns-in-Err-sized_bodies-clause-truncated : goal.returns-in-Err-sized_bodies-clause-truncated
+returns-in-Err-sized_bodies-clause-truncated g c = λ log e.
     fault_cut c.args.slots (outside_of log).file c.in-Err-sized_bodies.fault
     (sized_before _ _ c.in-Ok.size (λ file. NotSized c.args.slots file c.in-Err-sized_bodies.fault) c.in-Ok.ensures.turns c.in-Ok.ensures.size c.in-Err-sized_bodies.ensures.sized log e)
 
@@ -25,7 +25,7 @@ returns-in-Err-sized_bodies-clause-turns g c = open_fails c.in-Err-sized_bodies.
 
 pub returns-in-Err-sized_bodies-clause-images : goal.returns-in-Err-sized_bodies-clause-images
 returns-in-Err-sized_bodies-clause-images g c =
-    opening_images {T = Held} (Err c.in-Err-sized_bodies.fault) _ _ (open_fails c.in-Err-sized_bodies.fault _ _ _ c.in-Ok.size c.in-Ok.ensures.size c.in-Ok.ensures.turns c.in-Err-sized_bodies.ensures.turns)
+    opening_images {T = JournalValue} (Err c.in-Err-sized_bodies.fault) _ _ (open_fails c.in-Err-sized_bodies.fault _ _ _ c.in-Ok.size c.in-Ok.ensures.size c.in-Ok.ensures.turns c.in-Err-sized_bodies.ensures.turns)
 
 pub returns-in-Ok-sized_bodies-clause-bodies : goal.returns-in-Ok-sized_bodies-clause-bodies
 returns-in-Ok-sized_bodies-clause-bodies g c = λ log e.
@@ -37,8 +37,8 @@ returns-in-Ok-sized_bodies-clause-too_long g c = λ log e.
     ok_not_long c.args.slots (outside_of log).file c.in-Ok-sized_bodies.bodies _
     (sized_before _ _ c.in-Ok.size (λ file. Sizes c.args.slots file c.in-Ok-sized_bodies.bodies) c.in-Ok.ensures.turns c.in-Ok.ensures.size c.in-Ok-sized_bodies.ensures.sized log e)
 
-pub returns-in-Ok-sized_bodies-clause-cut : goal.returns-in-Ok-sized_bodies-clause-cut
-returns-in-Ok-sized_bodies-clause-cut g c = λ log e.
+pub returns-in-Ok-sized_bodies-clause-truncated : goal.returns-in-Ok-sized_bodies-clause-truncated
+returns-in-Ok-sized_bodies-clause-truncated g c = λ log e.
     ok_not_cut c.args.slots (outside_of log).file c.in-Ok-sized_bodies.bodies _
     (sized_before _ _ c.in-Ok.size (λ file. Sizes c.args.slots file c.in-Ok-sized_bodies.bodies) c.in-Ok.ensures.turns c.in-Ok.ensures.size c.in-Ok-sized_bodies.ensures.sized log e)
 

@@ -1,5 +1,5 @@
 use Rattle.std.proofs.Common.{refl}
-use Rattle.jrn_log.proofs.GrowLemmas.{grows-then}
+use Rattle.jrn_log.proofs.SequenceLemmas.{grows-then}
 use Rattle.jrn_site.proofs.site.DiskSiteSite.poll.Goals as goal
 
 pub returns-clause-turns : goal.returns-clause-turns

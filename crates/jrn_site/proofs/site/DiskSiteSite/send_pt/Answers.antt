@@ -1,6 +1,6 @@
 use Rattle.std.proofs.Common.{[], ◌∷◌, ◌∙◌, ap, refl, false}
 use Rattle.gw_site.specs.declared.turn.Turn.TheVariants.{SentPt}
-use Rattle.jrn_log.proofs.GrowLemmas.{grows-weaker}
+use Rattle.jrn_log.proofs.SequenceLemmas.{grows-weaker}
 use Rattle.jrn_site.proofs.site.DiskSiteSite.send_pt.Goals as goal
 
 pub returns-clause-turns : goal.returns-clause-turns

@@ -3,7 +3,7 @@ use Rattle.sale_msg.specs.declared.category.Category.TheVariants.{Login}
 use Rattle.sale_msg.specs.Category.{category_name}
 use Rattle.sale_msg.proofs.category.Category.from_name.Given as goal
 
--- no category before this place has the name
+-- no category before this one has the name
 abbrev pub invariant-loop-category : goal.invariant-loop-category
 invariant-loop-category l =
     (k : ℕ) → k < l.category-index → category_name (get_or l.category-items k Login) ≡ l.name → ⊥

@@ -1,6 +1,6 @@
 use Rattle.std.proofs.Common.{append_assoc}
-use Rattle.sale_reply.specs.Pieces.{first_name, first_text}
-use Rattle.sale_reply.proofs.PieceLemmas.{and_then, spelled}
+use Rattle.sale_reply.specs.inner.Parts.{first_name, first_text}
+use Rattle.sale_reply.proofs.PartLemmas.{and_then, spelled}
 use Rattle.sale_reply.proofs.buffer.Out.first_text.Goals as goal
 
 pub returns : goal.returns

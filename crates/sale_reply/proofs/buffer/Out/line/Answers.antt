@@ -1,5 +1,5 @@
 use Rattle.std.proofs.lemmas.List.{take_all}
-use Rattle.sale_reply.proofs.PieceLemmas.{and_then, spelled, line-is}
+use Rattle.sale_reply.proofs.PartLemmas.{and_then, spelled, line-is}
 use Rattle.sale_reply.proofs.buffer.Out.line.Goals as goal
 
 pub returns : goal.returns

@@ -1,7 +1,7 @@
 use Rattle.std.proofs.Common.{◌∷◌, take}
 use Rattle.std.specs.Prelude.{flat_map}
-use Rattle.sale_reply.specs.Appends.{Appends}
-use Rattle.sale_reply.proofs.PieceLemmas.{shown_byte}
+use Rattle.sale_reply.specs.inner.Appends.{Appends}
+use Rattle.sale_reply.proofs.PartLemmas.{shown_byte}
 use Rattle.sale_reply.proofs.buffer.Out.line.Given as goal
 
 abbrev pub invariant-loop-byte : goal.invariant-loop-byte

@@ -1,6 +1,6 @@
 use Rattle.std.proofs.Common.{sym}
-use Rattle.sale_reply.specs.Pieces.{next_optional}
-use Rattle.sale_reply.proofs.PieceLemmas.{nothing, spelled, next_optional-none}
+use Rattle.sale_reply.specs.inner.Parts.{next_optional}
+use Rattle.sale_reply.proofs.PartLemmas.{nothing, spelled, next_optional-none}
 use Rattle.sale_reply.proofs.buffer.Out.next_id.Goals as goal
 
 pub returns-in-Some : goal.returns-in-Some

@@ -1,5 +1,5 @@
-use Rattle.sale_reply.specs.Pieces.{next_name}
-use Rattle.sale_reply.proofs.PieceLemmas.{and_then}
+use Rattle.sale_reply.specs.inner.Parts.{next_name}
+use Rattle.sale_reply.proofs.PartLemmas.{and_then}
 use Rattle.sale_reply.proofs.buffer.Out.next_name.Goals as goal
 
 pub returns : goal.returns

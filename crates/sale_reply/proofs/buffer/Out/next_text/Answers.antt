@@ -1,6 +1,6 @@
 use Rattle.std.proofs.Common.{append_assoc}
-use Rattle.sale_reply.specs.Pieces.{next_name, next_text}
-use Rattle.sale_reply.proofs.PieceLemmas.{and_then, spelled}
+use Rattle.sale_reply.specs.inner.Parts.{next_name, next_text}
+use Rattle.sale_reply.proofs.PartLemmas.{and_then, spelled}
 use Rattle.sale_reply.proofs.buffer.Out.next_text.Goals as goal
 
 pub returns : goal.returns

@@ -1,64 +1,65 @@
--- `next` tells what the bytes that wait begin with, and an APDU that it gives is no longer among them.
-use Rattle.std.proofs.Common.{◌≡◌, ℕ, ◌+◌, ◌-◌, ◌≤◌, List, ◌++◌, length, take, drop, Option, Some, None, Result, Ok, Err, refl, sym, ap, subst, ◌∙◌, arith}
+-- `next` returns the APDU that the waiting bytes begin with, and then it is no longer among them.
+use Rattle.std.proofs.Common.{◌≡◌, ℕ, ◌+◌, ◌-◌, ◌≤◌, List, ◌++◌, length, take, drop, Some, None, Ok, Err, refl, sym, ap, subst, ◌∙◌, arith}
 use Rattle.std.proofs.lemmas.List.{take_rest, length-drop, length-append, drop_at, drop-drop}
 use Rattle.std.proofs.lemmas.Result.{err_from_is_err_and}
-use Rattle.zvt_apdu.specs.Apdu.{AreBytes, ApduValue, value_of, BeginsWith}
-use Rattle.zvt_apdu.specs.Front.{Front, front_of}
-use Rattle.zvt_apdu.specs.Found.{Finds}
-use Rattle.zvt_apdu.specs.Calls.{Answers, Leaves}
-use Rattle.zvt_apdu.proofs.Fronts.{whole_begins, front_partial}
-use Rattle.zvt_apdu.proofs.AnswerLemmas.{fault_answers, fault_leaves, told}
+use Rattle.gw_bytes.specs.Bytes.{AreBytes}
+use Rattle.zvt_apdu.specs.Grammar.{value_of}
+use Rattle.zvt_apdu.specs.Decode.{DecodedApdu, decode_apdu}
+use Rattle.zvt_apdu.specs.inner.FirstApdu.{ReturnsFirstApdu}
+use Rattle.zvt_apdu.specs.Results.{ReturnsApdu, LeavesBytes}
+use Rattle.zvt_apdu.proofs.DecodeLemmas.{whole_begins, prefix_partial}
+use Rattle.zvt_apdu.proofs.ResultLemmas.{fault_answers, fault_leaves, clauses}
 use Rattle.zvt_apdu.proofs.reader.ApduReader.next.Goals as goal
 
--- what `&bytes[start..]` gives is what the reader is seen as
+-- `&bytes[start..]` is what the reader's model says
 abbrev Waiting : List ℕ → ℕ → List ℕ
 Waiting items start = take (length items - start) (drop start items)
 
-seen : (items held value : List ℕ) (start : ℕ) → held ≡ items → drop start items ≡ value → Waiting held start ≡ value
-seen items held value start e view_is = rw e (take_rest items start ∙ view_is)
+is_value : (items held value : List ℕ) (start : ℕ) → held ≡ items → drop start items ≡ value → Waiting held start ≡ value
+is_value items held value start e view_is = rw e (take_rest items start ∙ view_is)
 
--- what is left behind the APDU that was found is the end of what was read
-tail : (items value front rest : List ℕ) (start len : ℕ) → drop start items ≡ value → value ≡ front ++ rest → length items ≡ len → start ≤ len → drop (len - length rest) items ≡ rest
-tail items value front rest start len view_is parts size within =
-    let whole : length (drop start items) ≡ length front + length rest = ap length (view_is ∙ parts) ∙ length-append front rest in
-    let place : len - length rest ≡ start + length front = omega (arith, length-drop start items) in
-    ap (λ (k : ℕ). drop k items) place ∙ sym (drop-drop (length front) start items) ∙ ap (drop (length front)) (view_is ∙ parts) ∙ drop_at front rest (length front) refl
+-- what is left after the APDU that was found is the end of what was read
+tail : (items value prefix rest : List ℕ) (start len : ℕ) → drop start items ≡ value → value ≡ prefix ++ rest → length items ≡ len → start ≤ len → drop (len - length rest) items ≡ rest
+tail items value prefix rest start len view_is parts size within =
+    let whole : length (drop start items) ≡ length prefix + length rest = ap length (view_is ∙ parts) ∙ length-append prefix rest in
+    let offset : len - length rest ≡ start + length prefix = omega (arith, length-drop start items) in
+    ap (λ (k : ℕ). drop k items) offset ∙ sym (drop-drop (length prefix) start items) ∙ ap (drop (length prefix)) (view_is ∙ parts) ∙ drop_at prefix rest (length prefix) refl
 
 pub returns-in_err-apdu : goal.returns-in_err-apdu
 returns-in_err-apdu c =
     let bytes = c.args.self.now in
-    let same = seen c.self.inside.bytes.items c.deref.result.now bytes c.self.inside.start c.deref.ensures.value c.self.view_is in
+    let same = is_value c.self.inside.bytes.items c.deref.result.now bytes c.self.inside.start c.deref.ensures.value c.self.view_is in
     let bounds : AreBytes bytes = subst AreBytes same c.first_apdu.ensures.bytes in
     let p = err_from_is_err_and c.from_residual.result c.from_residual.ensures.1 in
-    let found : Finds (Err c.in_err-apdu.field-0.0) (front_of bytes) = subst (λ (b : List ℕ). Finds (Err c.in_err-apdu.field-0.0) (front_of b)) same c.in_err-apdu.ensures.front in
-    let answers : Answers c.from_residual.result (front_of bytes) = fault_answers c.in_err-apdu.field-0.0 (front_of bytes) c.from_residual.result (p.1 ∙ ap (λ e. Err e) p.2) found in
+    let found : ReturnsFirstApdu (Err c.in_err-apdu.field-0.0) (decode_apdu bytes) = subst (λ (b : List ℕ). ReturnsFirstApdu (Err c.in_err-apdu.field-0.0) (decode_apdu b)) same c.in_err-apdu.ensures.computes in
+    let answers : ReturnsApdu c.from_residual.result (decode_apdu bytes) = fault_answers c.in_err-apdu.field-0.0 (decode_apdu bytes) c.from_residual.result (p.1 ∙ ap (λ e. Err e) p.2) found in
     let leaves = fault_leaves bytes c.from_residual.result p.0 bounds p.1 answers in
-    ((refl, (λ _. tt), subst (λ (new : List ℕ). Leaves bytes c.from_residual.result new) (sym c.self.view_is) leaves), told bytes c.from_residual.result bounds answers)
+    ((refl, (λ _. tt), subst (λ (new : List ℕ). LeavesBytes bytes c.from_residual.result new) (sym c.self.view_is) leaves), clauses bytes c.from_residual.result bounds answers)
 
 pub returns-in_default : goal.returns-in_default
 returns-in_default c =
     let bytes = c.args.self.now in
-    let same = seen c.self.inside.bytes.items c.deref.result.now bytes c.self.inside.start c.deref.ensures.value c.self.view_is in
+    let same = is_value c.self.inside.bytes.items c.deref.result.now bytes c.self.inside.start c.deref.ensures.value c.self.view_is in
     let bounds : AreBytes bytes = subst AreBytes same c.first_apdu.ensures.bytes in
-    let found : front_of bytes ≡ Front.Partial = rw (← same) (rw c.in_default.is at c.in_ok-apdu.ensures.front) in
-    ((refl, (λ _. tt), (front_partial bytes bounds found, c.self.view_is)), told bytes (Ok None) bounds found)
+    let found : decode_apdu bytes ≡ DecodedApdu.Incomplete = rw (← same) (rw c.in_default.is at c.in_ok-apdu.ensures.computes) in
+    ((refl, (λ _. tt), (prefix_partial bytes bounds found, c.self.view_is)), clauses bytes (Ok None) bounds found)
 
 pub overflow_sub-self : goal.overflow_sub-self
 overflow_sub-self c =
     let bytes = c.args.self.now in
-    let same = seen c.self.inside.bytes.items c.deref.result.now bytes c.self.inside.start c.deref.ensures.value c.self.view_is in
+    let same = is_value c.self.inside.bytes.items c.deref.result.now bytes c.self.inside.start c.deref.ensures.value c.self.view_is in
     let bounds : AreBytes bytes = subst AreBytes same c.first_apdu.ensures.bytes in
-    let found : front_of bytes ≡ Front.Whole (value_of c.in-Some.apdu) c.in-Some.rest.now = rw (← same) (rw c.in-Some.is at c.in_ok-apdu.ensures.front) in
+    let found : decode_apdu bytes ≡ DecodedApdu.Whole (value_of c.in-Some.apdu) c.in-Some.rest.now = rw (← same) (rw c.in-Some.is at c.in_ok-apdu.ensures.computes) in
     let begins = whole_begins bytes (value_of c.in-Some.apdu) c.in-Some.rest.now bounds found in
     omega (arith, ap length begins.2, length-append begins.0 c.in-Some.rest.now, ap length c.self.view_is, length-drop c.self.inside.start c.self.inside.bytes.items, c.deref.ensures.len, ap length c.deref.ensures.value)
 
 pub returns : goal.returns
 returns c =
     let bytes = c.args.self.now in
-    let same = seen c.self.inside.bytes.items c.deref.result.now bytes c.self.inside.start c.deref.ensures.value c.self.view_is in
+    let same = is_value c.self.inside.bytes.items c.deref.result.now bytes c.self.inside.start c.deref.ensures.value c.self.view_is in
     let bounds : AreBytes bytes = subst AreBytes same c.first_apdu.ensures.bytes in
-    let found : front_of bytes ≡ Front.Whole (value_of c.in-Some.apdu) c.in-Some.rest.now = rw (← same) (rw c.in-Some.is at c.in_ok-apdu.ensures.front) in
+    let found : decode_apdu bytes ≡ DecodedApdu.Whole (value_of c.in-Some.apdu) c.in-Some.rest.now = rw (← same) (rw c.in-Some.is at c.in_ok-apdu.ensures.computes) in
     let begins = whole_begins bytes (value_of c.in-Some.apdu) c.in-Some.rest.now bounds found in
     let size : length c.self.inside.bytes.items ≡ c.len.result = omega (arith, c.deref.ensures.len, ap length c.deref.ensures.value) in
     let left = tail c.self.inside.bytes.items bytes begins.0 c.in-Some.rest.now c.self.inside.start c.len.result c.self.view_is begins.2 size (omega arith) in
-    ((refl, (λ _. tt), (begins.0, begins.1, rw left begins.2)), told bytes (Ok (Some c.in-Some.apdu)) bounds (c.in-Some.rest.now, found))
+    ((refl, (λ _. tt), (begins.0, begins.1, rw left begins.2)), clauses bytes (Ok (Some c.in-Some.apdu)) bounds (c.in-Some.rest.now, found))

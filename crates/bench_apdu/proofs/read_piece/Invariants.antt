@@ -1,6 +1,0 @@
-use Rattle.std.proofs.Common.{length}
-use Rattle.bench_apdu.proofs.read_piece.Given as goal
-
--- an APDU that is given leaves fewer bytes
-abbrev pub decreases-loop-apdu : goal.decreases-loop-apdu
-decreases-loop-apdu l = length l.reader

@@ -1,5 +1,0 @@
-use Rattle.gw_base.proofs.KeyLemmas.{key_cmp-ties}
-use Rattle.gw_base.proofs.money.law_keys.Goals as goal
-
-pub returns : goal.returns
-returns c = key_cmp-ties

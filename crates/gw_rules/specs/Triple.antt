@@ -1,0 +1,91 @@
+-- Inner: the contract of whatever drives a site: a triple over the view, from before its calls to after them.
+use Rattle.std.specs.Prelude.{◌≡◌, ◌⊎◌, ℕ, ℤ, map, filter, not, Result, Ok, Err, true, false, List, [], ◌∷◌, ◌++◌, Some, None}
+use Rattle.gw_base.specs.declared.setup.Setup.{Setup}
+use Rattle.gw_site.specs.Observed.{Observed}
+use Rattle.gw_site.specs.declared.turn.Turn.{Turn}
+use Rattle.gw_site.specs.declared.turn.Turn.TheVariants.{Start, OpenFailed, Polled, SentTill, Crash}
+use Rattle.gw_site.specs.Turns.{event_turns, IsPromised}
+use Rattle.gw_site.specs.declared.site.What.{What}
+use Rattle.gw_rules.specs.Scene.{Till, Call, Cut, Item, Opening, Scene, View}
+use Rattle.gw_rules.specs.View.{Move, Take, view_from, called, sends_on}
+use Rattle.gw_rules.specs.Lawful.{IsCourse, turns_of, Stands, IsClear, IsQuiet}
+
+-- the log goes on from this view by allowed moves, none of which begins a run or fails the power; where the site isn't dark then, Q holds of the view
+pub record Extends (before : List Turn) (v : View) (new : Observed) (Q : View → Type 0) : Type 0 where
+  pub moves : List Move
+  pub log_is : new.log ≡ Some (before ++ turns_of moves)
+  pub lawful : IsCourse v moves
+  pub quiet : IsQuiet (turns_of moves)
+  pub owed : new.dark ≡ false → Q (view_from v moves)
+
+-- Where a lawful log is observed, and P holds of its view unless the site is dark, the log goes on lawfully, and Q holds of the view then unless the site is dark. A dark site adds nothing and stays dark.
+pub record Triple (old new : Observed) (P Q : View → Type 0) : Type 0 where
+  pub observed : (before : List Turn) (v : View) → old.log ≡ Some before → Stands before v → (old.dark ≡ false → P v) → Extends before v new Q
+  pub unobserved : old.log ≡ None → new.log ≡ None
+  pub stays : old.dark ≡ true → new.dark ≡ true
+  pub still : old.dark ≡ true → new.log ≡ old.log
+  pub origin : new.origin ≡ old.origin
+
+-- the view has this scene, these calls and these items
+abbrev pub Owing : Scene → List Call → List Item → View → Type 0
+Owing scene calls items v = v ≡ record { scene = scene; calls = calls; items = items }
+
+-- after a reply was sent to a till: the calls after it are owed, or where the send failed and took these bytes, the cut of the connection and then those of them that don't send on it
+abbrev pub Sent : {E : Type 0} → Result (Unit {0}) E → Scene → ℕ → List ℕ → List Call → List Item → View → Type 0
+Sent (Ok done) scene till bytes calls items v = Owing (called scene (SentTill till bytes true) false) calls items v
+Sent (Err failed) scene till bytes calls items v = (taken : List ℕ) × Owing (called scene (SentTill till taken false) false) (Cut (Till till) ∷ filter (λ call. not (sends_on (Till till) call)) calls) items v
+
+-- the view after a poll and its event
+abbrev pub event_view : Scene → ℤ → What → List ℕ → View
+event_view scene now what buf = view_from (record { scene = scene; calls = []; items = [] }) (map Take (Polled now ∷ event_turns what buf))
+
+-- after a poll and its event, which was promised
+abbrev pub AtEvent : Scene → ℤ → What → List ℕ → View → Type 0
+AtEvent scene now what buf v = (v ≡ event_view scene now what buf) × IsPromised scene.outside what
+
+-- a run with this setup has just begun
+pub record IsNewRun (setup : Setup) (scene : Scene) : Type 0 where
+  pub setup_is : scene.setup ≡ Some setup
+  pub stage : scene.stage ≡ Opening
+  pub tills : scene.outside.tills ≡ []
+  pub polls : scene.polls ≡ 0
+
+-- and nothing is owed yet
+abbrev pub JustBegun : Setup → View → Type 0
+JustBegun setup v = (scene : Scene) × Owing scene [] [] v × IsNewRun setup scene
+
+-- these turns are a start with this setup and then the turns of its run
+abbrev pub IsFromStart : Setup → List Turn → List Turn → Type 0
+IsFromStart setup run turns = turns ≡ Start setup ∷ run
+
+-- these turns are a power failure, then a start with this setup, and then the turns of its run
+abbrev pub IsFromCrash : Setup → List Turn → List Turn → Type 0
+IsFromCrash setup run turns = (file : List ℕ) × (turns ≡ Crash file ∷ Start setup ∷ run)
+
+-- these turns are one run with this setup, with one power failure before it at most
+abbrev pub IsStarted : Setup → List Turn → Type 0
+IsStarted setup turns = (run : List Turn) × IsQuiet run × (IsFromStart setup run turns ⊎ IsFromCrash setup run turns)
+
+-- nothing, or the turns of one run with this setup
+abbrev pub IsBegun : Setup → List Turn → Type 0
+IsBegun setup turns = (turns ≡ []) ⊎ IsStarted setup turns
+
+-- what one run of the engine adds to a log: nothing, one failed opening, or the turns of one run
+abbrev pub IsRun : Setup → List Turn → Type 0
+IsRun setup turns = (turns ≡ []) ⊎ ((turns ≡ OpenFailed ∷ []) ⊎ IsStarted setup turns)
+
+-- the log goes on from before by turns of this shape, and is lawful; where there are none the site is dark, and where it isn't, Q holds of the view
+pub record Ran (before : List Turn) (new : Observed) (Shape : List Turn → Type 0) (Q : View → Type 0) : Type 0 where
+  pub view : View
+  pub added : List Turn
+  pub log_is : new.log ≡ Some (before ++ added)
+  pub lawful : Stands (before ++ added) view
+  pub shape : Shape added
+  pub none : added ≡ [] → new.dark ≡ true
+  pub owed : new.dark ≡ false → Q view
+
+-- Where a lawful and clear log is observed, one run at most is added to it, lawfully.
+pub record RunTriple (old new : Observed) (Shape : List Turn → Type 0) (Q : View → Type 0) : Type 0 where
+  pub observed : (before : List Turn) (v : View) → old.log ≡ Some before → Stands before v → IsClear v → Ran before new Shape Q
+  pub unobserved : old.log ≡ None → new.log ≡ None
+  pub origin : new.origin ≡ old.origin

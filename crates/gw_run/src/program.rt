@@ -1,0 +1,111 @@
+//! The mode `replay`, from its words to its last line.
+ghost use Rattle.std.specs.Prelude.{◌≡◌, ◌≢◌, ◌⊎◌, ◌≤◌, ◌++◌, List, ℕ, Some, Ok, IsTrue, ◌↔◌, IfOk, IfErr, IsErrOf, map, string_bytes};
+ghost use Rattle.gw_site.specs.Failures.{Rose};
+ghost use Rattle.gw_run.specs.LogWritten.{Adds};
+ghost use Rattle.gw_run.specs.Replay.{IsInputRead, IsInputFault, IsPlayEnd, ReplayCause, ReplayWritten};
+ghost use Rattle.gw_run.specs.Top.{IsAccepted, IfBytesObserved, IsEnded, IsScriptLeft};
+
+use crate::ending::Ending;
+use crate::last_lines::tell;
+use crate::replay::play;
+use crate::script::{ScriptFault, read_script};
+use gw_base::Text;
+use gw_bytes::LONGEST_SCRIPT;
+use gw_site::{Failed, Sink, Site, Source};
+use std::alloc::{AllocError, Global};
+
+/// Whether the words are accepted.
+fn is_replay(words: &[Text]) -> bool
+    ensures { IsTrue result ↔ IsAccepted words.now }
+{
+    match words {
+        [word] => word.as_str() == "replay",
+        _ => false,
+    }
+}
+
+/// The input, read to its end, or until it is above the limit and then no further.
+fn read_input<I: Source>(alloc: Global, input: &mut I) -> Result<Vec<u8>, Ending>
+    ensures bytes { IfBytesObserved (I.left input.old) (λ all. IsInputRead result all (I.left input.new)) }
+    ensures fault { IfErr result IsInputFault }
+    ensures failed { IsErrOf result Ending.Input → Rose (I.faults input.old) (I.faults input.new) }
+    ensures later { I.faults input.old ≤ I.faults input.new }
+{
+    let mut bytes = Vec::new(alloc);
+    let mut buf = [0; 4096];
+    while bytes.len() <= LONGEST_SCRIPT {
+        match input.read(&mut buf) {
+            Err(Failed) => return Err(Ending::Input),
+            Ok(0) => return Ok(bytes),
+            Ok(count) => match bytes.extend_from_slice(&buf[..count]) {
+                Ok(()) => {}
+                Err(AllocError) => return Err(Ending::Memory),
+            },
+        }
+    }
+    Err(Ending::Long)
+}
+
+/// The mode `replay`.
+fn replay<I: Source, O: Sink>(alloc: Global, input: &mut I, out: &mut O) -> Ending
+    ensures written { Adds (O.written out.old) (O.written out.new) (ReplayWritten
+        (record { before = I.left input.old; after = I.left input.new; faults_before = I.faults input.old; faults_after = I.faults input.new })
+        (record { before = O.written out.old; after = O.written out.new; faults_before = O.faults out.old; faults_after = O.faults out.new }) result) }
+    ensures cause { ReplayCause result
+        (record { before = I.left input.old; after = I.left input.new; faults_before = I.faults input.old; faults_after = I.faults input.new })
+        (record { before = O.written out.old; after = O.written out.new; faults_before = O.faults out.old; faults_after = O.faults out.new }) }
+    ensures complete { IsScriptLeft (I.left input.old) → ¬ Rose (I.faults input.old) (I.faults input.new) → ¬ Rose (O.faults out.old) (O.faults out.new) → IsPlayEnd result }
+    ensures cut { result ≡ Ending.OutputFailed → Rose (O.faults out.old) (O.faults out.new) }
+    ensures input_later { I.faults input.old ≤ I.faults input.new }
+    ensures out_later { O.faults out.old ≤ O.faults out.new }
+{
+    match read_input(alloc, input) {
+        Ok(text) => match read_script(alloc, &text) {
+            Ok(script) => play(alloc, &text, script, out),
+            Err(ScriptFault::Long) => tell(alloc, Ending::Long, out),
+            Err(ScriptFault::Line { line }) => tell(alloc, Ending::Line(line), out),
+            Err(ScriptFault::Memory) => tell(alloc, Ending::Memory, out),
+        },
+        Err(fault) => tell(alloc, fault, out),
+    }
+}
+
+/// Runs the gateway in the mode that the words name, and gives its exit status.
+///
+/// The one mode is `replay`: it reads a script from the input, plays it, and writes the text of its log.
+/// The last line that it writes is `status N`, and before that is a line with the fault where there is one. The statuses are:
+/// - 0: the script was played to its end;
+/// - 64: the words are none, or others (`words`);
+/// - 65: the input is no script (`script N` with the number of the first wrong line, or `script long`);
+/// - 66: the input could not be read (`input`);
+/// - 71: memory was refused (`memory`);
+/// - 73: the output could not be written, whose last line may be cut.
+///
+/// The site that is handed in gets no call.
+pub fn top<S: Site, I: Source, O: Sink>(
+    alloc: Global,
+    words: &[Text],
+    site: &mut S,
+    input: &mut I,
+    out: &mut O,
+) -> u8
+    ensures ended { IsEnded result words.now
+        (record { before = I.left input.old; after = I.left input.new; faults_before = I.faults input.old; faults_after = I.faults input.new })
+        (record { before = O.written out.old; after = O.written out.new; faults_before = O.faults out.old; faults_after = O.faults out.new }) }
+
+    // Nothing but 0, or 71 without memory, where the input is a script and nothing fails.
+    ensures complete { IsAccepted words.now → IsScriptLeft (I.left input.old) → ¬ Rose (I.faults input.old) (I.faults input.new) → ¬ Rose (O.faults out.old) (O.faults out.new) → (result ≡ 0) ⊎ (result ≡ 71) }
+
+    // With words that aren't accepted nothing is read.
+    ensures unread { ¬ IsAccepted words.now → input.new ≡ input.old }
+    ensures site { site.new ≡ site.old }
+    ensures input_later { I.faults input.old ≤ I.faults input.new }
+    ensures out_later { O.faults out.old ≤ O.faults out.new }
+{
+    let _ = site;
+    if is_replay(words) {
+        replay(alloc, input, out).status()
+    } else {
+        tell(alloc, Ending::Words, out).status()
+    }
+}

@@ -1,0 +1,22 @@
+//! Which file a journal can have left.
+ghost use Rattle.std.specs.Prelude.{◌↔◌, IsTrue};
+ghost use Rattle.jrn_log.specs.Foreign.{AppendEndsClosed, AppendLeavesJournals, BeginningLeaves, FitsSlots, OpeningEndsClosed, OpeningLeavesJournals};
+
+/// Whether openings, appends and power failures can leave a file of so many bytes, of which so many slots are open and
+/// the gate after them is this byte, `00` past the file's end.
+pub fn can_be_journal(length: u64, slots: u32, gate: u8) -> bool
+    ensures { IsTrue result ↔ FitsSlots length slots gate }
+{
+    let end = 256 * (u64::from(slots) + 1);
+    length <= end + 1 && (length <= 1 || length > end || gate == 0)
+}
+
+/// Whatever openings, appends and power failures leave, [`can_be_journal`] holds of it: at each turn of an opening on such
+/// a file and of an append, whatever bytes a torn write leaves.
+pub fn law_files()
+    ensures beginning { BeginningLeaves }
+    ensures opening { OpeningLeavesJournals }
+    ensures opened { OpeningEndsClosed }
+    ensures append { AppendLeavesJournals }
+    ensures appended { AppendEndsClosed }
+{}

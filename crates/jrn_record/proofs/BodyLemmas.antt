@@ -1,0 +1,25 @@
+-- Fields that follow one another fill a body.
+use Rattle.std.proofs.Common.{◌≡◌, ℕ, ◌+◌, List, [], ◌∷◌, ◌++◌, length, take, drop, arith, sym, ◌∙◌, ap, take-append-drop}
+use Rattle.std.proofs.Math.ListN.{drop_of_length-le}
+use Rattle.std.proofs.lemmas.List.{drop-drop}
+use Rattle.jrn_record.specs.Grammar.{joined}
+use Rattle.jrn_record.specs.Table.{Agree, FieldRange}
+
+-- the fields of a table follow one another, from one offset to the other
+abbrev pub IsRun : ℕ → List FieldRange → ℕ → Type 0
+IsRun at [] end = at ≡ end
+IsRun at (there ∷ table) end = (there.offset ≡ at) × IsRun (at + there.size) table end
+
+-- fields that agree with all of a body make it up
+pub joined-agree : (fields : List (List ℕ)) (table : List FieldRange) (at end : ℕ) (body : List ℕ) → length fields ≡ length table
+    → IsRun at table end → Agree (length table) fields table body → length body ≡ end → joined fields ≡ drop at body
+joined-agree [] [] at end body same run agrees len = sym (drop_of_length-le body (omega arith))
+joined-agree [] (there ∷ table) at end body same run agrees len = absurd (omega arith)
+joined-agree (field ∷ fields) [] at end body same run agrees len = absurd (omega arith)
+joined-agree (field ∷ fields) (there ∷ table) at end body same run agrees len =
+    let rest : joined fields ≡ drop (at + there.size) body =
+    joined-agree fields table (at + there.size) end body (omega arith) run.1 agrees.1 len in
+    let here : field ≡ take there.size (drop at body) = agrees.0 ∙ ap (λ offset. take there.size (drop offset body)) run.0 in
+    ap (λ first. first ++ joined fields) here
+    ∙ ap (λ tail. take there.size (drop at body) ++ tail) (rest ∙ sym (drop-drop there.size at body))
+    ∙ take-append-drop there.size (drop at body)

@@ -1,0 +1,49 @@
+-- The loop over the bytes.
+use Rattle.std.proofs.Common.{◌≡◌, ℕ, ◌+◌, ◌<◌, ◌≤◌, List, [], length, get_or, take, refl, sym, ap, subst, ◌∙◌, Bool, true, false, true≢false}
+use Rattle.std.specs.Prelude.{MatchBool}
+use Rattle.std.proofs.lemmas.List.{take_all}
+use Rattle.json_text.specs.Scan.{Scan, outside, scan, scan_step}
+use Rattle.json_text.specs.inner.ReaderStates.{Level, ReaderState, value, reader_state, levels, Stays, StepsOn}
+use Rattle.json_text.specs.Fault.{RefusesText}
+use Rattle.json_text.specs.inner.StepErrors.{Fails, read_error_at}
+use Rattle.json_text.specs.declared.state.OpenLevel.{OpenLevel}
+use Rattle.json_text.specs.declared.state.Mode.{Mode}
+use Rattle.json_text.specs.declared.state.State.{State}
+use Rattle.json_text.specs.declared.fault.StepError.{StepError}
+use Rattle.json_text.specs.declared.fault.StepError.TheVariants as step_errors
+use Rattle.json_text.proofs.ScanLemmas.{stand_from-append}
+use Rattle.json_text.proofs.LiveLemmas.{value_live}
+use Rattle.json_text.proofs.LevelLemmas.{mode_live}
+use Rattle.json_text.proofs.FollowLemmas.{IsRead, IsAt, at_byte, start, one_more, fault}
+
+pub first_read : (fs : List OpenLevel) → fs ≡ [] → IsRead [] value (levels fs)
+first_read fs e = subst (λ (st : List Level). IsRead [] value st) (sym (ap levels e)) (record { follows = λ R le. start R; live = λ R. value_live R [] tt; scans = refl })
+
+one_read : (b : List ℕ) (at c : ℕ) (p : ReaderState) (st : List Level) (t : State) → IsAt b at c → IsRead (take at b) p st → StepsOn p st c t → IsRead (take (at + 1) b) (reader_state t.mode) (levels t.stack.items)
+one_read b at c p st t i r s = record {
+  follows = λ R le. rw i.taken (one_more R (take at b) p st c (reader_state t.mode) (levels t.stack.items) (r.follows R le) (s.moves R le));
+  live = λ R. mode_live R t.mode t.stack.items s.within;
+  scans = ap scan i.taken ∙ stand_from-append outside (take at b) c ∙ ap (λ (x : Scan). scan_step x c) r.scans ∙ s.scans;
+}
+
+pub next_read : (b : List ℕ) (at c : ℕ) (p : ReaderState) (st : List Level) (t : State) → at < length b → c ≡ get_or b at 0 → IsRead (take at b) p st → StepsOn p st c t → IsRead (take (at + 1) b) (reader_state t.mode) (levels t.stack.items)
+next_read b at c p st t lt e r s = one_read b at c p st t (at_byte b at c lt e) r s
+
+-- the mode hasn't changed
+pub same_read : (b : List ℕ) (at : ℕ) (m n : Mode) (st : List Level) → n ≡ m → IsRead (take at b) (reader_state m) st → IsRead (take at b) (reader_state n) st
+same_read b at m n st e r = subst (λ (o : Mode). IsRead (take at b) (reader_state o) st) (sym e) r
+
+pub taken : (m n : Mode) (c : ℕ) (b : Bool) → b ≡ true → MatchBool b (Stays m c n) (n ≡ m) → Stays m c n
+taken m n c true e h = h
+taken m n c false e h = absurd (true≢false (sym e))
+
+pub untouched : (m n : Mode) (c : ℕ) (b : Bool) → b ≡ false → MatchBool b (Stays m c n) (n ≡ m) → n ≡ m
+untouched m n c true e h = absurd (true≢false e)
+untouched m n c false e h = h
+
+pub refused : (b : List ℕ) (at c : ℕ) (p : ReaderState) (st : List Level) (s : StepError) → at < length b → c ≡ get_or b at 0 → IsRead (take at b) p st → Fails p st c s → RefusesText b (read_error_at s at)
+refused b at c p st step_errors.Memory lt e r f = tt
+refused b at c p st (step_errors.Fault kind) lt e r f = fault b at c p st kind (at_byte b at c lt e) r f
+
+pub all_read : (b : List ℕ) (at : ℕ) (p : ReaderState) (st : List Level) → length b ≤ at → IsRead (take at b) p st → IsRead b p st
+all_read b at p st le r = subst (λ (t : List ℕ). IsRead t p st) (take_all at b le) r

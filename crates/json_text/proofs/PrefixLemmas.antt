@@ -1,0 +1,33 @@
+-- The prefix of a string that is written where memory is refused.
+use Rattle.std.proofs.Common.{◌≡◌, ℕ, List, [], ◌∷◌, ◌++◌, length, take, drop, cond, sym, ap, subst, ◌∙◌, append_assoc, Result, Ok, Err, OnErr}
+use Rattle.std.specs.Prelude.{flat_map}
+use Rattle.std.specs.Result.{is_ok}
+use Rattle.std.proofs.lemmas.Grind.{flat_map-append}
+use Rattle.std.proofs.lemmas.List.{take-append-drop}
+use Rattle.std.proofs.Math.Seq.{take-append_seam}
+use Rattle.json_text.specs.Canonical.{AppendsPrefix, canonical_byte, canonical_string}
+
+split : (text : List ℕ) (n : ℕ) → canonical_string text ≡ (34 ∷ flat_map canonical_byte (take n text)) ++ (flat_map canonical_byte (drop n text) ++ 34 ∷ [])
+split text n = ap (λ l. 34 ∷ l)
+    (ap (λ l. flat_map canonical_byte l ++ 34 ∷ []) (sym (take-append-drop n text))
+    ∙ ap (λ l. l ++ 34 ∷ []) (flat_map-append canonical_byte (take n text) (drop n text))
+    ∙ append_assoc (flat_map canonical_byte (take n text)) (flat_map canonical_byte (drop n text)) (34 ∷ []))
+
+-- after the first n bytes
+pub prefix_at : (text old now : List ℕ) (n : ℕ) → now ≡ old ++ (34 ∷ flat_map canonical_byte (take n text)) → AppendsPrefix (canonical_string text) old now
+prefix_at text old now n e = (34 ∷ flat_map canonical_byte (take n text), flat_map canonical_byte (drop n text) ++ 34 ∷ [], split text n, e)
+
+pub on_err : {T E : Type 0} (r : Result T E) (P : Type 0) → P → OnErr r P
+on_err (Ok x) P h = tt
+on_err (Err e) P h = h
+
+-- an append that is refused leaves what was there
+pub unchanged : {T E : Type 0} (r : Result T E) (new old chunk : List ℕ) (P : List ℕ → Type 0) → new ≡ cond (is_ok r) (old ++ chunk) old → P old
+    → OnErr r (P new)
+unchanged (Ok x) new old chunk P e h = tt
+unchanged (Err x) new old chunk P e h = subst P (sym e) h
+
+-- what was appended is taken away by the length before
+pub truncated : (chunk old now new : List ℕ) (n : ℕ) → AppendsPrefix chunk old now → n ≡ length old → new ≡ take n now → new ≡ old
+truncated chunk old now new n (part, rest, _, appended) size taken =
+    taken ∙ ap (λ k. take k now) size ∙ ap (take (length old)) appended ∙ take-append_seam old part

@@ -1,5 +1,0 @@
-use Rattle.json_text.proofs.NumberSteps.{zero_point}
-use Rattle.json_text.proofs.number.behind_zero.Goals as goal
-
-pub returns-in-46 : goal.returns-in-46
-returns-in-46 c = zero_point c.args.byte c.in-46.is

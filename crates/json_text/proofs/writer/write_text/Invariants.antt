@@ -1,7 +1,0 @@
-use Rattle.std.proofs.Common.{◌≡◌, ◌++◌, ◌∷◌, take}
-use Rattle.std.specs.Prelude.{flat_map}
-use Rattle.json_text.specs.Canonical.{written_byte}
-use Rattle.json_text.proofs.writer.write_text.Given as goal
-
-abbrev pub invariant-loop-byte : goal.invariant-loop-byte
-invariant-loop-byte l = l.out.items ≡ l.fn.out.items ++ (34 ∷ flat_map written_byte (take l.byte-index l.text))

@@ -1,0 +1,5 @@
+-- Definitions that serve private functions alone.
+pub mod CharacterLeft
+pub mod NumberLeft
+pub mod ReaderStates
+pub mod StepErrors

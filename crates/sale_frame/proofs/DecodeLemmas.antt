@@ -1,0 +1,188 @@
+-- The reading byte by byte is a reading by Frames.
+use Rattle.std.proofs.Common.{◌≡◌, ℕ, lit<, ◌+◌, ◌<◌, ◌≤◌, inl, inr, Bool, true, false, cond, List, [], ◌∷◌, ◌++◌, length, drop, refl, ap, sym, ◌∙◌, subst, arith, append_assoc, length-drop}
+use Rattle.std.proofs.lemmas.Bool.{cases_lt, and_from, lt-ltb, le-leb, eq-eqb}
+use Rattle.std.specs.Prelude.{◌↔◌}
+use Rattle.std.proofs.lemmas.Bool.Decides.{nat_tests}
+use Rattle.std.proofs.lemmas.Nat.{be_bytes_4}
+use Rattle.std.proofs.lemmas.Grind.{flat_map-append}
+use Rattle.std.proofs.lemmas.List.{append-nil, take-append-drop, take-append-le, length_push}
+use Rattle.std.proofs.lemmas.List.Sums.{fold-append}
+use Rattle.std.specs.List.{AllByRecursion, fold}
+use Rattle.std.specs.Int.{w32, to_be_bytes, from_be_bytes}
+use Rattle.gw_bytes.specs.Bytes.{AreBytes}
+use Rattle.gw_bytes.proofs.ByteLemmas.{each_byte}
+use Rattle.sale_frame.specs.Grammar.{IsPayloadLength, IsPayload, frame, IsFrame, frames, BeginsWithLength, IsIncompleteFrame, IsFrameRest, Frames}
+use Rattle.sale_frame.specs.Decode.{DecodedFrames, spelled_length, is_frame, with_byte, decode_after, decode_frames, with_messages}
+use Rattle.sale_frame.proofs.StreamLemmas.{one_reading}
+use Rattle.sale_frame.proofs.FrameLemmas.{spelled, message_begins, length-frame, prefix_is_shorter, shorter_is_prefix, lengthened}
+
+bytes_more : (bytes : List ℕ) (byte : ℕ) → AreBytes bytes → byte < 256 → AreBytes (bytes ++ byte ∷ [])
+bytes_more [] byte small one = (one, tt)
+bytes_more (first ∷ bytes) byte small one = (small.0, bytes_more bytes byte small.1 one)
+
+each_more : (messages : List (List ℕ)) (message : List ℕ) → AllByRecursion IsPayload messages → IsPayload message → AllByRecursion IsPayload (messages ++ message ∷ [])
+each_more [] message each one = (one, tt)
+each_more (first ∷ messages) message each one = (each.0, each_more messages message each.1 one)
+
+-- four bytes spell some length
+pub spells : (bytes : List ℕ) → AreBytes bytes → 4 ≤ length bytes → BeginsWithLength bytes (spelled_length bytes)
+spells [] small fits = absurd (omega arith)
+spells (a ∷ []) small fits = absurd (omega arith)
+spells (a ∷ b ∷ []) small fits = absurd (omega arith)
+spells (a ∷ b ∷ c ∷ []) small fits = absurd (omega arith)
+spells (a ∷ b ∷ c ∷ d ∷ bytes) (p, (q, (r, (s, _)))) fits =
+    let four : List ℕ = a ∷ b ∷ c ∷ d ∷ [] in
+    let small : AreBytes four = (p, (q, (r, (s, tt)))) in
+    (omega arith, sym (be_bytes_4 four (from_be_bytes w32 four) refl (each_byte four small) refl))
+
+frame_tested : (bytes : List ℕ) → is_frame bytes ≡ true → IsPayloadLength (spelled_length bytes) × (length bytes ≡ 4 + spelled_length bytes)
+frame_tested bytes h = grind (arith, nat_tests)
+
+no_frame_tested : (bytes : List ℕ) → is_frame bytes ≡ false → IsPayloadLength (spelled_length bytes) → length bytes ≡ 4 + spelled_length bytes → ⊥
+no_frame_tested bytes h lawful size = grind (arith, nat_tests)
+
+still_prefix : (rest : List ℕ) (byte n : ℕ) → BeginsWithLength (rest ++ byte ∷ []) n → IsIncompleteFrame rest → IsPayloadLength n → (length (rest ++ byte ∷ []) ≡ 4 + n → ⊥) → IsIncompleteFrame (rest ++ byte ∷ [])
+still_prefix rest byte n begins unfinished lawful other =
+    let size : length (rest ++ byte ∷ []) ≡ length rest + 1 = length_push rest byte in
+    elim (cases_lt (length rest) 4) [
+      | inl short ↦ shorter_is_prefix (rest ++ byte ∷ []) n lawful begins (omega arith)
+      | inr fits ↦
+          let shorter : IsPayloadLength n × (length rest < 4 + n) =
+          prefix_is_shorter rest n unfinished (begins.0, sym (take-append-le 4 rest (byte ∷ []) fits) ∙ begins.1) in
+          shorter_is_prefix (rest ++ byte ∷ []) n lawful begins (omega arith)
+    ]
+
+-- a prefix of a frame stays one, or its length is bad, with a byte that doesn't complete a frame
+longer_prefix : (rest : List ℕ) (byte : ℕ) → AreBytes rest → byte < 256 → IsIncompleteFrame rest → is_frame (rest ++ byte ∷ []) ≡ false → IsFrameRest (rest ++ byte ∷ [])
+longer_prefix rest byte small one unfinished test =
+    let bytes : List ℕ = rest ++ byte ∷ [] in
+    let n : ℕ = spelled_length bytes in
+    let size : length bytes ≡ length rest + 1 = length_push rest byte in
+    elim (cases_lt (length bytes) 4) [
+      | inl short ↦ inl (inl short)
+      | inr fits ↦ with_length rest byte n (spells bytes (bytes_more rest byte small one) fits) unfinished (no_frame_tested bytes test)
+    ]
+  where
+    with_length : (rest : List ℕ) (byte n : ℕ) → BeginsWithLength (rest ++ byte ∷ []) n → IsIncompleteFrame rest → (IsPayloadLength n → length (rest ++ byte ∷ []) ≡ 4 + n → ⊥) → IsFrameRest (rest ++ byte ∷ [])
+    with_length rest byte n begins unfinished other = elim (cases_lt 0 n) [
+      | inr none ↦ inr (n, begins, λ lawful. omega arith)
+      | inl some ↦ elim (cases_lt 65536 n) [
+        | inl long ↦ inr (n, begins, λ lawful. omega arith)
+        | inr fits ↦ inl (still_prefix rest byte n begins unfinished (some, fits) (other (some, fits)))
+      ]
+    ]
+
+longer_rest : (rest : List ℕ) (byte : ℕ) → AreBytes rest → byte < 256 → IsFrameRest rest → is_frame (rest ++ byte ∷ []) ≡ false → IsFrameRest (rest ++ byte ∷ [])
+longer_rest rest byte small one (inl unfinished) test = longer_prefix rest byte small one unfinished test
+longer_rest rest byte small one (inr (n, begins, unlawful)) test = inr (n, lengthened rest (byte ∷ []) n begins, unlawful)
+
+frame_size : (message : List ℕ) → length (frame message) ≡ 4 + length message
+frame_size message = omega (arith, length-frame message [], ap length (append-nil (frame message)))
+
+-- a frame is that of the bytes after its length
+pub is_framed : (bytes : List ℕ) → AreBytes bytes → is_frame bytes ≡ true → IsPayload (drop 4 bytes) × (bytes ≡ frame (drop 4 bytes))
+is_framed bytes small test =
+    let tested : IsPayloadLength (spelled_length bytes) × (length bytes ≡ 4 + spelled_length bytes) = frame_tested bytes test in
+    let size : length (drop 4 bytes) ≡ spelled_length bytes = omega (arith, length-drop 4 bytes, tested.1) in
+    let begins : BeginsWithLength bytes (spelled_length bytes) = spells bytes small (omega (arith, tested.1)) in (
+      subst IsPayloadLength (sym size) tested.0,
+      sym (take-append-drop 4 bytes) ∙ ap (λ head. head ++ drop 4 bytes) begins.1 ∙ ap (λ k. to_be_bytes w32 k ++ drop 4 bytes) (sym size),
+    )
+
+-- and the frame of a message passes the test
+pub frame_passes : (message : List ℕ) → IsPayload message → is_frame (frame message) ≡ true
+frame_passes message lawful =
+    let begins : BeginsWithLength (frame message) (length message) = message_begins (frame message) message [] lawful (sym (append-nil (frame message))) in
+    let same : spelled_length (frame message) ≡ length message = spelled (frame message) (length message) begins in
+    let size : length (frame message) ≡ 4 + length message = frame_size message in
+    and_from _ _ (lt-ltb 0 _ (subst (λ n. 0 < n) (sym same) lawful.0))
+    (and_from _ _ (le-leb _ 65536 (subst (λ n. n ≤ 65536) (sym same) lawful.1)) (eq-eqb (length (frame message)) _ (size ∙ ap (λ n. 4 + n) (sym same))))
+
+pub frames_found : (bytes : List ℕ) → AreBytes bytes → is_frame bytes ≡ true ↔ IsFrame bytes
+frames_found bytes small = (
+  λ test. let framed = is_framed bytes small test in (drop 4 bytes, framed.0, framed.1),
+  λ found. subst (λ b. is_frame b ≡ true) (sym found.2) (frame_passes found.0 found.1),
+)
+
+frames-append : (messages : List (List ℕ)) (message : List ℕ) → frames (messages ++ message ∷ []) ≡ frames messages ++ frame message
+frames-append messages message = flat_map-append frame messages (message ∷ []) ∙ ap (λ s. frames messages ++ s) (append-nil (frame message))
+
+-- one byte more, by whether it ends a frame
+abbrev after_test : DecodedFrames → List ℕ → Bool → DecodedFrames
+after_test read bytes test = cond test (record { messages = read.messages ++ drop 4 bytes ∷ []; rest = [] }) (record { messages = read.messages; rest = bytes })
+
+pub record IsRead (seen : List ℕ) (read : DecodedFrames) : Type 0 where
+  pub frames : Frames seen read.messages read.rest
+  pub bytes : AreBytes read.rest
+
+by_test : (seen : List ℕ) (read : DecodedFrames) (byte : ℕ) → IsRead seen read → byte < 256 → (test : Bool) → is_frame (read.rest ++ byte ∷ []) ≡ test
+    → IsRead (seen ++ byte ∷ []) (after_test read (read.rest ++ byte ∷ []) test)
+by_test seen read byte so_far one true h =
+    let bytes : List ℕ = read.rest ++ byte ∷ [] in
+    let framed : IsPayload (drop 4 bytes) × (bytes ≡ frame (drop 4 bytes)) = is_framed bytes (bytes_more read.rest byte so_far.bytes one) h in
+    record {
+      frames = record {
+        whole = ap (λ s. s ++ byte ∷ []) so_far.frames.whole ∙ append_assoc (frames read.messages) read.rest (byte ∷ [])
+            ∙ ap (λ s. frames read.messages ++ s) framed.1 ∙ sym (frames-append read.messages (drop 4 bytes)) ∙ sym (append-nil (frames (read.messages ++ drop 4 bytes ∷ [])));
+        each = each_more read.messages (drop 4 bytes) so_far.frames.each framed.0;
+        ended = inl (inl (lit< tt));
+      };
+      bytes = tt;
+    }
+by_test seen read byte so_far one false h = record {
+  frames = record {
+    whole = ap (λ s. s ++ byte ∷ []) so_far.frames.whole ∙ append_assoc (frames read.messages) read.rest (byte ∷ []);
+    each = so_far.frames.each;
+    ended = longer_rest read.rest byte so_far.bytes one so_far.frames.ended h;
+  };
+  bytes = bytes_more read.rest byte so_far.bytes one;
+}
+
+reads_on : (seen bytes : List ℕ) (read : DecodedFrames) → IsRead seen read → AreBytes bytes → IsRead (seen ++ bytes) (fold with_byte read bytes)
+reads_on seen [] read so_far small = subst (λ s. IsRead s read) (sym (append-nil seen)) so_far
+reads_on seen (byte ∷ bytes) read so_far small =
+    subst (λ s. IsRead s (fold with_byte (with_byte read byte) bytes)) (append_assoc seen (byte ∷ []) bytes)
+    (reads_on (seen ++ byte ∷ []) bytes (with_byte read byte) (by_test seen read byte so_far small.0 (is_frame (read.rest ++ byte ∷ [])) refl) small.1)
+
+pub reads_all : (bytes : List ℕ) → AreBytes bytes → Frames bytes (decode_frames bytes).messages (decode_frames bytes).rest
+reads_all bytes small = (reads_on [] bytes (record { messages = []; rest = [] }) (record { frames = record { whole = refl; each = tt; ended = inl (inl (lit< tt)) }; bytes = tt }) small).frames
+
+-- messages before change nothing of what a chunk completes
+before_test : (before : List (List ℕ)) (chunk : List ℕ)
+    → ((messages : List (List ℕ)) (rest : List ℕ) → fold with_byte (record { messages = before ++ messages; rest = rest }) chunk ≡ with_messages before (fold with_byte (record { messages = messages; rest = rest }) chunk))
+    → (messages : List (List ℕ)) (rest bytes : List ℕ) (test : Bool)
+    → fold with_byte (after_test (record { messages = before ++ messages; rest = rest }) bytes test) chunk ≡ with_messages before (fold with_byte (after_test (record { messages = messages; rest = rest }) bytes test) chunk)
+before_test before chunk others messages rest bytes true =
+    ap (λ m. fold with_byte (record { messages = m; rest = [] }) chunk) (append_assoc before messages (drop 4 bytes ∷ [])) ∙ others (messages ++ drop 4 bytes ∷ []) []
+before_test before chunk others messages rest bytes false = others messages bytes
+
+before_others : (before : List (List ℕ)) (chunk : List ℕ) (messages : List (List ℕ)) (rest : List ℕ)
+    → fold with_byte (record { messages = before ++ messages; rest = rest }) chunk ≡ with_messages before (fold with_byte (record { messages = messages; rest = rest }) chunk)
+before_others before [] messages rest = refl
+before_others before (byte ∷ chunk) messages rest =
+    before_test before chunk (before_others before chunk) messages rest (rest ++ byte ∷ []) (is_frame (rest ++ byte ∷ []))
+
+pub chunks_add : (bytes chunk : List ℕ) → decode_frames (bytes ++ chunk) ≡ with_messages (decode_frames bytes).messages (decode_after (decode_frames bytes).rest chunk)
+chunks_add bytes chunk =
+    fold-append with_byte (record { messages = []; rest = [] }) bytes chunk
+    ∙ ap (λ m. fold with_byte (record { messages = m; rest = (decode_frames bytes).rest }) chunk) (sym (append-nil (decode_frames bytes).messages))
+    ∙ before_others (decode_frames bytes).messages chunk [] (decode_frames bytes).rest
+
+bytes_prefix : (rest chunk : List ℕ) → AreBytes (rest ++ chunk) → AreBytes rest
+bytes_prefix [] chunk small = tt
+bytes_prefix (byte ∷ rest) chunk small = (small.0, bytes_prefix rest chunk small.1)
+
+-- a rest is read as no message and itself
+rest_alone : (rest : List ℕ) → IsFrameRest rest → AreBytes rest → decode_frames rest ≡ record { messages = []; rest = rest }
+rest_alone rest is_rest small =
+    let same : ([] ≡ (decode_frames rest).messages) × (rest ≡ (decode_frames rest).rest) =
+    one_reading rest [] (decode_frames rest).messages rest (decode_frames rest).rest (record { whole = refl; each = tt; ended = is_rest }) (reads_all rest small) in
+    ap (λ m. record { messages = m; rest = (decode_frames rest).rest }) (sym same.0) ∙ ap (λ r. record { messages = []; rest = r }) (sym same.1)
+
+pub completes : (rest chunk left : List ℕ) (messages : List (List ℕ)) → IsFrameRest rest → AreBytes (rest ++ chunk) → Frames (rest ++ chunk) messages left
+    → ((decode_after rest chunk).messages ≡ messages) × ((decode_after rest chunk).rest ≡ left)
+completes rest chunk left messages is_rest small frames =
+    let alone : decode_frames rest ≡ record { messages = []; rest = rest } = rest_alone rest is_rest (bytes_prefix rest chunk small) in
+    let both : decode_frames (rest ++ chunk) ≡ decode_after rest chunk = chunks_add rest chunk ∙ ap (λ r. with_messages r.messages (decode_after r.rest chunk)) alone in
+    subst (λ r. (r.messages ≡ messages) × (r.rest ≡ left)) both
+    (one_reading (rest ++ chunk) (decode_frames (rest ++ chunk)).messages messages (decode_frames (rest ++ chunk)).rest left (reads_all (rest ++ chunk) small) frames)

@@ -1,6 +1,0 @@
-use Rattle.std.proofs.Common.{[]}
-use Rattle.sale_frame.proofs.StreamLemmas.{any_pieces_from}
-use Rattle.sale_frame.proofs.laws.any_pieces.Goals as goal
-
-pub returns : goal.returns
-returns c = λ calls waiting rest messages run reading. any_pieces_from calls [] waiting rest messages run reading

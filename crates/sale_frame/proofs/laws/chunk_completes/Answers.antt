@@ -1,0 +1,5 @@
+use Rattle.sale_frame.proofs.DecodeLemmas.{completes}
+use Rattle.sale_frame.proofs.laws.chunk_completes.Goals as goal
+
+pub returns : goal.returns
+returns c = completes

@@ -1,0 +1,37 @@
+-- The function that decodes a stream, byte by byte, for definitions that compute with a till's bytes. A law says that its result is the one that Frames relates to the stream.
+use Rattle.std.specs.Prelude.{ℕ, ◌+◌, Bool, ◌&&◌, nat_lt, nat_le, ◌==◌, if◌then◌else◌, List, [], ◌∷◌, ◌++◌, length, take, drop, fold}
+use Rattle.std.specs.Int.{w32, from_be_bytes}
+
+-- the messages so far, and the bytes after them
+pub record DecodedFrames : Type 0 where
+  pub messages : List (List ℕ)
+  pub rest : List ℕ
+
+-- the length that the first four bytes spell
+abbrev pub spelled_length : List ℕ → ℕ
+spelled_length bytes = from_be_bytes w32 (take 4 bytes)
+
+-- whether the bytes are one frame
+abbrev pub is_frame : List ℕ → Bool
+is_frame bytes =
+    nat_lt 0 (spelled_length bytes) && (nat_le (spelled_length bytes) 65536 && (length bytes == 4 + spelled_length bytes))
+
+-- one byte more: it ends a message, or joins the rest
+abbrev pub with_byte : DecodedFrames → ℕ → DecodedFrames
+with_byte reading byte =
+    let bytes = reading.rest ++ byte ∷ [] in
+    if is_frame bytes
+    then record { messages = reading.messages ++ drop 4 bytes ∷ []; rest = [] }
+    else record { messages = reading.messages; rest = bytes }
+
+-- one chunk more, after a rest
+abbrev pub decode_after : List ℕ → List ℕ → DecodedFrames
+decode_after rest chunk = fold with_byte (record { messages = []; rest = rest }) chunk
+
+-- the reading of all bytes
+abbrev pub decode_frames : List ℕ → DecodedFrames
+decode_frames bytes = decode_after [] bytes
+
+-- a reading with these messages before its own
+abbrev pub with_messages : List (List ℕ) → DecodedFrames → DecodedFrames
+with_messages before reading = record { messages = before ++ reading.messages; rest = reading.rest }

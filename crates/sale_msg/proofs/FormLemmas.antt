@@ -1,0 +1,54 @@
+-- Forms, by the variants of a tree.
+use Rattle.std.proofs.Common.{◌≡◌, ℕ, ◌≤◌, List, Option, Some, None, Bool, sym, subst, ◌∙◌, All, length, map, MatchOption, ◌↔◌, [], ◌∷◌, arith, IsTrue, true≢false}
+use Rattle.std.proofs.lemmas.List.{length-map}
+use Rattle.std.proofs.lemmas.List.Elements.{All-nil, All-cons, All-head, All-tail, All-map}
+use Rattle.std.specs.Option.{is_some}
+use Rattle.gw_base.specs.Amount.{SpellsAmount}
+use Rattle.json_text.specs.Tree.{Tree, array_of, numeral_of}
+use Rattle.sale_msg.specs.Form.{HasTextMember, IsAmountNumber, IsJsonObject, IsOutputList, IsTextList}
+
+-- a number is an amount where its minor units are found
+by_minor : (numeral : List ℕ) (minor : Option ℕ) (b : Bool)
+    → MatchOption minor ((m : ℕ) → ¬ SpellsAmount numeral m) (SpellsAmount numeral)
+    → b ≡ is_some minor → IsTrue b ↔ ((m : ℕ) × SpellsAmount numeral m)
+by_minor numeral None b none e = (λ t. absurd (true≢false (sym t ∙ e)), λ h. absurd (none h.0 h.1))
+by_minor numeral (Some m) b is e = (λ t. (m, is), λ h. e)
+
+pub amount_form : (tree : Tree) (numeral : List ℕ) (minor : Option ℕ) (b : Bool)
+    → Some numeral ≡ numeral_of tree
+    → MatchOption minor ((m : ℕ) → ¬ SpellsAmount numeral m) (SpellsAmount numeral)
+    → b ≡ is_some minor → IsTrue b ↔ IsAmountNumber tree
+amount_form tree numeral minor b e h f =
+    let P : Option (List ℕ) → Type 0 = λ found. IsTrue b ↔ MatchOption found ⊥ (λ text. (m : ℕ) × SpellsAmount text m) in
+    subst P e (by_minor numeral minor b h f)
+
+-- what holds of each item's tree holds of each tree of the items
+pub each_back : {A : Type 0} (P : Tree → Type 0) (f : A → Tree) (xs : List A) → All P (map f xs) → All (λ x. P (f x)) xs
+each_back P f [] h = All-nil (λ x. P (f x))
+each_back P f (x ∷ xs) h =
+    All-cons (λ y. P (f y)) x xs (All-head P (f x) (map f xs) h) (each_back P f xs (All-tail P (f x) (map f xs) h))
+
+pub text_list_form : {A : Type 0} (f : A → Tree) (tree : Tree) (items : List A) (b : Bool) → Some (map f items) ≡ array_of tree
+    → IsTrue b ↔ All (λ item. HasTextMember (f item)) items → IsTrue b ↔ IsTextList tree
+text_list_form f tree items b e h =
+    let P : Option (List Tree) → Type 0 = λ found. IsTrue b ↔ MatchOption found ⊥ (All HasTextMember) in
+    subst P e (λ t. All-map HasTextMember f items (h.0 t), λ all. h.1 (each_back HasTextMember f items all))
+
+pub output_list_form : {A : Type 0} (f : A → Tree) (tree : Tree) (items : List A) (b : Bool) → Some (map f items) ≡ array_of tree
+    → IsTrue b ↔ ((1 ≤ length items) × (length items ≤ 16) × All (λ item. IsJsonObject (f item)) items) → IsTrue b ↔ IsOutputList tree
+output_list_form f tree items b e h =
+    let P : Option (List Tree) → Type 0 =
+    λ found. IsTrue b ↔ MatchOption found (IsJsonObject tree) (λ l. (1 ≤ length l) × (length l ≤ 16) × All IsJsonObject l) in
+    subst P e (
+      λ t. (omega (arith, (h.0 t).0, length-map items f), omega (arith, (h.0 t).1, length-map items f), All-map IsJsonObject f items (h.0 t).2),
+      λ all. h.1 (omega (arith, all.0, length-map items f), omega (arith, all.1, length-map items f), each_back IsJsonObject f items all.2),
+    )
+
+-- a number that is an amount has minor units
+pub amount_has_minor : (found : Option Tree) (tree : Tree) (numeral : List ℕ) → Some tree ≡ found → Some numeral ≡ numeral_of tree
+    → MatchOption found ⊥ IsAmountNumber → ((m : ℕ) → ¬ SpellsAmount numeral m) → ⊥
+amount_has_minor found tree numeral e f h none =
+    let P : Option Tree → Type 0 = λ o. MatchOption o ⊥ IsAmountNumber in
+    let Q : Option (List ℕ) → Type 0 = λ o. MatchOption o ⊥ (λ text. (m : ℕ) × SpellsAmount text m) in
+    let is : (m : ℕ) × SpellsAmount numeral m = subst Q (sym f) (subst P (sym e) h) in
+    none is.0 is.1

@@ -1,0 +1,21 @@
+//! The text of money, as it is written.
+ghost use Rattle.std.specs.Prelude.{◌≡◌};
+ghost use Rattle.sale_values.specs.Money.{money_text};
+
+use arrayvec::ArrayVec;
+use itoa::Buffer;
+
+/// Minor units of a currency with two decimals: whole units, a point and two digits, as `10.99` and `0.07`.
+#[tactic(auto, unfolding(crate::specs::Money::money_text))]
+pub fn money(minor: u64) -> ArrayVec<u8, 24>
+    ensures { result.items ≡ money_text minor }
+{
+    let mut text = ArrayVec::new();
+    let mut whole = Buffer::new();
+    text.try_extend_from_slice(whole.format(minor / 100).as_bytes())
+        .unwrap();
+    let cents = (minor % 100) as u8;
+    text.try_extend_from_slice(&[b'.', b'0' + cents / 10, b'0' + cents % 10])
+        .unwrap();
+    text
+}

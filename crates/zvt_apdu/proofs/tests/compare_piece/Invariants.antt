@@ -1,6 +1,0 @@
-use Rattle.std.proofs.Common.{length}
-use Rattle.zvt_apdu.proofs.tests.compare_piece.Given as goal
-
--- an APDU that is given leaves fewer bytes
-abbrev pub decreases-loop-apdu : goal.decreases-loop-apdu
-decreases-loop-apdu g l = length l.reader

@@ -1,8 +1,0 @@
-use Rattle.zvt_msg.proofs.LineLemmas.{lines_over, are_lines_over}
-use Rattle.zvt_msg.proofs.lines.Lines437.over.Goals as goal
-
-pub returns-clause-lines : goal.returns-clause-lines
-returns-clause-lines c = are_lines_over c.args.block.now _ (lines_over c.args.block.now c.over.result c.over-2.result c.over.ensures c.over-2.ensures)
-
-pub returns-clause-front : goal.returns-clause-front
-returns-clause-front c = lines_over c.args.block.now c.over.result c.over-2.result c.over.ensures c.over-2.ensures

@@ -1,0 +1,138 @@
+-- How a dialogue ends, over all that came.
+use Rattle.std.proofs.Common.{◌≡◌, ℤ, Bool, true, false, not, ◌&&◌, ◌||◌, cond, List, [], ◌∷◌, ◌++◌, Option, Some, None, is_some, refl, sym, ap, ◌∙◌, subst, append_assoc, append-nil}
+use Rattle.std.specs.List.{list_any}
+use Rattle.std.proofs.lemmas.List.Elements.{filter_map-append}
+use Rattle.std.proofs.lemmas.List.Folds.{list_any-append}
+use Rattle.zvt_msg.specs.Message.{MessageValue}
+use Rattle.zvt_talk.specs.declared.dialogue_kind.DialogueKind.{DialogueKind}
+use Rattle.zvt_talk.specs.declared.meaning.Heard.{Heard}
+use Rattle.zvt_talk.specs.declared.phase.Phase.TheVariants.{Asked, Begun, Ended}
+use Rattle.zvt_talk.specs.declared.statuses.Statuses.{Statuses}
+use Rattle.zvt_talk.specs.Dialogue.{Dialogue, is_display}
+use Rattle.zvt_talk.specs.Came.{Came, Message, StopWished, taken_message, messages, is_ack, is_completion_or_abort, is_asked, is_begun, has_ended, is_stop_sent, is_stop_wished}
+use Rattle.zvt_talk.specs.Talk.{meaning, end_from, end_of, talk_goes_on, is_end, is_open_phase, statuses_of, talk_after}
+use Rattle.zvt_talk.specs.Laws.{IsEndOf}
+use Rattle.zvt_talk.proofs.StepLemmas.{after_message, heard_is, messages_wish}
+use Rattle.zvt_talk.proofs.EndLemmas.{talk_ends}
+
+not_same : (a b : Bool) → not a ≡ not b → a ≡ b
+not_same true true e = refl
+not_same true false e = absurd cc
+not_same false true e = absurd cc
+not_same false false e = refl
+
+-- ---- what has ended stays so
+
+still_over : (begun over more : Bool) → not (begun && not over) ≡ true → not (begun && not (over || more)) ≡ true
+still_over true true more e = refl
+still_over true false more e = absurd cc
+still_over false over more e = refl
+
+still_ended : (kind : DialogueKind) (taken more : List MessageValue) → has_ended kind taken ≡ true → has_ended kind (taken ++ more) ≡ true
+still_ended kind [] more e = absurd cc
+still_ended kind (first ∷ rest) more e =
+    ap (λ (over : Bool). not ((is_ack first && not (is_display kind)) && not over)) (list_any-append is_completion_or_abort (first ∷ rest) more)
+    ∙ still_over (is_ack first && not (is_display kind)) (list_any is_completion_or_abort (first ∷ rest)) (list_any is_completion_or_abort more) e
+
+ended_with : (kind : DialogueKind) (came more : List Came) → has_ended kind (messages came) ≡ true → has_ended kind (messages (came ++ more)) ≡ true
+ended_with kind came more e = ap (has_ended kind) (filter_map-append taken_message came more) ∙ still_ended kind (messages came) (messages more) e
+
+-- ---- a talk goes on where it has not ended
+
+open_phase : (b stop_sent : Bool) (statuses : Statuses) → is_open_phase (cond b (Begun stop_sent statuses) (Ended stop_sent)) ≡ not (not b)
+open_phase true stop_sent statuses = refl
+open_phase false stop_sent statuses = refl
+
+open_taken : (kind : DialogueKind) (taken : List MessageValue) (stop_wished stop_sent : Bool) (statuses : Statuses)
+    → is_open_phase (cond (is_asked taken) (Asked stop_wished) (cond (is_begun kind taken) (Begun stop_sent statuses) (Ended stop_sent))) ≡ not (has_ended kind taken)
+open_taken kind [] stop_wished stop_sent statuses = refl
+open_taken kind (first ∷ rest) stop_wished stop_sent statuses = open_phase (is_begun kind (first ∷ rest)) stop_sent statuses
+
+pub goes_on_is : (dialogue : Dialogue) (came : List Came) → talk_goes_on (talk_after dialogue came) ≡ not (has_ended dialogue.kind (messages came))
+goes_on_is dialogue came =
+    open_taken dialogue.kind (messages came) (is_stop_wished came) (is_stop_sent dialogue.kind came) (statuses_of came)
+
+not_ended : (dialogue : Dialogue) (came : List Came) → talk_goes_on (talk_after dialogue came) ≡ true → has_ended dialogue.kind (messages came) ≡ false
+not_ended dialogue came e = not_same _ _ (sym (goes_on_is dialogue came) ∙ e)
+
+is_going : (dialogue : Dialogue) (came : List Came) → has_ended dialogue.kind (messages came) ≡ false → talk_goes_on (talk_after dialogue came) ≡ true
+is_going dialogue came e = goes_on_is dialogue came ∙ ap not e
+
+-- ---- a message ends a dialogue exactly where its meaning is an end
+
+ended_more : (dialogue : Dialogue) (came : List Came) (message : MessageValue) (at : ℤ) → has_ended dialogue.kind (messages came) ≡ false
+    → has_ended dialogue.kind (messages (came ++ Message message at ∷ [])) ≡ is_end (meaning dialogue came message)
+ended_more dialogue came message at e =
+    let open_ : talk_goes_on (talk_after dialogue came) ≡ true = is_going dialogue came e in
+    not_same _ _
+    (sym (goes_on_is dialogue (came ++ Message message at ∷ []))
+    ∙ ap talk_goes_on (after_message dialogue came message at open_)
+    ∙ talk_ends (talk_after dialogue came) message at open_
+    ∙ ap (λ (h : Heard). not (is_end h)) (heard_is dialogue came message open_))
+
+ended_wish : (kind : DialogueKind) (came : List Came) → has_ended kind (messages (came ++ StopWished ∷ [])) ≡ has_ended kind (messages came)
+ended_wish kind came = ap (has_ended kind) (messages_wish came)
+
+-- ---- the end
+
+regroup : (kind : DialogueKind) (before : List Came) (x : Came) (rest : List Came)
+    → has_ended kind (messages (before ++ x ∷ rest)) ≡ has_ended kind (messages ((before ++ x ∷ []) ++ rest))
+regroup kind before x rest = ap (λ (all : List Came). has_ended kind (messages all)) (sym (append_assoc before (x ∷ []) rest))
+
+at_end : (over now : Bool) (end : Heard) (more : Option Heard) → (now ≡ true → over ≡ true) → (now ≡ false → over ≡ is_some more) → over ≡ is_some (cond now (Some end) more)
+at_end over true end more ends goes = ends refl
+at_end over false end more ends goes = goes refl
+
+pub ended_from : (dialogue : Dialogue) (before rest : List Came) → has_ended dialogue.kind (messages before) ≡ false
+    → has_ended dialogue.kind (messages (before ++ rest)) ≡ is_some (end_from dialogue before rest)
+ended_from dialogue before [] e = ap (λ (all : List Came). has_ended dialogue.kind (messages all)) (append-nil before) ∙ e
+ended_from dialogue before (StopWished ∷ rest) e =
+    regroup dialogue.kind before StopWished rest ∙ ended_from dialogue (before ++ StopWished ∷ []) rest (ended_wish dialogue.kind before ∙ e)
+ended_from dialogue before (Message message at ∷ rest) e =
+    let more : has_ended dialogue.kind (messages (before ++ Message message at ∷ [])) ≡ is_end (meaning dialogue before message) = ended_more dialogue before message at e in
+    at_end _ (is_end (meaning dialogue before message)) (meaning dialogue before message) (end_from dialogue (before ++ Message message at ∷ []) rest)
+    (λ now. regroup dialogue.kind before (Message message at) rest ∙ ended_with dialogue.kind (before ++ Message message at ∷ []) rest (more ∙ now))
+    (λ now. regroup dialogue.kind before (Message message at) rest ∙ ended_from dialogue (before ++ Message message at ∷ []) rest (more ∙ now))
+
+pub ended_is : (dialogue : Dialogue) (came : List Came) → has_ended dialogue.kind (messages came) ≡ is_some (end_of dialogue came)
+ended_is dialogue came = ended_from dialogue [] came refl
+
+-- ---- the end after one more message
+
+at_push : (now : Bool) (end : Heard) (more pushed whole : Option Heard) → is_some (cond now (Some end) more) ≡ false → (is_some more ≡ false → pushed ≡ whole) → cond now (Some end) pushed ≡ whole
+at_push true end more pushed whole none step = absurd cc
+at_push false end more pushed whole none step = step none
+
+from_push : (dialogue : Dialogue) (before rest : List Came) (x : Came) → is_some (end_from dialogue before rest) ≡ false
+    → end_from dialogue before (rest ++ x ∷ []) ≡ end_from dialogue (before ++ rest) (x ∷ [])
+from_push dialogue before [] x none = ap (λ (all : List Came). end_from dialogue all (x ∷ [])) (sym (append-nil before))
+from_push dialogue before (StopWished ∷ rest) x none =
+    from_push dialogue (before ++ StopWished ∷ []) rest x none ∙ ap (λ (all : List Came). end_from dialogue all (x ∷ [])) (append_assoc before (StopWished ∷ []) rest)
+from_push dialogue before (Message message at ∷ rest) x none =
+    at_push (is_end (meaning dialogue before message)) (meaning dialogue before message) (end_from dialogue (before ++ Message message at ∷ []) rest)
+    (end_from dialogue (before ++ Message message at ∷ []) (rest ++ x ∷ [])) (end_from dialogue (before ++ Message message at ∷ rest) (x ∷ [])) none
+    (λ later. from_push dialogue (before ++ Message message at ∷ []) rest x later
+    ∙ ap (λ (all : List Came). end_from dialogue all (x ∷ [])) (append_assoc before (Message message at ∷ []) rest))
+
+pub end_by_message : (dialogue : Dialogue) (came : List Came) (message : MessageValue) (at : ℤ) → talk_goes_on (talk_after dialogue came) ≡ true
+    → end_of dialogue (came ++ Message message at ∷ []) ≡ cond (is_end (meaning dialogue came message)) (Some (meaning dialogue came message)) None
+end_by_message dialogue came message at open_ =
+    from_push dialogue [] came (Message message at) (sym (ended_is dialogue came) ∙ not_ended dialogue came open_)
+
+-- ---- which ends there are
+
+some_same : (a b : Heard) → Some a ≡ Some b → a ≡ b
+some_same a b e = cc
+
+at_kind : (kind : DialogueKind) (now : Bool) (heard end : Heard) (more : Option Heard) → is_end heard ≡ now → (is_end heard ≡ true → IsEndOf kind heard) → (more ≡ Some end → IsEndOf kind end)
+    → cond now (Some heard) more ≡ Some end → IsEndOf kind end
+at_kind kind true heard end more over means later is = subst (IsEndOf kind) (some_same heard end is) (means over)
+at_kind kind false heard end more over means later is = later is
+
+pub kind_from : (dialogue : Dialogue) (means : (came : List Came) (message : MessageValue) → is_end (meaning dialogue came message) ≡ true → IsEndOf dialogue.kind (meaning dialogue came message))
+    → (before rest : List Came) (end : Heard) → end_from dialogue before rest ≡ Some end → IsEndOf dialogue.kind end
+kind_from dialogue means before [] end is = absurd cc
+kind_from dialogue means before (StopWished ∷ rest) end is = kind_from dialogue means (before ++ StopWished ∷ []) rest end is
+kind_from dialogue means before (Message message at ∷ rest) end is =
+    at_kind dialogue.kind (is_end (meaning dialogue before message)) (meaning dialogue before message) end (end_from dialogue (before ++ Message message at ∷ []) rest)
+    refl (means before message) (kind_from dialogue means (before ++ Message message at ∷ []) rest end) is

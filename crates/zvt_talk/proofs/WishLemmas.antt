@@ -1,0 +1,79 @@
+-- Which wishes count while the command isn't answered, and which messages put the deadline off.
+use Rattle.std.proofs.Common.{◌≡◌, ◌≢◌, Bool, true, false, ℤ, pos, ◌+ℤ◌, List, [], ◌∷◌, ◌++◌, None, refl, ap, subst}
+use Rattle.std.specs.List.{last_or}
+use Rattle.zvt_msg.specs.Message.{MessageValue, Ack, Nack, Intermediate, Line, Block, Status, Completion, Abort, Other}
+use Rattle.zvt_talk.specs.Dialogue.{Dialogue}
+use Rattle.zvt_talk.specs.Came.{Came, Message, StopWished, messages, is_stop_wished, is_taken, deadline, due}
+use Rattle.zvt_talk.specs.Laws.{HasNoWish, HasWish}
+use Rattle.zvt_talk.proofs.StepLemmas.{due_more, moments_same, moments_wish}
+
+-- ---- wishes
+
+abbrev WishIs : Bool → List Came → Type 0
+WishIs true came = HasWish came
+WishIs false came = HasNoWish came
+
+wish_more : (wished : Bool) (came : List Came) (at : ℤ) → WishIs wished came → WishIs wished (Message Other at ∷ came)
+wish_more true came at is = is
+wish_more false came at is = is
+
+wish_is : (came : List Came) → messages came ≡ [] → WishIs (is_stop_wished came) came
+wish_is [] asked = tt
+wish_is (StopWished ∷ came) asked = tt
+wish_is (Message Ack at ∷ came) asked = absurd cc
+wish_is (Message (Nack code) at ∷ came) asked = absurd cc
+wish_is (Message (Intermediate code) at ∷ came) asked = absurd cc
+wish_is (Message (Line text) at ∷ came) asked = absurd cc
+wish_is (Message (Block objects) at ∷ came) asked = absurd cc
+wish_is (Message (Status fields) at ∷ came) asked = absurd cc
+wish_is (Message Completion at ∷ came) asked = absurd cc
+wish_is (Message (Abort code) at ∷ came) asked = absurd cc
+wish_is (Message Other at ∷ came) asked = wish_more (is_stop_wished came) came at (wish_is came asked)
+
+never_both : (came : List Came) → HasWish came → HasNoWish came → ⊥
+never_both [] wish none = wish
+never_both (Message message at ∷ came) wish none = never_both came wish none
+never_both (StopWished ∷ came) wish none = none
+
+is_no_wish : (wished : Bool) (came : List Came) → WishIs wished came → HasNoWish came → wished ≡ false
+is_no_wish true came is none = absurd (never_both came is none)
+is_no_wish false came is none = refl
+
+is_wish : (wished : Bool) (came : List Came) → WishIs wished came → HasWish came → wished ≡ true
+is_wish true came is wish = refl
+is_wish false came is wish = absurd (never_both came wish is)
+
+pub no_wish : (came : List Came) → messages came ≡ [] → is_stop_wished came ≡ false → HasNoWish came
+no_wish came asked is = subst (λ (wished : Bool). WishIs wished came) is (wish_is came asked)
+
+pub wish : (came : List Came) → messages came ≡ [] → is_stop_wished came ≡ true → HasWish came
+wish came asked is = subst (λ (wished : Bool). WishIs wished came) is (wish_is came asked)
+
+pub not_wished : (came : List Came) → messages came ≡ [] → HasNoWish came → is_stop_wished came ≡ false
+not_wished came asked none = is_no_wish (is_stop_wished came) came (wish_is came asked) none
+
+pub wished : (came : List Came) → messages came ≡ [] → HasWish came → is_stop_wished came ≡ true
+wished came asked has = is_wish (is_stop_wished came) came (wish_is came asked) has
+
+-- ---- deadlines
+
+is_in_table : (message : MessageValue) → message ≢ Other → is_taken message ≡ true
+is_in_table Ack not_other = refl
+is_in_table (Nack code) not_other = refl
+is_in_table (Intermediate code) not_other = refl
+is_in_table (Line text) not_other = refl
+is_in_table (Block objects) not_other = refl
+is_in_table (Status fields) not_other = refl
+is_in_table Completion not_other = refl
+is_in_table (Abort code) not_other = refl
+is_in_table Other not_other = absurd (not_other refl)
+
+pub due_after : (dialogue : Dialogue) (came : List Came) (message : MessageValue) (at : ℤ) → message ≢ Other
+    → deadline dialogue (came ++ Message message at ∷ []) ≡ at +ℤ pos dialogue.command_time
+due_after dialogue came message at not_other = due_more dialogue came message at (is_in_table message not_other)
+
+pub due_same : (dialogue : Dialogue) (came : List Came) (at : ℤ) → deadline dialogue (came ++ Message Other at ∷ []) ≡ deadline dialogue came
+due_same dialogue came at = ap (λ (all : List ℤ). due dialogue (last_or None all)) (moments_same came at)
+
+pub due_wish : (dialogue : Dialogue) (came : List Came) → deadline dialogue (came ++ StopWished ∷ []) ≡ deadline dialogue came
+due_wish dialogue came = ap (λ (all : List ℤ). due dialogue (last_or None all)) (moments_wish came)

@@ -1,0 +1,12 @@
+-- Proof of the contract of `law_deadline`.
+use Rattle.zvt_talk.proofs.WishLemmas.{due_after, due_same, due_wish}
+use Rattle.zvt_talk.proofs.laws.law_deadline.Goals as goal
+
+pub returns-clause-message : goal.returns-clause-message
+returns-clause-message c = due_after
+
+pub returns-clause-other : goal.returns-clause-other
+returns-clause-other c = due_same
+
+pub returns-clause-wish : goal.returns-clause-wish
+returns-clause-wish c = due_wish

@@ -1,0 +1,146 @@
+//! The table of the dialogue: what each message means.
+ghost use Rattle.std.specs.Prelude.{◌≡◌};
+ghost use Rattle.zvt_msg.specs.Message.{value_of};
+ghost use Rattle.zvt_talk.specs.Table.{meaning_of_abort, meaning_of_completion, enquiry_aborted, enquiry_completed, meaning_when_asked, meaning_when_begun, service_completed, transaction_completed};
+
+use crate::Heard;
+use crate::dialogue_kind::DialogueKind;
+use crate::statuses::{Statuses, full_figures};
+use zvt_bmp::Fields;
+use zvt_msg::PtMessage;
+
+/// The first message after the command.
+pub(crate) fn meaning_when_asked(
+    kind: DialogueKind,
+    stop_wished: bool,
+    message: &PtMessage<'_>,
+) -> Heard
+    ensures { result ≡ meaning_when_asked kind stop_wished (value_of message.now) }
+{
+    match message {
+        PtMessage::Ack if kind.is_display() => Heard::Done,
+        PtMessage::Ack => Heard::Begun { stop: stop_wished },
+        PtMessage::Nack(code) if *code != 0 => Heard::Declined {
+            code: *code,
+            number: None,
+        },
+        PtMessage::Other => Heard::Stray,
+        _ => Heard::Unclear,
+    }
+}
+
+/// A message after the acknowledgement. `none` is the code by which the terminal reports to an enquiry that it has no
+/// transaction.
+pub(crate) fn meaning_when_begun(
+    kind: DialogueKind,
+    none: u8,
+    statuses: Statuses,
+    message: &PtMessage<'_>,
+) -> Heard
+    ensures { result ≡ meaning_when_begun kind none statuses (value_of message.now) }
+{
+    match message {
+        // It answers `06 B0`, or nothing: which of them can't be seen here, and neither ends the dialogue.
+        PtMessage::Ack | PtMessage::Nack(_) | PtMessage::Other => Heard::Stray,
+        PtMessage::Intermediate(code) => Heard::Note(*code),
+        PtMessage::Line(_) => Heard::Line,
+        PtMessage::Block(_) => Heard::Block,
+        PtMessage::Status(_) => Heard::Seen,
+        PtMessage::Completion => meaning_of_completion(kind, statuses),
+        PtMessage::Abort(code) => meaning_of_abort(kind, none, statuses, *code),
+    }
+}
+
+fn meaning_of_completion(kind: DialogueKind, statuses: Statuses) -> Heard
+    ensures { result ≡ meaning_of_completion kind statuses }
+{
+    match kind {
+        DialogueKind::Payment | DialogueKind::Reversal => transaction_completed(statuses),
+        DialogueKind::Enquiry => enquiry_completed(statuses.last),
+        DialogueKind::Registration | DialogueKind::EndOfDay => service_completed(statuses),
+        DialogueKind::Display => Heard::Unclear,
+    }
+}
+
+fn transaction_completed(statuses: Statuses) -> Heard
+    ensures { result ≡ transaction_completed statuses statuses.last }
+{
+    let Some(status) = statuses.last else {
+        return Heard::Unclear;
+    };
+    match status.result {
+        None => Heard::Unclear,
+        Some(0) => match full_figures(&status) {
+            Some(figures) => Heard::Approved(figures),
+            None => Heard::Unclear,
+        },
+        Some(code) => statuses.declined_unless_approved(code),
+    }
+}
+
+fn enquiry_completed(last: Option<Fields>) -> Heard
+    ensures { result ≡ enquiry_completed last }
+{
+    let Some(status) = last else {
+        return Heard::Unclear;
+    };
+    let (Some(code), Some(number)) = (status.result, status.trace) else {
+        return Heard::Unclear;
+    };
+    if code != 0 {
+        return Heard::Told {
+            number,
+            approved: None,
+            code,
+        };
+    }
+    match full_figures(&status) {
+        None => Heard::Unclear,
+        approved => Heard::Told {
+            number,
+            approved,
+            code,
+        },
+    }
+}
+
+fn service_completed(statuses: Statuses) -> Heard
+    ensures { result ≡ service_completed statuses statuses.last }
+{
+    match statuses.last.and_then(|status| status.result) {
+        None | Some(0) => Heard::Done,
+        Some(code) => statuses.declined(code),
+    }
+}
+
+/// An abort by the terminal.
+fn meaning_of_abort(kind: DialogueKind, none: u8, statuses: Statuses, code: Option<u8>) -> Heard
+    ensures { result ≡ meaning_of_abort kind none statuses code }
+{
+    let Some(code) = code else {
+        return Heard::Unclear;
+    };
+    if code == 0 {
+        return Heard::Unclear;
+    }
+    match kind {
+        DialogueKind::Payment | DialogueKind::Reversal => statuses.declined_unless_approved(code),
+        DialogueKind::Enquiry => enquiry_aborted(none, statuses.last, code),
+        DialogueKind::Registration | DialogueKind::EndOfDay => statuses.declined(code),
+        DialogueKind::Display => Heard::Unclear,
+    }
+}
+
+fn enquiry_aborted(none: u8, last: Option<Fields>, code: u8) -> Heard
+    ensures { result ≡ enquiry_aborted none last code }
+{
+    if last.is_none() && code == none {
+        Heard::Told {
+            number: 0,
+            approved: None,
+            code,
+        }
+    } else {
+        Heard::Unclear
+    }
+}

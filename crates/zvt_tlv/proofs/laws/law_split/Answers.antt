@@ -1,5 +1,0 @@
-use Rattle.zvt_tlv.proofs.Splitting.{fills_is, fault_is, split_whole, split_none}
-use Rattle.zvt_tlv.proofs.laws.law_split.Goals as goal
-
-pub returns : goal.returns
-returns c = record { fills = fills_is; fault = fault_is; whole = split_whole; none = split_none }
