@@ -1,0 +1,51 @@
+use Rattle.std.proofs.Common.{◌≢◌, sym, ap, ◌∙◌, subst, ◌++◌, append-nil}
+use Rattle.gw_links.specs.declared.link.Order.TheVariants.{Deadline}
+use Rattle.std.proofs.lemmas.Bool.{false≢true}
+use Rattle.gw_links.specs.inner.Chain.{Every}
+use Rattle.gw_links.proofs.FindLemmas.{walk_start, walk_some, walk_item, walk_next, walk_less, nothing_left, if_each}
+use Rattle.gw_links.proofs.OrderLemmas.{Every-push, item_of-every}
+use Rattle.gw_links.proofs.SoundLemmas.{timed_held, timed_apart, timed_item, timed_from, is_some_from}
+use Rattle.gw_links.proofs.WalkLemmas.{walk_here}
+use Rattle.gw_links.proofs.lines.Lines.find.Goals as goal
+
+pub loop-at-init : goal.loop-at-init
+loop-at-init c =
+    walk_start c.self.inside.nodes Deadline c.self.inside.deadlines _ (timed_held _ _ _ _ _ _ c.self.invariant) (timed_apart _ _ _ _ _ _ c.self.invariant) c.self.invariant.in_time _ tt
+
+pub index-node-requires : goal.index-node-requires
+index-node-requires c =
+    walk_some c.self.inside.nodes Deadline c.self.inside.deadlines _ (timed_held _ _ _ _ _ _ c.self.invariant) (timed_apart _ _ _ _ _ _ c.self.invariant) c.self.invariant.in_time _ c.in-Some.id (rw c.in-Some.is at c.loop-at.invariant)
+
+pub returns-then-has_key-clause-found : goal.returns-then-has_key-clause-found
+returns-then-has_key-clause-found c =
+    let walk = rw c.in-Some.is at c.loop-at.invariant in
+    let here = walk_here _ (timed_apart _ _ _ _ _ _ c.self.invariant) _ c.in-Some.id walk in
+    let item = walk_item c.self.inside.nodes Deadline c.self.inside.deadlines _ (timed_held _ _ _ _ _ _ c.self.invariant) (timed_apart _ _ _ _ _ _ c.self.invariant) c.self.invariant.in_time _ c.in-Some.id walk c.index-node.result.now c.index-node.ensures in
+    rw (c.of.ensures, ← c.self.view_is, timed_item _ _ _ _ _ _ c.self.invariant c.in-Some.id here.waiting.item here.item)
+    (ap (λ i. i.key) (sym item) ∙ c.has_key.ensures.0 c.if-has_key.true)
+
+pub returns-then-has_key-clause-live : goal.returns-then-has_key-clause-live
+returns-then-has_key-clause-live c =
+    let walk = rw c.in-Some.is at c.loop-at.invariant in
+    let here = walk_here _ (timed_apart _ _ _ _ _ _ c.self.invariant) _ c.in-Some.id walk in
+    rw (c.of.ensures, ← c.self.view_is)
+    (is_some_from _ here.waiting.item (timed_item _ _ _ _ _ _ c.self.invariant c.in-Some.id here.waiting.item here.item))
+
+pub loop-at-smaller : goal.loop-at-smaller
+loop-at-smaller c =
+    rw c.in-Some.is
+    (walk_less c.self.inside.nodes Deadline c.self.inside.deadlines _ (timed_held _ _ _ _ _ _ c.self.invariant) (timed_apart _ _ _ _ _ _ c.self.invariant) c.self.invariant.in_time _ c.in-Some.id (rw c.in-Some.is at c.loop-at.invariant) c.index-node.result.now c.index-node.ensures _ c.of-at.ensures)
+
+pub loop-at-preserved : goal.loop-at-preserved
+loop-at-preserved c =
+    let walk = rw c.in-Some.is at c.loop-at.invariant in
+    let differs : c.index-node.result.now.item.key ≢ c.args.key.now = λ same. false≢true (sym c.if-has_key.false ∙ c.has_key.ensures.1 same) in
+    walk_next c.self.inside.nodes Deadline c.self.inside.deadlines _ (timed_held _ _ _ _ _ _ c.self.invariant) (timed_apart _ _ _ _ _ _ c.self.invariant) c.self.invariant.in_time _ c.in-Some.id walk c.index-node.result.now c.index-node.ensures _ _ c.of-at.ensures
+    (λ waiting later same item fact. Every-push (λ w. w.item.key ≢ c.args.key.now) walk.passed waiting fact (λ is. differs (ap (λ i. i.key) item ∙ is)))
+
+pub returns-clause-none : goal.returns-clause-none
+returns-clause-none c id nothing =
+    let walk = rw c.in_default.is at c.loop-at.invariant in
+    let all = subst (Every (λ w. w.item.key ≢ c.args.key.now)) (sym (append-nil walk.passed) ∙ ap (λ l. walk.passed ++ l) (sym (nothing_left walk.rest walk.here)) ∙ walk.splits) walk.fact in
+    rw (← c.self.view_is)
+    (if_each _ (λ item. item.key ≢ c.args.key.now) (λ item found. item_of-every (λ w. w.item.key ≢ c.args.key.now) _ id item all (timed_from _ _ _ _ _ _ c.self.invariant id item found)))
