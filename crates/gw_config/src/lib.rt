@@ -1,0 +1,16 @@
+//! The configuration document: the setup that it gives, or its first fault.
+#![tactic(auto)]
+
+mod document;
+mod fault;
+mod form;
+mod section;
+mod terminal;
+mod unique;
+mod unknown;
+
+pub use document::read_setup;
+pub use fault::ConfigFault;
+
+#[cfg(test)]
+mod tests;
