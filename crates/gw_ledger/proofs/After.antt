@@ -1,0 +1,91 @@
+-- What one more record, of whatever kind, does to lists and counts.
+use Rattle.std.proofs.Common.{◌≡◌, ◌∙◌, ℕ, zero, suc, ◌+◌, ◌<◌, ◌≤◌, Bool, true, false, List, [], ◌∷◌, ◌++◌, length, Some, slice_get, IsTrue, refl, sym, ap, subst, arith, ◌⊎◌, inl, inr, append_assoc}
+use Rattle.std.proofs.lemmas.List.Elements.{All-push}
+use Rattle.std.proofs.lemmas.List.{append-nil, length-reverse}
+use Rattle.jrn_record.specs.declared.records.Record.{Record}
+use Rattle.jrn_record.specs.declared.records.Record.TheVariants.{Intent, Outcome, Settled}
+use Rattle.jrn_record.specs.declared.records.Intent.{Intent as TheIntent}
+use Rattle.jrn_record.specs.Limits.{IsRecord}
+use Rattle.gw_ledger.specs.Fold.{AreFolded, Fit, fits}
+use Rattle.gw_ledger.specs.History.{Placed, placed_after, history}
+use Rattle.gw_ledger.specs.Slots.{as_intent, intent_at}
+use Rattle.gw_ledger.specs.Sums.{count_all, one_if, open_in, open_with, sum_over}
+
+-- the last of a list
+pub get_last : {X : Type 0} (xs : List X) (x : X) → slice_get (xs ++ x ∷ []) (length xs) ≡ Some x
+get_last [] x = refl
+get_last (y ∷ xs) x = get_last xs x
+
+-- those before it stay
+pub get_before : {X : Type 0} (xs ys : List X) (i : ℕ) → i < length xs → slice_get (xs ++ ys) i ≡ slice_get xs i
+get_before [] ys i lt = absurd (omega arith)
+get_before (x ∷ xs) ys zero lt = refl
+get_before (x ∷ xs) ys (suc i) lt = get_before xs ys i (omega arith)
+
+-- what is found is one of them
+pub get_push : {X : Type 0} (xs : List X) (x : X) (i : ℕ) (y : X) → slice_get (xs ++ x ∷ []) i ≡ Some y
+    → ((i < length xs) × (slice_get xs i ≡ Some y)) ⊎ ((i ≡ length xs) × (x ≡ y))
+get_push [] x zero y found = inr (refl, cc)
+get_push [] x (suc i) y found = cc
+get_push (z ∷ xs) x zero y found = inl (omega arith, found)
+get_push (z ∷ xs) x (suc i) y found = elim (get_push xs x i y found) [
+  | inl before ↦ inl (omega (arith, before.0), before.1)
+  | inr last ↦ inr (ap suc last.0, last.1)
+]
+
+-- one more record that fits
+Fit-push : (before rest : List Record) (item : Record) → Fit before rest → IsTrue (fits (before ++ rest) item) → Fit before (rest ++ item ∷ [])
+Fit-push before [] item fit fitting = (subst (λ records. IsTrue (fits records item)) (append-nil before) fitting, tt)
+Fit-push before (first ∷ rest) item fit fitting =
+    (fit.0, Fit-push (before ++ first ∷ []) rest item fit.1 (subst (λ records. IsTrue (fits records item)) (sym (append_assoc before (first ∷ []) rest)) fitting))
+
+pub folded_push : (records : List Record) (item : Record) → AreFolded records → IsRecord item → IsTrue (fits records item)
+    → AreFolded (records ++ item ∷ [])
+folded_push records item folded lawful fitting = record {
+  lawful = All-push IsRecord records item folded.lawful lawful;
+  fit = Fit-push [] records item folded.fit fitting;
+}
+
+-- a record's Intent is that of an earlier record, or of the last
+pub intent_push : (records : List Record) (item : Record) (slot : ℕ) (intent : TheIntent) → intent_at (records ++ item ∷ []) slot ≡ Some intent
+    → ((slot < length records) × (intent_at records slot ≡ Some intent)) ⊎ ((slot ≡ length records) × (as_intent item ≡ Some intent))
+intent_push [] item zero intent found = inr (refl, found)
+intent_push [] item (suc slot) intent found = cc
+intent_push (first ∷ records) item zero intent found = inl (omega arith, found)
+intent_push (first ∷ records) item (suc slot) intent found = elim (intent_push records item slot intent found) [
+  | inl before ↦ inl (omega (arith, before.0), before.1)
+  | inr last ↦ inr (ap suc last.0, last.1)
+]
+
+-- ---- counts
+
+length-placed_after : (before rest : List Record) → length (placed_after before rest) ≡ length rest
+length-placed_after before [] = refl
+length-placed_after before (first ∷ rest) = ap suc (length-placed_after (before ++ first ∷ []) rest)
+
+pub length-history : (records : List Record) → length (history records) ≡ length records
+unfolding history
+length-history records = length-reverse (placed_after [] records) ∙ length-placed_after [] records
+
+one_if-le : (b : Bool) → one_if b ≤ 1
+one_if-le true = omega arith
+one_if-le false = omega arith
+
+counted : (test : Record → Bool) (past : List Placed) → sum_over (λ before item. one_if (test item)) past ≤ length past
+counted test [] = omega arith
+counted test (p ∷ older) = omega (arith, counted test older, one_if-le (test p.item))
+
+pub count-le : (records : List Record) (test : Record → Bool) → count_all records test ≤ length records
+count-le records test = subst (λ n. count_all records test ≤ n) (length-history records) (counted test (history records))
+
+open_with-le : (item : Record) (count : ℕ) → open_with item count ≤ count + 1
+open_with-le (Intent intent) count = omega arith
+open_with-le (Outcome outcome) count = omega arith
+open_with-le (Settled settled) count = omega arith
+
+opened : (past : List Placed) → open_in past ≤ length past
+opened [] = omega arith
+opened (p ∷ older) = omega (arith, opened older, open_with-le p.item (open_in older))
+
+pub open-le : (records : List Record) → open_in (history records) ≤ length records
+open-le records = subst (λ n. open_in (history records) ≤ n) (length-history records) (opened (history records))

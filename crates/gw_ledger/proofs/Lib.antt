@@ -1,0 +1,11 @@
+pub mod After
+pub mod AfterIntent
+pub mod AfterOutcome
+pub mod AfterSettled
+pub mod Along
+pub mod Bodies
+pub mod Empty
+pub mod Marks
+pub mod Push
+pub mod Rows
+pub mod Tied

@@ -1,0 +1,10 @@
+pub mod Accounts
+pub mod Example
+pub mod Fold
+pub mod History
+pub mod Keys
+pub mod Slots
+pub mod Steps
+pub mod Sums
+pub mod Table
+pub mod Tables

@@ -1,0 +1,147 @@
+-- Counts and sums over the records: the totals since the last reconciliation, and the tally of all.
+use Rattle.std.specs.Prelude.{ℕ, ◌+◌, ◌-◌, ◌==◌, Bool, true, false, ◌&&◌, not, if◌then◌else◌, List, [], ◌∷◌, Option, Some, None}
+use Rattle.gw_base.specs.declared.currency.Currency.{Currency}
+use Rattle.gw_base.specs.declared.currency.Currency.TheVariants.{Eur, Chf, Gbp, Usd, Dkk, Sek, Nok, Pln, Czk}
+use Rattle.jrn_record.specs.declared.records.Deal.{Deal}
+use Rattle.jrn_record.specs.declared.records.Deal.TheVariants.{Payment, Reversal}
+use Rattle.jrn_record.specs.declared.records.Intent.{Intent as TheIntent}
+use Rattle.jrn_record.specs.declared.records.Record.{Record}
+use Rattle.jrn_record.specs.declared.records.Record.TheVariants.{Intent, Outcome, Settled}
+use Rattle.gw_ledger.specs.declared.values.Tally.{Tally}
+use Rattle.gw_ledger.specs.declared.account.Sums.{Sums}
+use Rattle.gw_ledger.specs.declared.values.Totals.{Totals}
+use Rattle.gw_ledger.specs.History.{Placed, history, same_text}
+use Rattle.gw_ledger.specs.Slots.{intent_at, asks_payment}
+
+-- a figure of each record, which may depend on those before it, added up
+abbrev pub sum_over : (List Record → Record → ℕ) → List Placed → ℕ
+sum_over figure [] = 0
+sum_over figure (p ∷ older) = sum_over figure older + figure p.before p.item
+
+-- 1 for a thing that is so, and 0 for one that isn't
+abbrev pub one_if : Bool → ℕ
+one_if true = 1
+one_if false = 0
+
+-- the record is a Settled of this terminal
+abbrev pub settles : List ℕ → Record → Bool
+settles poi (Intent intent) = false
+settles poi (Outcome outcome) = false
+settles poi (Settled settled) = same_text poi settled.poi
+
+-- the records after the terminal's last Settled
+abbrev pub unsettled : List ℕ → List Placed → List Placed
+unsettled poi [] = []
+unsettled poi (p ∷ older) = if settles poi p.item then [] else p ∷ unsettled poi older
+
+-- a currency's place among the currencies
+abbrev pub ordinal : Currency → ℕ
+ordinal Eur = 0
+ordinal Chf = 1
+ordinal Gbp = 2
+ordinal Usd = 3
+ordinal Dkk = 4
+ordinal Sek = 5
+ordinal Nok = 6
+ordinal Pln = 7
+ordinal Czk = 8
+
+-- two currencies are the same
+abbrev pub same_currency : Currency → Currency → Bool
+same_currency a b = ordinal a == ordinal b
+
+-- payments are asked for, or reversals
+abbrev pub same_deal : Deal → Deal → Bool
+same_deal Payment what = asks_payment what
+same_deal Reversal what = not (asks_payment what)
+
+-- the Intent is of this terminal and currency, and asks this
+abbrev pub is_of : List ℕ → Currency → Deal → Option TheIntent → Bool
+is_of poi currency what None = false
+is_of poi currency what (Some intent) =
+    same_text poi intent.poi && same_currency currency intent.currency && same_deal what intent.what
+
+-- the record is the approved Outcome of such an Intent
+abbrev pub approves : List ℕ → Currency → Deal → List Record → Record → Bool
+approves poi currency what before (Intent intent) = false
+approves poi currency what before (Outcome outcome) =
+    outcome.approved && is_of poi currency what (intent_at before outcome.slot)
+approves poi currency what before (Settled settled) = false
+
+-- the minor units of an Outcome
+abbrev pub minor_in : Record → ℕ
+minor_in (Intent intent) = 0
+minor_in (Outcome outcome) = outcome.amount
+minor_in (Settled settled) = 0
+
+-- how many were approved since the terminal's last Settled, in this currency
+abbrev pub count_of : List Record → List ℕ → Currency → Deal → ℕ
+count_of records poi currency what =
+    sum_over (λ before item. one_if (approves poi currency what before item)) (unsettled poi (history records))
+
+-- and their minor units
+abbrev pub minor_sum_of : List Record → List ℕ → Currency → Deal → ℕ
+minor_sum_of records poi currency what =
+    sum_over (λ before item. if approves poi currency what before item then minor_in item else 0)
+    (unsettled poi (history records))
+
+-- the counts and sums of payments and of reversals
+abbrev pub sums_of : List Record → List ℕ → Currency → Sums
+sums_of records poi currency = record {
+  debit = (count_of records poi currency Payment, minor_sum_of records poi currency Payment);
+  reversed = (count_of records poi currency Reversal, minor_sum_of records poi currency Reversal);
+}
+
+-- in this currency
+abbrev pub totals_with : Currency → Sums → Totals
+totals_with currency sums = record { debit = sums.debit; reversed = sums.reversed; currency = currency }
+
+-- the totals of a terminal since its last Settled, in this currency
+abbrev pub totals_of : List Record → List ℕ → Currency → Totals
+totals_of records poi currency = totals_with currency (sums_of records poi currency)
+
+-- the record is an Intent
+abbrev pub is_intent : Record → Bool
+is_intent (Intent intent) = true
+is_intent (Outcome outcome) = false
+is_intent (Settled settled) = false
+
+-- the record is an approved Outcome
+abbrev pub is_approval : Record → Bool
+is_approval (Intent intent) = false
+is_approval (Outcome outcome) = outcome.approved
+is_approval (Settled settled) = false
+
+-- the record is a declined Outcome
+abbrev pub is_decline : Record → Bool
+is_decline (Intent intent) = false
+is_decline (Outcome outcome) = not outcome.approved
+is_decline (Settled settled) = false
+
+-- how many records there are of a kind
+abbrev pub count_all : List Record → (Record → Bool) → ℕ
+count_all records test = sum_over (λ before item. one_if (test item)) (history records)
+
+-- one more open Intent after an Intent, one fewer after an Outcome
+abbrev pub open_with : Record → ℕ → ℕ
+open_with (Intent intent) count = count + 1
+open_with (Outcome outcome) count = count - 1
+open_with (Settled settled) count = count
+
+-- how many Intents are open: one more with each Intent, one fewer with each Outcome
+abbrev pub open_in : List Placed → ℕ
+open_in [] = 0
+open_in (p ∷ older) = open_with p.item (open_in older)
+
+abbrev pub open_count_of : List Record → ℕ
+open_count_of records = open_in (history records)
+
+-- the Intents, the approved and declined entries, those that are open, and the minor units of the approved ones
+abbrev pub tally_of : List Record → Tally
+tally_of records = record {
+  accepted = count_all records is_intent;
+  approved = count_all records is_approval;
+  declined = count_all records is_decline;
+  unresolved = open_count_of records;
+  sum = sum_over (λ before item. if is_approval item then minor_in item else 0) (history records);
+}
