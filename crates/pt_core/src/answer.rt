@@ -1,0 +1,11 @@
+//! What a played terminal answers.
+use gw_base::Bytes;
+
+/// What the terminal answers to the bytes of one call.
+#[derive(Clone, Debug, Drop)]
+pub struct Answer {
+    /// What it sends, perhaps nothing.
+    pub bytes: Bytes,
+    /// Whether it cuts the line behind that.
+    pub cut: bool,
+}

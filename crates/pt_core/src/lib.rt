@@ -1,0 +1,22 @@
+//! The ZVT terminal (PA00P015) that the project plays: it answers each whole command at once, by its plays, and keeps a
+//! book.
+#![tactic(auto)]
+
+mod account;
+mod answer;
+mod book;
+mod hearing;
+mod laws;
+mod play;
+mod reaction;
+mod requests;
+mod terminal;
+
+pub use answer::Answer;
+pub use book::{Book, BookEntry};
+pub use laws::{law_book, law_ends, law_met};
+pub use play::{Play, Plays};
+pub use terminal::Terminal;
+
+#[cfg(test)]
+mod tests;

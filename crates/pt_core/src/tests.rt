@@ -1,0 +1,138 @@
+use crate::{Play, Plays, Terminal};
+use gw_base::{Currency, Ident, Pt, Text};
+use std::alloc::{AllocError, Global};
+use std::process::Abort;
+use std::test::Fail;
+
+/// What is sent, what is answered, and whether the line is cut then. Without bytes to send it is a new link.
+type Row = (&'static [u8], &'static [u8], bool);
+
+const PAY: &[u8] = b"\x06\x01\x0a\x04\x00\x00\x00\x00\x10\x99\x49\x09\x78";
+
+const ROWS: [Row; 24] = [
+    (
+        b"\x06\x20\x03\x12\x34\x56",
+        b"\x80\x00\x00\x06\x1e\x01\x83",
+        false,
+    ),
+    (
+        b"\x06\x00\x06\x12\x34\x56\xba\x09\x78",
+        b"\x80\x00\x00\x06\x0f\x00",
+        false,
+    ),
+    // Approved, in two chunks.
+    (b"\x06\x01\x0a\x04\x00\x00\x00\x00\x10\x99", b"", false),
+    (
+        b"\x49\x09\x78",
+        b"\x80\x00\x00\x04\x0f\x10\x27\x00\x04\x00\x00\x00\x00\x10\x99\x0b\x00\x00\x01\x87\x00\x01\x06\x0f\x00",
+        false,
+    ),
+    // Declined.
+    (PAY, b"\x80\x00\x00\x06\x1e\x01\x6c", false),
+    (
+        b"\x06\x20\x03\x00\x00\x00",
+        b"\x80\x00\x00\x04\x0f\x10\x27\x00\x04\x00\x00\x00\x00\x10\x99\x0b\x00\x00\x01\x87\x00\x01\x06\x0f\x00",
+        false,
+    ),
+    (
+        b"\x06\x30\x06\x12\x34\x56\x87\x00\x01",
+        b"\x80\x00\x00\x04\x0f\x10\x27\x00\x04\x00\x00\x00\x00\x10\x99\x0b\x00\x00\x02\x87\x00\x02\x06\x0f\x00",
+        false,
+    ),
+    // No payment has these receipt numbers: the one is that of a reversal.
+    (
+        b"\x06\x30\x06\x12\x34\x56\x87\x00\x02",
+        b"\x80\x00\x00\x06\x1e\x01\xb4",
+        false,
+    ),
+    (
+        b"\x06\x30\x06\x12\x34\x56\x87\x99\x99",
+        b"\x80\x00\x00\x06\x1e\x01\xb4",
+        false,
+    ),
+    (
+        b"\x06\x50\x03\x12\x34\x56",
+        b"\x80\x00\x00\x06\x0f\x00",
+        false,
+    ),
+    (
+        b"\x06\xe0\x06\xf0\x05\xf1\xf0\xf1\x41",
+        b"\x80\x00\x00",
+        false,
+    ),
+    (b"\x80\x00\x00\x84\x83\x00\x06\xb0\x00", b"", false),
+    // A command that is not known, and an authorisation whose data are none.
+    (
+        b"\x06\x99\x00\x06\x01\x00",
+        b"\x84\x83\x00\x84\x83\x00",
+        false,
+    ),
+    // Approved, and cut behind the acknowledgement; what follows on the link is not heard.
+    (
+        b"\x06\x01\x0a\x04\x00\x00\x00\x00\x05\x00\x49\x09\x78\x06\x99\x00",
+        b"\x80\x00\x00",
+        true,
+    ),
+    (PAY, b"", false),
+    (b"", b"", false),
+    (
+        b"\x06\x20\x03\x12\x34\x56",
+        b"\x80\x00\x00\x04\x0f\x10\x27\x00\x04\x00\x00\x00\x00\x05\x00\x0b\x00\x00\x03\x87\x00\x03\x06\x0f\x00",
+        false,
+    ),
+    // Dropped.
+    (PAY, b"", true),
+    (b"", b"", false),
+    // Further payments are approved. The rest of an old link is dropped.
+    (b"\x06\x01\x0a", b"", false),
+    (b"", b"", false),
+    (
+        PAY,
+        b"\x80\x00\x00\x04\x0f\x10\x27\x00\x04\x00\x00\x00\x00\x10\x99\x0b\x00\x00\x04\x87\x00\x04\x06\x0f\x00",
+        false,
+    ),
+    // A bad rest.
+    (b"\x06\x99\x00\x06\x01\xff\xe1\x2e", b"\x84\x83\x00", true),
+    (b"\x06\x99\x00", b"", false),
+];
+
+fn setup(alloc: Global, rt: &impl Abort) -> Result<Pt, AllocError> {
+    Ok(Pt {
+        poi: Ident::of(b"T1").expect(rt, "a POIID"),
+        address: Text::new(String::from_str(alloc, "127.0.0.1:20007")?),
+        password: [0x12, 0x34, 0x56],
+        currency: Currency::Eur,
+        config: 0xBA,
+        none: 0x83,
+        answer: 5,
+        command: 180,
+    })
+}
+
+#[test]
+fn rows(rt: HostRuntime) -> Result<(), Fail> {
+    let pt = setup(rt.alloc(), &rt)?;
+    assert!(rt; pt.is_within_limits());
+    let plays = vec![in rt.alloc();
+        Play::Approve,
+        Play::Decline(0x6C),
+        Play::CutAfterBook,
+        Play::DropAtOnce,
+    ]?;
+    let mut terminal = Terminal::new(rt.alloc(), &pt, Plays::new(plays))?;
+    for (row, (sent, bytes, cut)) in ROWS.iter().enumerate() {
+        if sent.is_empty() {
+            terminal.on_link();
+        }
+        let answer = terminal.on_bytes(rt.alloc(), sent)?;
+        assert!(rt;
+            answer.bytes.as_slice() == *bytes,
+            "row {row}: {:?}",
+            answer.bytes
+        );
+        assert_eq!(rt; answer.cut, *cut, "row {row}");
+    }
+    let entries = terminal.book().as_slice();
+    assert_eq!(rt; entries.len(), 4);
+    Ok(())
+}
