@@ -1,0 +1,6 @@
+use Rattle.std.proofs.Common.{◌≡◌}
+use Rattle.std.specs.Prelude.{All, false}
+use Rattle.net_site.proofs.links.Links.set.Given as goal
+
+abbrev pub invariant-loop-pt : goal.invariant-loop-pt
+invariant-loop-pt l = All (λ up. up ≡ false) l.self

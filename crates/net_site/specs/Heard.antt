@@ -1,0 +1,23 @@
+-- What one read of a line brings, and whether a link is up.
+use Rattle.std.specs.Prelude.{ℕ, ◌<◌, ◌≤◌, Bool, true, false, not, ◌==◌, List, filter}
+use Rattle.net_site.specs.declared.line.Heard.{Heard}
+use Rattle.net_site.specs.declared.line.Heard.TheVariants.{Bytes, End, Nothing}
+use Rattle.net_site.specs.declared.links.Link.{Link}
+use Rattle.net_site.specs.declared.tills.Line.{Line}
+use Rattle.net_site.specs.declared.links.Link.TheVariants.{Down, Making, Up}
+
+-- a count is 1 to 4,096
+abbrev pub IsHeard : Heard → Type 0
+IsHeard (Bytes count) = (0 < count) × (count ≤ 4096)
+IsHeard End = Unit {0}
+IsHeard Nothing = Unit {0}
+
+-- bytes come and go on the link; not while it is being made
+abbrev pub is_up : Link → Bool
+is_up Down = false
+is_up (Making stream) = false
+is_up (Up stream) = true
+
+-- the lines without that of this till
+abbrev pub lines_without : List Line → ℕ → List Line
+lines_without lines till = filter (λ (line : Line). not (line.till == till)) lines

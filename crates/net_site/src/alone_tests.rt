@@ -1,0 +1,105 @@
+//! Tests that need a process of their own, which they start through a shell.
+use crate::NetSite;
+use crate::fixture::{address, brings, check, is_child, opened, path};
+use gw_site::{Site, What};
+use std::io::Read;
+use std::net::TcpStream;
+use std::process::Command;
+use std::test::Fail;
+use std::{env, fs};
+
+/// Starts this test program anew with some words of a shell before and after it, and gives what the child wrote to
+/// the file that it was named.
+fn run_child(rt: &HostRuntime, child: &str, before: &str, after: &str) -> Result<String, Fail> {
+    let told = path(rt, child)?;
+    let mut line = format!(in rt.alloc();
+        "{before} NET_SITE_CHILD='{child}' NET_SITE_FILE='{told}' exec"
+    )?;
+    for word in env::args(rt)? {
+        line.push_str(" '")?;
+        line.push_str(word.as_str())?;
+        line.push_str("'")?;
+    }
+    line.push_str(after)?;
+    let _ = Command::new(rt.alloc(), "/bin/sh")?
+        .arg("-c")?
+        .arg(line.as_str())?
+        .output(rt)?;
+    let text = fs::read_to_string(rt, told.as_str())?;
+    fs::remove_file(rt, told.as_str())?;
+    Ok(text)
+}
+
+/// Whether this process was started for this, and the file that it tells its result in.
+fn child_file(rt: &HostRuntime, child: &str) -> Option<String> {
+    match env::var(rt, "NET_SITE_CHILD") {
+        Ok(name) if name.as_str() == child => env::var(rt, "NET_SITE_FILE").ok(),
+        _ => None,
+    }
+}
+
+/// Writes until the disk is full, and sees that no call succeeds after that.
+fn fill(site: &mut NetSite<&HostRuntime>) -> Result<(), Fail> {
+    for slot in 0..10u64 {
+        if site.write_at(256 * slot, &[0x00; 256]).is_err() {
+            check(site.write_at(0, &[0x00]).is_err(), "a write after it")?;
+            check(site.sync().is_err(), "a sync after it")?;
+            return check(site.length().is_err(), "the length after it");
+        }
+    }
+    check(false, "the disk is full")
+}
+
+#[test]
+fn a_disk_that_is_full(rt: HostRuntime) -> Result<(), Fail> {
+    let Some(told) = child_file(&rt, "full") else {
+        if is_child(&rt) {
+            return Ok(());
+        }
+        let text = run_child(&rt, "full", "trap '' XFSZ; ulimit -f 1;", "")?;
+        return check(text.as_str() == "failed for good", "the child has failed");
+    };
+    let journal = path(&rt, "full_journal")?;
+    let mut site = opened(&rt, address(&rt, 47011), journal.as_str(), None)?;
+    fill(&mut site)?;
+    fs::remove_file(&rt, journal.as_str())?;
+    fs::write(&rt, told.as_str(), "failed for good")?;
+    Ok(())
+}
+
+/// Prints, and sees that neither a till nor the file gets it.
+fn print(
+    rt: &HostRuntime,
+    site: &mut NetSite<&HostRuntime>,
+    till: &mut TcpStream,
+) -> Result<(), Fail> {
+    let mut buf = [0; 16];
+    let _ = rt.print("status 0\n");
+    let _ = rt.eprint("status 0\n");
+    check(site.length() == Ok(0), "the file is empty")?;
+    till.set_nonblocking(true)?;
+    check(till.read(&mut buf).is_err(), "the till got nothing")
+}
+
+#[test]
+fn descriptors_that_are_closed(rt: HostRuntime) -> Result<(), Fail> {
+    let Some(told) = child_file(&rt, "closed") else {
+        if is_child(&rt) {
+            return Ok(());
+        }
+        let text = run_child(&rt, "closed", "", " <&- >&- 2>&-")?;
+        return check(
+            text.as_str() == "nothing went astray",
+            "the child has failed",
+        );
+    };
+    let journal = path(&rt, "closed_journal")?;
+    let near = address(&rt, 47012);
+    let mut site = opened(&rt, near, journal.as_str(), None)?;
+    let mut till = TcpStream::connect(&rt, near)?;
+    brings(&mut site, What::TillOpened(1), "a till opens")?;
+    print(&rt, &mut site, &mut till)?;
+    fs::remove_file(&rt, journal.as_str())?;
+    fs::write(&rt, told.as_str(), "nothing went astray")?;
+    Ok(())
+}

@@ -1,0 +1,164 @@
+//! The disk: one file. Once a call on it has failed, every later call fails.
+ghost use Rattle.std.specs.Prelude.{◌≡◌, length, true, false, IsErr, OnErr, OnOk, None, IfOk};
+
+use crate::file;
+use std::alloc::{AllocError, Global};
+use std::fs::File;
+use std::io::{self, ErrorKind};
+use std::rt::Files;
+
+/// The most bytes of a path (Linux's PATH_MAX, without the 0 at its end).
+const PATH: usize = 4095;
+
+/// The journal's file while it is open, and whether a call on it has failed.
+///
+/// After a failed sync Linux takes the pages that it couldn't write for written, and the next sync answers Ok. So nothing
+/// that a call says after a failed one can be relied on.
+#[derive(Drop)]
+pub(crate) struct Disk {
+    opened: Option<File>,
+    path: String,
+    pub(crate) failed: bool,
+}
+
+impl Disk {
+    /// No file yet, with room for a path.
+    pub(crate) fn new(alloc: Global) -> Result<Disk, AllocError>
+        ensures { IfOk result (λ disk. disk.failed ≡ false) }
+    {
+        let path = String::with_capacity(alloc, PATH)?;
+        Ok(Disk {
+            opened: None,
+            path,
+            failed: false,
+        })
+    }
+
+    /// Closes the file, which gives its lock up.
+    pub(crate) fn close(&mut self)
+        ensures { self.new.failed ≡ self.old.failed }
+    {
+        self.opened = None;
+    }
+
+    /// Opens the file at this path. It fails where a call on the disk has failed before.
+    pub(crate) fn open<R: Files<File = File>>(&mut self, rt: &R, path: &str) -> io::Result<()>
+        ensures same { self.new.failed ≡ self.old.failed }
+        ensures failed { self.old.failed ≡ true → IsErr result }
+    {
+        if self.failed {
+            return Err(io::Error::from(ErrorKind::BrokenPipe));
+        }
+        if path.len() > PATH {
+            return Err(io::Error::from(ErrorKind::InvalidInput));
+        }
+        self.path.clear();
+        self.path.push_str(path)?;
+        self.opened = Some(file::open_journal(rt, path)?);
+        Ok(())
+    }
+
+    /// The file, where it is open and no call on it has failed.
+    fn file(&self) -> io::Result<&File>
+        ensures { self.now.failed ≡ true → IsErr result }
+    {
+        if self.failed {
+            return Err(io::Error::from(ErrorKind::BrokenPipe));
+        }
+        match &self.opened {
+            Some(file) => Ok(file),
+            None => Err(io::Error::from(ErrorKind::NotConnected)),
+        }
+    }
+
+    fn read_length(&self) -> io::Result<u64>
+        ensures { self.now.failed ≡ true → IsErr result }
+    {
+        match self.file() {
+            Ok(file) => Ok(file.metadata()?.len()),
+            Err(error) => Err(error),
+        }
+    }
+
+    fn read(&self, pos: u64, buf: &mut [u8]) -> io::Result<()>
+        ensures failed { self.now.failed ≡ true → IsErr result }
+        ensures size { length buf.new ≡ length buf.old }
+    {
+        match self.file() {
+            Ok(file) => file::read_full(file, pos, buf),
+            Err(error) => Err(error),
+        }
+    }
+
+    fn write<R: Files<File = File>>(&self, rt: &R, pos: u64, bytes: &[u8]) -> io::Result<()>
+        ensures { self.now.failed ≡ true → IsErr result }
+    {
+        match self.file() {
+            Ok(file) => file::write_named(rt, file, self.path.as_str(), pos, bytes),
+            Err(error) => Err(error),
+        }
+    }
+
+    fn write_back(&self) -> io::Result<()>
+        ensures { self.now.failed ≡ true → IsErr result }
+    {
+        match self.file() {
+            Ok(file) => file.sync_data(),
+            Err(error) => Err(error),
+        }
+    }
+
+    /// Remembers a failure.
+    fn noted<T>(&mut self, done: io::Result<T>) -> io::Result<T>
+        ensures same { result ≡ done }
+        ensures ok { OnOk result (self.new.failed ≡ self.old.failed) }
+        ensures err { OnErr result (self.new.failed ≡ true) }
+    {
+        if done.is_err() {
+            self.failed = true;
+        }
+        done
+    }
+
+    /// The file's length.
+    pub(crate) fn length(&mut self) -> io::Result<u64>
+        ensures ok { OnOk result ((self.old.failed ≡ false) × (self.new.failed ≡ false)) }
+        ensures err { OnErr result (self.new.failed ≡ true) }
+    {
+        let done = self.read_length();
+        self.noted(done)
+    }
+
+    /// Fills the buffer from a place on, with zeros past the file's end.
+    pub(crate) fn read_at(&mut self, pos: u64, buf: &mut [u8]) -> io::Result<()>
+        ensures ok { OnOk result ((self.old.failed ≡ false) × (self.new.failed ≡ false)) }
+        ensures err { OnErr result (self.new.failed ≡ true) }
+        ensures size { length buf.new ≡ length buf.old }
+    {
+        let done = self.read(pos, buf);
+        self.noted(done)
+    }
+
+    /// Writes all of the bytes at a place.
+    pub(crate) fn write_at<R: Files<File = File>>(
+        &mut self,
+        rt: &R,
+        pos: u64,
+        bytes: &[u8],
+    ) -> io::Result<()>
+        ensures ok { OnOk result ((self.old.failed ≡ false) × (self.new.failed ≡ false)) }
+        ensures err { OnErr result (self.new.failed ≡ true) }
+    {
+        let done = self.write(rt, pos, bytes);
+        self.noted(done)
+    }
+
+    /// Writes what is cached to the disk.
+    pub(crate) fn sync(&mut self) -> io::Result<()>
+        ensures ok { OnOk result ((self.old.failed ≡ false) × (self.new.failed ≡ false)) }
+        ensures err { OnErr result (self.new.failed ≡ true) }
+    {
+        let done = self.write_back();
+        self.noted(done)
+    }
+}

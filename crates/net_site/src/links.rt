@@ -1,0 +1,259 @@
+//! The links to terminals. A connection that isn't made in time goes on being made while the gateway does other work.
+ghost use Rattle.std.specs.Prelude.{◌≡◌, ◌<◌, ◌≤◌, [], ◌++◌, ◌∷◌, All, length, vec_capacity, slice_set, true, false, IfOk, OnErr, OnOk, Bool};
+ghost use Rattle.gw_site.specs.Turns.{IsWithinBuf};
+ghost use Rattle.net_site.specs.Heard.{is_up};
+ghost use Rattle.net_site.specs.Holding.{LinkHears, IsLinked};
+
+use crate::line::{self, Heard};
+use gw_base::Pt;
+use gw_site::What;
+use libc::net::{POLLOUT, poll};
+use libc::types::pollfd;
+use std::alloc::{AllocError, Global};
+use std::io::{self, ErrorKind};
+use std::marker::Model;
+use std::mem;
+use std::net::{Net, SocketAddr, TcpStream};
+use std::os::fd::AsRawFd;
+use std::time::{Clock, Instant};
+
+/// The most terminals.
+pub(crate) const MOST: usize = 32;
+
+/// How long all links together may wait for their peers between two polls, in microseconds.
+const WAIT: u16 = 20_000;
+
+#[derive(Drop)]
+enum Link {
+    Down,
+    Making(mio::net::TcpStream),
+    Up(TcpStream),
+}
+
+#[derive(Drop)]
+struct Terminal {
+    address: SocketAddr,
+    link: Link,
+}
+
+/// The terminals, in the order of their numbers. A contract sees of each whether it is linked.
+#[derive(Drop)]
+pub(crate) struct Links {
+    terminals: Vec<Terminal>,
+    /// How long a link may still wait before the next poll, in microseconds.
+    patience: u16,
+    ghost room: { 32 ≤ vec_capacity terminals },
+    ghost few: { length terminals.items ≤ 32 },
+}
+
+impl Model for Links {
+    ghost use Rattle.std.specs.Prelude.{List, map, Bool};
+    ghost use Rattle.net_site.specs.Heard.{is_up};
+
+    ghost Value = { List Bool };
+
+    ghost view = { λ links. map (λ terminal. is_up terminal.link) links.terminals.items };
+}
+
+/// Whether the connection is made, at the latest after so many milliseconds. It fails where the peer refused it.
+fn is_made(stream: &mio::net::TcpStream, millis: i32) -> io::Result<bool> {
+    let mut fds = [pollfd {
+        fd: stream.as_raw_fd(),
+        events: POLLOUT,
+        revents: 0,
+    }];
+    if poll(&mut fds, millis) <= 0 {
+        return Ok(false);
+    }
+    match stream.take_error()? {
+        Some(error) => Err(error),
+        None => Ok(stream.peer_addr().is_ok()),
+    }
+}
+
+/// Takes up the connection that is being made, or begins one, and waits for it.
+fn begin<R: Net>(rt: &R, old: Link, address: SocketAddr, millis: i32) -> io::Result<Link> {
+    let stream = match old {
+        Link::Making(stream) => stream,
+        Link::Down | Link::Up(_) => mio::net::TcpStream::connect(rt, address)?,
+    };
+    if !is_made(&stream, millis)? {
+        return Ok(Link::Making(stream));
+    }
+    let stream = TcpStream::from(stream);
+    line::set_up(&stream)?;
+    Ok(Link::Up(stream))
+}
+
+impl Links {
+    /// No terminal, with room for all.
+    pub(crate) fn new(alloc: Global) -> Result<Links, AllocError>
+        ensures { IfOk result (λ links. links ≡ []) }
+    {
+        let terminals = Vec::with_capacity(alloc, MOST)?;
+        Ok(Links {
+            terminals,
+            patience: WAIT,
+        })
+    }
+
+    /// Forgets all terminals and closes their connections.
+    pub(crate) fn clear(&mut self)
+        ensures { self.new ≡ [] }
+    {
+        self.terminals.clear();
+    }
+
+    /// How many there are.
+    fn len(&self) -> usize
+        ensures { result ≡ length self.now }
+    {
+        self.terminals.len()
+    }
+
+    /// Takes one more terminal, which isn't linked. Its address is an IP address and a port: to look a name up would hold
+    /// the loop up.
+    fn add(&mut self, pt: &Pt) -> io::Result<()>
+        ensures ok { OnOk result (self.new ≡ self.old ++ false ∷ []) }
+        ensures err { OnErr result (self.new ≡ self.old) }
+    {
+        let Ok(address) = pt.address.as_str().parse::<SocketAddr>() else {
+            return Err(io::Error::from(ErrorKind::InvalidInput));
+        };
+        if self.terminals.len() >= MOST {
+            return Err(io::Error::from(ErrorKind::InvalidInput));
+        }
+        self.terminals.push_reserved(Terminal {
+            address,
+            link: Link::Down,
+        });
+        Ok(())
+    }
+
+    /// Takes these terminals, none of them linked.
+    pub(crate) fn set(&mut self, terminals: &[Pt]) -> io::Result<()>
+        requires { self.old ≡ [] }
+        ensures { All (λ up. up ≡ false) self.new }
+    {
+        for pt in terminals {
+            self.add(pt)?;
+        }
+        Ok(())
+    }
+
+    /// Lets links wait anew.
+    pub(crate) fn rest(&mut self)
+        ensures { self.new ≡ self.old }
+    {
+        self.patience = WAIT;
+    }
+
+    /// The descriptor of a terminal that is linked, or -1, which poll(2) passes over.
+    pub(crate) fn descriptor(&self, at: usize) -> i32 {
+        match self.terminals.get(at) {
+            Some(terminal) => match &terminal.link {
+                Link::Up(stream) => stream.as_raw_fd(),
+                Link::Down | Link::Making(_) => -1,
+            },
+            None => -1,
+        }
+    }
+
+    /// Puts a link in the place of the one before, whose connection is closed.
+    fn put(&mut self, at: usize, link: Link)
+        requires { at < length self.old }
+        ensures { self.new ≡ slice_set self.old at (is_up link) }
+    {
+        self.terminals[at].link = link;
+    }
+
+    /// Takes a link out, and leaves the terminal without one.
+    fn take(&mut self, at: usize) -> Link
+        requires { at < length self.old }
+        ensures { self.new ≡ slice_set self.old at false }
+    {
+        mem::replace(&mut self.terminals[at].link, Link::Down)
+    }
+
+    /// Takes up or begins the connection of a terminal, and counts the time that it waited.
+    fn made<R: Net + Clock>(&mut self, rt: &R, old: Link, at: usize) -> io::Result<Link>
+        requires { at < length self.old }
+        ensures { self.new ≡ self.old }
+    {
+        let start = Instant::now(rt)?;
+        let millis = i32::from(self.patience / 1000);
+        let link = begin(rt, old, self.terminals[at].address, millis);
+        let passed = u16::try_from(start.elapsed(rt)?.as_micros()).unwrap_or(u16::MAX);
+        self.patience = self.patience.saturating_sub(passed);
+        link
+    }
+
+    /// Links a terminal. An earlier connection of it is replaced; one that is still being made is taken up.
+    #[tactic(auto, using(crate::proofs::LineLemmas::set_again))]
+    pub(crate) fn make<R: Net + Clock>(&mut self, rt: &R, pt: u16) -> io::Result<()>
+        ensures ok { OnOk result ((pt < length self.old) × (self.new ≡ slice_set self.old pt true)) }
+        ensures err { OnErr result (self.new ≡ slice_set self.old pt false) }
+    {
+        let at = usize::from(pt);
+        if at >= self.len() {
+            return Err(io::Error::from(ErrorKind::NotFound));
+        }
+        let old = self.take(at);
+        match self.made(rt, old, at)? {
+            Link::Up(stream) => {
+                self.put(at, Link::Up(stream));
+                Ok(())
+            }
+            link => {
+                self.put(at, link);
+                Err(io::Error::from(ErrorKind::TimedOut))
+            }
+        }
+    }
+
+    /// What the terminal at this place brings.
+    pub(crate) fn hear(&mut self, at: usize, buf: &mut [u8; 4096]) -> What
+        ensures hears { LinkHears self.old self.new result }
+        ensures buf { length buf.new ≡ 4096 }
+        ensures count { IsWithinBuf result }
+    {
+        let Some(terminal) = self.terminals.get(at) else {
+            return What::Nothing;
+        };
+        let Link::Up(stream) = &terminal.link else {
+            return What::Nothing;
+        };
+        let pt = at as u16;
+        match line::hear(stream, buf) {
+            Heard::Nothing => What::Nothing,
+            Heard::Bytes(count) => What::PtBytes(pt, count),
+            Heard::End => {
+                self.put(at, Link::Down);
+                What::PtClosed(pt)
+            }
+        }
+    }
+
+    /// Closes the connection of a terminal.
+    pub(crate) fn close(&mut self, pt: u16)
+        ensures { self.new ≡ slice_set self.old pt false }
+    {
+        let at = usize::from(pt);
+        if at < self.len() {
+            self.put(at, Link::Down);
+        }
+    }
+
+    /// Sends bytes to a terminal; fails where it isn't linked.
+    pub(crate) fn send<R: Clock>(&self, rt: &R, pt: u16, bytes: &[u8]) -> io::Result<()>
+        ensures { IfOk result (λ done. IsLinked self.now pt) }
+    {
+        match self.terminals.get(usize::from(pt)) {
+            Some(terminal) => match &terminal.link {
+                Link::Up(stream) => line::send(rt, stream, bytes),
+                Link::Down | Link::Making(_) => Err(io::Error::from(ErrorKind::NotConnected)),
+            },
+            None => Err(io::Error::from(ErrorKind::NotConnected)),
+        }
+    }
+}

@@ -1,0 +1,356 @@
+//! The site.
+ghost use Rattle.std.specs.Prelude.{◌≡◌, ◌↔◌, All, length, [], None, true, false, IfOk, IsErr, Contains, slice_set};
+ghost use Rattle.gw_site.specs.Failures.{HasCause, faults_after};
+ghost use Rattle.gw_site.specs.Turns.{IsWithinBuf};
+ghost use Rattle.net_site.specs.Holding.{AllGone, Brings, IsLinked, Links as LinksTo, OpensSite, UsesDisk, without_till};
+
+use crate::disk::Disk;
+use crate::file;
+use crate::links::{self, Links};
+use crate::tills::{self, Tills};
+use gw_base::Setup;
+use gw_site::{Failed, Polled, Site, What};
+use libc::net::{POLLIN, poll};
+use libc::types::pollfd;
+use std::alloc::{AllocError, Global};
+use std::fs::File;
+use std::io::{self, ErrorKind};
+use std::marker::Model;
+use std::net::{Net, SocketAddr, TcpListener, TcpStream};
+use std::os::fd::AsRawFd;
+use std::rt::Files;
+use std::time::Clock;
+
+/// How long a poll waits at most where nothing has come, in milliseconds.
+const WAIT: i32 = 50;
+
+/// The places that a poll asks: the tills, then the listener, then the terminals.
+const LISTENER: usize = tills::MOST;
+
+const FIRST_LINK: usize = LISTENER + 1;
+
+const PLACES: usize = FIRST_LINK + links::MOST;
+
+/// Sockets and a file. It tells no log.
+///
+/// Room is taken when it is made, and no call takes more.
+#[derive(Drop)]
+pub struct NetSite<R: Drop> {
+    rt: R,
+    listener: Option<TcpListener>,
+    /// Whether the listener is left out of the next poll.
+    resting: bool,
+    tills: Tills,
+    links: Links,
+    disk: Disk,
+    /// What stands at descriptors 0 to 2 where they were closed.
+    standard: Vec<File>,
+    /// The place at which the next poll begins.
+    next: usize,
+    now: i64,
+    faults: u64,
+}
+
+impl<R: Drop> Model for NetSite<R> {
+    ghost use Rattle.net_site.specs.Holding.{Holding};
+
+    ghost Value = { Holding };
+
+    ghost view = { λ site. record {
+      tills = site.tills;
+      links = site.links;
+      disk_failed = site.disk.failed;
+      faults = site.faults;
+    } };
+}
+
+/// The moment; the last one where the clock can't be read.
+fn moment<R: Clock>(rt: &R, last: i64) -> i64 {
+    match rt.since_1970() {
+        Ok(since) => i64::try_from(since.as_secs()).unwrap_or(i64::MAX),
+        Err(_) => last,
+    }
+}
+
+/// Listens at an IP address and a port.
+fn listen<R: Net<Listener = TcpListener, Stream = TcpStream>>(
+    rt: &R,
+    address: &str,
+) -> io::Result<TcpListener> {
+    let Ok(address) = address.parse::<SocketAddr>() else {
+        return Err(io::Error::from(ErrorKind::InvalidInput));
+    };
+    let listener = TcpListener::bind(rt, address)?;
+    // A connection may be gone again between poll(2) and accept(2), which would then wait for the next.
+    listener.set_nonblocking(true)?;
+    Ok(listener)
+}
+
+impl<R: Drop> NetSite<R> {
+    /// A site on which nothing is open yet.
+    pub fn new(rt: R, alloc: Global) -> Result<NetSite<R>, AllocError>
+        ensures { IfOk result (λ site. site ≡ record { tills = record { there = []; last = 0 }; links = []; disk_failed = false; faults = 0 }) }
+    {
+        let tills = Tills::new(alloc)?;
+        let links = Links::new(alloc)?;
+        let disk = Disk::new(alloc)?;
+        let standard = Vec::with_capacity(alloc, 3)?;
+        Ok(NetSite {
+            rt,
+            listener: None,
+            resting: false,
+            tills,
+            links,
+            disk,
+            standard,
+            next: 0,
+            now: 0,
+            faults: 0,
+        })
+    }
+
+    /// The answer to a call, whose failure is counted.
+    fn counted<T>(&mut self, done: io::Result<T>) -> Result<T, Failed>
+        ensures same { IsErr result ↔ IsErr done }
+        ensures cause { HasCause self.old.faults self.new.faults result }
+        ensures site { self.new ≡ record self.old { faults = faults_after self.old.faults result } }
+    {
+        match done {
+            Ok(told) => Ok(told),
+            Err(_) => {
+                self.faults = self.faults.saturating_add(1);
+                Err(Failed)
+            }
+        }
+    }
+
+    /// Closes all lines, the listener and the file.
+    fn close(&mut self)
+        ensures { self.new ≡ record self.old { tills = record self.old.tills { there = [] }; links = [] } }
+    {
+        self.listener = None;
+        self.tills.clear();
+        self.links.clear();
+        self.disk.close();
+    }
+
+    /// Closes all where an opening failed.
+    fn close_unless(&mut self, is_open: bool)
+        requires { AllGone self.old }
+        ensures gone { AllGone self.new }
+        ensures numbers { self.new.tills ≡ self.old.tills }
+        ensures disk { self.new.disk_failed ≡ self.old.disk_failed }
+        ensures faults { self.new.faults ≡ self.old.faults }
+    {
+        if !is_open {
+            self.close();
+        }
+    }
+
+    /// The descriptor at a place, or -1, which poll(2) passes over.
+    ///
+    /// The listener is left out while no more tills are taken, and once after `accept` failed: poll(2) would return at
+    /// once for a connection that can't be taken, again and again.
+    fn descriptor(&self, place: usize) -> i32 {
+        if place < LISTENER {
+            return self.tills.descriptor(place);
+        }
+        if place > LISTENER {
+            return self.links.descriptor(place - FIRST_LINK);
+        }
+        match &self.listener {
+            Some(listener) if !self.resting && self.tills.has_room() => listener.as_raw_fd(),
+            _ => -1,
+        }
+    }
+
+    /// What each place has, after at most 50 ms where none has anything.
+    fn wait(&self) -> [pollfd; PLACES] {
+        let mut fds = [pollfd {
+            fd: -1,
+            events: POLLIN,
+            revents: 0,
+        }; PLACES];
+        for (place, asked) in fds.iter_mut().enumerate() {
+            asked.fd = self.descriptor(place);
+        }
+        let _ = poll(&mut fds, WAIT);
+        fds
+    }
+
+    /// Takes a till that waits.
+    fn accept(&mut self) -> What
+        ensures brings { Brings self.old self.new result }
+        ensures count { IsWithinBuf result }
+    {
+        let opened = match &self.listener {
+            Some(listener) => self.tills.accept(listener),
+            None => None,
+        };
+        match opened {
+            Some(till) => What::TillOpened(till),
+            None => {
+                self.resting = true;
+                What::Nothing
+            }
+        }
+    }
+
+    /// What there is at a place.
+    fn hear(&mut self, place: usize, buf: &mut [u8; 4096]) -> What
+        ensures brings { Brings self.old self.new result }
+        ensures buf { length buf.new ≡ 4096 }
+        ensures count { IsWithinBuf result }
+    {
+        if place < LISTENER {
+            self.tills.hear(place, buf)
+        } else if place > LISTENER {
+            self.links.hear(place - FIRST_LINK, buf)
+        } else {
+            self.accept()
+        }
+    }
+
+    /// The first thing that there is, from the place on at which the last poll stopped, so that a line that talks without
+    /// end doesn't keep the others from being heard.
+    fn ask(&mut self, fds: &[pollfd; PLACES], buf: &mut [u8; 4096]) -> What
+        ensures brings { Brings self.old self.new result }
+        ensures buf { length buf.new ≡ 4096 }
+        ensures count { IsWithinBuf result }
+    {
+        for step in 0..PLACES {
+            let place = (self.next % PLACES + step) % PLACES;
+            if fds[place].revents == 0 {
+                continue;
+            }
+            let what = self.hear(place, buf);
+            if what != What::Nothing {
+                self.next = place + 1;
+                return what;
+            }
+        }
+        What::Nothing
+    }
+}
+
+impl<
+    R: Net<Listener = TcpListener, Stream = TcpStream> + Files<File = File> + Clock + Drop,
+> NetSite<R> {
+    /// Opens the file, takes the terminals and listens.
+    fn start(&mut self, setup: &Setup) -> io::Result<()>
+        requires { self.old.links ≡ [] }
+        ensures tills { self.new.tills ≡ self.old.tills }
+        ensures links { All (λ up. up ≡ false) self.new.links }
+        ensures disk { self.new.disk_failed ≡ self.old.disk_failed }
+        ensures faults { self.new.faults ≡ self.old.faults }
+        ensures failed { self.old.disk_failed ≡ true → IsErr result }
+    {
+        file::take_standard(&self.rt, &mut self.standard)?;
+        self.disk.open(&self.rt, setup.journal.as_str())?;
+        self.links.set(setup.terminals.as_slice())?;
+        self.listener = Some(listen(&self.rt, setup.listen.as_str())?);
+        Ok(())
+    }
+}
+
+impl<R: Net<Listener = TcpListener, Stream = TcpStream> + Files<File = File> + Clock + Drop> Site
+    for NetSite<R> {
+    ghost observed = { λ site. record { log = None; faults = site.faults; dark = false; origin = [] } };
+
+    fn open(&mut self, setup: &Setup) -> Result<(), Failed>
+        ensures opens { OpensSite self.old self.new result }
+        ensures cause { HasCause self.old.faults self.new.faults result }
+        ensures failed { self.old.disk_failed ≡ true → IsErr result }
+    {
+        self.close();
+        let done = self.start(setup);
+        self.close_unless(done.is_ok());
+        self.counted(done)
+    }
+
+    fn poll(&mut self, buf: &mut [u8; 4096]) -> Polled
+        ensures brings { Brings self.old self.new result.what }
+        ensures buf { length buf.new ≡ 4096 }
+        ensures count { IsWithinBuf result.what }
+    {
+        let fds = self.wait();
+        self.resting = false;
+        self.links.rest();
+        let what = self.ask(&fds, buf);
+        self.now = moment(&self.rt, self.now);
+        Polled {
+            now: self.now,
+            what,
+        }
+    }
+
+    fn send_till(&mut self, till: u64, bytes: &[u8]) -> Result<(), Failed>
+        ensures held { IfOk result (λ done. Contains self.old.tills.there till) }
+        ensures cause { HasCause self.old.faults self.new.faults result }
+        ensures site { self.new ≡ record self.old { faults = faults_after self.old.faults result } }
+    {
+        let done = self.tills.send(&self.rt, till, bytes);
+        self.counted(done)
+    }
+
+    fn send_pt(&mut self, pt: u16, bytes: &[u8]) -> Result<(), Failed>
+        ensures linked { IfOk result (λ done. IsLinked self.old.links pt) }
+        ensures cause { HasCause self.old.faults self.new.faults result }
+        ensures site { self.new ≡ record self.old { faults = faults_after self.old.faults result } }
+    {
+        let done = self.links.send(&self.rt, pt, bytes);
+        self.counted(done)
+    }
+
+    fn link_pt(&mut self, pt: u16) -> Result<(), Failed>
+        ensures links { LinksTo self.old self.new pt result }
+        ensures cause { HasCause self.old.faults self.new.faults result }
+    {
+        let done = self.links.make(&self.rt, pt);
+        self.counted(done)
+    }
+
+    fn cut_till(&mut self, till: u64)
+        ensures { self.new ≡ record self.old { tills = without_till self.old.tills till } }
+    {
+        self.tills.close(till);
+    }
+
+    fn cut_pt(&mut self, pt: u16)
+        ensures { self.new ≡ record self.old { links = slice_set self.old.links pt false } }
+    {
+        self.links.close(pt);
+    }
+
+    fn length(&mut self) -> Result<u64, Failed>
+        ensures disk { UsesDisk self.old self.new result }
+        ensures cause { HasCause self.old.faults self.new.faults result }
+    {
+        let done = self.disk.length();
+        self.counted(done)
+    }
+
+    fn read_at(&mut self, pos: u64, buf: &mut [u8]) -> Result<(), Failed>
+        ensures disk { UsesDisk self.old self.new result }
+        ensures cause { HasCause self.old.faults self.new.faults result }
+    {
+        let done = self.disk.read_at(pos, buf);
+        self.counted(done)
+    }
+
+    fn write_at(&mut self, pos: u64, bytes: &[u8]) -> Result<(), Failed>
+        ensures disk { UsesDisk self.old self.new result }
+        ensures cause { HasCause self.old.faults self.new.faults result }
+    {
+        let done = self.disk.write_at(&self.rt, pos, bytes);
+        self.counted(done)
+    }
+
+    fn sync(&mut self) -> Result<(), Failed>
+        ensures disk { UsesDisk self.old self.new result }
+        ensures cause { HasCause self.old.faults self.new.faults result }
+    {
+        let done = self.disk.sync();
+        self.counted(done)
+    }
+}

@@ -1,0 +1,274 @@
+//! Tests of the sockets, over loopback.
+use crate::NetSite;
+use crate::fixture::{address, brings, brings_bytes, check, is_child, opened, path, read};
+use gw_site::{Site, What};
+use libc::net::listen;
+use std::fs;
+use std::io::Write;
+use std::net::{Shutdown, SocketAddr, TcpListener, TcpStream};
+use std::os::fd::AsRawFd;
+use std::test::Fail;
+use std::time::{Duration, Instant};
+
+fn a_till(
+    rt: &HostRuntime,
+    site: &mut NetSite<&HostRuntime>,
+    near: SocketAddr,
+) -> Result<(), Fail> {
+    let message = [0x00, 0x00, 0x00, 0x02, 0x7B, 0x7D];
+    let mut till = TcpStream::connect(rt, near)?;
+    brings(site, What::TillOpened(1), "a till opens")?;
+    till.write_all(&message)?;
+    brings_bytes(site, What::TillBytes(1, 6), &message, "its bytes come")?;
+    check(site.send_till(1, b"abc").is_ok(), "it is sent bytes")?;
+    let mut three = [0; 3];
+    read(&mut till, &mut three)?;
+    check(three == *b"abc", "it gets them")?;
+    drop(till);
+    brings(site, What::TillClosed(1), "it closes")?;
+    check(site.send_till(1, b"abc").is_err(), "it is gone")
+}
+
+fn a_terminal(
+    rt: &HostRuntime,
+    site: &mut NetSite<&HostRuntime>,
+    listener: &TcpListener,
+) -> Result<(), Fail> {
+    check(site.send_pt(0, b"early").is_err(), "it isn't linked")?;
+    check(site.link_pt(0).is_ok(), "it is linked")?;
+    let (mut terminal, _) = listener.accept()?;
+    terminal.write_all(&[0x80, 0x00, 0x00])?;
+    brings_bytes(
+        site,
+        What::PtBytes(0, 3),
+        &[0x80, 0x00, 0x00],
+        "its bytes come",
+    )?;
+    check(
+        site.send_pt(0, &[0x06, 0x00, 0x00]).is_ok(),
+        "it is sent bytes",
+    )?;
+    let mut three = [0; 3];
+    read(&mut terminal, &mut three)?;
+    check(three == [0x06, 0x00, 0x00], "it gets them")
+}
+
+/// A second link replaces the first, whose peer reads its end.
+fn a_second_link(site: &mut NetSite<&HostRuntime>, listener: &TcpListener) -> Result<(), Fail> {
+    check(site.link_pt(0).is_ok(), "it is linked")?;
+    let (mut first, _) = listener.accept()?;
+    check(site.link_pt(0).is_ok(), "it is linked again")?;
+    let (second, _) = listener.accept()?;
+    let mut three = [0; 3];
+    check(read(&mut first, &mut three).is_err(), "the first has ended")?;
+    drop(second);
+    brings(site, What::PtClosed(0), "the second ends")?;
+    check(site.link_pt(1).is_err(), "there is no other terminal")
+}
+
+#[test]
+fn a_till_and_a_terminal_over_loopback(rt: HostRuntime) -> Result<(), Fail> {
+    if is_child(&rt) {
+        return Ok(());
+    }
+    let journal = path(&rt, "loopback")?;
+    let (near, far) = (address(&rt, 47001), address(&rt, 47002));
+    let listener = TcpListener::bind(&rt, far)?;
+    let mut site = opened(&rt, near, journal.as_str(), Some(far))?;
+    a_till(&rt, &mut site, near)?;
+    a_terminal(&rt, &mut site, &listener)?;
+    a_second_link(&mut site, &listener)?;
+    fs::remove_file(&rt, journal.as_str())?;
+    Ok(())
+}
+
+fn a_byte_at_a_time(site: &mut NetSite<&HostRuntime>, peer: &mut TcpStream) -> Result<(), Fail> {
+    peer.set_nodelay(true)?;
+    for byte in 0..6u8 {
+        peer.write_all(&[byte])?;
+        brings_bytes(site, What::TillBytes(1, 1), &[byte], "a byte comes")?;
+    }
+    Ok(())
+}
+
+/// A line that is closed with bytes unread is reset.
+fn a_reset(
+    rt: &HostRuntime,
+    site: &mut NetSite<&HostRuntime>,
+    near: SocketAddr,
+) -> Result<(), Fail> {
+    let peer = TcpStream::connect(rt, near)?;
+    brings(site, What::TillOpened(2), "a till opens")?;
+    check(site.send_till(2, b"never read").is_ok(), "it is sent bytes")?;
+    drop(peer);
+    brings(site, What::TillClosed(2), "it is reset")
+}
+
+/// What was sent before a half close comes, and then the line's end.
+fn a_half_close(
+    rt: &HostRuntime,
+    site: &mut NetSite<&HostRuntime>,
+    near: SocketAddr,
+) -> Result<(), Fail> {
+    let mut peer = TcpStream::connect(rt, near)?;
+    brings(site, What::TillOpened(3), "a till opens")?;
+    peer.write_all(b"last")?;
+    peer.shutdown(Shutdown::Write)?;
+    brings_bytes(site, What::TillBytes(3, 4), b"last", "the last bytes come")?;
+    brings(site, What::TillClosed(3), "then the end")
+}
+
+/// A send to a peer that never reads fails after a tenth of a second.
+fn a_peer_that_never_reads(
+    rt: &HostRuntime,
+    site: &mut NetSite<&HostRuntime>,
+    near: SocketAddr,
+) -> Result<(), Fail> {
+    let _peer = TcpStream::connect(rt, near)?;
+    brings(site, What::TillOpened(4), "a till opens")?;
+    let start = Instant::now(rt)?;
+    let mut failed = false;
+    for _ in 0..10_000 {
+        if site.send_till(4, &[7; 4096]).is_err() {
+            failed = true;
+            break;
+        }
+    }
+    site.cut_till(4);
+    check(
+        failed && start.elapsed(rt)? < Duration::from_secs(10),
+        "a send fails in time",
+    )
+}
+
+/// A line that has more bytes than are read at once doesn't keep another from being heard.
+fn a_talker(
+    rt: &HostRuntime,
+    site: &mut NetSite<&HostRuntime>,
+    near: SocketAddr,
+    other: &mut TcpStream,
+) -> Result<(), Fail> {
+    let mut talker = TcpStream::connect(rt, near)?;
+    brings(site, What::TillOpened(5), "a till opens")?;
+    talker.write_all(&[9; 20_000])?;
+    other.write_all(b"x")?;
+    brings(site, What::TillBytes(1, 1), "the other is heard")?;
+    brings(site, What::TillBytes(5, 4096), "and then the talker")
+}
+
+#[test]
+fn peers_that_misbehave(rt: HostRuntime) -> Result<(), Fail> {
+    if is_child(&rt) {
+        return Ok(());
+    }
+    let journal = path(&rt, "peers")?;
+    let near = address(&rt, 47003);
+    let mut site = opened(&rt, near, journal.as_str(), None)?;
+    let mut slow = TcpStream::connect(&rt, near)?;
+    brings(&mut site, What::TillOpened(1), "a till opens")?;
+    a_byte_at_a_time(&mut site, &mut slow)?;
+    a_reset(&rt, &mut site, near)?;
+    a_half_close(&rt, &mut site, near)?;
+    a_peer_that_never_reads(&rt, &mut site, near)?;
+    a_talker(&rt, &mut site, near, &mut slow)?;
+    fs::remove_file(&rt, journal.as_str())?;
+    Ok(())
+}
+
+/// The others wait, and the poll does too: it doesn't return at once for them.
+fn four_quiet_polls(rt: &HostRuntime, site: &mut NetSite<&HostRuntime>) -> Result<(), Fail> {
+    let mut buf = [0; 4096];
+    let start = Instant::now(rt)?;
+    for _ in 0..4 {
+        check(site.poll(&mut buf).what == What::Nothing, "nothing comes")?;
+    }
+    check(
+        start.elapsed(rt)? >= Duration::from_millis(150),
+        "a poll waits",
+    )
+}
+
+#[test]
+fn a_hundred_connections(rt: HostRuntime) -> Result<(), Fail> {
+    if is_child(&rt) {
+        return Ok(());
+    }
+    let journal = path(&rt, "hundred")?;
+    let near = address(&rt, 47004);
+    let mut site = opened(&rt, near, journal.as_str(), None)?;
+    let mut peers = Vec::new(rt.alloc());
+    for _ in 0..100 {
+        peers.push(TcpStream::connect(&rt, near)?)?;
+    }
+    for till in 1..=65 {
+        brings(&mut site, What::TillOpened(till), "65 tills open")?;
+    }
+    four_quiet_polls(&rt, &mut site)?;
+    site.cut_till(33);
+    brings(&mut site, What::TillOpened(66), "one more has room")?;
+    fs::remove_file(&rt, journal.as_str())?;
+    Ok(())
+}
+
+/// Fills the queue of a listener that doesn't accept, so that it answers no connection.
+fn fill_queue(
+    rt: &HostRuntime,
+    listener: &TcpListener,
+    far: SocketAddr,
+) -> Result<Vec<TcpStream>, Fail> {
+    let queue = listen(listener.as_raw_fd(), 0);
+    let mut held = Vec::new(rt.alloc());
+    for _ in 0..8 {
+        match TcpStream::connect_timeout(rt, &far, Duration::from_millis(50)) {
+            Ok(stream) => held.push(stream)?,
+            Err(_) => break,
+        }
+    }
+    check(queue == 0 && held.len() < 8, "the queue isn't full")?;
+    Ok(held)
+}
+
+/// All links between two polls wait 20 ms together.
+fn links_wait_together(rt: &HostRuntime, site: &mut NetSite<&HostRuntime>) -> Result<(), Fail> {
+    let start = Instant::now(rt)?;
+    for _ in 0..32 {
+        check(site.link_pt(0).is_err(), "nobody answers")?;
+    }
+    let passed = start.elapsed(rt)?;
+    check(passed >= Duration::from_millis(19), "they wait")?;
+    check(passed < Duration::from_secs(30), "and end")
+}
+
+/// The connection goes on being made, and is taken up once the queue has room.
+fn link_is_taken_up(site: &mut NetSite<&HostRuntime>) -> Result<(), Fail> {
+    let mut buf = [0; 4096];
+    for _ in 0..100 {
+        let _ = site.poll(&mut buf);
+        if site.link_pt(0).is_ok() {
+            return Ok(());
+        }
+    }
+    check(false, "the connection is taken up")
+}
+
+#[test]
+fn terminals_that_do_not_answer(rt: HostRuntime) -> Result<(), Fail> {
+    if is_child(&rt) {
+        return Ok(());
+    }
+    let journal = path(&rt, "links")?;
+    let (near, far) = (address(&rt, 47005), address(&rt, 47006));
+    let listener = TcpListener::bind(&rt, far)?;
+    let held = fill_queue(&rt, &listener, far)?;
+    let mut site = opened(&rt, near, journal.as_str(), Some(far))?;
+    links_wait_together(&rt, &mut site)?;
+    for _ in 0..held.len() {
+        let _ = listener.accept()?;
+    }
+    link_is_taken_up(&mut site)?;
+    // Where nobody listens, the link fails at once.
+    drop(listener);
+    check(site.link_pt(0).is_err(), "nobody listens")?;
+    fs::remove_file(&rt, journal.as_str())?;
+    Ok(())
+}
