@@ -15,8 +15,8 @@ pub(crate) struct FileSite {
 }
 
 /// Fills the buffer with the file's bytes from an offset on, and zeros past its end.
-fn read_full(file: &mut File, pos: u64, buf: &mut [u8]) -> io::Result<()> {
-    file.seek(SeekFrom::Start(pos))?;
+fn read_full(file: &mut File, offset: u64, buf: &mut [u8]) -> io::Result<()> {
+    file.seek(SeekFrom::Start(offset))?;
     let mut at = 0;
     for _ in 0..u64::MAX {
         if at == buf.len() {
@@ -35,8 +35,8 @@ fn read_full(file: &mut File, pos: u64, buf: &mut [u8]) -> io::Result<()> {
 }
 
 /// Writes bytes at an offset of the file.
-fn write_whole(file: &mut File, pos: u64, bytes: &[u8]) -> io::Result<()> {
-    file.seek(SeekFrom::Start(pos))?;
+fn write_whole(file: &mut File, offset: u64, bytes: &[u8]) -> io::Result<()> {
+    file.seek(SeekFrom::Start(offset))?;
     file.write_all(bytes)
 }
 
@@ -57,12 +57,12 @@ impl FileSite {
         Err(Failed)
     }
 
-    /// The answer to a call, whose failure is counted.
+    /// The result of a call, whose failure is counted.
     fn counted<T>(&mut self, done: io::Result<T>) -> Result<T, Failed>
         ensures { HasCause self.old.faults self.new.faults result }
     {
         match done {
-            Ok(told) => Ok(told),
+            Ok(value) => Ok(value),
             Err(_) => self.fail(),
         }
     }
@@ -114,6 +114,7 @@ impl Site for FileSite {
     }
 
     fn sync(&mut self) -> Result<(), Failed> {
+        // The bytes and the length: no reader asks for the file's times.
         let done = self.file.sync_data();
         self.counted(done)
     }

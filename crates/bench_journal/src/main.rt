@@ -10,6 +10,7 @@ mod file_site;
 
 use anyhow::{Context, anyhow, ensure};
 use file_site::FileSite;
+use gw_bytes::MOST_SLOTS;
 use gw_site::{Failed, Site};
 use jrn_log::{Journal, OpenFault};
 use std::alloc::Global;
@@ -18,9 +19,6 @@ use std::io::{self, Read, Write};
 use std::rt::{Clock, Files};
 use std::time::Instant;
 use std::{env, process};
-
-/// The most bodies of the journal.
-const SLOTS: u32 = 1_000_000;
 
 /// The body that is appended.
 const BODY: [u8; 255] = [0x2B; 255];
@@ -51,17 +49,17 @@ fn read_plain(file: &mut File) -> io::Result<u64> {
 
 /// Opens the journal, and counts its bodies.
 fn count_bodies(alloc: Global, site: &mut FileSite) -> Result<usize, OpenFault> {
-    let (_, bodies) = Journal::open(alloc, site, SLOTS)?;
+    let (_, bodies) = Journal::open(alloc, site, MOST_SLOTS)?;
     Ok(bodies.as_slice().len())
 }
 
-/// Opens the journal, and appends so many bodies. Answers the nanoseconds of the appends.
+/// Opens the journal, and appends so many bodies. Returns the nanoseconds of the appends.
 fn append(
     rt: &(impl AllocGlobal + Clock),
     site: &mut FileSite,
     rounds: u64,
 ) -> anyhow::Result<u128> {
-    let (mut journal, _) = Journal::open(rt.alloc(), site, SLOTS)?;
+    let (mut journal, _) = Journal::open(rt.alloc(), site, MOST_SLOTS)?;
     let start = Instant::now(rt)?;
     for _ in 0..rounds {
         ensure!(journal.room() > 0, "no slot is free");
@@ -75,19 +73,19 @@ fn write_bare(rt: &impl Clock, site: &mut FileSite, rounds: u64) -> anyhow::Resu
     let end = bare(site.length())?;
     let start = Instant::now(rt)?;
     for round in 0..rounds {
-        let place = end.wrapping_add(round.wrapping_mul(256));
-        bare(site.write_at(place, &[0x2B; 256]))?;
+        let offset = end.wrapping_add(round.wrapping_mul(256));
+        bare(site.write_at(offset, &[0x2B; 256]))?;
         bare(site.sync())?;
-        bare(site.write_at(place, &[0xA5]))?;
+        bare(site.write_at(offset, &[0xA5]))?;
         bare(site.sync())?;
     }
     Ok(start.elapsed(rt)?.as_nanos())
 }
 
 /// What a call on the site has returned.
-fn bare<T>(told: Result<T, Failed>) -> anyhow::Result<T> {
-    match told {
-        Ok(told) => Ok(told),
+fn bare<T>(returned: Result<T, Failed>) -> anyhow::Result<T> {
+    match returned {
+        Ok(value) => Ok(value),
         Err(Failed) => Err(anyhow!("a call on the file has failed")),
     }
 }

@@ -12,7 +12,7 @@ use std::rt::Clock;
 use std::time::Instant;
 
 /// Prints what is written of the text, or its fault.
-fn tell(rt: &(impl Print + AllocGlobal), text: &[u8]) -> anyhow::Result<()> {
+fn report(rt: &(impl Print + AllocGlobal), text: &[u8]) -> anyhow::Result<()> {
     match read(rt.alloc(), text) {
         Ok(tree) => {
             let mut out = Vec::new(rt.alloc());
@@ -56,7 +56,7 @@ fn main(rt: HostRuntime) -> anyhow::Result<()> {
         let line = line?;
         let text = hex::decode(rt.alloc(), line.as_str())?;
         if rounds == 0 {
-            tell(&rt, text.as_slice())?;
+            report(&rt, text.as_slice())?;
         } else {
             measure(&rt, text.as_slice(), rounds)?;
         }

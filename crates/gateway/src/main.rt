@@ -34,10 +34,10 @@ fn words_of<R: Env + AllocGlobal>(rt: &R) -> Result<Vec<Text>, AllocError> {
 }
 
 /// Writes the last lines where there was no memory for the words, and returns the status.
-fn tell_memory<O: Sink>(out: &mut O) -> u8
+fn report_memory<O: Sink>(out: &mut O) -> u8
     ensures whole { result ≡ 71 → Adds (O.written out.old) (O.written out.new) (λ text. text ≡ codes "memory\nstatus 71\n") }
     ensures prefix { result ≡ 73 → Adds (O.written out.old) (O.written out.new) (λ text. IsPrefix text (codes "memory\nstatus 71\n")) }
-    ensures cut { result ≡ 73 → Rose (O.faults out.old) (O.faults out.new) }
+    ensures output_failed { result ≡ 73 → Rose (O.faults out.old) (O.faults out.new) }
     ensures status { (result ≡ 71) ⊎ (result ≡ 73) }
 {
     match out.write(b"memory\nstatus 71\n") {
@@ -51,7 +51,7 @@ fn main(rt: HostRuntime) -> ExitCode {
     let mut out = StdSink::new(rt.stdout());
     let status = match words_of(&rt) {
         Ok(words) => gw_run::top(rt.alloc(), &words, &mut NoSite::new(), &mut input, &mut out),
-        Err(AllocError) => tell_memory(&mut out),
+        Err(AllocError) => report_memory(&mut out),
     };
     ExitCode::from(status)
 }

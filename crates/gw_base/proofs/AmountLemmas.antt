@@ -44,12 +44,12 @@ decimal_value_bound (digit ∷ digits) all =
     omega (arith, q, e, s, h)
 
 -- fewer than ten digits spell a number below 1,000,000,000
-pub decimal_value-small : (digits : List ℕ) (at : ℕ) → All IsAsciiDigit digits → at < length digits → length digits ≤ 10
-    → decimal_value (take at digits) < 1000000000
-decimal_value-small digits at all inside few =
-    let b : decimal_value (take at digits) < 10 ^ length (take at digits) = decimal_value_bound (take at digits) (All-take IsAsciiDigit at digits all) in
-    let n : length (take at digits) ≤ 9 = omega (arith, length-take at digits) in
-    let p : 10 ^ length (take at digits) ≤ 10 ^ 9 = pow-le-pow_right {n = 10} (omega arith) n in
+pub decimal_value-small : (digits : List ℕ) (count : ℕ) → All IsAsciiDigit digits → count < length digits → length digits ≤ 10
+    → decimal_value (take count digits) < 1000000000
+decimal_value-small digits count all inside few =
+    let b : decimal_value (take count digits) < 10 ^ length (take count digits) = decimal_value_bound (take count digits) (All-take IsAsciiDigit count digits all) in
+    let n : length (take count digits) ≤ 9 = omega (arith, length-take count digits) in
+    let p : 10 ^ length (take count digits) ≤ 10 ^ 9 = pow-le-pow_right {n = 10} (omega arith) n in
     omega (arith, b, p)
 
 -- ten digits spell a number below 10,000,000,000
@@ -59,9 +59,9 @@ decimal_value-ten digits all few =
     omega (arith, decimal_value_bound digits all, p)
 
 -- the digits up to one more
-pub decimal_take-more : (digits : List ℕ) (at : ℕ) → at < length digits
-    → decimal_value (take (at + 1) digits) ≡ 10 * decimal_value (take at digits) + (get_or digits at 0 - 48)
-decimal_take-more digits at inside = ap decimal_value (take_more digits at 0 inside) ∙ decimal_value-snoc (take at digits) (get_or digits at 0)
+pub decimal_take-more : (digits : List ℕ) (count : ℕ) → count < length digits
+    → decimal_value (take (count + 1) digits) ≡ 10 * decimal_value (take count digits) + (get_or digits count 0 - 48)
+decimal_take-more digits count inside = ap decimal_value (take_more digits count 0 inside) ∙ decimal_value-snoc (take count digits) (get_or digits count 0)
 
 -- a test of digits, and the fact that it tests
 digit_test : (byte : ℕ) → Decides (is_ascii_digit byte) (IsAsciiDigit byte)
@@ -92,8 +92,8 @@ whole_test (digit ∷ digits) =
     Decides-and (list_all is_ascii_digit (digit ∷ digits)) (not (digit == 48) || has_no_digits digits)
     (digits_test (digit ∷ digits)) (head_test digit digits)
 
-amount_test : (minor : ℕ) → Decides (is_amount minor) (IsAmount minor)
-amount_test minor = (λ e. grind (arith, nat_tests), λ h. grind (arith, nat_tests))
+amount_test : (units : ℕ) → Decides (is_amount units) (IsAmount units)
+amount_test units = (λ e. grind (arith, nat_tests), λ h. grind (arith, nat_tests))
 
 -- more than ten digits before the point are too many
 pub too_long : (whole fraction : List ℕ) → is_whole whole ≡ true → 10 < length whole → is_amount (minor_units_of whole fraction) ≡ false
@@ -139,9 +139,9 @@ list_all_zeros : (fraction : List ℕ) → All (λ digit. digit ≡ 48) fraction
 list_all_zeros fraction all = (zeros_test fraction).1 all
 
 -- an amount is read
-pub minor_units-text : (text : List ℕ) (minor : ℕ) → SpellsAmount text minor → minor_units text ≡ Some minor
+pub minor_units-text : (text : List ℕ) (units : ℕ) → SpellsAmount text units → minor_units text ≡ Some units
 unfolding minor_units
-minor_units-text text minor a =
+minor_units-text text units a =
     let digits : All IsAsciiDigit a.whole = whole_digits a.whole a.whole_digits in
     let spelling : text ≡ a.whole ++ tail_of a.fraction = a.spelling ∙ numeral_text-tail a.whole a.fraction in
     let count : prefix_len is_ascii_digit text ≡ length a.whole = ap (prefix_len is_ascii_digit) spelling ∙ prefix_len-tail a.whole a.fraction digits in
@@ -183,12 +183,12 @@ tail_is (byte ∷ digit ∷ digits) fraction e =
     (ap (λ b. b ∷ digit ∷ digits) both.0 ∙ ap tail_of h.1, subst (All IsAsciiDigit) h.1 both.1)
 
 -- what is read is an amount
-amount_of : (text fraction : List ℕ) (minor : ℕ) → fraction_of (rest_of text) ≡ Some fraction → minor_units_with (whole_of text) (Some fraction) ≡ Some minor → SpellsAmount text minor
-amount_of text fraction minor e f =
+amount_of : (text fraction : List ℕ) (units : ℕ) → fraction_of (rest_of text) ≡ Some fraction → minor_units_with (whole_of text) (Some fraction) ≡ Some units → SpellsAmount text units
+amount_of text fraction units e f =
     let whole = whole_of text in
     let tail = tail_is (rest_of text) fraction e in
     let chosen = picked (is_whole whole && list_all (λ digit. digit == 48) (drop 2 fraction) && is_amount (minor_units_of whole fraction))
-    (minor_units_of whole fraction) minor f in
+    (minor_units_of whole fraction) units f in
     let tests = (Decides-and (is_whole whole && list_all (λ digit. digit == 48) (drop 2 fraction)) (is_amount (minor_units_of whole fraction))
     (Decides-and (is_whole whole) (list_all (λ digit. digit == 48) (drop 2 fraction)) (whole_test whole) (zeros_test (drop 2 fraction)))
     (amount_test (minor_units_of whole fraction))).0 chosen.0 in
@@ -204,27 +204,27 @@ amount_of text fraction minor e f =
       amount = subst IsAmount chosen.1 tests.1;
     }
 
-pub minor_units-is : (text : List ℕ) (minor : ℕ) → minor_units text ≡ Some minor → SpellsAmount text minor
+pub minor_units-is : (text : List ℕ) (units : ℕ) → minor_units text ≡ Some units → SpellsAmount text units
 unfolding minor_units
-minor_units-is text minor e = at (fraction_of (rest_of text)) refl e
+minor_units-is text units e = by_case (fraction_of (rest_of text)) refl e
   where
-    at : (found : Option (List ℕ)) → fraction_of (rest_of text) ≡ found → minor_units_with (whole_of text) found ≡ Some minor → SpellsAmount text minor
-    at None h g = absurd (cc)
-    at (Some fraction) h g = amount_of text fraction minor h g
+    by_case : (found : Option (List ℕ)) → fraction_of (rest_of text) ≡ found → minor_units_with (whole_of text) found ≡ Some units → SpellsAmount text units
+    by_case None h g = absurd (cc)
+    by_case (Some fraction) h g = amount_of text fraction units h g
 
 -- the text is an amount of just the minor units that are read
-pub minor_units-meaning : (text : List ℕ) → MatchOption (minor_units text) ((minor : ℕ) → ¬ SpellsAmount text minor) (SpellsAmount text)
-minor_units-meaning text = at (minor_units text) refl
+pub minor_units-meaning : (text : List ℕ) → MatchOption (minor_units text) ((units : ℕ) → ¬ SpellsAmount text units) (SpellsAmount text)
+minor_units-meaning text = by_case (minor_units text) refl
   where
-    at : (found : Option ℕ) → minor_units text ≡ found → MatchOption found ((minor : ℕ) → ¬ SpellsAmount text minor) (SpellsAmount text)
-    at None e = λ minor a. let f : None ≡ Some minor = sym e ∙ minor_units-text text minor a in absurd (cc)
-    at (Some minor) e = minor_units-is text minor e
+    by_case : (found : Option ℕ) → minor_units text ≡ found → MatchOption found ((units : ℕ) → ¬ SpellsAmount text units) (SpellsAmount text)
+    by_case None e = λ units a. let f : None ≡ Some units = sym e ∙ minor_units-text text units a in absurd (cc)
+    by_case (Some units) e = minor_units-is text units e
 
 -- minor units beyond the limits are none
 pub minor_with-large : (whole fraction : List ℕ) → is_amount (minor_units_of whole fraction) ≡ false → minor_units_with whole (Some fraction) ≡ None
 minor_with-large whole fraction e = rw e (simp and-false)
 
 -- a text spells one amount at most
-pub amount_text-one : (text : List ℕ) (minor other : ℕ) → SpellsAmount text minor → SpellsAmount text other → minor ≡ other
-amount_text-one text minor other a b =
-    let e : Some minor ≡ Some other = sym (minor_units-text text minor a) ∙ minor_units-text text other b in cc
+pub amount_text-one : (text : List ℕ) (units other : ℕ) → SpellsAmount text units → SpellsAmount text other → units ≡ other
+amount_text-one text units other a b =
+    let e : Some units ≡ Some other = sym (minor_units-text text units a) ∙ minor_units-text text other b in cc

@@ -107,20 +107,20 @@ bcd_value-of (suc count) value below =
     (All-push IsBcdByte (bcd_of count (value / 100)) (pair_byte (value % 100)) h.0 p.0, t)
 
 -- fewer than six bytes spell a number of at most ten digits
-pub bcd_value-small : (bytes : List ℕ) (at : ℕ) → IsBcd (take at bytes) → at < 6 → bcd_value (take at bytes) < 10000000000
-bcd_value-small bytes at digits few =
-    let b : bcd_value (take at bytes) < 100 ^ length (take at bytes) = bcd_value_bound (take at bytes) digits in
-    let n : length (take at bytes) ≤ 5 = omega (arith, length-take at bytes) in
-    let p : 100 ^ length (take at bytes) ≤ 100 ^ 5 = pow-le-pow_right {n = 100} (omega arith) n in
+pub bcd_value-small : (bytes : List ℕ) (count : ℕ) → IsBcd (take count bytes) → count < 6 → bcd_value (take count bytes) < 10000000000
+bcd_value-small bytes count digits few =
+    let b : bcd_value (take count bytes) < 100 ^ length (take count bytes) = bcd_value_bound (take count bytes) digits in
+    let n : length (take count bytes) ≤ 5 = omega (arith, length-take count bytes) in
+    let p : 100 ^ length (take count bytes) ≤ 100 ^ 5 = pow-le-pow_right {n = 100} (omega arith) n in
     omega arith
 
 -- the digits of one more byte
-pub bcd_take-more : (bytes : List ℕ) (at : ℕ) → at < length bytes → IsBcd (take at bytes) → IsBcdByte (get_or bytes at 0)
-    → IsBcd (take (at + 1) bytes)
-    × (bcd_value (take (at + 1) bytes) ≡ 100 * bcd_value (take at bytes) + pair_value (get_or bytes at 0))
-bcd_take-more bytes at inside digits here =
-    let e : take (at + 1) bytes ≡ take at bytes ++ get_or bytes at 0 ∷ [] = take_more bytes at 0 inside in
-    (All-more IsBcdByte bytes at 0 inside digits here, ap bcd_value e ∙ bcd_value-snoc (take at bytes) (get_or bytes at 0))
+pub bcd_take-more : (bytes : List ℕ) (count : ℕ) → count < length bytes → IsBcd (take count bytes) → IsBcdByte (get_or bytes count 0)
+    → IsBcd (take (count + 1) bytes)
+    × (bcd_value (take (count + 1) bytes) ≡ 100 * bcd_value (take count bytes) + pair_value (get_or bytes count 0))
+bcd_take-more bytes count inside digits here =
+    let e : take (count + 1) bytes ≡ take count bytes ++ get_or bytes count 0 ∷ [] = take_more bytes count 0 inside in
+    (All-more IsBcdByte bytes count 0 inside digits here, ap bcd_value e ∙ bcd_value-snoc (take count bytes) (get_or bytes count 0))
 
 -- the test of digits passes bytes that hold digits
 pub bcd_passes : (bytes : List ℕ) → IsBcd bytes → is_bcd bytes ≡ true

@@ -100,9 +100,9 @@ day_is : (days : ℕ) (found : Day) → days ≤ 2932532 → IsDayAfter 1970 1 d
 day_is days found few h =
     let count : day_count (pos found.year) found.month found.day ≡ 4_371_953 + days = omega (arith, h.count, day_count-epoch) in
     let ninth = day_count-next_year (pos 9999) (pos 10000) (omega (arith, signed_arith)) (omega (arith, signed_arith)) in
-    let place = day_count-day_of_year (pos found.year) found.month found.day h.first in
+    let day = day_count-day_of_year (pos found.year) found.month found.day h.first in
     let known : found.year ≤ 9999 = by_lt_z (pos 9999) (pos found.year)
-    (λ lt. absurd (omega (arith, day_count-later_year (pos 9999) (pos found.year) (omega (arith, signed_arith)) lt, ninth, day_count-end, place, count, h.first)))
+    (λ lt. absurd (omega (arith, day_count-later_year (pos 9999) (pos found.year) (omega (arith, signed_arith)) lt, ninth, day_count-end, day, count, h.first)))
     (λ le. omega (arith, signed_arith)) in
     let year : IsYear (pos found.year) = omega (arith, signed_arith) in (
       (year, (h.low, h.high), (h.first, h.last)),

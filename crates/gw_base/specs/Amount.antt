@@ -25,15 +25,15 @@ minor_units_of whole fraction =
     100 * decimal_value whole + decimal_value (take 2 (fraction ++ 0x30 ∷ 0x30 ∷ []))
 
 -- the text spells an amount of so many minor units
-pub record SpellsAmount (text : List ℕ) (minor : ℕ) : Type 0 where
+pub record SpellsAmount (text : List ℕ) (units : ℕ) : Type 0 where
   pub whole : List ℕ
   pub fraction : List ℕ
   pub spelling : text ≡ numeral_text whole fraction
   pub whole_digits : IsWhole whole
   pub fraction_digits : All IsAsciiDigit fraction
   pub zeros_past_second : All (λ digit. digit ≡ 0x30) (drop 2 fraction)
-  pub value : minor ≡ minor_units_of whole fraction
-  pub amount : IsAmount minor
+  pub value : units ≡ minor_units_of whole fraction
+  pub amount : IsAmount units
 
 -- the digits that the text begins with
 abbrev pub whole_of : List ℕ → List ℕ
@@ -62,7 +62,7 @@ fraction_of (byte ∷ digits) =
 
 -- whether it is within the limits of an amount
 abbrev pub is_amount : ℕ → Bool
-is_amount minor = nat_le 1 minor && nat_le minor 999999999999
+is_amount units = nat_le 1 units && nat_le units 999999999999
 
 -- the minor units of a whole number and the digits after its point, where these are an amount
 abbrev pub minor_units_with : List ℕ → Option (List ℕ) → Option ℕ

@@ -33,7 +33,7 @@ bcd_of zero value = []
 bcd_of (suc count) value = bcd_of count (value / 100) ++ pair_byte (value % 100) ∷ []
 
 -- this is the offset of the first byte that doesn't hold two digits
-pub record IsFirstNotBcd (bytes : List ℕ) (at : ℕ) : Type 0 where
-  pub inside : at < length bytes
-  pub before : IsBcd (take at bytes)
-  pub here : ¬ IsBcdByte (slice_index bytes at)
+pub record IsFirstNotBcd (bytes : List ℕ) (offset : ℕ) : Type 0 where
+  pub inside : offset < length bytes
+  pub before : IsBcd (take offset bytes)
+  pub here : ¬ IsBcdByte (slice_index bytes offset)

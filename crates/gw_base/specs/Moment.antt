@@ -1,6 +1,6 @@
--- Moments: seconds since 1970-01-01T00:00:00Z, up to the year 9999, and the civil date and time in UTC of
--- each. The calendar is that of `jiff`: the proleptic Gregorian one, where a day is counted through the
--- lengths of the years and months before it.
+-- Moments are seconds since 1970-01-01T00:00:00Z, and each has its civil date and time in UTC.
+-- The last is the beginning of the year 9999. The calendar is that of `jiff`: the proleptic Gregorian one, where a day
+-- is counted through the lengths of the years and months before it.
 use Rattle.std.specs.Prelude.{◌≡◌, ℕ, suc, zero, ◌+◌, ◌-◌, ◌*◌, ◌/◌, ◌%◌, ◌<◌, ◌==◌, nat_lt, min, true, false, ℤ, pos, negsuc, ◌+ℤ◌, ◌*ℤ◌, ◌≤ℤ◌, List, [], ◌∷◌, ◌++◌}
 use Rattle.jiff_core.specs.Calendar.{IsCivilDate, days_from_civil, days_in_month}
 use Rattle.gw_base.specs.declared.moment.Civil.{Civil}

@@ -1,4 +1,4 @@
--- What the gateway is set up with: the limits within which a setup and its terminals lie.
+-- The limits within which a gateway's setup and its terminals lie.
 use Rattle.std.specs.Prelude.{◌≡◌, ◌≢◌, ◌≤◌, List, [], ◌∷◌, All, length}
 use Rattle.gw_base.specs.Bcd.{IsBcd}
 use Rattle.gw_base.specs.Ident.{IsIdent}

@@ -5,13 +5,15 @@ ghost use Rattle.std.specs.List.{list_all, prefix_len};
 ghost use Rattle.std.specs.Option.{option_copied};
 ghost use Rattle.gw_base.specs.Amount.{decimal_value, fraction_of, is_whole, minor_units, minor_units_with, SpellsAmount};
 
+use gw_bytes::GREATEST_AMOUNT;
+
 /// The minor units that the text of a JSON number spells, in a currency with two decimals.
 ///
 /// It has no sign and no exponent; digits past the second one after the point are zeros, and a missing one
 /// counts as zero. An amount is 1 to 999,999,999,999 minor units; `None` for any other text.
 pub fn minor_of(numeral: &[u8]) -> Option<u64>
     ensures value { result ≡ minor_units numeral.now }
-    ensures amount { MatchOption result ((minor : ℕ) → ¬ SpellsAmount numeral.now minor) (SpellsAmount numeral.now) }
+    ensures amount { MatchOption result ((units : ℕ) → ¬ SpellsAmount numeral.now units) (SpellsAmount numeral.now) }
 {
     let (whole, rest) = numeral.split_at(whole_len(numeral));
     match fraction_digits(rest) {
@@ -35,9 +37,9 @@ fn minor_of_parts(whole: &[u8], fraction: &[u8]) -> Option<u64>
     if !are_zeros_past_second(fraction) {
         return None;
     }
-    let minor = 100 * decimal(whole) + hundredths(fraction);
-    if (1..=999_999_999_999).contains(&minor) {
-        Some(minor)
+    let units = 100 * decimal(whole) + hundredths(fraction);
+    if (1..=GREATEST_AMOUNT).contains(&units) {
+        Some(units)
     } else {
         None
     }
@@ -122,6 +124,6 @@ fn hundredths(fraction: &[u8]) -> u64
 
 /// What is read from a text is exactly the amount that it spells, and a text spells one amount at most.
 pub fn law_amounts()
-    ensures meaning { (text : List ℕ) (minor : ℕ) → (minor_units text ≡ Some minor) ↔ SpellsAmount text minor }
-    ensures one { (text : List ℕ) (minor other : ℕ) → SpellsAmount text minor → SpellsAmount text other → minor ≡ other }
+    ensures meaning { (text : List ℕ) (units : ℕ) → (minor_units text ≡ Some units) ↔ SpellsAmount text units }
+    ensures one { (text : List ℕ) (units other : ℕ) → SpellsAmount text units → SpellsAmount text other → units ≡ other }
 {}

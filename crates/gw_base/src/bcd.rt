@@ -26,8 +26,8 @@ pub fn bcd_write(value: u64, out: &mut [u8])
     ensures { out.new ≡ bcd_of (length out.old) value }
 {
     let mut rest = value;
-    for at in (0..out.len()).rev() {
-        out[at] = byte_of_pair((rest % 100) as u8);
+    for offset in (0..out.len()).rev() {
+        out[offset] = byte_of_pair((rest % 100) as u8);
         rest /= 100;
     }
 }
@@ -39,9 +39,9 @@ pub fn bcd_read(bytes: &[u8]) -> Result<u64, NotDigits>
         (λ fault. IsFirstNotBcd bytes.now fault.at) }
 {
     let mut value = 0;
-    for (at, byte) in bytes.iter().enumerate() {
+    for (offset, byte) in bytes.iter().enumerate() {
         if byte / 16 > 9 || byte % 16 > 9 {
-            return Err(NotDigits { at });
+            return Err(NotDigits { at: offset });
         }
         value = 100 * value + u64::from(10 * (byte / 16) + byte % 16);
     }

@@ -10,7 +10,8 @@ use std::cmp::Ordering;
 use std::fmt;
 use std::marker::Model;
 
-/// A text of 1 to `N` printable ASCII bytes (`20` to `7E`), which lie in the value itself.
+/// A text of 1 to `N` printable ASCII bytes (`20` to `7E`), which lie in the value itself, so that keys are copied without
+/// memory.
 ///
 /// A contract sees the list of its bytes.
 #[derive(Clone, Copy)]

@@ -1,4 +1,4 @@
-//! What names a request of a till.
+//! The key that names a request of a till.
 ghost use Rattle.std.specs.Prelude.{◌≡◌, ◌↔◌};
 ghost use Rattle.gw_base.specs.declared.key.Key.{Key};
 ghost use Rattle.gw_base.specs.Key.{key_cmp};

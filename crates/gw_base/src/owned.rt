@@ -50,7 +50,7 @@ impl Bytes {
         })
     }
 
-    /// Appends these bytes; without memory nothing.
+    /// Appends these bytes; nothing where there is no memory.
     pub fn extend(&mut self, bytes: &[u8]) -> Result<(), AllocError>
         ensures ok { OnOk result (self.new ≡ self.old ++ bytes.now) }
         ensures err { OnErr result (self.new ≡ self.old) }

@@ -1,26 +1,29 @@
-//! What the gateway is set up with.
+//! The setup of a gateway and of its terminals.
 ghost use Rattle.std.specs.Prelude.{◌≢◌, ◌↔◌, IsTrue, All};
 ghost use Rattle.gw_base.specs.Setup.{IsPt, HaveDistinctPois};
 
 use crate::{Currency, Ident, Text};
+use gw_bytes::{
+    FEWEST_SLOTS, LONGEST_ANSWER, LONGEST_WAIT, MOST_SLOTS, MOST_TERMINALS, MOST_WAITING,
+};
 use std::marker::Model;
 
 /// One terminal, which a POIID names.
 #[derive(Clone, Debug, Drop)]
 pub struct Pt {
     pub poi: Ident<40>,
-    /// Where it listens, as `host:port`.
+    /// The address at which it listens, as `host:port`.
     pub address: Text,
     /// The password of a registration, six BCD digits.
     pub password: [u8; 3],
     pub currency: Currency,
     /// The configuration byte of a registration.
     pub config: u8,
-    /// The code with which the terminal says that it has no last transaction.
+    /// The code with which the terminal reports that it has no last transaction.
     pub none: u8,
-    /// How long an answer may take, 1 to 60 seconds.
+    /// How long the terminal may take to acknowledge or refuse a command, 1 to 60 seconds.
     pub answer: u32,
-    /// How long a command may take, 1 to 3,600 seconds.
+    /// How long a begun command may take to send its next message, 1 to 3,600 seconds.
     pub command: u32,
 }
 
@@ -37,8 +40,8 @@ impl Pt {
         self.password
             .iter()
             .all(|byte| byte / 16 <= 9 && byte % 16 <= 9)
-            && (1..=60).contains(&self.answer)
-            && (1..=3600).contains(&self.command)
+            && (1..=u32::from(LONGEST_ANSWER)).contains(&self.answer)
+            && (1..=u32::from(LONGEST_WAIT)).contains(&self.command)
     }
 }
 
@@ -87,7 +90,7 @@ impl Pts {
 pub struct Setup {
     /// The gateway's name, given as POIID where a message's own was not read.
     pub name: Ident<40>,
-    /// Where tills connect, as `host:port`.
+    /// The address at which tills connect, as `host:port`.
     pub listen: Text,
     /// The path of the journal.
     pub journal: Text,
@@ -104,18 +107,21 @@ impl Setup {
     ghost use Rattle.std.specs.Prelude.{◌↔◌, IsTrue};
     ghost use Rattle.gw_base.specs.Setup.{IsSetup};
 
-    /// Whether the numbers lie within this profile's limits, and at most 32 terminals do, whose POIIDs
-    /// differ.
+    /// Whether the numbers lie within this profile's limits, and there are at most 32 terminals, each within its own limits
+    /// and with a POIID of its own.
     pub fn is_within_limits(&self) -> bool
         ensures { IsTrue result ↔ IsSetup self.now }
     {
         // The proof takes the limits of an identifier from this call.
         let _name = self.name.as_bytes();
         let terminals = self.terminals.as_slice();
-        if self.line > 8 || terminals.len() > 32 {
+        if self.line > MOST_WAITING || terminals.len() > MOST_TERMINALS {
             return false;
         }
-        if self.wait < 1 || self.wait > 3600 || self.slots < 2 || self.slots > 1_000_000 {
+        if !(1..=u32::from(LONGEST_WAIT)).contains(&self.wait) {
+            return false;
+        }
+        if !(FEWEST_SLOTS..=MOST_SLOTS).contains(&self.slots) {
             return false;
         }
         are_within_limits(terminals) && have_distinct_pois(terminals)
@@ -124,7 +130,7 @@ impl Setup {
 
 /// Whether each of these terminals has a POIID of its own.
 ///
-/// At most 32 terminals are compared, each with those after it.
+/// Each is compared with those after it; a setup has at most 32, so no set of names is built.
 fn have_distinct_pois(terminals: &[Pt]) -> bool
     ensures { IsTrue result ↔ HaveDistinctPois terminals.now }
 {

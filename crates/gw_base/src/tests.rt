@@ -1,4 +1,4 @@
-//! Rows with values from outside.
+//! Tables of values whose expected results come from outside: calendars, ISO 4217, code page 437.
 use crate::*;
 use std::test::Fail;
 
@@ -35,8 +35,8 @@ fn amounts(rt: HostRuntime) {
         (".5", None),
         ("", None),
     ];
-    for (numeral, minor) in rows {
-        assert_eq!(rt; minor_of(numeral.as_bytes()), minor);
+    for (numeral, units) in rows {
+        assert_eq!(rt; minor_of(numeral.as_bytes()), units);
     }
 }
 

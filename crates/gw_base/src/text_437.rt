@@ -19,7 +19,7 @@ pub fn char_of_437(byte: u8) -> char
     }
 }
 
-/// The byte of a character in a terminal's text; `3F` for a character outside the table.
+/// The byte of a character in a terminal's text; `3F`, the question mark, for a character outside the table.
 pub fn byte_of_437(c: char) -> u8
     ensures { result ≡ byte_of c }
 {

@@ -13,10 +13,12 @@ each_byte [] small i = lit< tt
 each_byte (byte ∷ bytes) small zero = small.0
 each_byte (byte ∷ bytes) small (suc i) = each_byte bytes small.1 i
 
+-- a prefix of bytes is bytes
 pub bytes_prefix : (prefix more : List ℕ) → AreBytes (prefix ++ more) → AreBytes prefix
 bytes_prefix [] more small = tt
 bytes_prefix (byte ∷ prefix) more small = (small.0, bytes_prefix prefix more small.1)
 
+-- the rest of bytes is bytes
 pub bytes_rest : (prefix more : List ℕ) → AreBytes (prefix ++ more) → AreBytes more
 bytes_rest [] more small = small
 bytes_rest (byte ∷ prefix) more small = bytes_rest prefix more small.1

@@ -1,4 +1,4 @@
-//! Digits of base 16.
+//! Digits of base 16, in lower and upper case.
 ghost use Rattle.std.specs.Prelude.{◌≡◌, ◌<◌};
 ghost use Rattle.std.specs.Char.{digit_char};
 ghost use Rattle.gw_bytes.specs.Hex.{upper_digit};

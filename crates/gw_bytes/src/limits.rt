@@ -12,13 +12,13 @@ pub const MOST_WAITING: u8 = 8;
 /// The longest time that a request waits and that a command runs, in seconds.
 pub const LONGEST_WAIT: u16 = 3_600;
 
-/// The longest time that a terminal is given to answer, in seconds.
+/// The longest time that a terminal is given to acknowledge or refuse a command, in seconds.
 pub const LONGEST_ANSWER: u16 = 60;
 
 /// The most bytes that a site brings of a connection at once.
 pub const LONGEST_CHUNK: usize = 4_096;
 
-/// The size of the length that stands before each message of a till, in bytes.
+/// The size of the length before each message of a till, in bytes.
 pub const FRAME_LENGTH_SIZE: usize = 4;
 
 /// The most bytes of a till's message, without its length.

@@ -101,9 +101,9 @@ fewer (value ∷ values) = fewer_with (as_table value) (filter_map as_table valu
 
 few_tables : (value : Data) (tables : List Members) → some_tables value ≡ Some tables → length tables ≤ 32
 few_tables value tables is =
-    option_and_then_some (λ items. tables_among (array_values items)) (as_array value) tables is
-    (λ items found passed.
-    let values = array_values items in
+    option_and_then_some (λ elements. tables_among (array_values elements)) (as_array value) tables is
+    (λ elements found passed.
+    let values = array_values elements in
     let both = cond_some (is_from_to 1 32 (length values) && list_all (λ v. is_some (as_table v)) values) (filter_map as_table values) tables passed in
     let parts = and_parts (is_from_to 1 32 (length values)) (list_all (λ v. is_some (as_table v)) values) both.0 in
     subst (λ (ts : List Members). length ts ≤ 32) both.1 (omega (arith, fewer values, (bounds 1 32 (length values) parts.0).1)))

@@ -8,7 +8,7 @@ use Rattle.gw_base.specs.declared.setup.Setup.{Setup}
 use Rattle.gw_config.specs.declared.fault.ConfigFault.TheVariants.{Long, NotToml, Missing, Wrong, Twice}
 use Rattle.gw_config.specs.Faults.{smallest, table_fault, document_fault, fault_in}
 use Rattle.gw_config.specs.Grammar.{document_of, IsSetupOf}
-use Rattle.gw_config.specs.Line.{fault_line}
+use Rattle.gw_config.specs.FaultLine.{fault_line}
 
 -- the keys of a terminal of the usual document, under a POIID of its own
 abbrev keys : Data → Members

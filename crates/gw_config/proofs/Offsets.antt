@@ -3,7 +3,6 @@ use Rattle.std.proofs.Common.{◌≡◌, ℕ, ◌≤◌, Bool, true, false, if�
 use Rattle.std.specs.Prelude.{◌≢◌, is_some, option_map, IfErr, MatchResult, nat_lt}
 use Rattle.std.specs.List.{flat_map}
 use Rattle.std.specs.Option.{option_or}
-use Rattle.std.proofs.lemmas.Bool.{le-ltb}
 use Rattle.toml.specs.Data.{Data, Members, get_member}
 use Rattle.gw_base.specs.declared.setup.Setup.{Setup}
 use Rattle.gw_config.specs.declared.fault.ConfigFault.{ConfigFault}
@@ -77,28 +76,26 @@ has_none-table table =
 at_table : (table : Members) (fault : ConfigFault) → table_fault table ≡ Some fault → without_offset fault ≡ fault
 at_table table fault is = rw is at (has_none-table table)
 
-in_document : (bytes : List ℕ) (table : Members) → length bytes ≤ document_limit → document_of bytes ≡ Some table → fault_in bytes ≡ table_fault table
-in_document bytes table short is =
-    let small : nat_lt document_limit (length bytes) ≡ false = le-ltb document_limit (length bytes) short in
-    rw (small, is) refl
+in_document : (bytes : List ℕ) (table : Members) → nat_lt document_limit (length bytes) ≡ false → document_of bytes ≡ Some table → fault_in bytes ≡ table_fault table
+in_document bytes table within is = rw (within, is) refl
 
 inside : (bytes : List ℕ) (fault : ConfigFault) → without_offset fault ≡ fault → IsInsideOf bytes fault
 inside bytes Long same = tt
-inside bytes (NotToml at) same = omega (arith, offset_is at same)
+inside bytes (NotToml offset) same = omega (arith, offset_is offset same)
   where
-    offset_is : (at : ℕ) → NotToml 0 ≡ NotToml at → at ≡ 0
-    offset_is at same = cc
+    offset_is : (offset : ℕ) → NotToml 0 ≡ NotToml offset → offset ≡ 0
+    offset_is offset same = cc
 inside bytes (Missing key) same = tt
 inside bytes (Wrong key) same = tt
 inside bytes (Twice poi) same = tt
 inside bytes Memory same = tt
 
-pub reported : (bytes : List ℕ) (table : Members) (P : Setup → Type 0) (result : Result Setup ConfigFault) → length bytes ≤ document_limit
+pub reported : (bytes : List ℕ) (table : Members) (P : Setup → Type 0) (result : Result Setup ConfigFault) → nat_lt document_limit (length bytes) ≡ false
     → document_of bytes ≡ Some table → MatchResult result P (Reports (table_fault table))
     → IfErr result (λ fault. fault ≢ Memory → fault_in bytes ≡ Some (without_offset fault))
-reported bytes table P (Ok setup) short is read = tt
-reported bytes table P (Err fault) short is read = λ other.
-    in_document bytes table short is ∙ read other ∙ ap (λ (f : ConfigFault). Some f) (sym (at_table table fault (read other)))
+reported bytes table P (Ok setup) within is read = tt
+reported bytes table P (Err fault) within is read = λ other.
+    in_document bytes table within is ∙ read other ∙ ap (λ (f : ConfigFault). Some f) (sym (at_table table fault (read other)))
 
 pub reported_inside : (bytes : List ℕ) (table : Members) (P : Setup → Type 0) (result : Result Setup ConfigFault)
     → MatchResult result P (Reports (table_fault table)) → IfErr result (IsInsideOf bytes)
@@ -107,7 +104,7 @@ reported_inside bytes table P (Err fault) read = of_fault fault read
   where
     of_fault : (fault : ConfigFault) → Reports (table_fault table) fault → IsInsideOf bytes fault
     of_fault Long read = tt
-    of_fault (NotToml at) read = inside bytes (NotToml at) (at_table table (NotToml at) (read (λ same. cc)))
+    of_fault (NotToml offset) read = inside bytes (NotToml offset) (at_table table (NotToml offset) (read (λ same. cc)))
     of_fault (Missing key) read = tt
     of_fault (Wrong key) read = tt
     of_fault (Twice poi) read = tt

@@ -15,16 +15,16 @@ use Rattle.gw_config.specs.Faults.{terminal_fault, each_fault, pois_of, repeated
 use Rattle.gw_config.specs.Grammar.{IsPtOf, ArePtsOf}
 use Rattle.gw_config.specs.inner.Decode.{tables_of}
 
-pub array_values-items_of : (values : List Data) → array_values (items_of values) ≡ values
-array_values-items_of [] = refl
-array_values-items_of (value ∷ values) = ap (λ rest. value ∷ rest) (array_values-items_of values)
+pub array_values-elements : (values : List Data) → array_values (items_of values) ≡ values
+array_values-elements [] = refl
+array_values-elements (value ∷ values) = ap (λ rest. value ∷ rest) (array_values-elements values)
 
 -- the tables of an array, by a test of its values
 pub tables_among-view : (values : List Value) (test : Bool)
     → test ≡ (is_from_to 1 32 (length values) && list_all (λ value. is_some (as_table (view value))) values)
     → tables_among (array_values (items_view values)) ≡ (if test then Some (tables_of values) else None)
 tables_among-view values test is =
-    rw (array_values-items_of (map view values), length-map, list_all-map (λ value. is_some (as_table value)) view values, is) refl
+    rw (array_values-elements (map view values), length-map, list_all-map (λ value. is_some (as_table value)) view values, is) refl
 
 -- the tables from an index on: the one at the index, if there is a table, and those after it
 pub tables_of-drop : (values : List Value) (i : ℕ) (d : Value) → i < length values
@@ -36,7 +36,7 @@ pub record IsReadUpTo (values : List Value) (i : ℕ) (pts : List Pt) : Type 0 w
   pub read : (rest : List Pt) → ArePtsOf (tables_of (drop i values)) rest → ArePtsOf (tables_of values) (pts ++ rest)
   pub fault : each_fault (tables_of (drop i values)) ≡ each_fault (tables_of values)
 
--- the values from an index on, where a table stands at it
+-- the values from an index on, where a table is at it
 tables_from : (values : List Value) (i : ℕ) (value : Value) (table : Members) → i < length values
     → value ≡ get_or values i value → as_table (view value) ≡ Some table
     → tables_of (drop i values) ≡ table ∷ tables_of (drop (i + 1) values)
@@ -46,10 +46,10 @@ pub read_one : (values : List Value) (i : ℕ) (value : Value) (table : Members)
     → value ≡ get_or values i value → as_table (view value) ≡ Some table → terminal_fault table ≡ None → IsPtOf table pt
     → IsReadUpTo values i pts → IsReadUpTo values (i + 1) (pts ++ pt ∷ [])
 read_one values i value table pts pt within at is sound reads so_far =
-    let from = tables_from values i value table within at is in
+    let here = tables_from values i value table within at is in
     record {
-      read = λ rest more. rw append_assoc (so_far.read (pt ∷ rest) (rw from (reads, more)));
-      fault = rw (from, sound) at so_far.fault;
+      read = λ rest more. rw append_assoc (so_far.read (pt ∷ rest) (rw here (reads, more)));
+      fault = rw (here, sound) at so_far.fault;
     }
 
 pub pass_one : (values : List Value) (i : ℕ) (value : Value) (pts : List Pt) → i < length values

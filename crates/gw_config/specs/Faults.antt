@@ -99,7 +99,7 @@ table_fault table =
     ∷ key_fault [] terminal_key table ∷ terminals_fault (terminals_of table)
     ∷ unknown_faults table (terminals_of table) ∷ [])
 
--- the first fault of what may be a table; the offset in text that is no TOML isn't fixed, and stands as 0
+-- the first fault of what may be a table; the offset in text that is no TOML isn't fixed, and is given as 0
 abbrev pub document_fault : Option Members → Option ConfigFault
 document_fault None = Some (NotToml 0)
 document_fault (Some table) = table_fault table

@@ -68,4 +68,4 @@ tables_among values =
 
 -- an array of 1 to 32 tables
 abbrev pub some_tables : Data → Option (List Members)
-some_tables value = option_and_then (λ items. tables_among (array_values items)) (as_array value)
+some_tables value = option_and_then (λ elements. tables_among (array_values elements)) (as_array value)

@@ -28,24 +28,31 @@ optional name form default = key_rule name (Some default) form
 
 -- ---- the keys of the document
 
+-- where tills connect
 abbrev pub listen_key : KeyRule (List ℕ)
 listen_key = required (codes "listen") short_text
 
+-- the journal's file
 abbrev pub journal_key : KeyRule (List ℕ)
 journal_key = required (codes "journal") short_text
 
+-- the gateway's name, as it signs what it sends of its own accord
 abbrev pub name_key : KeyRule (List ℕ)
 name_key = optional (codes "name") identifier (codes "GATEWAY")
 
+-- how many requests may wait for a terminal
 abbrev pub line_key : KeyRule ℕ
 line_key = optional (codes "line") (integer_from 0 8) 0
 
+-- how many seconds a request may wait
 abbrev pub wait_key : KeyRule ℕ
 wait_key = optional (codes "wait") (integer_from 1 3600) 60
 
+-- how many slots the journal has
 abbrev pub slots_key : KeyRule ℕ
 slots_key = optional (codes "slots") (integer_from 2 1000000) 1000000
 
+-- the tables of the terminals
 abbrev pub terminal_key : KeyRule (List Members)
 terminal_key = required (codes "terminal") some_tables
 
@@ -57,27 +64,35 @@ document_names =
 
 -- ---- the keys of a terminal
 
+-- the name by which a till addresses the terminal
 abbrev pub poi_key : KeyRule (List ℕ)
 poi_key = required (codes "poi") identifier
 
+-- where the terminal listens
 abbrev pub address_key : KeyRule (List ℕ)
 address_key = required (codes "address") short_text
 
+-- the one currency of the terminal
 abbrev pub currency_key : KeyRule Currency
 currency_key = required (codes "currency") currency_code
 
+-- the terminal's password
 abbrev pub password_key : KeyRule (List ℕ)
 password_key = optional (codes "password") six_digits (0 ∷ 0 ∷ 0 ∷ [])
 
+-- the configuration byte of its registration
 abbrev pub config_key : KeyRule ℕ
 config_key = optional (codes "config") (integer_from 0 255) 0
 
+-- the result code with which it says that it has no last transaction
 abbrev pub none_key : KeyRule ℕ
 none_key = optional (codes "none") (integer_from 0 255) 131
 
+-- how many seconds it may be silent after a command
 abbrev pub answer_key : KeyRule ℕ
 answer_key = optional (codes "answer") (integer_from 1 60) 5
 
+-- how many seconds it may be silent after each of its messages
 abbrev pub command_key : KeyRule ℕ
 command_key = optional (codes "command") (integer_from 1 3600) 180
 
@@ -87,7 +102,7 @@ terminal_names =
     poi_key.name ∷ address_key.name ∷ currency_key.name ∷ password_key.name ∷ config_key.name ∷ none_key.name
     ∷ answer_key.name ∷ command_key.name ∷ []
 
--- what stands before the name of a terminal's key where a fault names it
+-- what precedes the name of a terminal's key where a fault names it
 abbrev pub terminal_prefix : List ℕ
 terminal_prefix = codes "terminal."
 

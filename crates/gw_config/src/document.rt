@@ -1,9 +1,9 @@
 //! The setup that a configuration document gives.
-ghost use Rattle.std.specs.Prelude.{◌≡◌, ◌≢◌, Some, None, codes, IfOk, IfErr, MatchResult};
+ghost use Rattle.std.specs.Prelude.{◌≡◌, ◌≢◌, nat_lt, Some, None, codes, IfOk, IfErr, MatchResult};
 ghost use Rattle.toml.specs.View.{table_view};
 ghost use Rattle.gw_base.specs.Setup.{IsSetup};
 ghost use Rattle.gw_config.specs.declared.fault.ConfigFault.TheVariants.{Memory, NotToml};
-ghost use Rattle.gw_config.specs.Faults.{table_fault, fault_in, without_offset, IsInsideOf};
+ghost use Rattle.gw_config.specs.Faults.{document_limit, table_fault, fault_in, without_offset, IsInsideOf};
 ghost use Rattle.gw_config.specs.Grammar.{document_of, IsSetupOf, IsSetupIn};
 ghost use Rattle.gw_config.specs.inner.Decode.{Reports};
 
@@ -12,11 +12,9 @@ use crate::section::Section;
 use crate::terminal::read_terminals;
 use crate::unknown::check_keys;
 use gw_base::{Ident, Pts, Setup};
+use gw_bytes::{FEWEST_SLOTS, LONGEST_CONFIGURATION, LONGEST_WAIT, MOST_SLOTS, MOST_WAITING};
 use std::alloc::Global;
 use toml::Table;
-
-/// How many bytes a document may have.
-const DOCUMENT_LIMIT: usize = 65_536;
 
 /// The setup that a configuration document gives, or the first fault of the document.
 pub fn read_setup(alloc: Global, bytes: &[u8]) -> Result<Setup, ConfigFault>
@@ -29,23 +27,31 @@ pub fn read_setup(alloc: Global, bytes: &[u8]) -> Result<Setup, ConfigFault>
     ensures fault { IfErr result (λ fault. fault ≢ Memory → fault_in bytes.now ≡ Some (without_offset fault)) }
     ensures offset { IfErr result (IsInsideOf bytes.now) }
 {
-    if bytes.len() > DOCUMENT_LIMIT {
+    if is_too_long(bytes.len()) {
         return Err(ConfigFault::Long);
     }
     let table = read_table(alloc, bytes)?;
     read_document(alloc, &table)
 }
 
+/// Whether a document of so many bytes is too long.
+fn is_too_long(length: usize) -> bool
+    ensures { result ≡ nat_lt document_limit length }
+{
+    length > LONGEST_CONFIGURATION
+}
+
 /// The table that bytes are.
 fn read_table(alloc: Global, bytes: &[u8]) -> Result<Table, ConfigFault>
     ensures table { MatchResult result (λ table. document_of bytes.now ≡ Some (table_view table))
         (λ fault. fault ≢ Memory → document_of bytes.now ≡ None) }
-    ensures kind { IfErr result (λ fault. fault ≢ Memory → without_offset fault ≡ NotToml 0) }
+    ensures fault { IfErr result (λ fault. fault ≢ Memory → without_offset fault ≡ NotToml 0) }
     ensures offset { IfErr result (IsInsideOf bytes.now) }
 {
     match toml::table_from_slice(alloc, bytes) {
         Ok(table) => Ok(table),
         Err(error) => match error.span() {
+            // Only the error for refused memory has no offset.
             None => Err(ConfigFault::Memory),
             Some(span) => Err(ConfigFault::NotToml { at: span.start }),
         },
@@ -62,14 +68,15 @@ fn read_document(alloc: Global, table: &Table) -> Result<Setup, ConfigFault>
     let listen = document.text(alloc, "listen")?;
     let journal = document.text(alloc, "journal")?;
     let name = document.identifier(alloc, "name", default_name())?;
-    let line = document.integer(alloc, "line", 0, 8, 0)? as u8;
-    let wait = document.integer(alloc, "wait", 1, 3600, 60)?;
-    let slots = document.integer(alloc, "slots", 2, 1_000_000, 1_000_000)?;
+    let line = document.integer(alloc, "line", 0, MOST_WAITING as u32, 0)? as u8;
+    let wait = document.integer(alloc, "wait", 1, LONGEST_WAIT as u32, 60)?;
+    let slots = document.integer(alloc, "slots", FEWEST_SLOTS, MOST_SLOTS, MOST_SLOTS)?;
     let values = match document.tables(alloc, "terminal") {
         Ok(values) => values,
         Err(fault) => return Err(fault),
     };
     let terminals = read_terminals(alloc, values)?;
+    // Last, so that a key whose name is misspelt is reported as missing where it has to be there.
     check_keys(alloc, table, values)?;
     Ok(Setup {
         name,

@@ -44,7 +44,7 @@ impl From<AllocError> for ConfigFault {
 
 impl ConfigFault {
     ghost use Rattle.std.specs.Prelude.{◌≡◌, IfOk};
-    ghost use Rattle.gw_config.specs.Line.{fault_line};
+    ghost use Rattle.gw_config.specs.FaultLine.{fault_line};
 
     /// The line that the program prints for the fault, without its end.
     pub fn line(&self, alloc: Global) -> Result<Bytes, AllocError>

@@ -10,6 +10,7 @@ ghost use Rattle.gw_config.specs.inner.Decode.{tables_of};
 ghost use Rattle.gw_config.specs.Form.{is_from_to, short_text, identifier, integer_from, currency_code, six_digits, some_tables};
 
 use gw_base::{Currency, Ident};
+use gw_bytes::MOST_TERMINALS;
 use toml::Value;
 
 /// A text of 1 to 255 bytes.
@@ -33,6 +34,7 @@ pub(crate) fn identifier(value: &Value) -> Option<Ident<40>>
 pub(crate) fn integer_from(value: &Value, low: u32, high: u32) -> Option<u32>
     ensures { result ≡ integer_from low high (view value.now) }
 {
+    // TOML's integers have a sign: a negative one is out of every range here.
     let number = u32::try_from(value.as_integer()?).ok()?;
     if (low..=high).contains(&number) {
         Some(number)
@@ -90,7 +92,7 @@ fn are_tables(values: &[Value]) -> bool
     ensures { result ≡ (is_from_to 1 32 (length values.now)
         && list_all (λ value. is_some (as_table (view value))) values.now) }
 {
-    (1..=32).contains(&values.len()) && are_all_tables(values)
+    (1..=MOST_TERMINALS).contains(&values.len()) && are_all_tables(values)
 }
 
 /// Whether each of these values is a table.

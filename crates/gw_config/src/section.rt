@@ -16,7 +16,7 @@ use toml::{Table, Value};
 #[derive(Clone, Copy)]
 pub(crate) struct Section<'a> {
     pub(crate) table: &'a Table,
-    /// What stands before the name of a key where a fault names it.
+    /// What precedes the name of a key where a fault names it.
     pub(crate) prefix: &'static str,
 }
 

@@ -9,10 +9,11 @@ use crate::ConfigFault;
 use crate::section::Section;
 use crate::unique::first_repeated;
 use gw_base::Pt;
+use gw_bytes::{LONGEST_ANSWER, LONGEST_WAIT};
 use std::alloc::Global;
 use toml::{Table, Value};
 
-/// What stands before the name of a terminal's key where a fault names it.
+/// What precedes the name of a terminal's key where a fault names it.
 pub(crate) const PREFIX: &str = "terminal.";
 
 /// The terminals of the tables among these values, whose POIIDs have to differ.
@@ -21,6 +22,7 @@ pub(crate) fn read_terminals(alloc: Global, values: &[Value]) -> Result<Vec<Pt>,
         (λ pts. (terminals_fault (tables_of values.now) ≡ None) × ArePtsOf (tables_of values.now) pts.items)
         (Reports (terminals_fault (tables_of values.now))) }
 {
+    // Every terminal is read first, so that two of one name are reported only where each is well-formed.
     let pts = read_each(alloc, values)?;
     match first_repeated(&pts) {
         None => Ok(pts),
@@ -59,8 +61,8 @@ fn read_terminal(alloc: Global, table: &Table) -> Result<Pt, ConfigFault>
     let password = section.six_digits(alloc, "password")?;
     let config = section.integer(alloc, "config", 0, 255, 0)? as u8;
     let none = section.integer(alloc, "none", 0, 255, 131)? as u8;
-    let answer = section.integer(alloc, "answer", 1, 60, 5)?;
-    let command = section.integer(alloc, "command", 1, 3600, 180)?;
+    let answer = section.integer(alloc, "answer", 1, LONGEST_ANSWER as u32, 5)?;
+    let command = section.integer(alloc, "command", 1, LONGEST_WAIT as u32, 180)?;
     Ok(Pt {
         poi,
         address,

@@ -8,7 +8,8 @@ use std::test::Fail;
 const HEAD: &str = "listen = 'l'\njournal = 'j'\n";
 
 /// The document examples/gateway.toml, byte for byte, as tools/check-configuration sees.
-const EXAMPLE: &str = r#"# A gateway for one terminal, with as many keys as a usual one has. Those that are absent have their defaults.
+const EXAMPLE: &str =
+    r#"# A gateway for one terminal, with as many keys as a usual one has. Those that are absent have their defaults.
 listen = "127.0.0.1:7000"
 journal = "gateway.jrn"
 line = 2
@@ -23,7 +24,7 @@ config = 186
 /// A terminal with the keys that it has to have.
 const TERMINAL: &str = "[[terminal]]\npoi = 'T1'\naddress = 'a'\ncurrency = 'EUR'\n";
 
-/// What stands in place of the head, and the line that the document gets.
+/// What replaces the head, and the line that the document gets.
 const HEADS: [(&str, &str); 33] = [
     ("listen = 'l'\njournal = 'j'\n", "accepted"),
     ("", "config missing listen"),
@@ -111,7 +112,7 @@ const HEADS: [(&str, &str); 33] = [
     ),
 ];
 
-/// What stands in place of the terminal, and the line that the document gets.
+/// What replaces the terminal, and the line that the document gets.
 const TERMINALS: [(&str, &str); 18] = [
     ("", "config missing terminal"),
     ("terminal = []\n", "config wrong terminal"),
@@ -160,7 +161,7 @@ const TERMINALS: [(&str, &str); 18] = [
     ),
 ];
 
-/// What stands after the terminal, and the line that the document gets.
+/// What follows the terminal, and the line that the document gets.
 const MORE: [(&str, &str); 27] = [
     ("password = '999999'\n", "accepted"),
     ("password = '12345'\n", "config wrong terminal.password"),
@@ -223,7 +224,7 @@ fn letters(alloc: Global, count: usize) -> Result<String, AllocError> {
     Ok(text)
 }
 
-/// The fault lines of lines that stand in place of those of the head.
+/// The fault lines of lines that replace those of the head.
 #[test]
 fn heads(rt: HostRuntime) -> Result<(), Fail> {
     let alloc = rt.alloc();
@@ -234,7 +235,7 @@ fn heads(rt: HostRuntime) -> Result<(), Fail> {
     Ok(())
 }
 
-/// The fault lines of what stands in place of the terminal.
+/// The fault lines of what replaces the terminal.
 #[test]
 fn terminals(rt: HostRuntime) -> Result<(), Fail> {
     let alloc = rt.alloc();
@@ -249,7 +250,7 @@ fn terminals(rt: HostRuntime) -> Result<(), Fail> {
     Ok(())
 }
 
-/// The fault lines of what stands after the terminal.
+/// The fault lines of what follows the terminal.
 #[test]
 fn after_terminals(rt: HostRuntime) -> Result<(), Fail> {
     let alloc = rt.alloc();

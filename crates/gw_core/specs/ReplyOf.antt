@@ -20,7 +20,7 @@ AreSameReplies None (Some reply) = ⊥
 AreSameReplies (Some given) None = ⊥
 AreSameReplies (Some given) (Some reply) = IsSameReply given reply
 
--- what is given is the answer to the message, by a gateway of this name at this moment
+-- what is given is the reply to the message, by a gateway of this name at this moment
 abbrev pub IsReplyTo : List ℕ → ℕ → List ℕ → Option SaleReply → Type 0
 IsReplyTo name moment message given = (reply : Option Reply) × RepliesTo name moment message reply × AreSameReplies given reply
 

@@ -4,4 +4,4 @@
 mod refusal;
 mod till;
 
-pub use till::answer;
+pub use till::reply;

@@ -4,7 +4,7 @@ ghost use Rattle.gw_base.specs.Moment.{moment_of};
 ghost use Rattle.gw_base.specs.Ident.{IsIdent};
 ghost use Rattle.gw_rules.specs.Reply.{Displayed, Printed, Reject};
 ghost use Rattle.gw_core.specs.ReplyOf.{IsSameReply, AreSameReplies};
-ghost use Rattle.gw_rules.specs.Replies.{is_device as sent_by_device, reply_header as header_of_reply, refusal as refusal_of, malformed as malformed_at, refused as refused_for, asks_response as some_asks, refused_output as shown_of, malformed_reply, reject as reject_of_rules, no_output};
+ghost use Rattle.gw_rules.specs.Replies.{is_device as sent_by_device, reply_header as header_of_reply, refusal as refusal_of, malformed as malformed_at, refused as refused_for, asks_response as some_asks, refused_output, malformed_reply, reject as reject_of_rules, no_output};
 
 use arrayvec::ArrayVec;
 use gw_base::{Condition, Ident, to_moment};
@@ -117,7 +117,7 @@ fn asks_response(outputs: &[Output]) -> bool
 /// Adds an output that no terminal shows.
 fn push_not_shown(shown: &mut ArrayVec<Shown, 16>, output: &Output)
     requires { length shown.now.items < 16 }
-    ensures { shown.new.items ≡ shown.old.items ++ shown_of output.now ∷ [] }
+    ensures { shown.new.items ≡ shown.old.items ++ refused_output output.now ∷ [] }
 {
     let verdict = Verdict {
         condition: Some(Condition::UnavailableDevice),
@@ -130,10 +130,10 @@ fn push_not_shown(shown: &mut ArrayVec<Shown, 16>, output: &Output)
     });
 }
 
-/// The result of each output, none of which any terminal shows.
+/// The result of each output: no terminal shows one.
 fn none_shown(outputs: &[Output]) -> ArrayVec<Shown, 16>
     requires { length outputs.now ≤ 16 }
-    ensures { result.items ≡ map shown_of outputs.now }
+    ensures { result.items ≡ map refused_output outputs.now }
 {
     let mut shown = ArrayVec::new();
     for output in outputs {
@@ -142,10 +142,10 @@ fn none_shown(outputs: &[Output]) -> ArrayVec<Shown, 16>
     shown
 }
 
-/// The answer to a Display, where an output asks for one.
-pub(crate) fn display_answer(header: &Header, outputs: &[Output]) -> Option<SaleReply<'static>>
+/// The reply to a Display, where an output asks for a response.
+pub(crate) fn display_reply(header: &Header, outputs: &[Output]) -> Option<SaleReply<'static>>
     requires { length outputs.now ≤ 16 }
-    ensures { AreSameReplies result (if some_asks outputs.now then Some (Displayed (header_of_reply header.now) (map shown_of outputs.now)) else None) }
+    ensures { AreSameReplies result (if some_asks outputs.now then Some (Displayed (header_of_reply header.now) (map refused_output outputs.now)) else None) }
 {
     if !asks_response(outputs) {
         return None;
@@ -156,7 +156,7 @@ pub(crate) fn display_answer(header: &Header, outputs: &[Output]) -> Option<Sale
     })
 }
 
-/// The answer to a Print.
+/// The reply to a Print.
 pub(crate) fn printed(
     header: &Header,
     qualifier: &Ident<40>,
@@ -171,10 +171,11 @@ pub(crate) fn printed(
     }
 }
 
-/// The answer to a Display with a member that is absent or of another form: one output stands for all.
+/// The reply to a Display with a member that is absent or of another form: one output for all.
 fn malformed_display(header: &Header, path: Ident<100>) -> SaleReply<'static>
     ensures { IsSameReply result (Displayed (header_of_reply header.now) (no_output path ∷ [])) }
 {
+    // The outputs may be what is malformed, so none of their names can be repeated.
     let mut outputs = ArrayVec::new();
     outputs.push(Shown {
         device: constant("CustomerDisplay"),
@@ -187,11 +188,12 @@ fn malformed_display(header: &Header, path: Ident<100>) -> SaleReply<'static>
     }
 }
 
-/// The answer to a body in which the member at this path is absent or of another form.
-pub(crate) fn malformed_answer(now: i64, header: &Header, path: Ident<100>) -> SaleReply<'static>
+/// The reply to a body in which the member at this path is absent or of another form.
+pub(crate) fn malformed_body(now: i64, header: &Header, path: Ident<100>) -> SaleReply<'static>
     ensures { IsSameReply result (malformed_reply (moment_of now) header.now path) }
 {
     let category = header.category.as_bytes();
+    // nexo has no response to an Abort.
     if category == b"Abort".as_slice() {
         return reject(&header.sale, &header.poi, now, Detail::Body(path));
     }

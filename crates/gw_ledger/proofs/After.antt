@@ -34,25 +34,25 @@ get_push (z ∷ xs) x (suc i) y found = elim (get_push xs x i y found) [
 ]
 
 -- one more record that fits
-Fit-push : (before rest : List Record) (item : Record) → Fit before rest → IsTrue (fits (before ++ rest) item) → Fit before (rest ++ item ∷ [])
-Fit-push before [] item fit fitting = (subst (λ records. IsTrue (fits records item)) (append-nil before) fitting, tt)
-Fit-push before (first ∷ rest) item fit fitting =
-    (fit.0, Fit-push (before ++ first ∷ []) rest item fit.1 (subst (λ records. IsTrue (fits records item)) (sym (append_assoc before (first ∷ []) rest)) fitting))
+Fit-push : (before rest : List Record) (the_record : Record) → Fit before rest → IsTrue (fits (before ++ rest) the_record) → Fit before (rest ++ the_record ∷ [])
+Fit-push before [] the_record fit fitting = (subst (λ records. IsTrue (fits records the_record)) (append-nil before) fitting, tt)
+Fit-push before (first ∷ rest) the_record fit fitting =
+    (fit.0, Fit-push (before ++ first ∷ []) rest the_record fit.1 (subst (λ records. IsTrue (fits records the_record)) (sym (append_assoc before (first ∷ []) rest)) fitting))
 
-pub folded_push : (records : List Record) (item : Record) → AreFolded records → IsRecord item → IsTrue (fits records item)
-    → AreFolded (records ++ item ∷ [])
-folded_push records item folded lawful fitting = record {
-  lawful = All-push IsRecord records item folded.lawful lawful;
-  fit = Fit-push [] records item folded.fit fitting;
+pub folded_push : (records : List Record) (the_record : Record) → AreFolded records → IsRecord the_record → IsTrue (fits records the_record)
+    → AreFolded (records ++ the_record ∷ [])
+folded_push records the_record folded within fitting = record {
+  within = All-push IsRecord records the_record folded.within within;
+  fit = Fit-push [] records the_record folded.fit fitting;
 }
 
 -- a record's Intent is that of an earlier record, or of the last
-pub intent_push : (records : List Record) (item : Record) (slot : ℕ) (intent : TheIntent) → intent_at (records ++ item ∷ []) slot ≡ Some intent
-    → ((slot < length records) × (intent_at records slot ≡ Some intent)) ⊎ ((slot ≡ length records) × (as_intent item ≡ Some intent))
-intent_push [] item zero intent found = inr (refl, found)
-intent_push [] item (suc slot) intent found = cc
-intent_push (first ∷ records) item zero intent found = inl (omega arith, found)
-intent_push (first ∷ records) item (suc slot) intent found = elim (intent_push records item slot intent found) [
+pub intent_push : (records : List Record) (the_record : Record) (slot : ℕ) (intent : TheIntent) → intent_at (records ++ the_record ∷ []) slot ≡ Some intent
+    → ((slot < length records) × (intent_at records slot ≡ Some intent)) ⊎ ((slot ≡ length records) × (as_intent the_record ≡ Some intent))
+intent_push [] the_record zero intent found = inr (refl, found)
+intent_push [] the_record (suc slot) intent found = cc
+intent_push (first ∷ records) the_record zero intent found = inl (omega arith, found)
+intent_push (first ∷ records) the_record (suc slot) intent found = elim (intent_push records the_record slot intent found) [
   | inl before ↦ inl (omega (arith, before.0), before.1)
   | inr last ↦ inr (ap suc last.0, last.1)
 ]
@@ -71,21 +71,21 @@ one_if-le : (b : Bool) → one_if b ≤ 1
 one_if-le true = omega arith
 one_if-le false = omega arith
 
-counted : (test : Record → Bool) (past : List Placed) → sum_over (λ before item. one_if (test item)) past ≤ length past
+counted : (test : Record → Bool) (past : List Placed) → sum_over (λ before the_record. one_if (test the_record)) past ≤ length past
 counted test [] = omega arith
-counted test (p ∷ older) = omega (arith, counted test older, one_if-le (test p.item))
+counted test (p ∷ older) = omega (arith, counted test older, one_if-le (test p.the_record))
 
 pub count-le : (records : List Record) (test : Record → Bool) → count_all records test ≤ length records
 count-le records test = subst (λ n. count_all records test ≤ n) (length-history records) (counted test (history records))
 
-open_with-le : (item : Record) (count : ℕ) → open_with item count ≤ count + 1
+open_with-le : (the_record : Record) (count : ℕ) → open_with the_record count ≤ count + 1
 open_with-le (Intent intent) count = omega arith
 open_with-le (Outcome outcome) count = omega arith
 open_with-le (Settled settled) count = omega arith
 
 opened : (past : List Placed) → open_in past ≤ length past
 opened [] = omega arith
-opened (p ∷ older) = omega (arith, opened older, open_with-le p.item (open_in older))
+opened (p ∷ older) = omega (arith, opened older, open_with-le p.the_record (open_in older))
 
 pub open-le : (records : List Record) → open_in (history records) ≤ length records
 open-le records = subst (λ n. open_in (history records) ≤ n) (length-history records) (opened (history records))

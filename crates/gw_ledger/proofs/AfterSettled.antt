@@ -70,12 +70,12 @@ module _ (records : List Record) (settled : TheSettled) where
     -- the sums over the records after the last Settled, where the new one is of this terminal, or isn't
     sums_with : Bool → Currency → Sums
     sums_with b currency = record {
-      debit = (sum_over (λ before item. one_if (approves poi currency Payment before item)) (past b), sum_over (λ before item. if approves poi currency Payment before item then minor_in item else 0) (past b));
-      reversed = (sum_over (λ before item. one_if (approves poi currency Reversal before item)) (past b), sum_over (λ before item. if approves poi currency Reversal before item then minor_in item else 0) (past b));
+      debit = (sum_over (λ before the_record. one_if (approves poi currency Payment before the_record)) (past b), sum_over (λ before the_record. if approves poi currency Payment before the_record then minor_in the_record else 0) (past b));
+      reversed = (sum_over (λ before the_record. one_if (approves poi currency Reversal before the_record)) (past b), sum_over (λ before the_record. if approves poi currency Reversal before the_record then minor_in the_record else 0) (past b));
     }
       where
         past : Bool → List Placed
-        past b = if b then [] else record { before = records; item = Settled settled } ∷ unsettled poi (history records)
+        past b = if b then [] else record { before = records; the_record = Settled settled } ∷ unsettled poi (history records)
 
     sums_by_tie : (currency : Currency) (b : Bool)
         → sums_in_row (Some desk) currency ≡ no_sums → sums_in_row old currency ≡ sums_of records poi currency

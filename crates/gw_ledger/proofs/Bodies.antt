@@ -15,9 +15,9 @@ take_next bodies i body found = rw (add-one i) (go bodies i body found)
     go (first ∷ bodies) zero body found = cc
     go (first ∷ bodies) (suc i) body found = ap (λ rest. first ∷ rest) (go bodies i body found)
 
-map-push : (records : List Record) (item : Record) → map record_body (records ++ item ∷ []) ≡ map record_body records ++ record_body item ∷ []
-map-push [] item = refl
-map-push (first ∷ records) item = ap (λ rest. record_body first ∷ rest) (map-push records item)
+map-push : (records : List Record) (the_record : Record) → map record_body (records ++ the_record ∷ []) ≡ map record_body records ++ record_body the_record ∷ []
+map-push [] the_record = refl
+map-push (first ∷ records) the_record = ap (λ rest. record_body first ∷ rest) (map-push records the_record)
 
 length-map_bodies : (records : List Record) → length (map record_body records) ≡ length records
 length-map_bodies [] = refl
@@ -35,8 +35,8 @@ records_so_far bodies records i are inside =
 pub one_more : (bodies : List (List ℕ)) (records after : List Record) (i : ℕ) (body : List ℕ) → slice_get bodies i ≡ Some body
     → AreBodiesOf (take i bodies) records → IsTaken records body after → AreBodiesOf (take (i + 1) bodies) after
 one_more bodies records after i body found are taken = record {
-  bodies_are = take_next bodies i body found ∙ rw (are.bodies_are, taken.body_is, taken.after_is, map-push records taken.item) refl;
-  folded = rw taken.after_is (folded_push records taken.item are.folded taken.lawful taken.fitting);
+  bodies_are = take_next bodies i body found ∙ rw (are.bodies_are, taken.body_is, taken.after_is, map-push records taken.the_record) refl;
+  folded = rw taken.after_is (folded_push records taken.the_record are.folded taken.within taken.fitting);
 }
 
 pub first_bad : (bodies : List (List ℕ)) (records : List Record) (i : ℕ) (body : List ℕ) → slice_get bodies i ≡ Some body → i < length bodies
@@ -45,7 +45,7 @@ first_bad bodies records i body found inside are refused = record {
   records = records;
   before = are;
   inside = inside;
-  none_fits = λ item lawful same fitting. refused item lawful (the_same body (record_body item) (sym found ∙ same)) fitting;
+  none_fits = λ the_record within same fitting. refused the_record within (the_same body (record_body the_record) (sym found ∙ same)) fitting;
 }
   where
     the_same : (a b : List ℕ) → Some a ≡ Some b → a ≡ b

@@ -7,7 +7,7 @@ use Rattle.gw_ledger.specs.Tables.{AreTables}
 pub tables_empty : AreTables [] [] [] [] [] [] (record { accepted = 0; approved = 0; declined = 0; unresolved = 0; sum = 0 })
 unfolding history IsTable
 tables_empty = record {
-  folded = record { lawful = λ i d lt. absurd (omega arith); fit = tt };
+  folded = record { within = λ i d lt. absurd (omega arith); fit = tt };
   few = omega arith;
   marks_len = refl;
   marks_are = λ slot lt. absurd (omega arith);

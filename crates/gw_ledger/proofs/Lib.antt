@@ -1,3 +1,4 @@
+-- The lemmas of this crate.
 pub mod After
 pub mod AfterIntent
 pub mod AfterOutcome
@@ -6,6 +7,8 @@ pub mod Along
 pub mod Bodies
 pub mod Empty
 pub mod Marks
+pub mod NamedLemmas
+pub mod OpenLemmas
 pub mod Push
 pub mod Rows
 pub mod Tied

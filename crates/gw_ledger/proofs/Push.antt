@@ -4,14 +4,14 @@ use Rattle.std.proofs.lemmas.List.{append-nil, reverse-append}
 use Rattle.jrn_record.specs.declared.records.Record.{Record}
 use Rattle.gw_ledger.specs.History.{placed_after, history}
 
-placed_after-push : (before rest : List Record) (item : Record)
-    → placed_after before (rest ++ item ∷ []) ≡ placed_after before rest ++ record { before = before ++ rest; item = item } ∷ []
-placed_after-push before [] item = rw (append-nil before) refl
-placed_after-push before (first ∷ rest) item =
-    rw (placed_after-push (before ++ first ∷ []) rest item, append_assoc before (first ∷ []) rest) refl
+placed_after-push : (before rest : List Record) (the_record : Record)
+    → placed_after before (rest ++ the_record ∷ []) ≡ placed_after before rest ++ record { before = before ++ rest; the_record = the_record } ∷ []
+placed_after-push before [] the_record = rw (append-nil before) refl
+placed_after-push before (first ∷ rest) the_record =
+    rw (placed_after-push (before ++ first ∷ []) rest the_record, append_assoc before (first ∷ []) rest) refl
 
 -- one more record comes first in the history, with all the others before it
-pub history-push : (records : List Record) (item : Record)
-    → history (records ++ item ∷ []) ≡ record { before = records; item = item } ∷ history records
+pub history-push : (records : List Record) (the_record : Record)
+    → history (records ++ the_record ∷ []) ≡ record { before = records; the_record = the_record } ∷ history records
 unfolding history
-history-push records item = rw (placed_after-push [] records item, reverse-append (placed_after [] records) (record { before = records; item = item } ∷ [])) refl
+history-push records the_record = rw (placed_after-push [] records the_record, reverse-append (placed_after [] records) (record { before = records; the_record = the_record } ∷ [])) refl

@@ -195,18 +195,18 @@ module _ {K V : Type 0} {R : K → K → Ordering} (o : IsTotalOrder R) where
       above_gap sorted i j lt gt inside (inr (inl here)) = rw (key_here i here, key_above j gt) (flipped _ (gap.above (j - 1) d (omega arith) inside))
       above_gap sorted i j lt gt inside (inr (inr above)) = rw (key_above i above, key_above j gt) (sorted (i - 1) (j - 1) d (omega arith) inside)
 
-      by_place : IsTable R rows → (i j : ℕ) → i < j → j < length rows + 1 → (j < at) ⊎ (j ≡ at) ⊎ (at < j)
+      by_index : IsTable R rows → (i j : ℕ) → i < j → j < length rows + 1 → (j < at) ⊎ (j ≡ at) ⊎ (at < j)
           → R (get_or (insert rows at (k, v)) i d).0 (get_or (insert rows at (k, v)) j d).0 ≡ Less
       unfolding IsTable
-      by_place sorted i j lt inside (inl below) =
+      by_index sorted i j lt inside (inl below) =
           let within = gap.inside in rw (key_below i (omega arith), key_below j below) (sorted i j d lt (omega arith))
-      by_place sorted i j lt inside (inr (inl here)) = rw (key_below i (omega arith), key_here j here) (gap.below i d (omega arith))
-      by_place sorted i j lt inside (inr (inr above)) = above_gap sorted i j lt above (omega arith) (three i at)
+      by_index sorted i j lt inside (inr (inl here)) = rw (key_below i (omega arith), key_here j here) (gap.below i d (omega arith))
+      by_index sorted i j lt inside (inr (inr above)) = above_gap sorted i j lt above (omega arith) (three i at)
 
     pub table_insert : IsTable R rows → (v : V) → IsTable R (insert rows at (k, v))
     unfolding IsTable
     table_insert sorted v i j d lt inside =
-        by_place v d sorted i j lt (omega (arith, length-insert rows at (k, v) gap.inside)) (three j at)
+        by_index v d sorted i j lt (omega (arith, length-insert rows at (k, v) gap.inside)) (three j at)
 
 -- no value isn't some value
 pub none_has_value : {V : Type 0} (value : Option V) → value ≡ None → IsSome value → ⊥

@@ -32,9 +32,10 @@ account_with at (Settled settled) a = record { unresolved = a.unresolved; number
 abbrev pub account_in : List ℕ → List Placed → Account
 account_in poi [] = new_account
 account_in poi (p ∷ older) =
-    if is_poi poi (poi_of p.before p.item) then account_with (length p.before) p.item (account_in poi older)
+    if is_poi poi (poi_of p.before p.the_record) then account_with (length p.before) p.the_record (account_in poi older)
     else account_in poi older
 
+-- a terminal after all records
 abbrev pub account_of : List Record → List ℕ → Account
 account_of records poi = account_in poi (history records)
 

@@ -36,6 +36,7 @@ payment poi service amount before = record {
   moment = pos 0;
 }
 
+-- its record
 abbrev pay : List ℕ → List ℕ → ℕ → ℕ → Record
 pay poi service amount before = Intent (payment poi service amount before)
 
@@ -55,9 +56,11 @@ reversal poi service original amount before = record {
   moment = pos 0;
 }
 
+-- its record
 abbrev undo : List ℕ → List ℕ → ℕ → ℕ → ℕ → Record
 undo poi service original amount before = Intent (reversal poi service original amount before)
 
+-- an approval of the Intent at this slot
 abbrev approval : ℕ → ℕ → ℕ → TheOutcome
 approval slot number amount = record {
   approved = true;
@@ -69,9 +72,11 @@ approval slot number amount = record {
   moment = pos 0;
 }
 
+-- its record
 abbrev approved : ℕ → ℕ → ℕ → Record
 approved slot number amount = Outcome (approval slot number amount)
 
+-- a refusal of the Intent at this slot, which was aborted
 abbrev refusal : ℕ → TheOutcome
 refusal slot = record {
   approved = false;
@@ -83,9 +88,11 @@ refusal slot = record {
   moment = pos 0;
 }
 
+-- its record
 abbrev declined : ℕ → Record
 declined slot = Outcome (refusal slot)
 
+-- a reconciliation of a terminal
 abbrev reconciliation : List ℕ → List ℕ → TheSettled
 reconciliation poi service = record {
   how = Sale;
@@ -96,6 +103,7 @@ reconciliation poi service = record {
   moment = pos 0;
 }
 
+-- its record
 abbrev settled : List ℕ → List ℕ → Record
 settled poi service = Settled (reconciliation poi service)
 
@@ -123,10 +131,11 @@ example_totals_after : (count_of (day ++ settled (codes "A") (codes "4") ∷ [])
 unfolding history
 example_totals_after = (refl, refl)
 
--- the totals of the day, and none
+-- the totals of the day
 abbrev day_totals : Totals
 day_totals = record { debit = (2, 1599); reversed = (1, 1099); currency = Eur }
 
+-- no totals
 abbrev no_totals : Totals
 no_totals = record { debit = (0, 0); reversed = (0, 0); currency = Eur }
 
@@ -134,7 +143,7 @@ no_totals = record { debit = (0, 0); reversed = (0, 0); currency = Eur }
 abbrev across : List Record
 across = day ++ pay (codes "A") (codes "4") 100 125 ∷ settled (codes "A") (codes "5") ∷ approved 6 126 100 ∷ []
 
--- the whole of the totals: those of the day, none after a reconciliation, and payments by the place of their Outcomes
+-- the whole of the totals: those of the day, none after a reconciliation, and payments by the slots of their Outcomes
 example_all_totals : (totals_of day (codes "A") Eur ≡ day_totals)
     × (totals_of (day ++ settled (codes "A") (codes "4") ∷ []) (codes "A") Eur ≡ no_totals)
     × (totals_of (day ++ settled (codes "B") (codes "4") ∷ []) (codes "A") Eur ≡ day_totals)

@@ -47,9 +47,10 @@ may_reverse records intent (Some slot) =
     is_approved_payment intent.poi intent.currency intent.amount (entry_at records slot)
     && not (is_reversed records slot) && not (is_settled records slot)
 
-abbrev pub has_lawful_original : List Record → TheIntent → Deal → Bool
-has_lawful_original records intent Payment = true
-has_lawful_original records intent Reversal = may_reverse records intent intent.original
+-- the Intent is a payment, or a reversal whose original it may reverse
+abbrev pub has_fitting_original : List Record → TheIntent → Deal → Bool
+has_fitting_original records intent Payment = true
+has_fitting_original records intent Reversal = may_reverse records intent intent.original
 
 -- an approved number is above the number before it
 abbrev pub rises : Bool → ℕ → Option TheIntent → Bool
@@ -58,12 +59,12 @@ rises true number (Some intent) = nat_lt intent.before number
 rises false number (Some intent) = true
 
 -- the record may come after these: an Intent or a Settled has a new key; an Intent's terminal has no open Intent, and
--- its number before isn't below the terminal's last number; a reversal has a lawful original; an Outcome is of an open
--- Intent, and an approved one has a greater number
+-- its number before isn't below the terminal's last number; a reversal has an original that it may reverse; an Outcome
+-- is of an open Intent, and an approved one has a greater number
 abbrev pub fits : List Record → Record → Bool
 fits records (Intent intent) =
     is_unknown records (intent_key intent) && not (is_some (open_slot records intent.poi))
-    && nat_le (last_number_of records intent.poi) intent.before && has_lawful_original records intent intent.what
+    && nat_le (last_number_of records intent.poi) intent.before && has_fitting_original records intent intent.what
 fits records (Outcome outcome) =
     is_open records outcome.slot && rises outcome.approved outcome.number (intent_at records outcome.slot)
 fits records (Settled settled) = is_unknown records (settled_key settled)
@@ -71,11 +72,11 @@ fits records (Settled settled) = is_unknown records (settled_key settled)
 -- each of the records may come after those before it
 abbrev pub Fit : List Record → List Record → Type 0
 Fit before [] = Unit {0}
-Fit before (item ∷ rest) = IsTrue (fits before item) × Fit (before ++ item ∷ []) rest
+Fit before (the_record ∷ rest) = IsTrue (fits before the_record) × Fit (before ++ the_record ∷ []) rest
 
 -- the records that a ledger is the fold of: each within its limits, and each after those before it
 pub record AreFolded (records : List Record) : Type 0 where
-  pub lawful : All IsRecord records
+  pub within : All IsRecord records
   pub fit : Fit [] records
 
 -- the bodies are those of records that are folded
@@ -88,7 +89,7 @@ pub record IsFirstBad (bodies : List (List ℕ)) (slot : ℕ) : Type 0 where
   pub records : List Record
   pub before : AreBodiesOf (take slot bodies) records
   pub inside : slot < length bodies
-  pub none_fits : (item : Record) → IsRecord item → slice_get bodies slot ≡ Some (record_body item) → IsTrue (fits records item) → ⊥
+  pub none_fits : (the_record : Record) → IsRecord the_record → slice_get bodies slot ≡ Some (record_body the_record) → IsTrue (fits records the_record) → ⊥
 
 -- what a refused record has, where it was refused for what it is; without memory nothing
 abbrev pub IfBad : (ℕ → Type 0) → LedgerFault → Type 0
@@ -97,15 +98,15 @@ IfBad P Memory = Unit {0}
 
 -- the body is that of a record that may come next, and the records have it
 pub record IsTaken (before : List Record) (body : List ℕ) (after : List Record) : Type 0 where
-  pub item : Record
-  pub lawful : IsRecord item
-  pub body_is : body ≡ record_body item
-  pub fitting : IsTrue (fits before item)
-  pub after_is : after ≡ before ++ item ∷ []
+  pub the_record : Record
+  pub within : IsRecord the_record
+  pub body_is : body ≡ record_body the_record
+  pub fitting : IsTrue (fits before the_record)
+  pub after_is : after ≡ before ++ the_record ∷ []
 
 -- the body is that of no record that may come next
 abbrev pub IsRefused : List Record → List ℕ → Type 0
-IsRefused before body = (item : Record) → IsRecord item → body ≡ record_body item → IsTrue (fits before item) → ⊥
+IsRefused before body = (the_record : Record) → IsRecord the_record → body ≡ record_body the_record → IsTrue (fits before the_record) → ⊥
 
 -- a reconciliation, with the totals of the records before it
 abbrev pub closed_of : List Record → ℕ → TheSettled → TheClosed

@@ -7,12 +7,12 @@ use Rattle.jrn_record.specs.declared.records.Record.{Record}
 -- a record, and the records before it
 pub record Placed : Type 0 where
   pub before : List Record
-  pub item : Record
+  pub the_record : Record
 
 -- the records that come after `before`, each with all those before it
 abbrev pub placed_after : List Record → List Record → List Placed
 placed_after before [] = []
-placed_after before (item ∷ rest) = record { before = before; item = item } ∷ placed_after (before ++ item ∷ []) rest
+placed_after before (the_record ∷ rest) = record { before = before; the_record = the_record } ∷ placed_after (before ++ the_record ∷ []) rest
 
 -- each record with those before it, the newest first
 unfoldable pub history : List Record → List Placed

@@ -35,7 +35,7 @@ is_key key (Some other) = same_key key other
 -- the slot of the newest record that has the key
 abbrev pub slot_in : Key → List Placed → Option ℕ
 slot_in key [] = None
-slot_in key (p ∷ older) = if is_key key (record_key p.item) then Some (length p.before) else slot_in key older
+slot_in key (p ∷ older) = if is_key key (record_key p.the_record) then Some (length p.before) else slot_in key older
 
 -- the slot of the Intent or Settled that has the key; `None` where the key is unknown
 abbrev pub slot_of : List Record → Key → Option ℕ
@@ -50,7 +50,7 @@ is_asked_by sale poi (Settled settled) = false
 -- the slot of the newest Intent of a till at a terminal
 abbrev pub last_in : List ℕ → List ℕ → List Placed → Option ℕ
 last_in sale poi [] = None
-last_in sale poi (p ∷ older) = if is_asked_by sale poi p.item then Some (length p.before) else last_in sale poi older
+last_in sale poi (p ∷ older) = if is_asked_by sale poi p.the_record then Some (length p.before) else last_in sale poi older
 
 -- the slot of the last Intent of this till at this terminal
 abbrev pub last_slot : List Record → List ℕ → List ℕ → Option ℕ

@@ -56,7 +56,7 @@ abbrev pub ended_in : ℕ → List Placed → Option ℕ
 ended_in slot [] = None
 ended_in slot (p ∷ older) =
     if length p.before == slot then None
-    else (if is_outcome_of slot p.item then Some (length p.before) else ended_in slot older)
+    else (if is_outcome_of slot p.the_record then Some (length p.before) else ended_in slot older)
 
 -- the slot of the Outcome of the Intent at this slot; `None` where that is open
 abbrev pub ended_at : List Record → ℕ → Option ℕ
@@ -95,7 +95,7 @@ reverses slot before (Settled settled) = false
 abbrev pub reversed_in : ℕ → List Placed → Bool
 reversed_in slot [] = false
 reversed_in slot (p ∷ older) =
-    if length p.before == slot then false else reverses slot p.before p.item || reversed_in slot older
+    if length p.before == slot then false else reverses slot p.before p.the_record || reversed_in slot older
 
 -- the Intent is that of a payment
 abbrev pub is_payment : Option TheIntent → Bool

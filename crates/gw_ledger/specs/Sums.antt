@@ -16,7 +16,7 @@ use Rattle.gw_ledger.specs.Slots.{intent_at, asks_payment}
 -- a figure of each record, which may depend on those before it, added up
 abbrev pub sum_over : (List Record → Record → ℕ) → List Placed → ℕ
 sum_over figure [] = 0
-sum_over figure (p ∷ older) = sum_over figure older + figure p.before p.item
+sum_over figure (p ∷ older) = sum_over figure older + figure p.before p.the_record
 
 -- 1 for a thing that is so, and 0 for one that isn't
 abbrev pub one_if : Bool → ℕ
@@ -32,9 +32,9 @@ settles poi (Settled settled) = same_text poi settled.poi
 -- the records after the terminal's last Settled
 abbrev pub unsettled : List ℕ → List Placed → List Placed
 unsettled poi [] = []
-unsettled poi (p ∷ older) = if settles poi p.item then [] else p ∷ unsettled poi older
+unsettled poi (p ∷ older) = if settles poi p.the_record then [] else p ∷ unsettled poi older
 
--- a currency's place among the currencies
+-- a currency's index among the currencies
 abbrev pub ordinal : Currency → ℕ
 ordinal Eur = 0
 ordinal Chf = 1
@@ -77,12 +77,12 @@ minor_in (Settled settled) = 0
 -- how many were approved since the terminal's last Settled, in this currency
 abbrev pub count_of : List Record → List ℕ → Currency → Deal → ℕ
 count_of records poi currency what =
-    sum_over (λ before item. one_if (approves poi currency what before item)) (unsettled poi (history records))
+    sum_over (λ before the_record. one_if (approves poi currency what before the_record)) (unsettled poi (history records))
 
 -- and their minor units
 abbrev pub minor_sum_of : List Record → List ℕ → Currency → Deal → ℕ
 minor_sum_of records poi currency what =
-    sum_over (λ before item. if approves poi currency what before item then minor_in item else 0)
+    sum_over (λ before the_record. if approves poi currency what before the_record then minor_in the_record else 0)
     (unsettled poi (history records))
 
 -- the counts and sums of payments and of reversals
@@ -120,7 +120,7 @@ is_decline (Settled settled) = false
 
 -- how many records there are of a kind
 abbrev pub count_all : List Record → (Record → Bool) → ℕ
-count_all records test = sum_over (λ before item. one_if (test item)) (history records)
+count_all records test = sum_over (λ before the_record. one_if (test the_record)) (history records)
 
 -- one more open Intent after an Intent, one fewer after an Outcome
 abbrev pub open_with : Record → ℕ → ℕ
@@ -131,8 +131,9 @@ open_with (Settled settled) count = count
 -- how many Intents are open: one more with each Intent, one fewer with each Outcome
 abbrev pub open_in : List Placed → ℕ
 open_in [] = 0
-open_in (p ∷ older) = open_with p.item (open_in older)
+open_in (p ∷ older) = open_with p.the_record (open_in older)
 
+-- how many Intents of all records are open
 abbrev pub open_count_of : List Record → ℕ
 open_count_of records = open_in (history records)
 
@@ -143,5 +144,5 @@ tally_of records = record {
   approved = count_all records is_approval;
   declined = count_all records is_decline;
   unresolved = open_count_of records;
-  sum = sum_over (λ before item. if is_approval item then minor_in item else 0) (history records);
+  sum = sum_over (λ before the_record. if is_approval the_record then minor_in the_record else 0) (history records);
 }

@@ -38,7 +38,7 @@ pub struct Desk {
     pub sums: [Sums; 9],
 }
 
-/// The place of the currency's sums.
+/// The index of the currency's sums.
 pub fn ordinal_of(currency: Currency) -> usize
     ensures value { result ≡ ordinal currency }
     ensures bound { result < 9 }

@@ -1,16 +1,18 @@
 //! The ledger over its tables.
-ghost use Rattle.std.specs.Prelude.{◌≡◌, ◌+◌, ◌<◌, ◌≤◌, ◌*◌, ◌^◌, [], ◌∷◌, ◌++◌, length, IsTrue, None, true, false, OnOk, OnErr, IfOk, IfErr, Some, vec_len, vec_capacity, slice_get, option_and_then, ◌-◌};
+ghost use Rattle.std.specs.Prelude.{◌≡◌, ◌+◌, ◌<◌, ◌≤◌, ◌*◌, ◌^◌, [], ◌∷◌, ◌++◌, length, IsTrue, None, true, false, if◌then◌else◌, OnOk, OnErr, IfOk, IfErr, Some, vec_len, vec_capacity, slice_get, option_and_then, ◌-◌};
 ghost use Rattle.jrn_record.specs.Limits.{IsIntent, IsOutcome, IsRecord, IsSettled};
 ghost use Rattle.gw_ledger.specs.Accounts.{is_settled, last_number_of};
-ghost use Rattle.gw_ledger.specs.Fold.{AreBodiesOf, IfBad, IsFirstBad, IsRefused, IsTaken, fits, found_by, found_of, has_lawful_original, is_approved_payment, is_approved_with, is_unknown, last_entry, may_reverse, open_entry};
+ghost use Rattle.gw_ledger.specs.Fold.{AreBodiesOf, IfBad, IsFirstBad, IsRefused, IsTaken, fits, found_by, found_of, has_fitting_original, is_approved_payment, is_approved_with, is_unknown, last_entry, may_reverse, open_entry};
 ghost use Rattle.gw_ledger.specs.History.{same_text};
 ghost use Rattle.gw_ledger.specs.Slots.{asks_payment, entry_at, intent_at, is_reversed, outcome_at, settled_at};
 ghost use Rattle.gw_ledger.specs.Keys.{intent_key, settled_key};
+ghost use Rattle.gw_ledger.specs.Transaction.{is_named, named_of};
 ghost use Rattle.gw_ledger.specs.Sums.{open_count_of, tally_of, totals_of};
 ghost use Rattle.gw_ledger.specs.Steps.{changed_at, ended_mark, marks_reversed, marks_with, reversed_mark, tally_with};
 
 use crate::account::{Desk, asked, closed, desk_in, ordinal_of, resolved, totals_at};
 use crate::table;
+use crate::transaction::{is_named, slot_in};
 use crate::values::{BadRecord, Closed, Entry, Found, LedgerFault, Tally, Totals};
 use gw_base::{Bodies, Currency, Ident, Key};
 use jrn_record::{Deal, Intent, Outcome, Record, Settled, from_body, law_bodies};
@@ -36,6 +38,8 @@ impl Mark {
 /// The fold of the records of a journal.
 ///
 /// A contract sees the records, and for how many more Intents or Settled it has room.
+// The tables are sorted vectors, since their room can be reserved: a record is written to the journal only once nothing
+// that follows can be refused memory.
 #[derive(Debug, Drop)]
 pub struct Ledger {
     records: Vec<Record>,
@@ -114,30 +118,30 @@ impl Ledger {
     {
         law_bodies();
         let slot = self.records.len() as u32;
-        let item = match from_body(body) {
-            Ok(item) => item,
+        let the_record = match from_body(body) {
+            Ok(the_record) => the_record,
             Err(_) => return Err(LedgerFault::BadRecord(BadRecord { slot })),
         };
-        if !self.fits(&item) {
+        if !self.fits(&the_record) {
             return Err(LedgerFault::BadRecord(BadRecord { slot }));
         }
         match self.reserve(1) {
             Ok(()) => {}
             Err(_) => return Err(LedgerFault::Memory),
         }
-        self.add(&item);
+        self.add(&the_record);
         Ok(())
     }
 
     /// Adds a record.
-    fn add(&mut self, item: &Record)
+    fn add(&mut self, the_record: &Record)
         requires spare { 1 ≤ self.old.spare }
         requires few { length self.old.records < 1000000 }
-        requires lawful { IsRecord item.now }
-        requires fits { IsTrue (fits self.old.records item.now) }
-        ensures { self.new.records ≡ self.old.records ++ item.now ∷ [] }
+        requires within { IsRecord the_record.now }
+        requires fits { IsTrue (fits self.old.records the_record.now) }
+        ensures { self.new.records ≡ self.old.records ++ the_record.now ∷ [] }
     {
-        match item {
+        match the_record {
             Record::Intent(intent) => {
                 let _slot = self.accept(intent);
             }
@@ -149,10 +153,10 @@ impl Ledger {
     }
 
     /// Whether the record may come next.
-    fn fits(&self, item: &Record) -> bool
-        ensures { result ≡ fits self.now.records item.now }
+    fn fits(&self, the_record: &Record) -> bool
+        ensures { result ≡ fits self.now.records the_record.now }
     {
-        match item {
+        match the_record {
             Record::Intent(intent) => self.fits_intent(intent),
             Record::Outcome(outcome) => self.fits_outcome(outcome),
             Record::Settled(settled) => self.is_unknown(&key_of_settled(settled)),
@@ -174,12 +178,12 @@ impl Ledger {
         self.is_unknown(&key_of_intent(intent))
             && account.unresolved.is_none()
             && account.number <= intent.before
-            && self.has_lawful_original(intent)
+            && self.has_fitting_original(intent)
     }
 
     /// Whether a reversal has an original that it may reverse.
-    fn has_lawful_original(&self, intent: &Intent) -> bool
-        ensures { result ≡ has_lawful_original self.now.records intent.now intent.now.what }
+    fn has_fitting_original(&self, intent: &Intent) -> bool
+        ensures { result ≡ has_fitting_original self.now.records intent.now intent.now.what }
     {
         match intent.what {
             Deal::Payment => true,
@@ -225,6 +229,7 @@ impl Ledger {
         if more <= self.spare {
             return Ok(());
         }
+        // Each new Intent has an Outcome, and those that are open have theirs still to come.
         let slots = 2 * more + self.tally.unresolved as usize;
         self.records.reserve(slots)?;
         self.marks.reserve(slots)?;
@@ -236,11 +241,11 @@ impl Ledger {
         Ok(())
     }
 
-    /// Adds an Intent, and answers its slot.
+    /// Adds an Intent, and returns its slot.
     pub fn accept(&mut self, intent: &Intent) -> u32
         requires spare { 1 ≤ self.old.spare }
         requires few { length self.old.records < 1000000 }
-        requires lawful { IsIntent intent.now }
+        requires within { IsIntent intent.now }
         requires fits { IsTrue (fits self.old.records (Record.Intent intent.now)) }
         ensures slot { result ≡ length self.old.records }
         ensures records { self.new.records ≡ self.old.records ++ Record.Intent intent.now ∷ [] }
@@ -266,7 +271,7 @@ impl Ledger {
     /// Adds the Outcome of an open Intent, for which there is room since that was accepted.
     pub fn resolve(&mut self, outcome: &Outcome)
         requires few { length self.old.records < 1000000 }
-        requires lawful { IsOutcome outcome.now }
+        requires within { IsOutcome outcome.now }
         requires fits { IsTrue (fits self.old.records (Record.Outcome outcome.now)) }
         ensures records { self.new.records ≡ self.old.records ++ Record.Outcome outcome.now ∷ [] }
         ensures spare { self.new.spare ≡ self.old.spare }
@@ -286,11 +291,11 @@ impl Ledger {
         self.tally = counted(self.tally, outcome);
     }
 
-    /// Adds a Settled, and answers the terminal's totals in its currency up to it.
+    /// Adds a Settled, and returns the terminal's totals in its currency up to it.
     pub fn settle(&mut self, settled: &Settled) -> Totals
         requires spare { 1 ≤ self.old.spare }
         requires few { length self.old.records < 1000000 }
-        requires lawful { IsSettled settled.now }
+        requires within { IsSettled settled.now }
         requires fits { IsTrue (fits self.old.records (Record.Settled settled.now)) }
         ensures totals { result ≡ totals_of self.old.records settled.now.poi settled.now.currency }
         ensures records { self.new.records ≡ self.old.records ++ Record.Settled settled.now ∷ [] }
@@ -351,6 +356,36 @@ impl Ledger {
                 Some(entry) => Some(Found::Entry(entry)),
                 None => None,
             },
+        }
+    }
+
+    /// The entry that a text names at a terminal, where it has its Outcome.
+    ///
+    /// The slot is read from the text, and then the text is compared: no other entry is looked at.
+    pub fn named(&self, poi: &Ident<40>, text: &[u8]) -> Option<Entry>
+        ensures { result ≡ named_of self.now.records poi.now text.now }
+    {
+        // The proof needs that the tables are the fold.
+        let _records = &self.records;
+        match slot_in(text) {
+            Some(slot) => self.named_at(slot, poi, text),
+            None => None,
+        }
+    }
+
+    /// The entry whose Intent is at this slot, where the text names it.
+    fn named_at(&self, slot: u32, poi: &Ident<40>, text: &[u8]) -> Option<Entry>
+        ensures { result ≡ (if is_named poi.now text.now (entry_at self.now.records slot) then entry_at self.now.records slot else None) }
+    {
+        match self.entry(slot) {
+            Some(entry) => {
+                if is_named(&entry, poi, text) {
+                    Some(entry)
+                } else {
+                    None
+                }
+            }
+            None => None,
         }
     }
 
@@ -428,14 +463,14 @@ impl Ledger {
     }
 }
 
-/// Appends the item, for which there is room.
-fn push<T: Copy>(items: &mut Vec<T>, item: T)
-    requires { vec_len items.old < vec_capacity items.old }
-    ensures items { items.new.items ≡ items.old.items ++ item ∷ [] }
-    ensures len { vec_len items.new ≡ vec_len items.old + 1 }
-    ensures capacity { vec_capacity items.old ≤ vec_capacity items.new }
+/// Appends the element, for which there is room.
+fn push<T: Copy>(elements: &mut Vec<T>, element: T)
+    requires { vec_len elements.old < vec_capacity elements.old }
+    ensures elements { elements.new.items ≡ elements.old.items ++ element ∷ [] }
+    ensures len { vec_len elements.new ≡ vec_len elements.old + 1 }
+    ensures capacity { vec_capacity elements.old ≤ vec_capacity elements.new }
 {
-    match items.push(item) {
+    match elements.push(element) {
         Ok(()) => {}
         Err(_) => unreachable!(),
     }

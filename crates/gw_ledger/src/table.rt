@@ -43,7 +43,7 @@ pub fn put<K: Ord + Copy, V: Copy>(rows: &mut Vec<(K, V)>, key: K, value: V)
 fn insert_at<R: Copy>(rows: &mut Vec<R>, at: usize, row: R)
     requires inside { at ≤ vec_len rows.old }
     requires room { vec_len rows.old < vec_capacity rows.old }
-    ensures items { rows.new.items ≡ insert rows.old.items at row }
+    ensures inserted { rows.new.items ≡ insert rows.old.items at row }
     ensures len { vec_len rows.new ≡ vec_len rows.old + 1 }
     ensures capacity { vec_capacity rows.old ≤ vec_capacity rows.new }
 {

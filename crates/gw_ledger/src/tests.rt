@@ -297,3 +297,46 @@ fn a_payment_across_a_reconciliation(rt: HostRuntime) -> Result<(), Fail> {
     assert_eq!(rt; closed.totals.reversed, (1, 1099));
     Ok(())
 }
+
+/// The slot of the entry that a text names at a terminal.
+fn named_slot(ledger: &Ledger, poi: &[u8], text: &[u8]) -> Result<Option<u32>, Fail> {
+    let poi = Ident::of(poi).ok_or("poi")?;
+    match ledger.named(&poi, text) {
+        Some(entry) => Ok(Some(entry.slot)),
+        None => Ok(None),
+    }
+}
+
+#[test]
+fn entries_named_by_a_text(rt: HostRuntime) -> Result<(), Fail> {
+    let ledger = after_day(
+        rt.alloc(),
+        &[
+            pay(b"\x014", FIVE, b"\x00\x01\x25"),
+            declined(b"\x06"),
+            pay(b"\x015", FIVE, b"\x00\x01\x25"),
+        ],
+    )?;
+    // The terminal, the text, and the slot of the entry that it names there.
+    let rows: [(&[u8], &[u8], Option<u32>); 12] = [
+        (b"A", b"000123-0017-0", Some(0)),
+        (b"A", b"000124-0017-2", Some(2)),
+        // A reversal, and a payment that was declined.
+        (b"A", b"000125-0017-4", Some(4)),
+        (b"A", b"000000-0000-6", Some(6)),
+        // Another terminal, numbers of another entry, one that is open, and the slot of an Outcome.
+        (b"B", b"000123-0017-0", None),
+        (b"A", b"000123-0017-2", None),
+        (b"A", b"000000-0000-8", None),
+        (b"A", b"000123-0017-1", None),
+        // Other spellings of the numbers.
+        (b"A", b"000123-0017-00", None),
+        (b"A", b"000123-0017-+0", None),
+        (b"A", b"123-17-0", None),
+        (b"A", b"", None),
+    ];
+    for (poi, text, slot) in rows {
+        assert_eq!(rt; named_slot(&ledger, poi, text)?, slot);
+    }
+    Ok(())
+}

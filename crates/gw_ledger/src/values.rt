@@ -1,4 +1,4 @@
-//! What the ledger answers.
+//! What the ledger returns.
 use gw_base::Currency;
 use jrn_record::{Intent, Outcome, Settled};
 

@@ -74,7 +74,7 @@ filter-first : (b : Bool) (first : Waiting) (xs ys : List Waiting) → cond b (f
 filter-first true first xs ys = refl
 filter-first false first xs ys = refl
 
--- one that is placed stands last among those of its deadline
+-- one that is placed is last among those of its deadline
 place-tied : (x new : Waiting) (lines : List Waiting) → IsSorted lines → filter (ties is_due_sooner x) (place new lines) ≡ filter (ties is_due_sooner x) lines ++ filter (ties is_due_sooner x) (new ∷ [])
 place-tied x new [] sorted = refl
 place-tied x new (first ∷ rest) sorted =

@@ -1,15 +1,18 @@
--- What a walk along one list of the lines finds, and what stands first on a list.
+-- What a walk along one list of the lines finds, and what is first on a list.
 use Rattle.std.proofs.Common.{◌≡◌, ◌≢◌, ◌⊎◌, ℕ, ℤ, zero, suc, ◌+◌, ◌^◌, ◌<◌, ◌≤◌, Bool, true, false, cond, not, eqb, List, [], ◌∷◌, ◌++◌, length, Option, Some, None, refl, sym, ap, ◌∙◌, subst, inl, inr, arith, append-nil, length-append}
 use Rattle.std.specs.Prelude.{int_lt, IsSome, option_map, IfSome}
 use Rattle.std.specs.List.{filter, slice_index_or}
 use Rattle.std.proofs.lemmas.Bool.{cond-true, cond-false, not_from_false}
 use Rattle.std.proofs.lemmas.Option.{none-some, same_Some}
 use Rattle.slab.specs.Slab.{Slab, get}
+use Rattle.std.specs.Ordering.{is_eq}
+use Rattle.gw_base.specs.Key.{key_cmp}
+use Rattle.gw_base.specs.declared.key.Key.{Key}
 use Rattle.gw_links.specs.declared.item.Item.{Item}
 use Rattle.gw_links.specs.declared.link.Link.{Link}
 use Rattle.gw_links.specs.declared.link.Node.{Node}
 use Rattle.gw_links.specs.declared.link.Order.{Order}
-use Rattle.gw_links.specs.Waiting.{Waiting, item_of, of_seat, at_terminal, by_deadline, later_than, due_at, first_id}
+use Rattle.gw_links.specs.Waiting.{Waiting, item_of, of_seat, at_terminal, by_deadline, later_than, due_at, first_id, with_key}
 use Rattle.gw_links.specs.inner.Chain.{Every, IsInChain, IsApart}
 use Rattle.gw_links.specs.inner.Table.{no_link, ends_at, link_of, next_in, prev_in, held, noted, IsHeldAt, Links_up, IsSoundTable, accepted_in, numbered_nodes}
 use Rattle.gw_links.proofs.ChainLemmas.{next_first}
@@ -56,13 +59,19 @@ pub if_each : {X : Type 0} (o : Option X) (P : X → Type 0) → ((x : X) → o 
 if_each None P each = tt
 if_each (Some x) P each = each x refl
 
--- ---- later and due
+-- ---- later, due, and with a key
 
 pub later_found : (moment : ℤ) (waiting : Waiting) (later : List Waiting) → int_lt moment waiting.item.deadline ≡ true → later_than moment (waiting ∷ later) ≡ waiting ∷ later
 later_found moment waiting later is = cond-true _ _ _ is
 
 pub later_passed : (moment : ℤ) (waiting : Waiting) (later : List Waiting) → int_lt moment waiting.item.deadline ≡ false → later_than moment (waiting ∷ later) ≡ later_than moment later
 later_passed moment waiting later is = cond-false _ _ _ is
+
+pub key_found : (key : Key) (waiting : Waiting) (later : List Waiting) → is_eq (key_cmp waiting.item.key key) ≡ true → with_key key (waiting ∷ later) ≡ waiting ∷ with_key key later
+key_found key waiting later is = cond-true _ _ _ is
+
+pub key_passed : (key : Key) (waiting : Waiting) (later : List Waiting) → is_eq (key_cmp waiting.item.key key) ≡ false → with_key key (waiting ∷ later) ≡ with_key key later
+key_passed key waiting later is = cond-false _ _ _ is
 
 pub timed_sorted : (lines : List Waiting) → IsSorted (by_deadline lines)
 timed_sorted lines = IsSorted-place_all [] lines tt

@@ -1,3 +1,4 @@
+-- The lemmas of this crate.
 pub mod ChainLemmas
 pub mod DeadlineLemmas
 pub mod FindLemmas

@@ -59,11 +59,11 @@ module _ (nodes : Slab Node) where
       numbered_none number (entries nodes) id found.0 none ((Contains-entries nodes id found.0).1 found.1) found.3
 
   pub number_at : (count : ℕ) (number id : ℕ) (item : Item) → AreNodesNumbered nodes count → held nodes id ≡ Some (item, number) → numbered_nodes number (entries nodes) ≡ Some (record { id = id; item = item })
-  number_at count number id item numbers holds = by_answer (numbered_nodes number (entries nodes)) refl
+  number_at count number id item numbers holds = by_result (numbered_nodes number (entries nodes)) refl
     where
-      by_answer : (answer : Option Waiting) → numbered_nodes number (entries nodes) ≡ answer → numbered_nodes number (entries nodes) ≡ Some (record { id = id; item = item })
-      by_answer None is = absurd (number_none number id item is holds)
-      by_answer (Some waiting) is =
+      by_result : (result : Option Waiting) → numbered_nodes number (entries nodes) ≡ result → numbered_nodes number (entries nodes) ≡ Some (record { id = id; item = item })
+      by_result None is = absurd (number_none number id item is holds)
+      by_result (Some waiting) is =
           let there = number_from number waiting is in
           let same = numbers.apart waiting.id id waiting.item item number there holds in
           let both = same_Some (waiting.item, number) (item, number) (sym there ∙ ap (held nodes) same ∙ holds) in
@@ -126,9 +126,9 @@ module _ (old new : Slab Node) (count : ℕ) (numbers : AreNodesNumbered old cou
         }
 
     below_kept : (number : ℕ) → number < count → numbered_nodes number (entries new) ≡ numbered_nodes number (entries old)
-    below_kept number below = by_answer (numbered_nodes number (entries old)) refl
+    below_kept number below = by_result (numbered_nodes number (entries old)) refl
       where
-        by_new : (answer : Option Waiting) → numbered_nodes number (entries new) ≡ answer → numbered_nodes number (entries old) ≡ None → numbered_nodes number (entries new) ≡ numbered_nodes number (entries old)
+        by_new : (result : Option Waiting) → numbered_nodes number (entries new) ≡ result → numbered_nodes number (entries old) ≡ None → numbered_nodes number (entries new) ≡ numbered_nodes number (entries old)
         by_new None now is = now ∙ sym is
         by_new (Some waiting) now is =
             elim (was_held waiting.id waiting.item number (number_from new number waiting now)) [
@@ -136,12 +136,12 @@ module _ (old new : Slab Node) (count : ℕ) (numbers : AreNodesNumbered old cou
               | inr before ↦ absurd (number_none old number waiting.id waiting.item is before)
             ]
 
-        by_answer : (answer : Option Waiting) → numbered_nodes number (entries old) ≡ answer → numbered_nodes number (entries new) ≡ numbered_nodes number (entries old)
-        by_answer (Some waiting) is =
+        by_result : (result : Option Waiting) → numbered_nodes number (entries old) ≡ result → numbered_nodes number (entries new) ≡ numbered_nodes number (entries old)
+        by_result (Some waiting) is =
             let there = number_from old number waiting is in
             let differs : waiting.id ≢ id = λ same. none-some _ (sym free ∙ ap (held old) (sym same) ∙ there) in
             number_at new (count + 1) number waiting.id waiting.item AreNumbered-added (others waiting.id differs ∙ there) ∙ sym is
-        by_answer None is = by_new (numbered_nodes number (entries new)) refl is
+        by_result None is = by_new (numbered_nodes number (entries new)) refl is
 
     pub accepted_in-added : accepted_in new (count + 1) ≡ accepted_in old count ++ record { id = id; item = item } ∷ []
     unfolding accepted_in
@@ -166,19 +166,19 @@ module _ (old new : Slab Node) (count : ℕ) (numbers : AreNodesNumbered old cou
         }
 
     number_removed : (number : ℕ) → option_to_list (numbered_nodes number (entries new)) ≡ without_request id (option_to_list (numbered_nodes number (entries old)))
-    number_removed number = by_answer (numbered_nodes number (entries old)) refl
+    number_removed number = by_result (numbered_nodes number (entries old)) refl
       where
-        by_new : (answer : Option Waiting) → numbered_nodes number (entries new) ≡ answer → ((waiting : Waiting) → waiting.id ≢ id → held old waiting.id ≡ Some (waiting.item, number) → ⊥) → option_to_list (numbered_nodes number (entries new)) ≡ []
+        by_new : (result : Option Waiting) → numbered_nodes number (entries new) ≡ result → ((waiting : Waiting) → waiting.id ≢ id → held old waiting.id ≡ Some (waiting.item, number) → ⊥) → option_to_list (numbered_nodes number (entries new)) ≡ []
         by_new None now none = ap option_to_list now
         by_new (Some waiting) now none =
             let before = still_held waiting.id waiting.item number (number_from new number waiting now) in
             absurd (none waiting before.0 before.1)
 
-        by_answer : (answer : Option Waiting) → numbered_nodes number (entries old) ≡ answer → option_to_list (numbered_nodes number (entries new)) ≡ without_request id (option_to_list (numbered_nodes number (entries old)))
-        by_answer None is =
+        by_result : (result : Option Waiting) → numbered_nodes number (entries old) ≡ result → option_to_list (numbered_nodes number (entries new)) ≡ without_request id (option_to_list (numbered_nodes number (entries old)))
+        by_result None is =
             by_new (numbered_nodes number (entries new)) refl (λ waiting differs holds. number_none old number waiting.id waiting.item is holds)
             ∙ sym (ap (λ o. without_request id (option_to_list o)) is)
-        by_answer (Some waiting) is =
+        by_result (Some waiting) is =
             let there = number_from old number waiting is in
             elim (cases_eq waiting.id id) [
               | inl same ↦

@@ -23,6 +23,7 @@ five =
     waits 4 0 1 (pos 70) ∷ waits 2 63 1 (pos 60) ∷ waits 7 0 31 (pos 70) ∷ waits 1 0 1 (pos 60)
     ∷ waits 3 63 31 (negsuc 0) ∷ []
 
+-- the ids of these requests, in their order
 abbrev ids : List Waiting → List ℕ
 ids lines = map (λ waiting. waiting.id) lines
 

@@ -1,5 +1,8 @@
 -- The requests that wait, in the order of their acceptance, and the three orders in which they are asked for.
 use Rattle.std.specs.Prelude.{ℕ, ℤ, Bool, not, ◌==◌, int_lt, if◌then◌else◌, List, [], ◌∷◌, Option, Some, None, filter}
+use Rattle.std.specs.Ordering.{is_eq}
+use Rattle.gw_base.specs.Key.{key_cmp}
+use Rattle.gw_base.specs.declared.key.Key.{Key}
 use Rattle.gw_links.specs.declared.item.Item.{Item}
 
 -- a waiting request, and the id under which it waits
@@ -52,6 +55,10 @@ by_deadline lines = place_all [] lines
 -- those whose deadline is at or before this moment
 abbrev pub due_at : ℤ → List Waiting → List Waiting
 due_at moment lines = filter (λ waiting. not (int_lt moment waiting.item.deadline)) lines
+
+-- those that have this key, in their order
+abbrev pub with_key : Key → List Waiting → List Waiting
+with_key key lines = filter (λ waiting. is_eq (key_cmp waiting.item.key key)) lines
 
 -- the id of the first
 abbrev pub first_id : List Waiting → Option ℕ

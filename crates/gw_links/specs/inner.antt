@@ -1,2 +1,3 @@
+-- Definitions that serve private functions alone.
 pub mod Chain
 pub mod Table

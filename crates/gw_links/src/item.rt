@@ -1,5 +1,7 @@
 //! A waiting request, and what names it among those that wait.
 ghost use Rattle.std.specs.Prelude.{◌≡◌, ◌↔◌, IsTrue, int_lt};
+ghost use Rattle.std.specs.Ordering.{is_eq};
+ghost use Rattle.gw_base.specs.Key.{key_cmp};
 
 use gw_base::{Key, law_keys};
 use sale_values::SaleRequest;
@@ -16,7 +18,7 @@ pub struct Item {
     pub seat: u16,
     /// The index of the terminal in the setup, below 32.
     pub terminal: u16,
-    /// The moment from which on the request is answered without the terminal.
+    /// The moment from which on the till gets its reply without the terminal.
     pub deadline: i64,
     /// What is asked.
     pub request: SaleRequest,
@@ -72,7 +74,8 @@ pub(crate) fn is_due_before(one: &Item, other: &Item) -> bool
 
 /// A request has this key.
 pub(crate) fn has_key(item: &Item, key: &Key) -> bool
-    ensures { IsTrue result ↔ (item.now.key ≡ key.now) }
+    ensures test { result ≡ is_eq (key_cmp item.now.key key.now) }
+    ensures same { IsTrue result ↔ (item.now.key ≡ key.now) }
 {
     law_keys();
     item.key.cmp(key).is_eq()

@@ -1,22 +1,17 @@
 //! The waiting requests, on a list at their terminal, on one of their till and on one by deadline.
 ghost use Rattle.gw_links.specs.inner.Table.{ends_at, no_link};
 ghost use Rattle.std.specs.Prelude.{ℕ, ◌≡◌, ◌≢◌, ◌+◌, ◌≤◌, ◌<◌, [], ◌∷◌, ◌++◌, length, None, Some, IsSome, IsNone, IfOk, IfErr, OnErr, IfSome};
-ghost use Rattle.gw_links.specs.Waiting.{item_of, without_request, of_seat, at_terminal, by_deadline, later_than, due_at, first_id};
+ghost use Rattle.gw_links.specs.Waiting.{item_of, without_request, of_seat, at_terminal, by_deadline, later_than, due_at, first_id, with_key};
 
 use crate::item::{Item, LineId, has_key, is_due_before, is_later};
 use crate::link::{Link, Links, Node, Order, attach, detach};
 use crate::steps::Steps;
 use gw_base::Key;
+use gw_bytes::{MOST_TERMINALS, MOST_TILLS};
 use slab::Slab;
 use std::alloc::{AllocError, Global};
 use std::marker::{Brand, Model};
 use std::sync::ledger::{Blank, Ledger};
-
-/// How many tills are there at most.
-const SEATS: usize = 64;
-
-/// How many terminals a setup has at most.
-const TERMINALS: usize = 32;
 
 /// The requests that wait for their terminals.
 ///
@@ -25,9 +20,9 @@ const TERMINALS: usize = 32;
 pub struct Lines {
     nodes: Slab<Node>,
     /// The ends of the list of the till at each seat.
-    tills: [Link; SEATS],
+    tills: [Link; MOST_TILLS],
     /// The ends of the list at each terminal.
-    terminals: [Link; TERMINALS],
+    terminals: [Link; MOST_TERMINALS],
     /// The ends of the list by deadline.
     deadlines: Link,
     /// How many requests were accepted.
@@ -78,6 +73,7 @@ impl Lines {
         ensures refused { OnErr result (self.new ≡ self.old) }
         ensures returned { IfErr result (λ refused. refused.0 ≡ item) }
     {
+        // The number of acceptance orders requests of one deadline, so it never wraps.
         if self.accepted == u64::MAX {
             return Err((item, AllocError));
         }
@@ -204,7 +200,7 @@ impl Lines {
     {
         let ends = &self.terminals;
         let terminal = usize::from(terminal);
-        if terminal >= TERMINALS {
+        if terminal >= MOST_TERMINALS {
             return None;
         }
         ends[terminal].next
@@ -224,7 +220,7 @@ impl Lines {
     {
         let ends = &self.tills;
         let seat = usize::from(seat);
-        if seat >= SEATS {
+        if seat >= MOST_TILLS {
             return None;
         }
         ends[seat].next
@@ -243,8 +239,9 @@ impl Lines {
         Some(LineId::of(id))
     }
 
-    /// A request with this key.
+    /// The first request with this key, by deadline and then by acceptance.
     pub fn find(&self, key: &Key) -> Option<LineId>
+        ensures first { result ≡ first_id (with_key key.now (by_deadline self.now)) }
         ensures found { IfSome result (λ id. IfSome (item_of self.now id) (λ item. item.key ≡ key.now)) }
         ensures live { IfSome result (λ id. IsSome (item_of self.now id)) }
         ensures none { (id : _) → IsNone result → IfSome (item_of self.now id) (λ item. item.key ≢ key.now) }

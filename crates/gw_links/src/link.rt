@@ -9,7 +9,7 @@ use crate::steps::Steps;
 use slab::Slab;
 use std::sync::ledger::Ledger;
 
-/// Which of the three lists a waiting request stands on.
+/// Which of the three lists a waiting request is on.
 #[derive(Clone, Copy, PartialEq, Eq, Debug)]
 pub(crate) enum Order {
     Till,

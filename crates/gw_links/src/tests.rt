@@ -1,7 +1,12 @@
 //! The orders in which waiting requests come out, as rows.
-use crate::{Item, Lines};
+ghost use Rattle.std.specs.Prelude.{◌≡◌, ◌≤◌, ◌<◌, IsSome};
+ghost use Rattle.gw_links.specs.Waiting.{item_of, without_request};
+
+use crate::{Item, LineId, Lines, Steps};
 use gw_base::{Ident, Key};
 use sale_values::SaleRequest;
+use std::marker::Brand;
+use std::sync::ledger::{Blank, Ledger};
 use std::test::Fail;
 
 fn item(service: &[u8], seat: u16, terminal: u16, deadline: i64) -> Option<Item> {
@@ -54,5 +59,82 @@ fn by_deadline_and_acceptance(rt: HostRuntime) -> Result<(), Fail> {
         assert!(rt; taken.key.service.as_bytes() == service.as_slice());
     }
     assert_eq!(rt; lines.count(0), 0);
+    Ok(())
+}
+
+/// So many steps are at most seven: a call of it is proved only where they are.
+fn at_most_seven<L: Ledger>(_steps: &Steps<L>)
+    requires { _steps.now ≤ 7 }
+{}
+
+/// Takes a request out, and counts its steps.
+fn take_counting<L: Ledger>(lines: &mut Lines, id: LineId, blank: Blank) -> Item
+    requires live { IsSome (item_of lines.old id) }
+    requires name { blank.name ≡ L.name }
+    requires parts { blank.parts ≡ L.parts }
+    requires some { 0 < blank.parts }
+    ensures { lines.new ≡ without_request id lines.old }
+{
+    let mut steps = Steps::<L>::none(blank);
+    let taken = lines.take_counted(id, &mut steps);
+    at_most_seven(&steps);
+    taken
+}
+
+/// Takes a request out in at most seven steps.
+fn take_in_seven(lines: &mut Lines, id: LineId) -> Item
+    requires { IsSome (item_of lines.old id) }
+    ensures { lines.new ≡ without_request id lines.old }
+{
+    take_counting::<Brand>(lines, id, Blank::new(1))
+}
+
+#[test]
+fn one_of_three_is_taken(rt: HostRuntime) -> Result<(), Fail> {
+    // Which one is taken, and then the first of the terminal and of the till, and the first by deadline: it is the first
+    // of the two lists by acceptance, in their middle and last by deadline, or last and first by deadline.
+    let rows = [(b"1", b"2", b"3"), (b"2", b"1", b"3"), (b"3", b"1", b"1")];
+    for (service, front, due) in rows {
+        let mut lines = Lines::new(rt.alloc());
+        for (service, deadline) in [(b"1", 70), (b"2", 80), (b"3", 60)] {
+            let waiting = item(service, 63, 31, deadline).expect(&rt, "a request");
+            assert!(rt; waiting.seat < 64 && waiting.terminal < 32);
+            assert!(rt; lines.insert(waiting).is_ok());
+        }
+        let key = item(service, 63, 31, 0).expect(&rt, "a request").key;
+        let id = lines.find(&key).expect(&rt, "it waits");
+        let taken = take_in_seven(&mut lines, id);
+        assert!(rt; taken.key == key);
+        assert!(rt; lines.find(&key).is_none());
+        assert_eq!(rt; lines.count(31), 2);
+        let first = lines.front(31).expect(&rt, "two wait");
+        assert!(rt; lines.get(first).key.service.as_bytes() == front.as_slice());
+        assert_eq!(rt; lines.first_of(63), Some(first));
+        let soonest = lines.due(80).expect(&rt, "two are due");
+        assert!(rt; lines.get(soonest).key.service.as_bytes() == due.as_slice());
+    }
+    Ok(())
+}
+
+#[test]
+fn a_refused_request_comes_back(rt: HostRuntime) -> Result<(), Fail> {
+    // With ample memory each is accepted; where an allocation fails, the others stay and the request comes back.
+    let mut lines = Lines::new(rt.alloc());
+    for service in [b"1", b"2", b"3", b"4", b"5"] {
+        let waiting = item(service, 0, 0, 60).expect(&rt, "a request");
+        assert!(rt; waiting.seat < 64 && waiting.terminal < 32);
+        let (key, count) = (waiting.key, lines.count(0));
+        match lines.insert(waiting) {
+            Ok(id) => {
+                assert!(rt; lines.count(0) > count);
+                assert_eq!(rt; lines.find(&key), Some(id));
+            }
+            Err((refused, _)) => {
+                assert!(rt; refused.key == key);
+                assert_eq!(rt; lines.count(0), count);
+                assert!(rt; lines.find(&key).is_none());
+            }
+        }
+    }
     Ok(())
 }

@@ -4,9 +4,9 @@ use Rattle.std.proofs.lemmas.List.{length-take}
 use Rattle.std.specs.Prelude.{false, Result, Ok, Err}
 use Rattle.gw_site.specs.declared.turn.Turn.{Turn}
 use Rattle.gw_site.specs.declared.turn.Turn.TheVariants.{Polled, CutTill}
-use Rattle.gw_site.specs.declared.site.Polled.{Polled as Answer}
+use Rattle.gw_site.specs.declared.site.Polled.{Polled as PollResult}
 use Rattle.gw_site.specs.declared.site.What.{What}
-use Rattle.gw_site.specs.declared.site.What.TheVariants.{TillOpened, TillBytes, TillClosed, PtBytes, PtClosed, Nothing, Stopped as Stop}
+use Rattle.gw_site.specs.declared.site.What.TheVariants.{TillOpened, TillBytes, TillClosed, PtBytes, PtClosed, Nothing, Stopped as StopEvent}
 use Rattle.gw_site.specs.Outside.{outside_of}
 use Rattle.gw_site.specs.Observed.{Observed, Grows, IfObserved}
 use Rattle.gw_site.specs.Turns.{SentTillTurns, IsTurn, PolledTurns, event_turns, IsPromised, IsWithinBuf, IsCount}
@@ -32,20 +32,20 @@ taken_count : (count : ℕ) (buf : List ℕ) → length buf ≡ 4096 → IsCount
 taken_count count buf l c = rw length-take (omega arith, omega arith)
 
 -- a poll, and the event that it brings
-pub poll-keeps : (scene : Scene) (answer : Answer) (buf : List ℕ) (old new : Observed) → Grows old new (PolledTurns answer buf) →
-    IfObserved old (λ log. IsPromised (outside_of log) answer.what) → IsWithinBuf answer.what → length buf ≡ 4096 →
-    Triple old new (λ v. Owing scene [] [] v × IsRunning scene.stage) (AtEvent scene answer.now answer.what buf)
-poll-keeps scene answer buf old new grows promise within long = call-keeps old new _ _ _ grows (λ before v e stands p. record {
+pub poll-keeps : (scene : Scene) (polled : PollResult) (buf : List ℕ) (old new : Observed) → Grows old new (PolledTurns polled buf) →
+    IfObserved old (λ log. IsPromised (outside_of log) polled.what) → IsWithinBuf polled.what → length buf ≡ 4096 →
+    Triple old new (λ v. Owing scene [] [] v × IsRunning scene.stage) (AtEvent scene polled.now polled.what buf)
+poll-keeps scene polled buf old new grows promise within long = call-keeps old new _ _ _ grows (λ before v e stands p. record {
   each = λ turns t.
-      polled_leads answer.what (subst (λ o. IsPromised o answer.what) (sym (stands-outside before v stands) ∙ ap (λ (w : View). w.scene.outside) p.0) (promise before e)) within v turns p t;
+      polled_leads polled.what (subst (λ o. IsPromised o polled.what) (sym (stands-outside before v stands) ∙ ap (λ (w : View). w.scene.outside) p.0) (promise before e)) within v turns p t;
 })
   where
-    polled_leads : (what : What) → IsPromised scene.outside what → IsWithinBuf what → (v : View) (turns : List Turn) → (Owing scene [] [] v × IsRunning scene.stage) → turns ≡ Polled answer.now ∷ event_turns what buf →
-        IsCourse v (takes turns) × IsQuiet turns × AtEvent scene answer.now what buf (view_from v (takes turns))
+    polled_leads : (what : What) → IsPromised scene.outside what → IsWithinBuf what → (v : View) (turns : List Turn) → (Owing scene [] [] v × IsRunning scene.stage) → turns ≡ Polled polled.now ∷ event_turns what buf →
+        IsCourse v (takes turns) × IsQuiet turns × AtEvent scene polled.now what buf (view_from v (takes turns))
     polled_leads (TillOpened till) event within v turns p t = rw (p.0, t) ((record { running = p.1; calls = refl; items = refl }, ((refl, event), tt)), (refl, (refl, tt)), (refl, event))
     polled_leads (TillBytes till count) event within v turns p t = rw (p.0, t) ((record { running = p.1; calls = refl; items = refl }, ((record { polled = refl; open_is = event }, taken_count count buf long within), tt)), (refl, (refl, tt)), (refl, event))
     polled_leads (TillClosed till) event within v turns p t = rw (p.0, t) ((record { running = p.1; calls = refl; items = refl }, (record { polled = refl; open_is = event }, tt)), (refl, (refl, tt)), (refl, event))
     polled_leads (PtBytes pt count) event within v turns p t = rw (p.0, t) ((record { running = p.1; calls = refl; items = refl }, ((record { polled = refl; open_is = event }, taken_count count buf long within), tt)), (refl, (refl, tt)), (refl, event))
     polled_leads (PtClosed pt) event within v turns p t = rw (p.0, t) ((record { running = p.1; calls = refl; items = refl }, (record { polled = refl; open_is = event }, tt)), (refl, (refl, tt)), (refl, event))
     polled_leads Nothing event within v turns p t = rw (p.0, t) ((record { running = p.1; calls = refl; items = refl }, tt), (refl, tt), (refl, event))
-    polled_leads Stop event within v turns p t = rw (p.0, t) ((record { running = p.1; calls = refl; items = refl }, (refl, tt)), (refl, (refl, tt)), (refl, event))
+    polled_leads StopEvent event within v turns p t = rw (p.0, t) ((record { running = p.1; calls = refl; items = refl }, (refl, tt)), (refl, (refl, tt)), (refl, event))

@@ -117,7 +117,7 @@ close_spells rest (Some till) read event e =
     let w = decimal_number rest till read in
     subst (λ e. SpellsEvent e (codes "close" ++ 32 ∷ rest)) (some_is (Close till) event e) (w.small, ap (λ r. codes "close" ++ 32 ∷ r) w.is)
 
--- a till's number stands before what it sends
+-- a till's number comes before what it sends
 of_till : (word rest : List ℕ) (split : WordAndRest) (till : ℕ) → split_at_space rest ≡ Some split → number split.word ≡ Some till → IsOfTill word till split.rest (word ++ 32 ∷ rest)
 of_till word rest split till parts read =
     let w = decimal_number split.word till read in

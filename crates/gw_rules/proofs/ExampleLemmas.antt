@@ -39,14 +39,14 @@ use Rattle.gw_rules.specs.Reply.{Reply, reply_tree}
 use Rattle.gw_rules.specs.Scene.{Call, Tell, Message, View}
 use Rattle.gw_rules.specs.Replies.{RepliesTo}
 use Rattle.gw_rules.specs.Owes.{Owes, MessageOwes, reply_calls, reading_items}
-use Rattle.gw_rules.specs.View.{Move, Begin, Take, after, after_turn, view_from, at_first, items_behind}
+use Rattle.gw_rules.specs.View.{Move, Begin, Take, after, after_turn, view_from, at_first, items_after}
 use Rattle.gw_rules.specs.Lawful.{AllowedTurn, IsCourse, turns_of, IsLawful}
 use Rattle.gw_rules.specs.Script.{Open, Say, Poll, Script, script_of, script_setup}
 use Rattle.gw_rules.specs.Plays.{PlaysLines, PlaysRead, IsRunRead}
 use Rattle.gw_rules.specs.Example.{status_request, status_reply, not_found, status_log, status_course, status_script, opened_log, asked_log, StatusIsLawful, StatusIsOfScript, StatusHasText, UnaskedReply, PollBeforeReply}
 use Rattle.gw_rules.proofs.CourseLemmas.{takes, turns_of-takes, course-append}
 use Rattle.gw_rules.proofs.ReadingLemmas.{items-message}
-use Rattle.gw_rules.proofs.ReplyLemmas.{answers-one}
+use Rattle.gw_rules.proofs.ReplyLemmas.{reply-one}
 use Rattle.gw_rules.proofs.PrefixLemmas.{Along, resting-clear, prefix-lawful}
 
 -- ---- a tree of objects and texts is tested by computing
@@ -227,7 +227,7 @@ request-read = (
   asked_body,
   record {
     request_of = record {
-      stands = refl;
+      under = refl;
       header_is = record {
         members = (
           refl,
@@ -255,8 +255,8 @@ request-read = (
   },
 )
 
-request-answered : (name : List ℕ) (moment : ℕ) → RepliesTo name moment status_request (Some not_found)
-request-answered name moment = inl (record { tree = asked_tree; spelled = request-spelled; is = inl (record { incoming = incoming.Request asked (requests.Status (Some asked_for)); read = request-read; is = refl }) })
+request-replied : (name : List ℕ) (moment : ℕ) → RepliesTo name moment status_request (Some not_found)
+request-replied name moment = inl (record { tree = asked_tree; spelled = request-spelled; is = inl (record { incoming = incoming.Request asked (requests.Status (Some asked_for)); read = request-read; is = refl }) })
 
 reply-is : status_reply ≡ canonical (reply_tree not_found)
 unfolding status_reply message_tree header_tree result_tree
@@ -308,13 +308,13 @@ take-next v turn turns none x = by_moves x.moves x.turns_are x.lawful
 along : (log : List Turn) → IsLawful log → Along at_first log
 along log (v, s) = record { moves = s.course; turns_are = s.log_is; lawful = s.lawful }
 
--- while a message of a till that is there waits for its answer, no poll comes
+-- while a message of a till that is there waits for its reply, no poll comes
 message-first : (v : View) (till : ℕ) (message_tree : List ℕ) (status_reply : Reply) (now : ℤ) → ((name : List ℕ) (moment : ℕ) → RepliesTo name moment message_tree (Some status_reply)) → is_connected v.scene.outside.tills till ≡ true → v.items ≡ Message till message_tree ∷ [] → Along v (Polled now ∷ []) → ⊥
-message-first v till message_tree status_reply now answered there waits x = by_moves x.moves x.turns_are x.lawful
+message-first v till message_tree status_reply now replied there waits x = by_moves x.moves x.turns_are x.lawful
   where
     owes_one : (calls : List Call) → MessageOwes true v.scene till message_tree calls → calls ≡ [] → ⊥
     owes_one calls x f =
-        let same : x.answer ≡ Some status_reply = answers-one x.setup.name v.scene.outside.moment message_tree x.answer (Some status_reply) x.answers (answered x.setup.name v.scene.outside.moment) in
+        let same : x.reply ≡ Some status_reply = reply-one x.setup.name v.scene.outside.moment message_tree x.reply (Some status_reply) x.replies (replied x.setup.name v.scene.outside.moment) in
         let n : Tell till status_reply ∷ [] ≡ [] = sym (x.is ∙ ap (reply_calls till) same) ∙ f in cc
 
     by_moves : (moves : List Move) → turns_of moves ≡ Polled now ∷ [] → IsCourse v moves → ⊥
@@ -323,7 +323,7 @@ message-first v till message_tree status_reply now answered there waits x = by_m
         let (item, items, b) = h.0 in
         let n : Message till message_tree ∷ [] ≡ item ∷ items = sym waits ∙ b.first in
         let heads : item ≡ Message till message_tree = cc in
-        let tails : items_behind v.items ≡ [] = ap items_behind waits in
+        let tails : items_after v.items ≡ [] = ap items_after waits in
         let owes = subst (λ b. MessageOwes b v.scene till message_tree calls) there (subst (λ i. Owes v.scene i calls) heads b.owes) in
         let next = take-next (after v (Begin calls)) (Polled now) [] tails (record { moves = moves; turns_are = e; lawful = h.1 }) in
         owes_one calls owes next.0.calls
@@ -366,8 +366,8 @@ replied_course = Begin (Tell 1 not_found ∷ []) ∷ Take (SentTill 1 (frame sta
 
 replied-lawful : IsCourse asked_view replied_course
 replied-lawful = (
-  (Message 1 status_request, [], record { running = tt; idle = refl; first = request-waits; owes = record { setup = script_setup None; setup_is = refl; answer = Some not_found; answers = request-answered (script_setup None).name 0; is = refl } }),
-  ((not_found, ([], refl), ap frame reply-is), (record { running = tt; calls = refl; items = ap items_behind request-waits }, (refl, tt))),
+  (Message 1 status_request, [], record { running = tt; idle = refl; first = request-waits; owes = record { setup = script_setup None; setup_is = refl; reply = Some not_found; replies = request-replied (script_setup None).name 0; is = refl } }),
+  ((not_found, ([], refl), ap frame reply-is), (record { running = tt; calls = refl; items = ap items_after request-waits }, (refl, tt))),
 )
 
 pub status-lawful : StatusIsLawful
@@ -399,7 +399,7 @@ status-has-text = refl
 pub unasked-reply : UnaskedReply
 unasked-reply = record {
   before = prefix-lawful opened_log asked_log (Polled (pos 0) ∷ HeardTill 1 (frame status_request) ∷ [], refl) asked-lawful;
-  behind = λ lawful.
+  with_turn = λ lawful.
       let a = take-next at_first (Start (script_setup None)) _ refl (along _ lawful) in
       let b = take-next _ (Polled (pos 0)) _ refl a.1 in
       let c = take-next _ (Opened 1) _ refl b.1 in
@@ -413,11 +413,11 @@ unasked-reply = record {
 pub poll-before-reply : PollBeforeReply
 poll-before-reply = record {
   before = asked-lawful;
-  behind = λ lawful.
+  with_turn = λ lawful.
       let a = take-next at_first (Start (script_setup None)) _ refl (along _ lawful) in
       let b = take-next _ (Polled (pos 0)) _ refl a.1 in
       let c = take-next _ (Opened 1) _ refl b.1 in
       let d = take-next _ (Polled (pos 0)) _ refl c.1 in
       let e = take-next _ (HeardTill 1 (frame status_request)) _ refl d.1 in
-      message-first asked_view 1 status_request not_found (pos 0) request-answered refl request-waits e.1;
+      message-first asked_view 1 status_request not_found (pos 0) request-replied refl request-waits e.1;
 }

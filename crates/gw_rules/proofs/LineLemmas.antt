@@ -12,7 +12,7 @@ use Rattle.gw_rules.specs.Lawful.{IsLawful, IsQuiet}
 use Rattle.gw_rules.specs.Plays.{Play, applies, brings, met, play_after, Fits, PlaysFrom, rests, begins, PlaysLines, PlaysRead, IsStopped, IsRunWith}
 use Rattle.gw_rules.specs.ByLines.{IsSkipped, IsCall, IsPlayed, GoesBy, GoesByScript, Timed, timed, last_moment_of, AreSomeOf, event_of, poll_of}
 use Rattle.gw_rules.specs.Laws.{LogGoesByLines, LogHasEvents, LogHasScript}
-use Rattle.gw_rules.proofs.OneLogLemmas.{nothing-behind}
+use Rattle.gw_rules.proofs.OneLogLemmas.{nothing-after}
 
 abbrev AreCalls : List Turn → Type 0
 AreCalls turns = AllByRecursion IsCall turns
@@ -351,7 +351,7 @@ log_goes script log lawful plays (run, is, quiet) stopped =
     let lawful2 : IsLawful (Start setup ∷ run) = subst IsLawful is lawful in
     let plays2 : PlaysLines script.lines (Start setup ∷ run) = subst (PlaysLines script.lines) is plays in
     let stopped2 : IsStopped (Start setup ∷ run) = subst IsStopped is stopped in
-    let left : Tail run = record { quiet = quiet; ends = stops_later (Start setup) run (λ e. cc) stopped2; only = nothing-behind setup script.lines run lawful2 plays2 quiet stopped2 } in
+    let left : Tail run = record { quiet = quiet; ends = stops_later (Start setup) run (λ e. cc) stopped2; only = nothing-after setup script.lines run lawful2 plays2 quiet stopped2 } in
     let i = idles run (outside_after nothing_yet (Start setup)) (pos 0) script.lines plays2.1 left in
     record {
       calls = i.calls;
@@ -426,7 +426,7 @@ event_heard (Say till bytes) later = (refl, refl)
 event_heard Tick later = (refl, refl)
 
 -- what these lines give from this moment on
-record Gives (moment : ℤ) (lines : List PlayedLine) (turns : List Turn) : Type 0 where
+record GivesTurns (moment : ℤ) (lines : List PlayedLine) (turns : List Turn) : Type 0 where
   played : List Timed
   of_lines : AreSomeOf played (timed moment lines)
   events : flat_map event_of turns ≡ flat_map (λ (line : Timed). brings line.event) played ++ Stopped ∷ []
@@ -436,7 +436,7 @@ some_more : (these : List Timed) (other : Timed) (those : List Timed) → AreSom
 some_more [] other those h = tt
 some_more (first ∷ these) other those h = inr h
 
-gives_event : (o : Outside) (moment : ℤ) (event : Event) (lines : List PlayedLine) (turns : List Turn) → (x : IsPlayed o moment event turns (λ after later. GoesBy after moment lines later)) → Gives moment lines x.later → Gives moment (Poll event ∷ lines) turns
+gives_event : (o : Outside) (moment : ℤ) (event : Event) (lines : List PlayedLine) (turns : List Turn) → (x : IsPlayed o moment event turns (λ after later. GoesBy after moment lines later)) → GivesTurns moment lines x.later → GivesTurns moment (Poll event ∷ lines) turns
 gives_event o moment event lines turns x later =
     let line : Timed = record { moment = moment; event = event } in
     let heard = event_heard event (x.calls ++ x.later) in
@@ -448,7 +448,7 @@ gives_event o moment event lines turns x later =
       moments = ap (flat_map poll_of) x.turns_are ∙ ap (λ l. moment ∷ l) (heard.1 ∙ silent.1 ∙ later.moments);
     }
 
-gives : (lines : List PlayedLine) (o : Outside) (moment : ℤ) (turns : List Turn) → GoesBy o moment lines turns → Gives moment lines turns
+gives : (lines : List PlayedLine) (o : Outside) (moment : ℤ) (turns : List Turn) → GoesBy o moment lines turns → GivesTurns moment lines turns
 gives [] o moment turns e = record { played = []; of_lines = tt; events = ap (flat_map event_of) e; moments = ap (flat_map poll_of) e }
 gives (At now ∷ lines) o moment turns h = let g = gives lines o now turns h in record { played = g.played; of_lines = g.of_lines; events = g.events; moments = g.moments }
 gives (Poll event ∷ lines) o moment turns (inl (is, h)) =

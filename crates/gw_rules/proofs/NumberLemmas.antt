@@ -11,9 +11,9 @@ use Rattle.std.specs.Int.{IsInRange}
 use Rattle.std.specs.Prelude.{Bool, ◌⊎◌, ◌==◌, ◌≢◌, nat_lt, Some, None}
 use Rattle.gw_rules.specs.Script.{is_digit, more_digits, number}
 
-tells : (b : Bool) → (b ≡ true) ⊎ (b ≡ false)
-tells true = inl refl
-tells false = inr refl
+by_value : (b : Bool) → (b ≡ true) ⊎ (b ≡ false)
+by_value true = inl refl
+by_value false = inr refl
 
 -- a digit by its byte is one by its value
 digit_range : (c : ℕ) → is_digit c ≡ true → IsInRange 48 57 c
@@ -55,8 +55,8 @@ pub record IsRead (n : ℕ) (ds : List ℕ) : Type 0 where
 
 pub read_more : (n : ℕ) (ds : List ℕ) (v : ℕ) → n < 2 ^ 64 → more_digits n ds ≡ Some v → IsRead n ds
 read_more n [] v lt e = record { digits = tt; small = lt }
-read_more n (d ∷ ds) v lt e = elim (tells (is_digit d)) [
-  | inl digit ↦ elim (tells (nat_lt (n * 10 + (d - 48)) (2 ^ 64))) [
+read_more n (d ∷ ds) v lt e = elim (by_value (is_digit d)) [
+  | inl digit ↦ elim (by_value (nat_lt (n * 10 + (d - 48)) (2 ^ 64))) [
     | inl below ↦ (
         let range = digit_range d digit in
         let rest : IsRead (n * 10 + (d - 48)) ds = read_more (n * 10 + (d - 48)) ds v (test_below (n * 10 + (d - 48)) (2 ^ 64) below) (rw (digit, below) at e) in
@@ -68,7 +68,7 @@ read_more n (d ∷ ds) v lt e = elim (tells (is_digit d)) [
 
 -- without a leading zero a word is its digits
 pub number_plain : (d : ℕ) (ds : List ℕ) → (1 < length (d ∷ ds) → d ≢ 48) → number (d ∷ ds) ≡ more_digits 0 (d ∷ ds)
-number_plain d [] led = elim (tells (d == 48)) [ inl e ↦ rw e refl | inr e ↦ rw e refl ]
+number_plain d [] led = elim (by_value (d == 48)) [ inl e ↦ rw e refl | inr e ↦ rw e refl ]
 number_plain d (next ∷ ds) led = elim (eqb_tells d 48) [ inl e ↦ absurd (led (omega arith) e.1) | inr e ↦ rw e.0 refl ]
 
 -- digits without a leading zero are the number that they spell

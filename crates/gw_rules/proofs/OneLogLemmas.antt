@@ -1,4 +1,4 @@
--- A script has one log at most: at each place of a course one move alone may come.
+-- A script has one log at most: after each move of a course one move alone may come.
 use Rattle.std.proofs.Common.{◌≡◌, ℕ, List, [], ◌∷◌, ◌++◌, refl, sym, ◌∙◌, ap, subst, true, false}
 use Rattle.std.specs.Prelude.{Bool, ℤ, Some, Result, Ok, Err}
 use Rattle.gw_base.specs.declared.setup.Setup.{Setup}
@@ -14,7 +14,7 @@ use Rattle.gw_rules.specs.Lawful.{AllowedTurn, Allowed, IsCourse, turns_of, IsLa
 use Rattle.gw_rules.specs.Script.{PlayedLine, Script, script_of, script_setup}
 use Rattle.gw_rules.specs.Plays.{Play, Fits, PlaysFrom, play_after, after_poll, begins, PlaysLines, PlaysRead, IsStopped, IsRunWith, IsRunRead}
 use Rattle.gw_rules.specs.Laws.{OneLog}
-use Rattle.gw_rules.proofs.ReplyLemmas.{answers-one}
+use Rattle.gw_rules.proofs.ReplyLemmas.{reply-one}
 use Rattle.gw_rules.proofs.EndLemmas.{OverCalm, over-turn, over-begin}
 
 -- an item owes one list of calls
@@ -22,8 +22,8 @@ use Rattle.gw_rules.proofs.EndLemmas.{OverCalm, over-turn, over-begin}
 message-one : (open_line : Bool) (scene : Scene) (till : ℕ) (message : List ℕ) (calls other : List Call) → MessageOwes open_line scene till message calls → MessageOwes open_line scene till message other → calls ≡ other
 message-one true scene till message calls other x y =
     let same : y.setup ≡ x.setup = (let e : Some y.setup ≡ Some x.setup = sym y.setup_is ∙ x.setup_is in cc) in
-    let answers = subst (λ (s : Setup). RepliesTo s.name scene.outside.moment message y.answer) same y.answers in
-    x.is ∙ ap (reply_calls till) (answers-one x.setup.name scene.outside.moment message x.answer y.answer x.answers answers) ∙ sym y.is
+    let replies = subst (λ (s : Setup). RepliesTo s.name scene.outside.moment message y.reply) same y.replies in
+    x.is ∙ ap (reply_calls till) (reply-one x.setup.name scene.outside.moment message x.reply y.reply x.replies replies) ∙ sym y.is
 message-one false scene till message calls other e f = e ∙ sym f
 
 unframed-one : (open_line : Bool) (till : ℕ) (calls other : List Call) → UnframedOwes open_line till calls → UnframedOwes open_line till other → calls ≡ other
@@ -291,8 +291,8 @@ stop-last v o p (Take turn ∷ moves) (first ∷ prefix) rest calm r e =
     stop-last (after_turn v turn) (outside_after o turn) (play_after o p turn) moves prefix rest (calm-turn v turn calm r.lawful.0) (rest-take v o p turn moves r) tails
 
 -- after the start of a script's log, nothing follows the stop
-pub nothing-behind : (setup : Setup) (lines : List PlayedLine) (run : List Turn) → IsLawful (Start setup ∷ run) → PlaysLines lines (Start setup ∷ run) → IsQuiet run → IsStopped (Start setup ∷ run) → (prefix rest : List Turn) → run ≡ prefix ++ Stopped ∷ rest → rest ≡ []
-nothing-behind setup lines run lawful plays quiet stopped prefix rest e =
+pub nothing-after : (setup : Setup) (lines : List PlayedLine) (run : List Turn) → IsLawful (Start setup ∷ run) → PlaysLines lines (Start setup ∷ run) → IsQuiet run → IsStopped (Start setup ∷ run) → (prefix rest : List Turn) → run ≡ prefix ++ Stopped ∷ rest → rest ≡ []
+nothing-after setup lines run lawful plays quiet stopped prefix rest e =
     let x = run-of setup lines (Start setup ∷ run) lawful plays (run, refl, quiet) stopped in
     let same : run ≡ turns_of x.moves = (let n : Start setup ∷ run ≡ Start setup ∷ turns_of x.moves = x.log_is in cc) in
     stop-last _ _ _ x.moves prefix rest (start-calm setup) x.rest (sym same ∙ e)

@@ -7,7 +7,7 @@ use Rattle.std.proofs.lemmas.List.{append-nil, take-append-le, length_push}
 use Rattle.std.specs.Prelude.{nat_le, nat_lt, ◌&&◌, not, if◌then◌else◌}
 use Rattle.std.specs.List.{fold}
 use Rattle.std.specs.Int.{w32, to_be_bytes}
-use Rattle.sale_frame.specs.Grammar.{IsPayloadLength, IsPayload, frame, BeginsWithLength, IsIncompleteFrame, IsBadLength}
+use Rattle.sale_frame.specs.Grammar.{IsPayloadLength, IsPayload, frame, BeginsWithLength, IsIncompleteFrame, BeginsWithBadLength}
 use Rattle.sale_frame.specs.Decode.{DecodedFrames, spelled_length, is_frame, with_byte, decode_after, decode_frames, with_messages}
 use Rattle.sale_frame.proofs.DecodeLemmas.{chunks_add, frame_passes, spells, reads_all}
 use Rattle.sale_frame.proofs.StreamLemmas.{one_reading}
@@ -73,7 +73,7 @@ unfinished-waits bytes (inr (message, lawful, more, some, is)) = record { prefix
     ]
 
 -- bytes that begin no frame wait too
-pub bad-waits : (bytes : List ℕ) → IsBadLength bytes → HasNoFrame bytes
+pub bad-waits : (bytes : List ℕ) → BeginsWithBadLength bytes → HasNoFrame bytes
 bad-waits bytes (n, begins, unlawful) = record {
   prefixes = λ prefix rest e. elim (cases_lt (length prefix) 4) [
     | inl short ↦ no_frame prefix (λ l size. omega arith)
@@ -102,7 +102,7 @@ unfinished-framed bytes h = elim (cases_lt (length bytes) 4) [
         let n : spelled_length bytes ≡ length message = spelled bytes (length message) (prefix-begins (frame message) bytes more (length message) is fits begins) in
         and_right (nat_le 4 (length bytes)) _ (not_from_true _ (lawful_tested (spelled_length bytes) (subst IsPayloadLength (sym n) lawful)))
 
-bad-unframed : (bytes : List ℕ) → IsBadLength bytes → is_unframed bytes ≡ true
+bad-unframed : (bytes : List ℕ) → BeginsWithBadLength bytes → is_unframed bytes ≡ true
 bad-unframed bytes (n, begins, unlawful) =
     let fits : 4 ≤ length bytes = length_fits bytes n begins in
     let same : spelled_length bytes ≡ n = spelled bytes n begins in
@@ -140,7 +140,7 @@ reading-message message left lawful = chunks_add (frame message) left ∙ ap (λ
 pub items-waiting : (till : ℕ) (bytes : List ℕ) → IsIncompleteFrame bytes → reading_items till (decode_frames bytes) ≡ []
 items-waiting till bytes h = ap (reading_items till) (reading-waiting bytes (unfinished-waits bytes h)) ∙ rw (unfinished-framed bytes h) refl
 
-pub items-unframed : (till : ℕ) (bytes : List ℕ) → IsBadLength bytes → reading_items till (decode_frames bytes) ≡ Unframed till ∷ []
+pub items-unframed : (till : ℕ) (bytes : List ℕ) → BeginsWithBadLength bytes → reading_items till (decode_frames bytes) ≡ Unframed till ∷ []
 items-unframed till bytes h = ap (reading_items till) (reading-waiting bytes (bad-waits bytes h)) ∙ rw (bad-unframed bytes h) refl
 
 pub items-message : (till : ℕ) (message left : List ℕ) → IsPayload message → reading_items till (decode_frames (frame message ++ left)) ≡ Message till message ∷ reading_items till (decode_frames left)
@@ -197,7 +197,7 @@ rest-chunk heard chunk = ap (λ (r : DecodedFrames). r.rest) (chunks_add heard c
 
 -- ---- what newly heard bytes owe
 
-unframed-bad : (bytes : List ℕ) → AreBytes bytes → is_unframed bytes ≡ true → IsBadLength bytes
+unframed-bad : (bytes : List ℕ) → AreBytes bytes → is_unframed bytes ≡ true → BeginsWithBadLength bytes
 unframed-bad bytes small test =
     let parts = and_parts (nat_le 4 (length bytes)) _ test in
     (spelled_length bytes, spells bytes small (leb-true 4 _ parts.0), λ lawful. true_not _ (lawful_tested (spelled_length bytes) lawful) parts.1)
@@ -210,7 +210,7 @@ pub finds-bad : FindsBad
 finds-bad rest small = (unframed-bad rest small, bad-unframed rest)
 
 -- bytes after a bad rest complete nothing
-bad-completes : (rest chunk : List ℕ) → IsBadLength rest → (decode_after rest chunk).messages ≡ []
+bad-completes : (rest chunk : List ℕ) → BeginsWithBadLength rest → (decode_after rest chunk).messages ≡ []
 bad-completes rest chunk (n, begins, unlawful) =
     ap (λ (r : DecodedFrames). r.messages) (waiting-from [] rest chunk (bad-waits (rest ++ chunk) (n, lengthened rest chunk n begins, unlawful)))
 
@@ -232,5 +232,5 @@ heard-owes till heard chunk before all rest left small old new =
       items_are = refl;
       bad = λ h. rw (left_is, bad-unframed left h) refl;
       unfinished = λ h. rw (left_is, unfinished-framed left h) refl;
-      behind_bad = λ h. bad-completes (decode_frames heard).rest chunk (subst IsBadLength (sym first.1) h);
+      none_after_bad = λ h. bad-completes (decode_frames heard).rest chunk (subst BeginsWithBadLength (sym first.1) h);
     }

@@ -1,4 +1,4 @@
--- A message has one answer.
+-- A message has one reply.
 use Rattle.std.proofs.Common.{◌≡◌, ℕ, ◌+◌, ◌<◌, ◌≤◌, List, ◌++◌, take, drop, refl, sym, ◌∙◌, ap, subst, arith, inl, inr, append_assoc}
 use Rattle.std.proofs.lemmas.Bool.{cases_lt}
 use Rattle.std.proofs.lemmas.List.{take-append-drop, take-take}
@@ -22,9 +22,9 @@ begins-shorter b m n le (v, more, spelled) =
     let whole : take n b ++ more ≡ take m b ++ (drop m (take n b) ++ more) = ap (λ l. l ++ more) parts ∙ append_assoc (take m b) (drop m (take n b)) more in
     (v, drop m (take n b) ++ more, subst (Spells v) whole spelled)
 
--- two faults of a text are at one place
-one-place : (b : List ℕ) (f g : JsonFault) → IsJsonFault b f.at f.kind → IsJsonFault b g.at g.kind → f.at < g.at → ⊥
-one-place b f g x y lt = x.longest (omega (arith, y.within)) (begins-shorter b (f.at + 1) g.at (omega arith) y.begins)
+-- two faults of a text are at one offset
+one-offset : (b : List ℕ) (f g : JsonFault) → IsJsonFault b f.at f.kind → IsJsonFault b g.at g.kind → f.at < g.at → ⊥
+one-offset b f g x y lt = x.longest (omega (arith, y.within)) (begins-shorter b (f.at + 1) g.at (omega arith) y.begins)
 
 one-kind : (k l : FaultKind) (A B C : Type 0) → (k ≡ TooDeep) ↔ A → (l ≡ TooDeep) ↔ A → (k ≡ Repeated) ↔ B → (l ≡ Repeated) ↔ B → (k ≡ BadUtf8) ↔ C → (l ≡ BadUtf8) ↔ C → k ≡ l
 one-kind TooDeep l A B C ka la kb lb kc lc = sym (la.1 (ka.0 refl))
@@ -37,8 +37,8 @@ one-kind NotJson NotJson A B C ka la kb lb kc lc = refl
 
 same-at : (b : List ℕ) (f g : JsonFault) → IsJsonFault b f.at f.kind → IsJsonFault b g.at g.kind → f.at ≡ g.at
 same-at b f g x y = elim (cases_lt f.at g.at) [
-  | inl l ↦ absurd (one-place b f g x y l)
-  | inr h ↦ elim (cases_lt g.at f.at) [ inl l ↦ absurd (one-place b g f y x l) | inr k ↦ omega arith ]
+  | inl l ↦ absurd (one-offset b f g x y l)
+  | inr h ↦ elim (cases_lt g.at f.at) [ inl l ↦ absurd (one-offset b g f y x l) | inr k ↦ omega arith ]
 ]
 
 -- a text has one fault
@@ -52,17 +52,17 @@ one-fault b f g x y =
     same : (a c : ℕ) (k l : FaultKind) → a ≡ c → k ≡ l → ◌≡◌ {A = JsonFault} (record { at = a; kind = k }) (record { at = c; kind = l })
     same a c k l e h = rw (e, h) refl
 
--- a tree has one answer
-tree-one : (name : List ℕ) (moment : ℕ) (tree : Tree) (answer other : Option Reply) → RepliesToMessage moment tree answer ⊎ RepliesToFault name moment tree answer → RepliesToMessage moment tree other ⊎ RepliesToFault name moment tree other → answer ≡ other
-tree-one name moment tree answer other (inl x) (inl y) = x.is ∙ ap (incoming_reply moment) (message_one tree x.incoming y.incoming x.read y.read) ∙ sym y.is
-tree-one name moment tree answer other (inl x) (inr y) = absurd (message_no_fault tree x.incoming y.fault x.read y.faulty)
-tree-one name moment tree answer other (inr x) (inl y) = absurd (message_no_fault tree y.incoming x.fault y.read x.faulty)
-tree-one name moment tree answer other (inr x) (inr y) = x.is ∙ ap (λ f. Some (fault_reply name moment f)) (fault_one tree x.fault y.fault x.faulty y.faulty) ∙ sym y.is
+-- a tree has one reply
+tree-one : (name : List ℕ) (moment : ℕ) (tree : Tree) (reply other : Option Reply) → RepliesToMessage moment tree reply ⊎ RepliesToFault name moment tree reply → RepliesToMessage moment tree other ⊎ RepliesToFault name moment tree other → reply ≡ other
+tree-one name moment tree reply other (inl x) (inl y) = x.is ∙ ap (incoming_reply moment) (message_one tree x.incoming y.incoming x.read y.read) ∙ sym y.is
+tree-one name moment tree reply other (inl x) (inr y) = absurd (message_no_fault tree x.incoming y.fault x.read y.faulty)
+tree-one name moment tree reply other (inr x) (inl y) = absurd (message_no_fault tree y.incoming x.fault y.read x.faulty)
+tree-one name moment tree reply other (inr x) (inr y) = x.is ∙ ap (λ f. Some (fault_reply name moment f)) (fault_one tree x.fault y.fault x.faulty y.faulty) ∙ sym y.is
 
-pub answers-one : (name : List ℕ) (moment : ℕ) (message : List ℕ) (answer other : Option Reply) → RepliesTo name moment message answer → RepliesTo name moment message other → answer ≡ other
-answers-one name moment message answer other (inl x) (inl y) =
+pub reply-one : (name : List ℕ) (moment : ℕ) (message : List ℕ) (reply other : Option Reply) → RepliesTo name moment message reply → RepliesTo name moment message other → reply ≡ other
+reply-one name moment message reply other (inl x) (inl y) =
     let same : y.tree ≡ x.tree = same_tree y.tree x.tree message y.spelled x.spelled in
-    tree-one name moment x.tree answer other x.is (subst (λ t. RepliesToMessage moment t other ⊎ RepliesToFault name moment t other) same y.is)
-answers-one name moment message answer other (inl x) (inr y) = absurd (y.faulty.spelled_by_none x.tree x.spelled)
-answers-one name moment message answer other (inr x) (inl y) = absurd (x.faulty.spelled_by_none y.tree y.spelled)
-answers-one name moment message answer other (inr x) (inr y) = x.is ∙ ap (λ f. Some (reject name moment (details.Json f))) (one-fault message x.fault y.fault x.faulty y.faulty) ∙ sym y.is
+    tree-one name moment x.tree reply other x.is (subst (λ t. RepliesToMessage moment t other ⊎ RepliesToFault name moment t other) same y.is)
+reply-one name moment message reply other (inl x) (inr y) = absurd (y.faulty.spelled_by_none x.tree x.spelled)
+reply-one name moment message reply other (inr x) (inl y) = absurd (x.faulty.spelled_by_none y.tree y.spelled)
+reply-one name moment message reply other (inr x) (inr y) = x.is ∙ ap (λ f. Some (reject name moment (details.Json f))) (one-fault message x.fault y.fault x.faulty y.faulty) ∙ sym y.is

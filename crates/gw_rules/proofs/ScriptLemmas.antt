@@ -16,7 +16,7 @@ with_entries script (entry ∷ entries) = option_and_then (λ more. with_entries
 abbrev with_text : Script → List ℕ → Option Script
 with_text script text = option_and_then (with_entry script) (entry_of text)
 
--- the script with the lines of these texts, where they all may stand there
+-- the script with the lines of these texts, where they all may come there
 abbrev with_texts : Script → List (List ℕ) → Option Script
 with_texts script [] = Some script
 with_texts script (text ∷ texts) = option_and_then (λ more. with_texts more texts) (with_text script text)
@@ -83,17 +83,17 @@ skip_blank : (lines : List PlayedLine) (entries : List Entry) → OnlyFirst line
 skip_blank [] entries h = h
 skip_blank (line ∷ lines) entries h = h
 
-behind_blank : (lines : List PlayedLine) (entries : List Entry) → OnlyFirst lines (Blank ∷ entries) → OnlyFirst lines entries
-behind_blank [] entries h = h
-behind_blank (line ∷ lines) entries h = h
+after_blank : (lines : List PlayedLine) (entries : List Entry) → OnlyFirst lines (Blank ∷ entries) → OnlyFirst lines entries
+after_blank [] entries h = h
+after_blank (line ∷ lines) entries h = h
 
 before_line : (lines : List PlayedLine) (line : PlayedLine) (entries : List Entry) → OnlyFirst (lines ++ line ∷ []) entries → OnlyFirst lines (Playing line ∷ entries)
 before_line [] line entries h = h
 before_line (first ∷ lines) line entries h = h
 
-behind_line : (lines : List PlayedLine) (line : PlayedLine) (entries : List Entry) → OnlyFirst lines (Playing line ∷ entries) → OnlyFirst (lines ++ line ∷ []) entries
-behind_line [] line entries h = h
-behind_line (first ∷ lines) line entries h = h
+after_line : (lines : List PlayedLine) (line : PlayedLine) (entries : List Entry) → OnlyFirst lines (Playing line ∷ entries) → OnlyFirst (lines ++ line ∷ []) entries
+after_line [] line entries h = h
+after_line (first ∷ lines) line entries h = h
 
 some_is : {A : Type 0} (x a : A) → Some x ≡ Some a → x ≡ a
 some_is x a e = cc
@@ -136,14 +136,14 @@ makes name lines [] result m =
     let n = name_is name result.name (sym (append-nil (option_to_list name)) ∙ m.names) in
     let l = sym (append-nil lines) ∙ m.all in
     ap Some (ap (λ n. so_far n lines) n ∙ ap (so_far result.name) l)
-makes name lines (Blank ∷ entries) result m = makes name lines entries result (record { names = m.names; first = behind_blank lines entries m.first; all = m.all })
+makes name lines (Blank ∷ entries) result m = makes name lines entries result (record { names = m.names; first = after_blank lines entries m.first; all = m.all })
 makes (Some old) lines (Naming name ∷ entries) result m = absurd (two_names old name (script_names entries) result.name m.names)
 makes None (line ∷ lines) (Naming name ∷ entries) result m = absurd (let h : name ∷ script_names entries ≡ [] = m.first in cc)
 makes None [] (Naming name ∷ entries) result m = makes (Some name) [] entries result (record { names = m.names; first = m.first; all = m.all })
 makes name lines (Playing line ∷ entries) result m =
-    makes name (lines ++ line ∷ []) entries result (record { names = m.names; first = behind_line lines line entries m.first; all = append_assoc lines (line ∷ []) (played_lines entries) ∙ m.all })
+    makes name (lines ++ line ∷ []) entries result (record { names = m.names; first = after_line lines line entries m.first; all = append_assoc lines (line ∷ []) (played_lines entries) ∙ m.all })
 
--- the lines of these texts make a script exactly where they all may stand there
+-- the lines of these texts make a script exactly where they all may come there
 texts_script : (texts : List (List ℕ)) (script : Script) → with_texts no_lines texts ≡ Some script → AreScript texts script
 texts_script texts script e =
     let x = entered no_lines texts script e in
@@ -171,7 +171,7 @@ texts_ok script number (text ∷ texts) result e = by_step (with_text script tex
     by_step None later e = none_some result e
     by_step (Some more) later e = later more e
 
--- so many texts may stand there, and not one more
+-- so many texts may come there, and not one more
 record StopsAt (script : Script) (texts : List (List ℕ)) (count : ℕ) : Type 0 where
   there : count < length texts
   result : Script

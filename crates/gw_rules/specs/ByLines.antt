@@ -59,7 +59,7 @@ pub record GoesByScript (script : Script) (log : List Turn) : Type 0 where
   pub log_is : log ≡ Start (script_setup script.name) ∷ (calls ++ later)
   pub goes_on : GoesBy (outside_of (Start (script_setup script.name) ∷ calls)) (pos 0) script.lines later
 
--- a line that polls, with the moment that is set where it stands
+-- a line that polls, with the moment that is set there
 pub record Timed : Type 0 where
   pub moment : ℤ
   pub event : Event

@@ -56,9 +56,9 @@ pub record IsCourseAlong (log : List Turn) (course : List Move) : Type 0 where
   pub lawful : IsCourse at_first course
 
 -- the log is lawful, and with this turn after it it isn't
-pub record IsUnlawfulBehind (log : List Turn) (turn : Turn) : Type 0 where
+pub record IsUnlawfulAfter (log : List Turn) (turn : Turn) : Type 0 where
   pub before : IsLawful log
-  pub behind : ¬ IsLawful (log ++ turn ∷ [])
+  pub with_turn : ¬ IsLawful (log ++ turn ∷ [])
 
 -- the till has opened, and said nothing
 abbrev pub opened_log : List Turn
@@ -68,7 +68,7 @@ opened_log = Start (script_setup None) ∷ Polled (pos 0) ∷ Opened 1 ∷ []
 abbrev pub asked_log : List Turn
 asked_log = Start (script_setup None) ∷ Polled (pos 0) ∷ Opened 1 ∷ Polled (pos 0) ∷ HeardTill 1 (frame status_request) ∷ []
 
--- the request is answered with the reply
+-- the request gets its reply
 abbrev pub StatusIsLawful : Type 0
 StatusIsLawful = IsCourseAlong status_log status_course
 
@@ -82,8 +82,8 @@ StatusHasText = log_text status_log ≡ status_log_text
 
 -- no reply is sent where none is owed
 abbrev pub UnaskedReply : Type 0
-UnaskedReply = IsUnlawfulBehind opened_log (SentTill 1 (frame status_reply) true)
+UnaskedReply = IsUnlawfulAfter opened_log (SentTill 1 (frame status_reply) true)
 
 -- no poll comes where a reply is owed
 abbrev pub PollBeforeReply : Type 0
-PollBeforeReply = IsUnlawfulBehind asked_log (Polled (pos 0))
+PollBeforeReply = IsUnlawfulAfter asked_log (Polled (pos 0))

@@ -69,7 +69,7 @@ played_lines (Blank ∷ entries) = played_lines entries
 played_lines (Naming name ∷ entries) = played_lines entries
 played_lines (Playing line ∷ entries) = line ∷ played_lines entries
 
--- names stand before all lines that are played
+-- names come before all lines that are played
 abbrev pub NamesComeFirst : List Entry → Type 0
 NamesComeFirst [] = Unit {0}
 NamesComeFirst (Blank ∷ entries) = NamesComeFirst entries

@@ -67,7 +67,7 @@ abbrev pub Allowed : View → Move → Type 0
 Allowed v (Begin calls) = (item : Item) × (items : List Item) × BeginsItem v item items calls
 Allowed v (Take turn) = AllowedTurn v turn
 
--- each move of the course is allowed where it stands
+-- each move of the course is allowed where it comes
 abbrev pub IsCourse : View → List Move → Type 0
 IsCourse v [] = Unit {0}
 IsCourse v (move ∷ moves) = Allowed v move × IsCourse (after v move) moves
@@ -89,7 +89,7 @@ pub record Stands (log : List Turn) (v : View) : Type 0 where
 abbrev pub IsLawful : List Turn → Type 0
 IsLawful log = (v : View) × Stands log v
 
--- the turn stands between runs: a run begins, or doesn't begin, or the power fails
+-- the turn is between runs: a run begins, or doesn't begin, or the power fails
 abbrev pub is_between : Turn → Bool
 is_between (Start setup) = true
 is_between OpenFailed = true

@@ -3,7 +3,7 @@ use Rattle.std.specs.Prelude.{◌≡◌, ◌↔◌, ◌<◌, ◌≤◌, ℕ, tru
 use Rattle.std.specs.List.{AllByRecursion}
 use Rattle.gw_bytes.specs.Bytes.{AreBytes}
 use Rattle.hex.specs.Hex.{encode_lower}
-use Rattle.sale_frame.specs.Grammar.{IsPayload, IsIncompleteFrame, IsBadLength, Frames, frame}
+use Rattle.sale_frame.specs.Grammar.{IsPayload, IsIncompleteFrame, BeginsWithBadLength, Frames, frame}
 use Rattle.gw_base.specs.Setup.{IsSetup}
 use Rattle.gw_base.specs.declared.setup.Setup.{Setup}
 use Rattle.gw_site.specs.Outside.{outside_of}
@@ -21,7 +21,7 @@ use Rattle.gw_rules.specs.ByLines.{GoesByScript, HasEventsOf}
 
 -- The test of a rest finds exactly the bad ones.
 abbrev pub FindsBad : Type 0
-FindsBad = (rest : List ℕ) → AreBytes rest → is_unframed rest ≡ true ↔ IsBadLength rest
+FindsBad = (rest : List ℕ) → AreBytes rest → is_unframed rest ≡ true ↔ BeginsWithBadLength rest
 
 -- The items of a till's newly heard bytes: one for each message that they newly complete, in order, and then one more exactly where what is left is bad. After a bad rest no message is completed.
 pub record OwesNew (till : ℕ) (before all : List (List ℕ)) (rest left : List ℕ) (items : List Item) : Type 0 where
@@ -29,9 +29,9 @@ pub record OwesNew (till : ℕ) (before all : List (List ℕ)) (rest left : List
   pub last : List Item
   pub completed : all ≡ before ++ new
   pub items_are : items ≡ map (Message till) new ++ last
-  pub bad : IsBadLength left → last ≡ Unframed till ∷ []
+  pub bad : BeginsWithBadLength left → last ≡ Unframed till ∷ []
   pub unfinished : IsIncompleteFrame left → last ≡ []
-  pub behind_bad : IsBadLength rest → new ≡ []
+  pub none_after_bad : BeginsWithBadLength rest → new ≡ []
 
 -- What bytes owe is said by the frames of all bytes heard before them and of all bytes heard with them.
 abbrev pub HeardOwes : Type 0

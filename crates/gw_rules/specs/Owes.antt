@@ -7,18 +7,18 @@ use Rattle.gw_rules.specs.Reply.{Reply}
 use Rattle.gw_rules.specs.Scene.{Till, Call, Tell, Cut, Item, Crowded, Message, Unframed, Scene}
 use Rattle.gw_rules.specs.Replies.{RepliesTo}
 
--- what is sent to the till where there is an answer
+-- what is sent to the till where there is a reply
 abbrev pub reply_calls : ℕ → Option Reply → List Call
 reply_calls till None = []
 reply_calls till (Some reply) = Tell till reply ∷ []
 
--- a message of a till that is there owes its answer, by the gateway of this run's name at the moment of the poll
+-- a message of a till that is there owes its reply, by the gateway of this run's name at the moment of the poll
 pub record OwesReply (scene : Scene) (till : ℕ) (message : List ℕ) (calls : List Call) : Type 0 where
   pub setup : Setup
   pub setup_is : scene.setup ≡ Some setup
-  pub answer : Option Reply
-  pub answers : RepliesTo setup.name scene.outside.moment message answer
-  pub is : calls ≡ reply_calls till answer
+  pub reply : Option Reply
+  pub replies : RepliesTo setup.name scene.outside.moment message reply
+  pub is : calls ≡ reply_calls till reply
 
 -- a message of a till that is gone owes nothing
 abbrev pub MessageOwes : Bool → Scene → ℕ → List ℕ → List Call → Type 0

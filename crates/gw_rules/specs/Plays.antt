@@ -7,7 +7,7 @@ use Rattle.gw_site.specs.declared.turn.Turn.TheVariants.{Start, OpenFailed, Poll
 use Rattle.gw_rules.specs.Script.{Event, Open, Close, Say, Tick, PlayedLine, At, Poll, Script, script_of, script_setup}
 use Rattle.gw_rules.specs.Lawful.{IsLawful, IsQuiet}
 
--- where a script stands: the lines that are left, the moment of the last `at` line passed, and the event that a poll has met and not yet brought
+-- how far a script is played: the lines that are left, the moment of the last `at` line passed, and the event that a poll has met and not yet brought
 pub record Play : Type 0 where
   pub lines : List PlayedLine
   pub moment : ℤ
@@ -33,7 +33,7 @@ met o moment [] = record { lines = []; moment = moment; due = Stopped ∷ [] }
 met o moment (At now ∷ lines) = met o now lines
 met o moment (Poll event ∷ lines) = if applies o event then record { lines = lines; moment = moment; due = brings event } else met o moment lines
 
--- where the script stands once the site was polled
+-- how far the script is played once the site was polled
 abbrev pub after_poll : Outside → Play → Play
 after_poll o p = met o p.moment p.lines
 
@@ -41,7 +41,7 @@ after_poll o p = met o p.moment p.lines
 abbrev pub brought : Play → Play
 brought p = record p { due = [] }
 
--- where the script stands after one more turn
+-- how far the script is played after one more turn
 abbrev pub play_after : Outside → Play → Turn → Play
 play_after o p (Start setup) = p
 play_after o p OpenFailed = p
@@ -98,7 +98,7 @@ abbrev pub PlaysFrom : Outside → Play → List Turn → Type 0
 PlaysFrom o p [] = Unit {0}
 PlaysFrom o p (turn ∷ turns) = Fits o p turn × PlaysFrom (outside_after o turn) (play_after o p turn) turns
 
--- Inner: where the script stands after more turns
+-- Inner: how far the script is played after more turns
 abbrev pub play_from : Outside → Play → List Turn → Play
 play_from o p [] = p
 play_from o p (turn ∷ turns) = play_from (outside_after o turn) (play_after o p turn) turns
@@ -111,7 +111,7 @@ rests moment lines = record { lines = lines; moment = moment; due = [] }
 abbrev pub begins : List PlayedLine → Play
 begins lines = rests (pos 0) lines
 
--- Inner: where these lines stand after the log
+-- Inner: how far these lines are played after the log
 abbrev pub play_of : List PlayedLine → List Turn → Play
 play_of lines log = play_from nothing_yet (begins lines) log
 

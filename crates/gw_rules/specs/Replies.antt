@@ -60,11 +60,11 @@ refused_output output = record { device = output.device; qualify = output.qualif
 abbrev pub asks_response : List Output → Bool
 asks_response outputs = list_any (λ (output : Output). output.required) outputs
 
--- the result of a malformed Display: one output stands for all
+-- the result of a malformed Display: one output for all
 abbrev pub no_output : List ℕ → Shown
 no_output path = record { device = codes "CustomerDisplay"; qualify = codes "Display"; verdict = malformed path }
 
--- the answer to a body in which the member at this path is absent or of another form, by the category
+-- the reply to a body in which the member at this path is absent or of another form, by the category
 abbrev pub malformed_reply : ℕ → Header → List ℕ → Reply
 malformed_reply moment header path =
     if bytes_eq header.category (codes "Abort") then Reject header.sale header.poi (pos moment) (details.Body path) else
@@ -72,7 +72,7 @@ malformed_reply moment header path =
     (if bytes_eq header.category (codes "Print") then Printed (reply_header header) (codes "Document") (malformed path) else
     Plain (reply_header header) (malformed path)))
 
--- the answer to a request: no terminal is configured, no payment is known and none waits
+-- the reply to a request: no terminal is configured, no payment is known and none waits
 abbrev pub request_reply : ℕ → Header → SaleRequest → Option Reply
 request_reply moment header Login = Some (refused header UnavailableDevice)
 request_reply moment header Logout = Some (refused header UnavailableDevice)
@@ -89,42 +89,42 @@ request_reply moment header Diagnosis = Some (refused header UnavailableDevice)
 abbrev pub reject : List ℕ → ℕ → Detail → Reply
 reject name moment detail = Reject (codes "0") name (pos moment) detail
 
--- the answer to what a tree was read as: a response or a notification gets none
+-- the reply to what a tree was read as: a response or a notification gets none
 abbrev pub incoming_reply : ℕ → Incoming → Option Reply
 incoming_reply moment (Request header request) = request_reply moment header request
 incoming_reply moment Silent = None
 
--- the answer to a tree that is no message, by its first fault
+-- the reply to a tree that is no message, by its first fault
 abbrev pub fault_reply : List ℕ → ℕ → SaleFault → Reply
 fault_reply name moment (NoHeader path) = reject name moment (details.Header path)
 fault_reply name moment (Missing header path) = malformed_reply moment header path
 fault_reply name moment (Wrong header path) = malformed_reply moment header path
 fault_reply name moment (Unserved header) = refused header UnavailableService
 
--- the tree is a message, and this is its answer
-pub record RepliesToMessage (moment : ℕ) (tree : Tree) (answer : Option Reply) : Type 0 where
+-- the tree is a message, and this is its reply
+pub record RepliesToMessage (moment : ℕ) (tree : Tree) (reply : Option Reply) : Type 0 where
   pub incoming : Incoming
   pub read : IsTillMessage tree incoming
-  pub is : answer ≡ incoming_reply moment incoming
+  pub is : reply ≡ incoming_reply moment incoming
 
--- the tree is no message, and this is the answer to its first fault
-pub record RepliesToFault (name : List ℕ) (moment : ℕ) (tree : Tree) (answer : Option Reply) : Type 0 where
+-- the tree is no message, and this is the reply to its first fault
+pub record RepliesToFault (name : List ℕ) (moment : ℕ) (tree : Tree) (reply : Option Reply) : Type 0 where
   pub fault : SaleFault
   pub faulty : IsSaleFault tree fault
-  pub is : answer ≡ Some (fault_reply name moment fault)
+  pub is : reply ≡ Some (fault_reply name moment fault)
 
--- the bytes are a text of a tree, and this is the tree's answer
-pub record RepliesToText (name : List ℕ) (moment : ℕ) (message : List ℕ) (answer : Option Reply) : Type 0 where
+-- the bytes are a text of a tree, and this is the tree's reply
+pub record RepliesToText (name : List ℕ) (moment : ℕ) (message : List ℕ) (reply : Option Reply) : Type 0 where
   pub tree : Tree
   pub spelled : Spells tree message
-  pub is : RepliesToMessage moment tree answer ⊎ RepliesToFault name moment tree answer
+  pub is : RepliesToMessage moment tree reply ⊎ RepliesToFault name moment tree reply
 
 -- the bytes are no text, and the reply says where and why
-pub record RepliesToNoText (name : List ℕ) (moment : ℕ) (message : List ℕ) (answer : Option Reply) : Type 0 where
+pub record RepliesToNoText (name : List ℕ) (moment : ℕ) (message : List ℕ) (reply : Option Reply) : Type 0 where
   pub fault : JsonFault
   pub faulty : IsNoText message fault.at fault.kind
-  pub is : answer ≡ Some (reject name moment (details.Json fault))
+  pub is : reply ≡ Some (reject name moment (details.Json fault))
 
 -- the reply to a till's message, by a gateway of this name at this moment; none where there is none
 abbrev pub RepliesTo : List ℕ → ℕ → List ℕ → Option Reply → Type 0
-RepliesTo name moment message answer = RepliesToText name moment message answer ⊎ RepliesToNoText name moment message answer
+RepliesTo name moment message reply = RepliesToText name moment message reply ⊎ RepliesToNoText name moment message reply

@@ -1,10 +1,10 @@
--- What the gateway stands before: the outside, the run, the calls that it owes and the items still to come.
+-- What the gateway has before it: the outside, the run, the calls that it owes and the items still to come.
 use Rattle.std.specs.Prelude.{ℕ, Bool, List, Option}
 use Rattle.gw_base.specs.declared.setup.Setup.{Setup}
 use Rattle.gw_site.specs.Outside.{Outside}
 use Rattle.gw_rules.specs.Reply.{Reply}
 
--- who is at the other end of a line: a till or a terminal, by its number
+-- who is at the other end of a connection: a till or a terminal, by its number
 pub data ConnectionOf : Type 0 where
   Till : ℕ → ConnectionOf
   Pt : ℕ → ConnectionOf
@@ -15,11 +15,11 @@ pub data Call : Type 0 where
   Tell : ℕ → Reply → Call
   -- send these bytes to the terminal
   Order : ℕ → List ℕ → Call
-  -- cut the line
+  -- cut the connection
   Cut : ConnectionOf → Call
   -- connect the terminal
   Link : ℕ → Call
-  -- write these bytes at this place of the file
+  -- write these bytes at this offset of the file
   Write : ℕ → List ℕ → Call
   -- sync the file
   Sync : Call

@@ -71,7 +71,7 @@ abbrev pub number : List ℕ → Option ℕ
 number [] = None
 number (digit ∷ digits) = if (digit == 48) && not (is_empty digits) then None else more_digits 0 (digit ∷ digits)
 
--- a word, and what stands after the one space that ends it
+-- a word, and what follows the one space that ends it
 pub record WordAndRest : Type 0 where
   pub word : List ℕ
   pub rest : List ℕ
@@ -120,12 +120,12 @@ hex_chunk till (Err fault) = None
 abbrev pub said_chunk : ℕ → List ℕ → Option Event
 said_chunk till text = chunk till 4092 text (frame text)
 
--- a till's number, and what stands after the space that ends it
+-- a till's number, and what follows the space that ends it
 abbrev pub numbered : (ℕ → List ℕ → Option Event) → Option WordAndRest → Option Event
 numbered sends None = None
 numbered sends (Some split) = option_and_then (λ till. sends till split.rest) (number split.word)
 
--- the line of a first word and of what stands after its space
+-- the line of a first word and of what follows its space
 abbrev pub worded : List ℕ → List ℕ → Option Entry
 worded word rest =
     if bytes_eq word (codes "name") then name_line rest
@@ -168,7 +168,7 @@ split_lines (byte ∷ bytes) = if byte == 10 then [] ∷ split_lines bytes else 
 abbrev pub no_lines : Script
 no_lines = record { name = None; lines = [] }
 
--- the script with one line more, where that may stand there: a name only once, and before the lines that are played
+-- the script with one line more, where that may come there: a name only once, and before the lines that are played
 abbrev pub with_entry : Script → Entry → Option Script
 with_entry script Blank = Some script
 with_entry script (Naming name) = if is_some script.name || not (is_empty script.lines) then None else Some (record script { name = Some name })

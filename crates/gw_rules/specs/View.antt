@@ -69,7 +69,7 @@ sends_on (Pt pt) (Link other) = false
 sends_on (Pt pt) (Write at bytes) = false
 sends_on (Pt pt) Sync = false
 
--- a send has failed: the cut of its line is owed at once, and no further send on it
+-- a send has failed: the cut of its connection is owed at once, and no further send on it
 abbrev pub unsent : View → Turn → ConnectionOf → View
 unsent v turn peer = record v { scene = called v.scene turn false; calls = Cut peer ∷ filter (λ call. not (sends_on peer call)) (later v.calls) }
 
@@ -103,13 +103,13 @@ pub data Move : Type 0 where
   Take : Turn → Move
 
 -- the items after the first
-abbrev pub items_behind : List Item → List Item
-items_behind [] = []
-items_behind (item ∷ items) = items
+abbrev pub items_after : List Item → List Item
+items_after [] = []
+items_after (item ∷ items) = items
 
 -- an item that begins after a poll says that the poll brought nothing
 abbrev pub begun : View → List Call → View
-begun v calls = record { scene = record v.scene { stage = busy v.scene.stage; wrote = false }; calls = calls; items = items_behind v.items }
+begun v calls = record { scene = record v.scene { stage = busy v.scene.stage; wrote = false }; calls = calls; items = items_after v.items }
 
 -- the view after one more move
 abbrev pub after : View → Move → View

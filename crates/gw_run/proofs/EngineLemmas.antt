@@ -8,9 +8,9 @@ use Rattle.gw_site.specs.declared.turn.Turn.{Turn}
 use Rattle.gw_site.specs.declared.turn.Turn.TheVariants.{SentTill, CutTill}
 use Rattle.gw_site.specs.Observed.{Observed, Grows}
 use Rattle.gw_site.specs.Turns.{IsTurn}
-use Rattle.sale_frame.specs.Grammar.{frame, IsPayload, IsIncompleteFrame, IsBadLength}
+use Rattle.sale_frame.specs.Grammar.{frame, IsPayload, IsIncompleteFrame, BeginsWithBadLength}
 use Rattle.sale_frame.specs.Decode.{decode_frames, DecodedFrames}
-use Rattle.gw_rules.specs.Scene.{Till as ATill, Call, Tell, Cut, Item, Message, Unframed, Scene, View, Stage, Resting, Opening, Refusing, AtPoll, Serving, Over, Broken, IsRunning, busy}
+use Rattle.gw_rules.specs.Scene.{Till as TillEnd, Call, Tell, Cut, Item, Message, Unframed, Scene, View, Stage, Resting, Opening, Refusing, AtPoll, Serving, Over, Broken, IsRunning, busy}
 use Rattle.sale_reply.specs.declared.reply.SaleReply.{SaleReply}
 use Rattle.sale_reply.specs.Reply.{tree_of}
 use Rattle.gw_rules.specs.Reply.{Reply, reply_tree, reply_bytes}
@@ -67,15 +67,15 @@ module _ (setup : Setup) (polls : ℕ) (o : Outside) (till : ℕ) (closed : is_c
         (begun_scene scene, rw is refl, begun-in setup polls o scene f),
       )
 
-  unanswered : (message : List ℕ) (scene : Scene) → scene.outside ≡ o → Owes scene (Message till message) []
-  unanswered message scene e = rw (e, closed) refl
+  owes-none : (message : List ℕ) (scene : Scene) → scene.outside ≡ o → Owes scene (Message till message) []
+  owes-none message scene e = rw (e, closed) refl
 
   uncut : (scene : Scene) → scene.outside ≡ o → Owes scene (Unframed till) []
   uncut scene e = rw (e, closed) refl
 
   pass-messages : (messages : List (List ℕ)) (items : List Item) → Triple s s (InRun setup polls o (map (Message till) messages ++ items)) (InRun setup polls o items)
   pass-messages [] items = keeps-refl s _
-  pass-messages (message ∷ messages) items = keeps-then s s s _ _ _ (pass (Message till message) (map (Message till) messages ++ items) (unanswered message)) (pass-messages messages items)
+  pass-messages (message ∷ messages) items = keeps-then s s s _ _ _ (pass (Message till message) (map (Message till) messages ++ items) (owes-none message)) (pass-messages messages items)
 
   pub pass-all : (reading : DecodedFrames) → Triple s s (InRun setup polls o (reading_items till reading)) (InRun setup polls o [])
   pass-all reading = keeps-then s s s _ _ _ (pass-messages reading.messages _) (by_test (is_unframed reading.rest))
@@ -122,88 +122,88 @@ abbrev pub IsHere : Outside → ℤ → ℕ → Type 0
 IsHere o now till = (is_connected o.tills till ≡ true) × (o.moment ≡ moment_of now)
 
 -- bytes that begin no frame are followed by the cut
-pub serve-unframed : (a b : Observed) (setup : Setup) (polls : ℕ) (o : Outside) (now : ℤ) (till : ℕ) (bytes : List ℕ) → IsBadLength bytes → Grows a b (IsTurn (CutTill till)) →
+pub serve-unframed : (a b : Observed) (setup : Setup) (polls : ℕ) (o : Outside) (now : ℤ) (till : ℕ) (bytes : List ℕ) → BeginsWithBadLength bytes → Grows a b (IsTurn (CutTill till)) →
     Triple a b (BeforeTill setup polls o now till bytes) (InRun setup polls (outside_after o (CutTill till)) [])
 serve-unframed a b setup polls o now till bytes bad grows =
     keeps-then a a b _ _ _
     (keeps-before a a (BeforeTill setup polls o now till bytes) (λ v. InRun setup polls o (Unframed till ∷ []) v × IsHere o now till) _ (λ v p. ((rw (items-unframed till bytes bad) at p.0), (p.1, p.2)))
-    (begin-first a setup polls o (Unframed till) [] (Cut (ATill till) ∷ []) (IsHere o now till) (λ here scene f. rw (f.outside_is, here.0) refl)))
+    (begin-first a setup polls o (Unframed till) [] (Cut (TillEnd till) ∷ []) (IsHere o now till) (λ here scene f. rw (f.outside_is, here.0) refl)))
     (keeps-weaker a b _ _ _ _ (λ v p. p.0)
     (λ v (q : (scene : Scene) × Owing (called scene (CutTill till) false) [] [] v × IsIn setup polls o scene). (called q.0 (CutTill till) false, q.1, called-in setup polls o q.0 (CutTill till) q.2))
-    (pending-keeps a b setup polls o (Cut (ATill till) ∷ []) [] _ (λ scene. cut-till-keeps scene [] [] a b till grows)))
+    (pending-keeps a b setup polls o (Cut (TillEnd till) ∷ []) [] _ (λ scene. cut-till-keeps scene [] [] a b till grows)))
 
 open-owes : (test : Bool) → test ≡ true → (scene : Scene) (till : ℕ) (message : List ℕ) (calls : List Call) → MessageOwes true scene till message calls → MessageOwes test scene till message calls
 open-owes true e scene till message calls h = h
 open-owes false e scene till message calls h = absurd (let f : false ≡ true = e in cc)
 
-answered : (setup : Setup) (polls : ℕ) (o : Outside) (now : ℤ) (till : ℕ) (name message : List ℕ) (answer : Option Reply) → setup.name ≡ name → RepliesTo name (moment_of now) message answer → IsHere o now till →
-    (scene : Scene) → IsIn setup polls o scene → Owes scene (Message till message) (reply_calls till answer)
-answered setup polls o now till name message answer named answers here scene f =
+owes-reply : (setup : Setup) (polls : ℕ) (o : Outside) (now : ℤ) (till : ℕ) (name message : List ℕ) (owed : Option Reply) → setup.name ≡ name → RepliesTo name (moment_of now) message owed → IsHere o now till →
+    (scene : Scene) → IsIn setup polls o scene → Owes scene (Message till message) (reply_calls till owed)
+owes-reply setup polls o now till name message owed named replies here scene f =
     let moment : moment_of now ≡ scene.outside.moment = sym here.1 ∙ sym (ap (λ (p : Outside). p.moment) f.outside_is) in
-    let at : RepliesTo setup.name scene.outside.moment message answer = subst (λ m. RepliesTo setup.name m message answer) moment (subst (λ n. RepliesTo n (moment_of now) message answer) (sym named) answers) in
-    open-owes (is_connected scene.outside.tills till) (ap (λ (p : Outside). is_connected p.tills till) f.outside_is ∙ here.0) scene till message (reply_calls till answer)
-    (record { setup = setup; setup_is = f.setup_is; answer = answer; answers = at; is = refl })
+    let at : RepliesTo setup.name scene.outside.moment message owed = subst (λ m. RepliesTo setup.name m message owed) moment (subst (λ n. RepliesTo n (moment_of now) message owed) (sym named) replies) in
+    open-owes (is_connected scene.outside.tills till) (ap (λ (p : Outside). is_connected p.tills till) f.outside_is ∙ here.0) scene till message (reply_calls till owed)
+    (record { setup = setup; setup_is = f.setup_is; reply = owed; replies = at; is = refl })
 
--- a message has begun, and its answer is owed
-begin-message : (s : Observed) (setup : Setup) (polls : ℕ) (o : Outside) (now : ℤ) (till : ℕ) (name old new message : List ℕ) (answer : Option Reply) → setup.name ≡ name → IsPayload message → old ≡ frame message ++ new → RepliesTo name (moment_of now) message answer →
-    Triple s s (BeforeTill setup polls o now till old) (λ v. Pending setup polls o (reply_calls till answer) (reading_items till (decode_frames new)) v × IsHere o now till)
-begin-message s setup polls o now till name old new message answer named lawful taken answers =
+-- a message has begun, and its reply is owed
+begin-message : (s : Observed) (setup : Setup) (polls : ℕ) (o : Outside) (now : ℤ) (till : ℕ) (name old new message : List ℕ) (owed : Option Reply) → setup.name ≡ name → IsPayload message → old ≡ frame message ++ new → RepliesTo name (moment_of now) message owed →
+    Triple s s (BeforeTill setup polls o now till old) (λ v. Pending setup polls o (reply_calls till owed) (reading_items till (decode_frames new)) v × IsHere o now till)
+begin-message s setup polls o now till name old new message owed named lawful taken replies =
     keeps-before s s (BeforeTill setup polls o now till old) (λ v. InRun setup polls o (Message till message ∷ reading_items till (decode_frames new)) v × IsHere o now till) _
     (λ v p. ((rw (taken, items-message till message new lawful) at p.0), (p.1, p.2)))
-    (begin-first s setup polls o (Message till message) (reading_items till (decode_frames new)) (reply_calls till answer) (IsHere o now till)
-    (λ here scene f. answered setup polls o now till name message answer named answers here scene f))
+    (begin-first s setup polls o (Message till message) (reading_items till (decode_frames new)) (reply_calls till owed) (IsHere o now till)
+    (λ here scene f. owes-reply setup polls o now till name message owed named replies here scene f))
 
 -- a message without a reply
 pub serve-silent : (s : Observed) (setup : Setup) (polls : ℕ) (o : Outside) (now : ℤ) (till : ℕ) (name old new : List ℕ) → setup.name ≡ name → TakesMessage name (moment_of now) None old new →
     Triple s s (BeforeTill setup polls o now till old) (BeforeTill setup polls o now till new)
-serve-silent s setup polls o now till name old new named t = by_answer t.answers.0 t.answers.1 t.answers.2
+serve-silent s setup polls o now till name old new named t = by_reply t.is_reply.0 t.is_reply.1 t.is_reply.2
   where
-    by_answer : (answer : Option Reply) → RepliesTo name (moment_of now) t.message answer → AreSameReplies None answer → Triple s s (BeforeTill setup polls o now till old) (BeforeTill setup polls o now till new)
-    by_answer None answers says = keeps-after s s _ _ _ (begin-message s setup polls o now till name old new t.message None named t.lawful t.taken answers) (λ v q. (q.0, q.1.0, q.1.1))
-    by_answer (Some reply) answers says = absurd says
+    by_reply : (owed : Option Reply) → RepliesTo name (moment_of now) t.message owed → AreSameReplies None owed → Triple s s (BeforeTill setup polls o now till old) (BeforeTill setup polls o now till new)
+    by_reply None replies alike = keeps-after s s _ _ _ (begin-message s setup polls o now till name old new t.message None named t.payload t.taken replies) (λ v q. (q.0, q.1.0, q.1.1))
+    by_reply (Some reply) replies alike = absurd alike
 
--- a message was answered
-pub serve-answered : (a b : Observed) (setup : Setup) (polls : ℕ) (o : Outside) (now : ℤ) (till : ℕ) (name : List ℕ) (reply : SaleReply) (old new : List ℕ) → setup.name ≡ name → TakesMessage name (moment_of now) (Some reply) old new →
-    ((answer : Reply) → tree_of reply ≡ reply_tree answer → (scene : Scene) (items : List Item) → Triple a b (Owing scene (Tell till answer ∷ []) items) (Delivered true scene till (reply_bytes answer) items)) →
+-- a message got its reply
+pub serve-replied : (a b : Observed) (setup : Setup) (polls : ℕ) (o : Outside) (now : ℤ) (till : ℕ) (name : List ℕ) (reply : SaleReply) (old new : List ℕ) → setup.name ≡ name → TakesMessage name (moment_of now) (Some reply) old new →
+    ((owed : Reply) → tree_of reply ≡ reply_tree owed → (scene : Scene) (items : List Item) → Triple a b (Owing scene (Tell till owed ∷ []) items) (Delivered true scene till (reply_bytes owed) items)) →
     Triple a b (BeforeTill setup polls o now till old) (BeforeTill setup polls o now till new)
-serve-answered a b setup polls o now till name reply old new named t tells = by_answer t.answers.0 t.answers.1 t.answers.2
+serve-replied a b setup polls o now till name reply old new named t sends = by_reply t.is_reply.0 t.is_reply.1 t.is_reply.2
   where
     items : List Item
     items = reading_items till (decode_frames new)
 
-    by_answer : (answer : Option Reply) → RepliesTo name (moment_of now) t.message answer → AreSameReplies (Some reply) answer → Triple a b (BeforeTill setup polls o now till old) (BeforeTill setup polls o now till new)
-    by_answer None answers says = absurd says
-    by_answer (Some answer) answers says =
-        keeps-then a a b _ _ _ (begin-message a setup polls o now till name old new t.message (Some answer) named t.lawful t.taken answers)
+    by_reply : (owed : Option Reply) → RepliesTo name (moment_of now) t.message owed → AreSameReplies (Some reply) owed → Triple a b (BeforeTill setup polls o now till old) (BeforeTill setup polls o now till new)
+    by_reply None replies alike = absurd alike
+    by_reply (Some owed) replies alike =
+        keeps-then a a b _ _ _ (begin-message a setup polls o now till name old new t.message (Some owed) named t.payload t.taken replies)
         (keeps-after a b _ _ _
-        (keeps-frame a b _ _ (IsHere o now till) (pending-keeps a b setup polls o (Tell till answer ∷ []) items _ (λ scene. tells answer says.0 scene items)))
-        (λ v (q : ((scene : Scene) × Delivered true scene till (reply_bytes answer) items v × IsIn setup polls o scene) × IsHere o now till).
-        ((called q.0.0 (SentTill till (reply_bytes answer) true) false, q.0.1, called-in setup polls o q.0.0 (SentTill till (reply_bytes answer) true) q.0.2), q.1.0, q.1.1)))
+        (keeps-frame a b _ _ (IsHere o now till) (pending-keeps a b setup polls o (Tell till owed ∷ []) items _ (λ scene. sends owed alike.0 scene items)))
+        (λ v (q : ((scene : Scene) × Delivered true scene till (reply_bytes owed) items v × IsIn setup polls o scene) × IsHere o now till).
+        ((called q.0.0 (SentTill till (reply_bytes owed) true) false, q.0.1, called-in setup polls o q.0.0 (SentTill till (reply_bytes owed) true) q.0.2), q.1.0, q.1.1)))
 
 cut-closed : (o : Outside) (till : ℕ) → is_connected (outside_after o (CutTill till)).tills till ≡ false
 cut-closed o till = without-closed o.tills till
 
--- an answer wasn't taken, and the till was cut
+-- a reply wasn't taken, and the till was cut
 pub serve-unsent : (a b : Observed) (setup : Setup) (polls : ℕ) (o : Outside) (now : ℤ) (till : ℕ) (name : List ℕ) (reply : SaleReply) (old new : List ℕ) → setup.name ≡ name → TakesMessage name (moment_of now) (Some reply) old new →
-    ((answer : Reply) → tree_of reply ≡ reply_tree answer → (scene : Scene) (items : List Item) → Triple a b (Owing scene (Tell till answer ∷ []) items) (Delivered false scene till (reply_bytes answer) items)) →
+    ((owed : Reply) → tree_of reply ≡ reply_tree owed → (scene : Scene) (items : List Item) → Triple a b (Owing scene (Tell till owed ∷ []) items) (Delivered false scene till (reply_bytes owed) items)) →
     Triple a b (BeforeTill setup polls o now till old) (InRun setup polls (outside_after o (CutTill till)) [])
-serve-unsent a b setup polls o now till name reply old new named t tells = by_answer t.answers.0 t.answers.1 t.answers.2
+serve-unsent a b setup polls o now till name reply old new named t sends = by_reply t.is_reply.0 t.is_reply.1 t.is_reply.2
   where
     items : List Item
     items = reading_items till (decode_frames new)
 
-    by_answer : (answer : Option Reply) → RepliesTo name (moment_of now) t.message answer → AreSameReplies (Some reply) answer → Triple a b (BeforeTill setup polls o now till old) (InRun setup polls (outside_after o (CutTill till)) [])
-    by_answer None answers says = absurd says
-    by_answer (Some answer) answers says =
+    by_reply : (owed : Option Reply) → RepliesTo name (moment_of now) t.message owed → AreSameReplies (Some reply) owed → Triple a b (BeforeTill setup polls o now till old) (InRun setup polls (outside_after o (CutTill till)) [])
+    by_reply None replies alike = absurd alike
+    by_reply (Some owed) replies alike =
         keeps-then a b b _ _ _
-        (keeps-then a a b _ _ _ (begin-message a setup polls o now till name old new t.message (Some answer) named t.lawful t.taken answers)
+        (keeps-then a a b _ _ _ (begin-message a setup polls o now till name old new t.message (Some owed) named t.payload t.taken replies)
         (keeps-weaker a b _ _ _ _ (λ v p. p.0)
-        (λ v (q : (scene : Scene) × Delivered false scene till (reply_bytes answer) items v × IsIn setup polls o scene). (
+        (λ v (q : (scene : Scene) × Delivered false scene till (reply_bytes owed) items v × IsIn setup polls o scene). (
           called (called q.0 (SentTill till q.1.0 false) false) (CutTill till) false,
           q.1.1,
           called-in setup polls o (called q.0 (SentTill till q.1.0 false) false) (CutTill till) (called-in setup polls o q.0 (SentTill till q.1.0 false) q.2),
         ))
-        (pending-keeps a b setup polls o (Tell till answer ∷ []) items _ (λ scene. tells answer says.0 scene items))))
+        (pending-keeps a b setup polls o (Tell till owed ∷ []) items _ (λ scene. sends owed alike.0 scene items))))
         (pass-all setup polls (outside_after o (CutTill till)) till (cut-closed o till) b (decode_frames new))
 
 -- what the reader holds is less then, and ends in the same rest
@@ -211,4 +211,4 @@ pub takes-less : (name : List ℕ) (reply_calls : Option SaleReply) (old new : L
 takes-less name reply_calls old new moment t =
     let l : length old ≡ length (frame t.message) + length new = ap length t.taken ∙ length-append (frame t.message) new in
     let m : length (frame t.message) ≡ 4 + length t.message = omega arith in
-    (omega (arith, t.lawful), sym (ap (λ b. (decode_frames b).rest) t.taken ∙ ap (λ (r : DecodedFrames). r.rest) (reading-message t.message new t.lawful)))
+    (omega (arith, t.payload), sym (ap (λ b. (decode_frames b).rest) t.taken ∙ ap (λ (r : DecodedFrames). r.rest) (reading-message t.message new t.payload)))

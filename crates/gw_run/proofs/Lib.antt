@@ -1,4 +1,3 @@
-pub mod CutLemmas
 pub mod EngineLemmas
 pub mod LineLemmas
 pub mod NumberLemmas
@@ -10,6 +9,7 @@ pub mod ReplayLemmas
 pub mod RoundLemmas
 pub mod ScriptLemmas
 pub mod SendLemmas
+pub mod SplitLemmas
 pub mod TextLemmas
 pub mod TillLemmas
 pub mod TopLemmas

@@ -7,24 +7,24 @@ use Rattle.std.specs.Borrow.{Bor}
 use Rattle.std.specs.Prelude.{Bool, Option, Some, None, MatchOption}
 use Rattle.std.specs.Str.{IsUtf8, is_utf8}
 use Rattle.gw_rules.specs.Script.{WordAndRest, split_at_space, with_first_of_word}
-use Rattle.gw_run.proofs.CutLemmas.{place_of, place_here, place_later, take_later, drop_later}
+use Rattle.gw_run.proofs.SplitLemmas.{offset_of, offset_here, offset_later, take_later, drop_later}
 
--- the two parts of a text at this place
+-- the two parts of a text at this offset
 abbrev pub parts_at : ℕ → List ℕ → WordAndRest
-parts_at place text = record { word = take place text; rest = drop (place + 1) text }
+parts_at offset text = record { word = take offset text; rest = drop (offset + 1) text }
 
-space_cut : (text : List ℕ) → place_of 32 text < length text → split_at_space text ≡ Some (parts_at (place_of 32 text) text)
-space_cut [] lt = absurd (omega arith)
-space_cut (byte ∷ text) lt = elim (eqb_tells byte 32) [
-  | inl e ↦ rw (place_here 32 byte text e.0, e.0) refl
-  | inr e ↦ rw (place_later 32 byte text e.0, take_later byte (place_of 32 text) text, drop_later byte (place_of 32 text) text, e.0) (ap (with_first_of_word byte) (space_cut text (omega (arith, place_later 32 byte text e.0))))
+space_split : (text : List ℕ) → offset_of 32 text < length text → split_at_space text ≡ Some (parts_at (offset_of 32 text) text)
+space_split [] lt = absurd (omega arith)
+space_split (byte ∷ text) lt = elim (eqb_tells byte 32) [
+  | inl e ↦ rw (offset_here 32 byte text e.0, e.0) refl
+  | inr e ↦ rw (offset_later 32 byte text e.0, take_later byte (offset_of 32 text) text, drop_later byte (offset_of 32 text) text, e.0) (ap (with_first_of_word byte) (space_split text (omega (arith, offset_later 32 byte text e.0))))
 ]
 
-space_none : (text : List ℕ) → length text ≤ place_of 32 text → split_at_space text ≡ None
+space_none : (text : List ℕ) → length text ≤ offset_of 32 text → split_at_space text ≡ None
 space_none [] le = refl
 space_none (byte ∷ text) le = elim (eqb_tells byte 32) [
-  | inl e ↦ absurd (omega (arith, place_here 32 byte text e.0))
-  | inr e ↦ rw e.0 (ap (with_first_of_word byte) (space_none text (omega (arith, place_later 32 byte text e.0))))
+  | inl e ↦ absurd (omega (arith, offset_here 32 byte text e.0))
+  | inr e ↦ rw e.0 (ap (with_first_of_word byte) (space_none text (omega (arith, offset_later 32 byte text e.0))))
 ]
 
 -- `split_once` at a space splits as the grammar does
@@ -32,10 +32,10 @@ pub splits : (text : List ℕ) (r : Option (Bor (List ℕ) × Bor (List ℕ))) �
     MatchOption r (split_at_space text ≡ None) (λ x. split_at_space text ≡ Some (record { word = x.0.now; rest = x.1.now }))
 splits text r h = parts r (split_once_first 32 text r h (omega arith))
   where
-    parts : (r : Option (Bor (List ℕ) × Bor (List ℕ))) → MatchOption r (place_of 32 text ≡ length text) (λ x. (place_of 32 text < length text) × (x.0.now ≡ take (place_of 32 text) text) × (x.1.now ≡ drop (place_of 32 text + 1) text)) →
+    parts : (r : Option (Bor (List ℕ) × Bor (List ℕ))) → MatchOption r (offset_of 32 text ≡ length text) (λ x. (offset_of 32 text < length text) × (x.0.now ≡ take (offset_of 32 text) text) × (x.1.now ≡ drop (offset_of 32 text + 1) text)) →
         MatchOption r (split_at_space text ≡ None) (λ x. split_at_space text ≡ Some (record { word = x.0.now; rest = x.1.now }))
     parts None h = space_none text (omega arith)
-    parts (Some x) h = rw (h.1, h.2) (space_cut text h.0)
+    parts (Some x) h = rw (h.1, h.2) (space_split text h.0)
 
 -- a text of another form than UTF-8
 pub not_utf8 : (bytes : List ℕ) → ¬ (IsUtf8 bytes) → is_utf8 bytes ≡ false

@@ -1,7 +1,7 @@
 -- Playing the lines of a script, one turn after the other.
 use Rattle.std.proofs.Common.{◌≡◌, ℕ, List, [], ◌∷◌, ◌++◌, refl, sym, ◌∙◌, ap, append_assoc, subst}
 use Rattle.std.specs.Prelude.{ℤ, Bool, true, false, if◌then◌else◌, ◌||◌, ◌==◌, map, Option, Some, None}
-use Rattle.gw_site.specs.Outside.{Outside, Connection as OpenedLine, is_connected, new_connection, outside_after, outside_from, outside_of, nothing_yet}
+use Rattle.gw_site.specs.Outside.{Outside, Connection as OpenedConnection, is_connected, new_connection, outside_after, outside_from, outside_of, nothing_yet}
 use Rattle.gw_site.specs.declared.turn.Turn.{Turn}
 use Rattle.gw_site.specs.declared.turn.Turn.TheVariants.{Polled}
 use Rattle.gw_rules.specs.Plays.{Play, Fits, PlaysFrom, PlaysLines, applies, begins, brings, met, play_after, play_from, play_of, rests}
@@ -72,7 +72,7 @@ module _ (lines from rest : List PlayedLine) (moment now : ℤ) (log new : List 
   pub poll_played : (due : List Turn) → Met due → new ≡ log ++ Polled now ∷ due → PlaysLines lines new × (play_of lines new ≡ rests now rest)
   poll_played due meets is = by_due due (subst AreEvent (ap (λ (p : Play). p.due) meets) (met_event (outside_of log) moment from)) meets is
 
-there_by_number : (lines : List OpenedLine) (till : ℕ) → is_connected lines till ≡ is_connected (map new_connection (numbers_of lines)) till
+there_by_number : (lines : List OpenedConnection) (till : ℕ) → is_connected lines till ≡ is_connected (map new_connection (numbers_of lines)) till
 there_by_number [] till = refl
 there_by_number (line ∷ lines) till = ap (λ rest. (line.number == till) || rest) (there_by_number lines till)
 
@@ -100,5 +100,5 @@ pub may_come_with : (o : Outside) (tills : List ℕ) (opened : Option ℕ) → n
 may_come_with o tills opened t n None may = tt
 may_come_with o tills opened t n (Some event) may = applies_with o tills opened t n event ∙ may
 
-pub told_same : {log other : List Turn} → Some log ≡ Some other → log ≡ other
-told_same e = cc
+pub some-same : {log other : List Turn} → Some log ≡ Some other → log ≡ other
+some-same e = cc

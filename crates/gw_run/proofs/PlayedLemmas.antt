@@ -120,18 +120,18 @@ prefix-prefix : (text added tail : List ℕ) → IsPrefix added tail → IsPrefi
 prefix-prefix text added tail (rest, e) = (rest, ap (λ t. text ++ t) e ∙ sym (append_assoc text added rest))
 
 -- the lines after a text, written in full or in part
-pub observed-behind : (ending result : Ending) (input : Option (List ℕ)) (text added : List ℕ)
+pub observed-after : (ending result : Ending) (input : Option (List ℕ)) (text added : List ℕ)
     → (NamesLine ending → ⊥) → IsPlayEnd ending → Writes ending input (text ++ tail_of ending) → WritesTail ending result added → PlayOut result input (text ++ added)
-observed-behind ending result input text added never end w (inl (same, all)) = rw (same, all) (written-of ending input (text ++ tail_of ending) w)
-observed-behind ending result input text added never end w (inr (inl (m, names, a))) = absurd (never names)
-observed-behind ending result input text added never end w (inr (inr (cut, (observed, inl same, prefix)))) = rw cut (record {
+observed-after ending result input text added never end w (inl (same, all)) = rw (same, all) (written-of ending input (text ++ tail_of ending) w)
+observed-after ending result input text added never end w (inr (inl (m, names, a))) = absurd (never names)
+observed-after ending result input text added never end w (inr (inr (failed, (observed, inl same, prefix)))) = rw failed (record {
   ending = ending;
   whole = text ++ tail_of ending;
   end = end;
   writes = w;
   prefix = prefix-prefix text added (tail_of ending) (rw same at prefix);
 })
-observed-behind ending result input text added never end w (inr (inr (cut, (observed, inr other, prefix)))) = absurd (never other.1)
+observed-after ending result input text added never end w (inr (inr (failed, (observed, inr other, prefix)))) = absurd (never other.1)
 
 played-line : NamesLine Played → ⊥
 played-line (line, e) = cc
@@ -143,13 +143,13 @@ memory-line (line, e) = cc
 pub log-observed : (script : List ℕ) (whole : Bool) (ending result : Ending) (log : List Turn) (first added : List ℕ)
     → ((whole ≡ true) × (ending ≡ Played)) ⊎ (ending ≡ Memory) → IsPlayOf script whole log → first ≡ log_text log → WritesTail ending result added → PlayWritten script result (first ++ added)
 log-observed script whole ending result log first added (inl (w, e)) p f t = λ input i.
-    subst (λ l. PlayOut result input (l ++ added)) (sym f) (observed-behind Played result input (log_text log) added played-line tt (whole-text script input log i (rw w at p)) (rw e at t))
+    subst (λ l. PlayOut result input (l ++ added)) (sym f) (observed-after Played result input (log_text log) added played-line tt (whole-text script input log i (rw w at p)) (rw e at t))
 log-observed script whole ending result log first added (inr e) p f t = λ input i.
-    subst (λ l. PlayOut result input (l ++ added)) (sym f) (observed-behind Memory result input (log_text log) added memory-line tt (part-text script input whole log i p) (rw e at t))
+    subst (λ l. PlayOut result input (l ++ added)) (sym f) (observed-after Memory result input (log_text log) added memory-line tt (part-text script input whole log i p) (rw e at t))
 
 -- a prefix of the log's text was written, and then no more
-pub log-cut : (script : List ℕ) (whole : Bool) (log : List Turn) (added : List ℕ) → IsPlayOf script whole log → IsPrefix added (log_text log) → PlayWritten script OutputFailed added
-log-cut script whole log added p (rest, e) = λ input i. record {
+pub log-unwritten : (script : List ℕ) (whole : Bool) (log : List Turn) (added : List ℕ) → IsPlayOf script whole log → IsPrefix added (log_text log) → PlayWritten script OutputFailed added
+log-unwritten script whole log added p (rest, e) = λ input i. record {
   ending = Memory;
   whole = log_text log ++ tail_of Memory;
   end = tt;
@@ -161,7 +161,7 @@ log-cut script whole log added p (rest, e) = λ input i. record {
 pub observed-play-end : (ending result : Ending) → IsPlayEnd ending → IsReportedEnd ending result → IsPlayEnd result
 observed-play-end ending result h (inl same) = rw same h
 observed-play-end ending result h (inr (inl (memory, names))) = rw memory tt
-observed-play-end ending result h (inr (inr cut)) = rw cut tt
+observed-play-end ending result h (inr (inr failed)) = rw failed tt
 
 first-clear : IsClear at_first
 first-clear e = let n : Resting ≡ Broken = e in cc

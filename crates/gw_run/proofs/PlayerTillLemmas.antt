@@ -5,7 +5,7 @@ use Rattle.std.specs.List.{list_any}
 use Rattle.gw_site.specs.Outside.{Connection, Outside, hears, is_connected, new_connection, outside_after, outside_from, outside_of, without}
 use Rattle.gw_site.specs.Turns.{event_turns}
 use Rattle.gw_site.specs.declared.site.What.{What}
-use Rattle.gw_site.specs.declared.site.What.TheVariants.{TillOpened, TillBytes, TillClosed, PtBytes, PtClosed, Nothing, Stopped as Stop}
+use Rattle.gw_site.specs.declared.site.What.TheVariants.{TillOpened, TillBytes, TillClosed, PtBytes, PtClosed, Nothing, Stopped as StopEvent}
 use Rattle.gw_site.specs.declared.turn.Turn.{Turn}
 use Rattle.gw_site.specs.declared.turn.Turn.TheVariants.{Start, Polled, CutTill}
 use Rattle.gw_site.proofs.OutsideLemmas.{outside_of-append, outside_of_more}
@@ -73,7 +73,7 @@ tills_then o (TillClosed till) buf = numbers_without o.tills till
 tills_then o (PtBytes pt count) buf = refl
 tills_then o (PtClosed pt) buf = refl
 tills_then o Nothing buf = refl
-tills_then o Stop buf = refl
+tills_then o StopEvent buf = refl
 
 -- and the least number with which one may open
 next_then : (o : Outside) (what : What) (buf : List ℕ) (opened : Option ℕ) → o.next_till ≡ next_after opened → (outside_from o (event_turns what buf)).next_till ≡ next_after (opened_after what opened)
@@ -83,7 +83,7 @@ next_then o (TillClosed till) buf opened e = e
 next_then o (PtBytes pt count) buf opened e = e
 next_then o (PtClosed pt) buf opened e = e
 next_then o Nothing buf opened e = e
-next_then o Stop buf opened e = e
+next_then o StopEvent buf opened e = e
 
 -- a poll, and what it brings
 module _ (log new : List Turn) (now : ℤ) (what : What) (buf : List ℕ) (turns : List Turn) (brought : event_turns what buf ≡ turns) (is : new ≡ log ++ Polled now ∷ turns) where

@@ -48,30 +48,30 @@ pub fault-observed : (ending result : Ending) (words : List (List ℕ)) (input o
     → IsFault ending → IsAccepted words → Cause ending words input out → WritesTail ending result added → Written result words input out added
 fault-observed ending result words input out added h acc cause (inl (same, all)) = rw (same, all) (lines-written ending words input out h)
 fault-observed ending result words input out added h acc cause (inr (inl (m, names, a))) = rw m (inl a)
-fault-observed ending result words input out added h acc cause (inr (inr (cut, (observed, inl same, prefix)))) = rw cut (lines-prefix ending words input out added h cause (rw same at prefix))
-fault-observed ending result words input out added h acc cause (inr (inr (cut, (observed, inr other, prefix)))) = rw cut (lines-prefix Memory words input out added tt acc (rw other.0 at prefix))
+fault-observed ending result words input out added h acc cause (inr (inr (failed, (observed, inl same, prefix)))) = rw failed (lines-prefix ending words input out added h cause (rw same at prefix))
+fault-observed ending result words input out added h acc cause (inr (inr (failed, (observed, inr other, prefix)))) = rw failed (lines-prefix Memory words input out added tt acc (rw other.0 at prefix))
 
 -- the lines for refused words, in full or in part
 pub words-observed : (result : Ending) (words : List (List ℕ)) (input out : Stream) (added : List ℕ)
     → (IsAccepted words → ⊥) → WritesTail Words result added → Written result words input out added
 words-observed result words input out added never (inl (same, all)) = rw (same, all) refl
 words-observed result words input out added never (inr (inl (m, names, a))) = absurd (words-line names)
-words-observed result words input out added never (inr (inr (cut, (observed, inl same, prefix)))) = rw cut (lines-prefix Words words input out added tt never (rw same at prefix))
-words-observed result words input out added never (inr (inr (cut, (observed, inr other, prefix)))) = absurd (words-line other.1)
+words-observed result words input out added never (inr (inr (failed, (observed, inl same, prefix)))) = rw failed (lines-prefix Words words input out added tt never (rw same at prefix))
+words-observed result words input out added never (inr (inr (failed, (observed, inr other, prefix)))) = absurd (words-line other.1)
 
 -- the cause of the end that is reported is that of the end, or no memory, or a failed write
 pub observed-cause : (ending result : Ending) (words : List (List ℕ)) (input out : Stream)
     → IsAccepted words → Cause ending words input out → (result ≡ OutputFailed → HasRisen out) → IsReportedEnd ending result → Cause result words input out
-observed-cause ending result words input out acc cause cut (inl same) = rw same cause
-observed-cause ending result words input out acc cause cut (inr (inl (memory, names))) = rw memory acc
-observed-cause ending result words input out acc cause cut (inr (inr e)) = rw e (cut e)
+observed-cause ending result words input out acc cause failed (inl same) = rw same cause
+observed-cause ending result words input out acc cause failed (inr (inl (memory, names))) = rw memory acc
+observed-cause ending result words input out acc cause failed (inr (inr e)) = rw e (failed e)
 
 -- the cause of the end where the words are refused
 pub words-cause : (result : Ending) (words : List (List ℕ)) (input out : Stream)
     → (IsAccepted words → ⊥) → (result ≡ OutputFailed → HasRisen out) → IsReportedEnd Words result → Cause result words input out
-words-cause result words input out never cut (inl same) = rw same never
-words-cause result words input out never cut (inr (inl (memory, names))) = absurd (words-line names)
-words-cause result words input out never cut (inr (inr e)) = rw e (cut e)
+words-cause result words input out never failed (inl same) = rw same never
+words-cause result words input out never failed (inr (inl (memory, names))) = absurd (words-line names)
+words-cause result words input out never failed (inr (inr e)) = rw e (failed e)
 
 -- a text that was read as a script is one
 pub is-script : (text all : List ℕ) (script : Script) → text ≡ all → length all ≤ script_limit → script_of text ≡ Ok script → IsScript all
@@ -80,13 +80,13 @@ is-script text all script e few reads = (few, (script, ap script_of (sym e) ∙ 
 -- the cause of a play's end
 pub play-cause : (result : Ending) (words : List (List ℕ)) (input out : Stream)
     → IsAccepted words → IsReadWhole input IsScript → (result ≡ OutputFailed → HasRisen out) → IsPlayEnd result → Cause result words input out
-play-cause Played words input out acc read cut end = (acc, read)
-play-cause Memory words input out acc read cut end = acc
-play-cause OutputFailed words input out acc read cut end = cut refl
-play-cause Words words input out acc read cut end = absurd end
-play-cause Long words input out acc read cut end = absurd end
-play-cause (AtLine line) words input out acc read cut end = absurd end
-play-cause Input words input out acc read cut end = absurd end
+play-cause Played words input out acc read failed end = (acc, read)
+play-cause Memory words input out acc read failed end = acc
+play-cause OutputFailed words input out acc read failed end = failed refl
+play-cause Words words input out acc read failed end = absurd end
+play-cause Long words input out acc read failed end = absurd end
+play-cause (AtLine line) words input out acc read failed end = absurd end
+play-cause Input words input out acc read failed end = absurd end
 
 prefix-cause : (ending : Ending) (words : List (List ℕ)) (input out : Stream) (text : List ℕ)
     → IsAccepted words → IsReadWhole input IsScript → IsPlayEnd ending → Writes ending input.before text → Cause ending words input out
@@ -155,10 +155,10 @@ input-complete OutputFailed result input left input_rose h rose long script calm
 
 -- a play's end in which no write has failed
 pub status-end : (ending : Ending) (out_rose : Type 0) (status : ℕ) → status ≡ status_of ending → IsPlayEnd ending → (ending ≡ OutputFailed → out_rose) → (out_rose → ⊥) → (status ≡ 0) ⊎ (status ≡ 71)
-status-end Played out_rose status s h cut calm = inl s
-status-end Memory out_rose status s h cut calm = inr s
-status-end OutputFailed out_rose status s h cut calm = absurd (calm (cut refl))
-status-end Words out_rose status s h cut calm = absurd h
-status-end Long out_rose status s h cut calm = absurd h
-status-end (AtLine line) out_rose status s h cut calm = absurd h
-status-end Input out_rose status s h cut calm = absurd h
+status-end Played out_rose status s h failed calm = inl s
+status-end Memory out_rose status s h failed calm = inr s
+status-end OutputFailed out_rose status s h failed calm = absurd (calm (failed refl))
+status-end Words out_rose status s h failed calm = absurd h
+status-end Long out_rose status s h failed calm = absurd h
+status-end (AtLine line) out_rose status s h failed calm = absurd h
+status-end Input out_rose status s h failed calm = absurd h

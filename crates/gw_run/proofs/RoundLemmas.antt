@@ -7,11 +7,11 @@ use Rattle.gw_base.specs.declared.setup.Setup.{Setup}
 use Rattle.gw_site.specs.Outside.{Outside, Connection, outside_after, is_connected, hears, heard_on, without, new_connection}
 use Rattle.gw_site.specs.declared.turn.Turn.TheVariants.{Polled, Opened, HeardTill, Closed, HeardPt, Lost, CutTill}
 use Rattle.gw_site.specs.declared.site.What.{What}
-use Rattle.gw_site.specs.declared.site.What.TheVariants.{TillOpened, TillBytes, TillClosed, PtBytes, PtClosed, Nothing, Stopped as Stop}
+use Rattle.gw_site.specs.declared.site.What.TheVariants.{TillOpened, TillBytes, TillClosed, PtBytes, PtClosed, Nothing, Stopped as StopEvent}
 use Rattle.gw_site.specs.Observed.{Observed, Grows}
 use Rattle.gw_site.specs.Turns.{IsTurn}
 use Rattle.sale_frame.specs.Decode.{decode_frames}
-use Rattle.gw_rules.specs.Scene.{Till as ATill, Cut, Crowded, Scene, View, IsRunning, Over}
+use Rattle.gw_rules.specs.Scene.{Till as TillEnd, Cut, Crowded, Scene, View, IsRunning, Over}
 use Rattle.gw_rules.specs.Owes.{reading_items, heard_items, opened_items}
 use Rattle.gw_rules.specs.View.{called, polled, serving, at_first}
 use Rattle.gw_rules.specs.Triple.{Triple, Owing, AtEvent, JustBegun}
@@ -22,7 +22,7 @@ use Rattle.gw_run.specs.Tills.{rank, till_of, others, AreBelow}
 use Rattle.gw_run.specs.Round.{IsIn, InRun, BeforeTill, AfterTill, ReadsOn, BeforeChunk, BeforeOpen, RestFacts, IsPolled, IsBetweenRounds, EndedBy}
 use Rattle.gw_run.specs.declared.tills.Till.{Till}
 use Rattle.gw_run.specs.declared.engine.Served.{Served}
-use Rattle.gw_run.specs.declared.engine.Served.TheVariants.{More, Waiting, Gone}
+use Rattle.gw_run.specs.declared.engine.Served.TheVariants.{More, Incomplete, Gone}
 use Rattle.gw_run.specs.declared.engine.Ended.TheVariants.{Done}
 use Rattle.gw_run.proofs.TillLemmas.{rank-held-none, rank-held-open, found, others-held, others-set, without-hears, open-hears, below-hears, below-without, below-push, below-closed, below-up, without-new, held-push, length-held}
 use Rattle.gw_run.proofs.EngineLemmas.{pending-keeps, begin-first, called-in}
@@ -46,13 +46,13 @@ pub record Knows (tills : List Till) (number at : ℕ) (chunk : List ℕ) (now :
   pub moment : o.moment ≡ moment_of now
   pub reader : till.reader ≡ (decode_frames (heard_on o.tills number)).rest
   pub number_is : till.number ≡ number
-  pub place : rank number tills ≡ Some at
+  pub index_is : rank number tills ≡ Some at
 
 -- after the till's bytes were served, while it is still there
-waited : (setup : Setup) (tills : List Till) (polls : ℕ) (now : ℤ) (number at : ℕ) (chunk : List ℕ) (till new : Till) (o : Outside) → Knows tills number at chunk now till o → new.number ≡ till.number → new.reader ≡ (decode_frames (till.reader ++ chunk)).rest →
+incomplete : (setup : Setup) (tills : List Till) (polls : ℕ) (now : ℤ) (number at : ℕ) (chunk : List ℕ) (till new : Till) (o : Outside) → Knows tills number at chunk now till o → new.number ≡ till.number → new.reader ≡ (decode_frames (till.reader ++ chunk)).rest →
     (v : View) → InRun setup polls (outside_after o (HeardTill number chunk)) [] v → IsBetweenRounds setup (slice_set tills at new) polls v
-waited setup tills polls now number at chunk till new o k n r v run =
-    let f = found o.tills number at chunk (ap (rank number) (sym k.tills_are) ∙ k.place) in
+incomplete setup tills polls now number at chunk till new o k n r v run =
+    let f = found o.tills number at chunk (ap (rank number) (sym k.tills_are) ∙ k.index_is) in
     let same : new ≡ record { number = number; reader = (decode_frames (heard_on o.tills number ++ chunk)).rest } =
     ap (λ x. record { number = x; reader = new.reader }) (n ∙ k.number_is)
     ∙ ap (λ x. record { number = number; reader = x }) (r ∙ ap (λ x. (decode_frames (x ++ chunk)).rest) k.reader ∙ sym (rest-chunk (heard_on o.tills number) chunk)) in
@@ -69,7 +69,7 @@ gone : (setup : Setup) (tills rest : List Till) (polls : ℕ) (now : ℤ) (numbe
 gone setup tills rest polls now number at chunk till new o k n e v run = record {
   outside = outside_after (outside_after o (HeardTill number chunk)) (CutTill number);
   run = run;
-  tills_are = e ∙ others-set tills new number at k.place (n ∙ k.number_is) ∙ ap (λ t. others t number) k.tills_are ∙ others-held o.tills number ∙ ap (map till_of) (sym (without-hears o.tills number chunk));
+  tills_are = e ∙ others-set tills new number at k.index_is (n ∙ k.number_is) ∙ ap (λ t. others t number) k.tills_are ∙ others-held o.tills number ∙ ap (map till_of) (sym (without-hears o.tills number chunk));
   below = below-without o.next_till (hears o.tills number chunk) number (below-hears o.next_till o.tills number chunk k.below);
 }
 
@@ -79,7 +79,7 @@ pub chunk-held : (E : Type 0) (a b : Observed) (setup : Setup) (tills : List Til
     ((o : Outside) → Triple a b (BeforeTill setup polls o now till.number (till.reader ++ chunk)) (AfterTill result setup polls o now till.number after)) →
     ((o : Outside) → Knows tills number at chunk now till o → (v : View) → AfterTill result setup polls (outside_after o (HeardTill number chunk)) now number after v → Q v) →
     Triple a b (BeforeChunk setup tills polls now number chunk) Q
-chunk-held E a b setup tills polls now number at chunk till result after Q place is served finish =
+chunk-held E a b setup tills polls now number at chunk till result after Q ranked is served finish =
     keeps-before a b _ _ _ open-up
     (keeps-some a b (λ (o : Outside) v. BeforeTill setup polls (outside_after o (HeardTill number chunk)) now till.number (till.reader ++ chunk) v × Knows tills number at chunk now till o) Q nothing
     (λ o. keeps-after a b _ _ _ (keeps-frame a b _ _ (Knows tills number at chunk now till o) (served (outside_after o (HeardTill number chunk)))) (λ v q. finish o q.1 v (rw q.1.number_is at q.0))))
@@ -90,7 +90,7 @@ chunk-held E a b setup tills polls now number at chunk till result after Q place
     open-up : (v : View) → BeforeChunk setup tills polls now number chunk v → (o : Outside) × (BeforeTill setup polls (outside_after o (HeardTill number chunk)) now till.number (till.reader ++ chunk) v × Knows tills number at chunk now till o)
     open-up v p =
         let o = p.outside in
-        let f = found o.tills number at chunk (ap (rank number) (sym p.tills_are) ∙ place) in
+        let f = found o.tills number at chunk (ap (rank number) (sym p.tills_are) ∙ ranked) in
         let whole : till ≡ record { number = number; reader = (decode_frames (heard_on o.tills number)).rest } = sym is ∙ ap (λ t. get_or t at till) p.tills_are ∙ f.till till in
         let n : till.number ≡ number = ap (λ (t : Till). t.number) whole in
         let r : till.reader ≡ (decode_frames (heard_on o.tills number)).rest = ap (λ (t : Till). t.reader) whole in
@@ -99,37 +99,37 @@ chunk-held E a b setup tills polls now number at chunk till result after Q place
           o,
           (
             ((rw items at p.run), rw n (open-hears o.tills number chunk ∙ p.here), p.moment),
-            record { tills_are = p.tills_are; below = p.below; here = p.here; moment = p.moment; reader = r; number_is = n; place = place },
+            record { tills_are = p.tills_are; below = p.below; here = p.here; moment = p.moment; reader = r; number_is = n; index_is = ranked },
           ),
         )
 
-pub chunk-waited : (E : Type 0) (a b : Observed) (setup : Setup) (tills : List Till) (polls : ℕ) (now : ℤ) (number at : ℕ) (chunk : List ℕ) (till new : Till) (served : Served) →
+pub chunk-incomplete : (E : Type 0) (a b : Observed) (setup : Setup) (tills : List Till) (polls : ℕ) (now : ℤ) (number at : ℕ) (chunk : List ℕ) (till new : Till) (served : Served) →
     rank number tills ≡ Some at → get_or tills at till ≡ till → new.number ≡ till.number → ReadsOn served (till.reader ++ chunk) new.reader → (served ≡ More → ⊥) → (served ≡ Gone → ⊥) →
     ((o : Outside) → Triple a b (BeforeTill setup polls o now till.number (till.reader ++ chunk)) (AfterTill {E = E} (Ok served) setup polls o now till.number new.reader)) →
     Triple a b (BeforeChunk setup tills polls now number chunk) (IsBetweenRounds setup (slice_set tills at new) polls)
-chunk-waited E a b setup tills polls now number at chunk till new More place is n r no_more no_gone served = absurd (no_more refl)
-chunk-waited E a b setup tills polls now number at chunk till new Gone place is n r no_more no_gone served = absurd (no_gone refl)
-chunk-waited E a b setup tills polls now number at chunk till new Waiting place is n r no_more no_gone served =
-    chunk-held E a b setup tills polls now number at chunk till (Ok Waiting) new.reader _ place is served (λ o k v q. waited setup tills polls now number at chunk till new o k n r v q)
+chunk-incomplete E a b setup tills polls now number at chunk till new More ranked is n r no_more no_gone served = absurd (no_more refl)
+chunk-incomplete E a b setup tills polls now number at chunk till new Gone ranked is n r no_more no_gone served = absurd (no_gone refl)
+chunk-incomplete E a b setup tills polls now number at chunk till new Incomplete ranked is n r no_more no_gone served =
+    chunk-held E a b setup tills polls now number at chunk till (Ok Incomplete) new.reader _ ranked is served (λ o k v q. incomplete setup tills polls now number at chunk till new o k n r v q)
 
 pub chunk-gone : (E : Type 0) (a b : Observed) (setup : Setup) (tills rest : List Till) (polls : ℕ) (now : ℤ) (number at : ℕ) (chunk : List ℕ) (till new : Till) →
     rank number tills ≡ Some at → get_or tills at till ≡ till → new.number ≡ till.number → rest ≡ others (slice_set tills at new) number →
     ((o : Outside) → Triple a b (BeforeTill setup polls o now till.number (till.reader ++ chunk)) (AfterTill {E = E} (Ok Gone) setup polls o now till.number new.reader)) →
     Triple a b (BeforeChunk setup tills polls now number chunk) (IsBetweenRounds setup rest polls)
-chunk-gone E a b setup tills rest polls now number at chunk till new place is n e served =
-    chunk-held E a b setup tills polls now number at chunk till (Ok Gone) new.reader _ place is served (λ o k v q. gone setup tills rest polls now number at chunk till new o k n e v q)
+chunk-gone E a b setup tills rest polls now number at chunk till new ranked is n e served =
+    chunk-held E a b setup tills polls now number at chunk till (Ok Gone) new.reader _ ranked is served (λ o k v q. gone setup tills rest polls now number at chunk till new o k n e v q)
 
 pub chunk-memory : (E : Type 0) (memory : E) (a b : Observed) (setup : Setup) (tills : List Till) (polls : ℕ) (now : ℤ) (number at : ℕ) (chunk : List ℕ) (till new : Till) →
     rank number tills ≡ Some at → get_or tills at till ≡ till →
     ((o : Outside) → Triple a b (BeforeTill setup polls o now till.number (till.reader ++ chunk)) (AfterTill (Err memory) setup polls o now till.number new.reader)) →
     Triple a b (BeforeChunk setup tills polls now number chunk) (λ v. Unit {0})
-chunk-memory E memory a b setup tills polls now number at chunk till new place is served =
-    chunk-held E a b setup tills polls now number at chunk till (Err memory) new.reader _ place is served (λ o k v q. tt)
+chunk-memory E memory a b setup tills polls now number at chunk till new ranked is served =
+    chunk-held E a b setup tills polls now number at chunk till (Err memory) new.reader _ ranked is served (λ o k v q. tt)
 
 -- a till that is held already doesn't open
 pub open-held : (s : Observed) (setup : Setup) (tills : List Till) (polls number at : ℕ) (Q : View → Type 0) → rank number tills ≡ Some at → Triple s s (BeforeOpen setup tills polls number) Q
-open-held s setup tills polls number at Q place = never s _ Q (λ v p.
-    let h : false ≡ true = sym (below-closed p.outside.next_till number p.outside.tills p.below p.above) ∙ rank-held-open p.outside.tills number at (ap (rank number) (sym p.tills_are) ∙ place) in absurd cc)
+open-held s setup tills polls number at Q ranked = never s _ Q (λ v p.
+    let h : false ≡ true = sym (below-closed p.outside.next_till number p.outside.tills p.below p.above) ∙ rank-held-open p.outside.tills number at (ap (rank number) (sym p.tills_are) ∙ ranked) in absurd cc)
 
 items-few : (number : ℕ) (lines : List Connection) → length lines < 64 → opened_items number lines ≡ []
 items-few number lines lt = rw (lt-ltb (length lines) 64 lt) refl
@@ -156,8 +156,8 @@ pub open-crowded : (a b : Observed) (setup : Setup) (tills : List Till) (polls n
 open-crowded a b setup tills polls number many grows =
     keeps-before a b _ _ _ open-up
     (keeps-some a b (λ (o : Outside) v. InRun setup polls (outside_after o (Opened number)) (Crowded number ∷ []) v × IsFull o) (IsBetweenRounds setup tills polls) at_first.scene.outside
-    (λ o. keeps-then a a b _ _ _ (begin-first a setup polls (outside_after o (Opened number)) (Crowded number) [] (Cut (ATill number) ∷ []) (IsFull o) (λ k scene f. refl))
-    (keeps-after a b _ _ _ (keeps-frame a b _ _ (IsFull o) (pending-keeps a b setup polls (outside_after o (Opened number)) (Cut (ATill number) ∷ []) [] _ (λ scene. cut-till-keeps scene [] [] a b number grows)))
+    (λ o. keeps-then a a b _ _ _ (begin-first a setup polls (outside_after o (Opened number)) (Crowded number) [] (Cut (TillEnd number) ∷ []) (IsFull o) (λ k scene f. refl))
+    (keeps-after a b _ _ _ (keeps-frame a b _ _ (IsFull o) (pending-keeps a b setup polls (outside_after o (Opened number)) (Cut (TillEnd number) ∷ []) [] _ (λ scene. cut-till-keeps scene [] [] a b number grows)))
     (λ v q. closed o v q.0 q.1))))
   where
     IsFull : Outside → Type 0
@@ -243,7 +243,7 @@ rest-closed number buf setup tills new polls now e scene k v q = record {
   below = below-without scene.outside.next_till scene.outside.tills number k.below;
 }
 
-pub rest-stopped : (buf : List ℕ) (setup : Setup) (tills : List Till) (polls : ℕ) (now : ℤ) (scene : Scene) → RestFacts setup tills polls scene → (v : View) → AtEvent scene now Stop buf v → v.scene.stage ≡ Over
+pub rest-stopped : (buf : List ℕ) (setup : Setup) (tills : List Till) (polls : ℕ) (now : ℤ) (scene : Scene) → RestFacts setup tills polls scene → (v : View) → AtEvent scene now StopEvent buf v → v.scene.stage ≡ Over
 rest-stopped buf setup tills polls now scene k v q = ap (λ (w : View). w.scene.stage) q.0
 
 pub rest-opened : (number : ℕ) (buf : List ℕ) (setup : Setup) (tills : List Till) (polls : ℕ) (now : ℤ) (scene : Scene) → RestFacts setup tills polls scene → (v : View) → AtEvent scene now (TillOpened number) buf v → BeforeOpen setup tills (polls + 1) number v

@@ -1,11 +1,11 @@
--- A send that may be followed by the cut of its line.
+-- A send that may be followed by the cut of its connection.
 use Rattle.std.proofs.Common.{◌≡◌, List, [], ◌∷◌, ℕ, subst}
 use Rattle.std.specs.Prelude.{Ok, Err, true, false}
 use Rattle.gw_site.specs.declared.turn.Turn.TheVariants.{SentTill, CutTill}
 use Rattle.gw_site.specs.Observed.{Observed, Grows}
 use Rattle.gw_site.specs.Turns.{IsTurn, SentTillTurns}
 use Rattle.gw_rules.specs.Reply.{Reply, reply_bytes}
-use Rattle.gw_rules.specs.Scene.{Till as ATill, Tell, Cut, Item, Scene}
+use Rattle.gw_rules.specs.Scene.{Till as TillEnd, Tell, Cut, Item, Scene}
 use Rattle.gw_rules.specs.View.{called}
 use Rattle.gw_rules.specs.Triple.{Triple, Owing}
 use Rattle.gw_rules.proofs.TripleLemmas.{keeps-then, keeps-after, keeps-some}
@@ -20,5 +20,5 @@ pub undelivered : {E : Type 0} (a b c : Observed) (failed : E) (till : ℕ) (byt
     Triple a c (Owing scene (Tell till reply ∷ []) items) (Delivered false scene till (reply_bytes reply) items)
 undelivered a b c failed till bytes reply is sent cut scene items =
     keeps-then a b c _ _ _ (tell-keeps scene [] items a b till reply (Err failed) (subst (λ bytes. Grows a b (SentTillTurns till bytes (Err failed))) is sent))
-    (keeps-some b c (λ (taken : List ℕ) v. Owing (called scene (SentTill till taken false) false) (Cut (ATill till) ∷ []) items v) _ []
+    (keeps-some b c (λ (taken : List ℕ) v. Owing (called scene (SentTill till taken false) false) (Cut (TillEnd till) ∷ []) items v) _ []
     (λ taken. keeps-after b c _ _ _ (cut-till-keeps (called scene (SentTill till taken false) false) [] items b c till cut) (λ v q. (taken, q))))

@@ -64,7 +64,7 @@ written_whole log index old new le gathered = λ written e.
     (log_text (take gathered.count log), all, gathered.observed written e)
 
 -- without memory
-pub written_prefix : (log : List Turn) (index : ℕ) (lines : List ℕ) (old new : Option (List ℕ)) (answer : Result (Unit {0}) Unwritten) → IsErrAnd answer (λ unwritten. unwritten ≡ Memory) → Gathered log index lines old new → Adds old new (LogWritten log answer)
+pub written_prefix : (log : List Turn) (index : ℕ) (lines : List ℕ) (old new : Option (List ℕ)) (result : Result (Unit {0}) Unwritten) → IsErrAnd result (λ unwritten. unwritten ≡ Memory) → Gathered log index lines old new → Adds old new (LogWritten log result)
 written_prefix log index lines old new (Ok done) is gathered = absurd is
 written_prefix log index lines old new (Err Memory) is gathered = λ written e.
     (log_text (take gathered.count log), (take gathered.count log, (drop gathered.count log, sym (take-append-drop gathered.count log)), refl), gathered.observed written e)
@@ -82,8 +82,8 @@ part_prefix log index sent lines part waiting prefix =
           ∙ parts,
     )
 
-pub written_part : (log : List Turn) (index : ℕ) (lines : List ℕ) (old before new : Option (List ℕ)) (answer : Result (Unit {0}) Unwritten) → IsErrAnd answer (λ unwritten. unwritten ≡ Sink) → Gathered log index lines old before →
-    ((written : List ℕ) → before ≡ Some written → (part : List ℕ) × IsPrefix part lines × (new ≡ Some (written ++ part))) → Adds old new (LogWritten log answer)
+pub written_part : (log : List Turn) (index : ℕ) (lines : List ℕ) (old before new : Option (List ℕ)) (result : Result (Unit {0}) Unwritten) → IsErrAnd result (λ unwritten. unwritten ≡ Sink) → Gathered log index lines old before →
+    ((written : List ℕ) → before ≡ Some written → (part : List ℕ) × IsPrefix part lines × (new ≡ Some (written ++ part))) → Adds old new (LogWritten log result)
 written_part log index lines old before new (Ok done) is gathered failed = absurd is
 written_part log index lines old before new (Err Memory) is gathered failed = cc
 written_part log index lines old before new (Err Sink) is gathered failed = λ written e.
@@ -103,7 +103,7 @@ printable_ascii [] e i = lit< tt
 printable_ascii (byte ∷ bytes) e zero = below_128 byte (both (is_space_or_visible byte) (list_all is_space_or_visible bytes) e).0
 printable_ascii (byte ∷ bytes) e (suc i) = printable_ascii bytes (both (is_space_or_visible byte) (list_all is_space_or_visible bytes) e).1 i
 
--- what an answer of `framed_message` says of the bytes
+-- what a result of `framed_message` says of the bytes
 found_frame : (one : Bool) (bytes message : List ℕ) → Some message ≡ (if one then Some (drop 4 bytes) else None) → (one ≡ true) × (message ≡ drop 4 bytes)
 found_frame true bytes message e = (refl, cc)
 found_frame false bytes message e = cc

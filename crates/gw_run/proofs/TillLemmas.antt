@@ -8,7 +8,7 @@ use Rattle.sale_frame.specs.Decode.{decode_frames}
 use Rattle.gw_run.specs.Tills.{rank, till_of, others, AreBelow}
 use Rattle.gw_run.specs.declared.tills.Till.{Till}
 
--- the places of the tills from one on, counted from the first of all
+-- the indices of the tills from one on, counted from the first of all
 abbrev pub rank_from : ℕ → ℕ → List Till → Option ℕ
 rank_from number at tills = option_map (λ k. at + k) (rank number tills)
 
@@ -58,7 +58,7 @@ rank-held-none (line ∷ lines) number e = by_test (line.number == number) refl 
         of_rest None h = later h
         of_rest (Some k) h = absurd (let g : Some (suc k) ≡ None = sym (rw (t, h) refl) ∙ e in cc)
 
--- the till at the place of this number, and the tills once its line has heard a chunk more
+-- the till at the index of this number, and the tills once its connection has heard a chunk more
 pub record IsFound (lines : List Connection) (number at : ℕ) (chunk : List ℕ) : Type 0 where
   pub till : (d : Till) → get_or (map till_of lines) at d ≡ record { number = number; reader = (decode_frames (heard_on lines number)).rest }
   pub more : slice_set (map till_of lines) at (record { number = number; reader = (decode_frames (heard_on lines number ++ chunk)).rest }) ≡ map till_of (hears lines number chunk)
@@ -119,7 +119,7 @@ others-set-by till x tills number (suc at) xt later false t e = of_rest (rank nu
         let z : k ≡ at = cc in
         rw t (ap (λ l. till ∷ l) (later at (h ∙ ap Some z)))
 
--- a till that is set at its place makes no difference to the others
+-- a till that is set at its index makes no difference to the others
 pub others-set : (tills : List Till) (x : Till) (number at : ℕ) → rank number tills ≡ Some at → x.number ≡ number → others (slice_set tills at x) number ≡ others tills number
 others-set [] x number at e n = absurd (let h : None ≡ Some at = e in cc)
 others-set (till ∷ tills) x number at e n = others-set-by till x tills number at (eq-eqb x.number number n) (λ k h. others-set tills x number k h n) (till.number == number) refl e
@@ -178,7 +178,7 @@ without-append (x ∷ xs) ys number = by_test (x.number == number) refl (without
     by_test true t h = rw t h
     by_test false t h = rw t (ap (λ l. x ∷ l) h)
 
--- a line that has just opened leaves the others when it is cut
+-- a connection that has just opened leaves the others when it is cut
 pub without-new : (lines : List Connection) (number : ℕ) → is_connected lines number ≡ false → without (lines ++ new_connection number ∷ []) number ≡ lines
 without-new lines number h =
     let one : without (new_connection number ∷ []) number ≡ [] = rw (eq-eqb number number refl) refl in

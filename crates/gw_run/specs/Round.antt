@@ -13,7 +13,7 @@ use Rattle.gw_site.specs.declared.site.What.{What}
 use Rattle.gw_run.specs.Tills.{till_of, AreBelow}
 use Rattle.gw_run.specs.declared.tills.Till.{Till}
 use Rattle.gw_run.specs.declared.engine.Served.{Served}
-use Rattle.gw_run.specs.declared.engine.Served.TheVariants.{More, Waiting, Gone}
+use Rattle.gw_run.specs.declared.engine.Served.TheVariants.{More, Incomplete, Gone}
 use Rattle.gw_run.specs.declared.engine.RoundEnd.{RoundEnd}
 use Rattle.gw_run.specs.declared.engine.RoundEnd.TheVariants.{Went, Stopped}
 use Rattle.gw_run.specs.declared.engine.Ended.{Ended}
@@ -37,17 +37,17 @@ BeforeTill setup polls o now till bytes v = InRun setup polls o (reading_items t
 -- after some of the messages that a reader holds
 abbrev pub AfterTill : {E : Type 0} → Result Served E → Setup → ℕ → Outside → ℤ → ℕ → List ℕ → View → Type 0
 AfterTill (Ok More) setup polls o now till bytes v = BeforeTill setup polls o now till bytes v
-AfterTill (Ok Waiting) setup polls o now till bytes v = InRun setup polls o [] v
+AfterTill (Ok Incomplete) setup polls o now till bytes v = InRun setup polls o [] v
 AfterTill (Ok Gone) setup polls o now till bytes v = InRun setup polls (outside_after o (CutTill till)) [] v
 AfterTill (Err memory) setup polls o now till bytes v = Unit {0}
 
 -- what the reader holds then
 abbrev pub ReadsOn : Served → List ℕ → List ℕ → Type 0
 ReadsOn More old new = (length new < length old) × ((decode_frames new).rest ≡ (decode_frames old).rest)
-ReadsOn Waiting old new = new ≡ (decode_frames old).rest
+ReadsOn Incomplete old new = new ≡ (decode_frames old).rest
 ReadsOn Gone old new = Unit {0}
 
--- after a send to a till, which is followed by the cut of its line where it failed
+-- after a send to a till, which is followed by the cut of its connection where it failed
 abbrev pub Delivered : Bool → Scene → ℕ → List ℕ → List Item → View → Type 0
 Delivered true scene till bytes items v = Owing (called scene (SentTill till bytes true) false) [] items v
 Delivered false scene till bytes items v = (taken : List ℕ) × Owing (called (called scene (SentTill till taken false) false) (CutTill till) false) [] items v

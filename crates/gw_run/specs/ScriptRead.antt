@@ -1,4 +1,4 @@
--- Inner: what the reader of scripts answers.
+-- Inner: what the reader of scripts returns.
 use Rattle.std.specs.Prelude.{◌≡◌, ℕ, ◌<◌, ◌≤◌, Bool, true, false, List, map, Option, Some, None, Err, length}
 use Rattle.gw_rules.specs.Script.{Event, Open, Close, Say, Tick, PlayedLine, At, Poll, Script, Entry, Blank, Naming, Playing, script_limit, script_of}
 use Rattle.gw_run.specs.declared.line.Script.{Script as ReadScript}
@@ -33,7 +33,7 @@ entry_value BlankEntry = Blank
 entry_value (NamingEntry name) = Naming name
 entry_value (PlayingEntry line) = Playing (line_value line)
 
--- where a line was added the script has become this one, and where none may stand there, there is none
+-- where a line was added the script has become this one, and where none may come there, there is none
 abbrev pub IsAdded : Bool → Option Script → Script → Type 0
 IsAdded true next new = next ≡ Some new
 IsAdded false next new = next ≡ None

@@ -1,4 +1,4 @@
-//! One run over a site: it is opened, polled, and each message of a till is answered.
+//! One run over a site: it is opened, polled, and each message of a till gets its reply.
 ghost use Rattle.std.specs.Prelude.{◌≡◌, ◌≢◌, ◌≤◌, ◌<◌, ◌+◌, ◌++◌, ◌∷◌, [], ℕ, List, true, length, IfOk, Ok};
 ghost use Rattle.gw_base.specs.Setup.{IsSetup};
 ghost use Rattle.gw_base.specs.Moment.{moment_of};
@@ -14,10 +14,10 @@ ghost use Rattle.gw_rules.specs.Triple.{Triple, RunTriple, IsRun, Owing, JustBeg
 ghost use Rattle.gw_run.specs.NextMessage.{IsNextOf};
 ghost use Rattle.gw_run.specs.Round.{BeforeTill, AfterTill, ReadsOn, Delivered, BeforeChunk, BeforeOpen, IsBetweenRounds, IsPolled, AfterRound, EndedBy};
 
-use crate::tills::{Till, drop_till, open_till, place_of};
+use crate::tills::{Till, drop_till, index_of, open_till};
 use gw_base::{Ident, Setup};
 use gw_bytes::MOST_TILLS;
-use gw_core::answer;
+use gw_core::reply;
 use gw_site::{Failed, Polled, Site, What};
 use sale_frame::FrameReader;
 use sale_reply::{Out, SaleReply, write_reply};
@@ -27,7 +27,7 @@ use std::alloc::{AllocError, Global};
 #[derive(Drop)]
 pub(crate) enum Next {
     /// Less than a frame.
-    Waiting,
+    Incomplete,
     /// A message, and the reply to it.
     Message(Option<SaleReply<'static>>),
     /// Bytes that begin no frame.
@@ -40,12 +40,12 @@ pub(crate) enum Served {
     /// A message was served, and more may be held.
     More,
     /// Less than a frame waits.
-    Waiting,
+    Incomplete,
     /// The till was cut.
     Gone,
 }
 
-/// How a turn ended.
+/// How a round ended.
 #[derive(Clone, Copy)]
 pub(crate) enum RoundEnd {
     Went,
@@ -73,23 +73,24 @@ fn next_message(
 {
     match reader.next() {
         Err(_) => Ok(Next::Unframed),
-        Ok(None) => Ok(Next::Waiting),
-        Ok(Some(message)) => Ok(Next::Message(answer(alloc, name, now, message)?)),
+        Ok(None) => Ok(Next::Incomplete),
+        Ok(Some(message)) => Ok(Next::Message(reply(alloc, name, now, message)?)),
     }
 }
 
 /// Sends a reply to a till, and cuts its connection where that fails. True where it was sent.
-fn tell<S: Site>(site: &mut S, till: u64, reply: &SaleReply<'_>, out: &mut Out) -> bool
+fn send_reply<S: Site>(site: &mut S, till: u64, reply: &SaleReply<'_>, out: &mut Out) -> bool
     requires { length (canonical (tree_of reply.now)) ≤ 65536 }
-    ensures keeps { (answer : Reply) → tree_of reply.now ≡ reply_tree answer → (scene : Scene) (items : List Item) → Triple (S.observed site.old) (S.observed site.new)
-        (Owing scene (Tell till answer ∷ []) items)
-        (Delivered result scene till (reply_bytes answer) items) }
+    ensures keeps { (owed : Reply) → tree_of reply.now ≡ reply_tree owed → (scene : Scene) (items : List Item) → Triple (S.observed site.old) (S.observed site.new)
+        (Owing scene (Tell till owed ∷ []) items)
+        (Delivered result scene till (reply_bytes owed) items) }
     ensures later { (S.observed site.old).faults ≤ (S.observed site.new).faults }
 {
     write_reply(reply, out);
     match site.send_till(till, out.as_bytes()) {
         Ok(()) => true,
         Err(Failed) => {
+            // The till has lost a reply, and learns of it by the end of its connection.
             site.cut_till(till);
             false
         }
@@ -113,14 +114,14 @@ fn serve_next<S: Site>(
     ensures later { (S.observed site.old).faults ≤ (S.observed site.new).faults }
 {
     match next_message(alloc, name, now, reader)? {
-        Next::Waiting => Ok(Served::Waiting),
+        Next::Incomplete => Ok(Served::Incomplete),
         Next::Unframed => {
             site.cut_till(till);
             Ok(Served::Gone)
         }
         Next::Message(None) => Ok(Served::More),
         Next::Message(Some(reply)) => {
-            if tell(site, till, &reply, out) {
+            if send_reply(site, till, &reply, out) {
                 Ok(Served::More)
             } else {
                 Ok(Served::Gone)
@@ -149,14 +150,14 @@ fn serve<S: Site>(
     loop {
         match serve_next(alloc, name, now, till, reader, out, site) {
             Ok(Served::More) => {}
-            Ok(Served::Waiting) => return Ok(Served::Waiting),
+            Ok(Served::Incomplete) => return Ok(Served::Incomplete),
             Ok(Served::Gone) => return Ok(Served::Gone),
             Err(AllocError) => return Err(AllocError),
         }
     }
 }
 
-/// Serves a till whose line has brought these bytes.
+/// Serves a till whose connection has brought these bytes.
 fn read_chunk<S: Site>(
     alloc: Global,
     name: &Ident<40>,
@@ -182,7 +183,7 @@ fn read_chunk<S: Site>(
     }
 }
 
-/// Handles the bytes that a till's line has brought.
+/// Handles the bytes that a till's connection has brought.
 fn on_bytes<S: Site>(
     alloc: Global,
     name: &Ident<40>,
@@ -200,16 +201,16 @@ fn on_bytes<S: Site>(
     ensures went { result ≢ Ok RoundEnd.Stopped }
     ensures later { (S.observed site.old).faults ≤ (S.observed site.new).faults }
 {
-    let at = match place_of(tills, number) {
-        Some(at) => at,
+    let index = match index_of(tills, number) {
+        Some(index) => index,
         None => return Ok(RoundEnd::Went),
     };
-    match read_chunk(alloc, name, now, &mut tills[at], out, site, bytes) {
+    match read_chunk(alloc, name, now, &mut tills[index], out, site, bytes) {
         Ok(Served::Gone) => {
             drop_till(tills, number);
             Ok(RoundEnd::Went)
         }
-        Ok(Served::Waiting) => Ok(RoundEnd::Went),
+        Ok(Served::Incomplete) => Ok(RoundEnd::Went),
         Ok(Served::More) => Ok(RoundEnd::Went),
         Err(AllocError) => Err(AllocError),
     }
@@ -228,7 +229,7 @@ fn on_open<S: Site>(
     ensures went { result ≢ Ok RoundEnd.Stopped }
     ensures later { (S.observed site.old).faults ≤ (S.observed site.new).faults }
 {
-    match place_of(tills, number) {
+    match index_of(tills, number) {
         Some(_) => return Ok(RoundEnd::Went),
         None => {}
     }
@@ -293,12 +294,13 @@ fn round<S: Site>(
     on_event(alloc, name, now, what, &buf, tills, out, site)
 }
 
-/// The turns of a run, at most so many.
+/// The rounds of a run, at most so many.
 fn rounds<S: Site>(alloc: Global, name: &Ident<40>, site: &mut S, most: u64) -> Ended
     ensures keeps { (setup : Setup) → setup.name ≡ name.now → Triple (S.observed site.old) (S.observed site.new) (JustBegun setup) (EndedBy result most) }
     ensures opened { result ≢ Ended.NotOpened }
     ensures later { (S.observed site.old).faults ≤ (S.observed site.new).faults }
 {
+    // One buffer for all replies of the run, so that no reply has to take memory.
     let mut out = match Out::new(alloc) {
         Ok(out) => out,
         Err(AllocError) => return Ended::NoMemory,

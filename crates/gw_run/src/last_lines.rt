@@ -13,7 +13,7 @@ use std::alloc::{AllocError, Global};
 fn end_with<O: Sink>(ending: Ending, tail: &str, out: &mut O) -> Ending
     requires { tail.now ≡ tail_of ending }
     ensures observed { Adds (O.written out.old) (O.written out.new) (WritesTail ending result) }
-    ensures cut { result ≡ Ending.OutputFailed → (ending ≡ Ending.OutputFailed) ⊎ Rose (O.faults out.old) (O.faults out.new) }
+    ensures output_failed { result ≡ Ending.OutputFailed → (ending ≡ Ending.OutputFailed) ⊎ Rose (O.faults out.old) (O.faults out.new) }
     ensures which { (result ≡ ending) ⊎ (result ≡ Ending.OutputFailed) }
     ensures later { O.faults out.old ≤ O.faults out.new }
 {
@@ -31,11 +31,11 @@ fn line_tail(alloc: Global, line: u32) -> Result<String, AllocError>
 }
 
 /// Writes the fault line, where there is one, and the status line.
-pub(crate) fn tell<O: Sink>(alloc: Global, ending: Ending, out: &mut O) -> Ending
+pub(crate) fn write_last_lines<O: Sink>(alloc: Global, ending: Ending, out: &mut O) -> Ending
     requires { ending ≢ Ending.OutputFailed }
     ensures observed { Adds (O.written out.old) (O.written out.new) (WritesTail ending result) }
     ensures which { IsReportedEnd ending result }
-    ensures cut { result ≡ Ending.OutputFailed → Rose (O.faults out.old) (O.faults out.new) }
+    ensures output_failed { result ≡ Ending.OutputFailed → Rose (O.faults out.old) (O.faults out.new) }
     ensures later { O.faults out.old ≤ O.faults out.new }
 {
     match ending {

@@ -23,7 +23,7 @@ pub(crate) enum ScriptLine {
 /// What a poll brings.
 #[derive(Debug, Drop)]
 pub(crate) enum ScriptEvent {
-    /// The till of this number opens its line.
+    /// The till of this number opens its connection.
     Open(u64),
     /// The till of this number closes it.
     Close(u64),

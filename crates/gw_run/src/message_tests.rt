@@ -107,9 +107,9 @@ fn requests(rt: HostRuntime) -> Result<(), Fail> {
             \"ErrorCondition\":\"MessageFormat\",\"AdditionalResponse\":\"PrintRequest.PrintOutput\"}}",
         ),
     ];
-    for (category, body, class, answer) in rows {
+    for (category, body, class, response) in rows {
         let message = request(rt.alloc(), category, body)?;
-        let expected = reply(rt.alloc(), class, category, answer)?;
+        let expected = reply(rt.alloc(), class, category, response)?;
         assert!(rt; gets(rt.alloc(), &message, &expected)?, "of {message}");
     }
     Ok(())
@@ -129,10 +129,10 @@ fn amounts(rt: HostRuntime) -> Result<(), Fail> {
         ("10000000000", wrong),
         ("\"10\"", wrong),
     ];
-    for (amount, answer) in rows {
+    for (amount, response) in rows {
         let body = format!(in rt.alloc(); "{PAYMENT}{amount}}}}}}}")?;
         let message = request(rt.alloc(), "Payment", &body)?;
-        let expected = reply(rt.alloc(), "Service", "Payment", answer)?;
+        let expected = reply(rt.alloc(), "Service", "Payment", response)?;
         assert!(rt; gets(rt.alloc(), &message, &expected)?, "of {message}");
     }
     Ok(())
@@ -145,10 +145,10 @@ fn displays(rt: HostRuntime) -> Result<(), Fail> {
         "Display",
         &format!(in rt.alloc(); "{DISPLAY}}}}}")?,
     )?;
-    let answer =
+    let response =
         "{\"OutputResult\":[{\"Device\":\"CustomerDisplay\",\"InfoQualify\":\"Display\",\"Response\":{\"Result\":\"Failure\",\
         \"ErrorCondition\":\"UnavailableDevice\"}}]}";
-    let expected = reply(rt.alloc(), "Device", "Display", answer)?;
+    let expected = reply(rt.alloc(), "Device", "Display", response)?;
     assert!(rt; gets(rt.alloc(), &message, &expected)?, "of {message}");
     let silent = format!(in rt.alloc(); "{DISPLAY},\"ResponseRequiredFlag\":false}}}}")?;
     let message = request(rt.alloc(), "Display", &silent)?;
@@ -215,12 +215,12 @@ fn chunks(rt: HostRuntime) -> Result<(), Fail> {
         ),
         ("0000000322ff22", "0000000322ff22", "json BadUtf8 1", ""),
     ];
-    for (chunk, shown, details, cut) in rows {
+    for (chunk, heard, details, cut) in rows {
         let script = format!(in rt.alloc(); "open 1\ntill 1 {chunk}\n")?;
         let (status, written) = played(rt.alloc(), script.as_bytes())?;
         let expected = reject(rt.alloc(), "0", "GATEWAY", details)?;
         let log = format!(in rt.alloc();
-            "start\nat 0\nopen 1\nat 0\ntill 1 in {shown}\n{expected}{cut}at 0\nstop\nstatus 0\n"
+            "start\nat 0\nopen 1\nat 0\ntill 1 in {heard}\n{expected}{cut}at 0\nstop\nstatus 0\n"
         )?;
         assert_eq!(rt; str::from_utf8(written.as_slice())?, log.as_str());
         assert_eq!(rt; status, 0, "of {chunk}");

@@ -2,7 +2,7 @@
 ghost use Rattle.std.specs.Prelude.{◌≡◌, ◌≤◌, ◌∷◌, ◌++◌, [], ℤ, List, Ok, Some, true, false, not, ◌==◌, filter, IfOk, OnOk, OnErr};
 ghost use Rattle.gw_site.specs.Failures.{HasCause, Rose};
 ghost use Rattle.gw_site.specs.Outside.{Outside, outside_of, outside_after};
-ghost use Rattle.gw_site.specs.declared.turn.Turn.{Turn as ATurn};
+ghost use Rattle.gw_site.specs.declared.turn.Turn.{Turn as LogTurn};
 ghost use Rattle.gw_rules.specs.Plays.{Play, Fits, Plays, play_after, rests};
 ghost use Rattle.gw_rules.specs.Script.{PlayedLine, script_of};
 ghost use Rattle.gw_run.specs.ScriptRead.{script_value};
@@ -39,7 +39,7 @@ pub(crate) struct Player<'a> {
     ghost next_is: { play.dark ≡ false → (outside_of play.log.items).next_till ≡ next_after opened },
 }
 
-/// One more fault; the count stays at its last value.
+/// One more failure; the count stays at its last value.
 fn risen(faults: u64) -> u64
     ensures rose { Rose faults result }
     ensures later { faults ≤ result }
@@ -119,12 +119,12 @@ impl<'a> Player<'a> {
 
     /// The log plays the script, or a prefix of it.
     pub(crate) fn played(&self)
-        ensures { (log : List ATurn) → (player_observed self.now).log ≡ Some log → Plays (player_observed self.now).origin log }
+        ensures { (log : List LogTurn) → (player_observed self.now).log ≡ Some log → Plays (player_observed self.now).origin log }
     {
         let _ = self.play.at;
     }
 
-    /// Counts a fault.
+    /// Counts a failure.
     fn count(&mut self)
         ensures rose { Rose self.old.faults self.new.faults }
         ensures later { self.old.faults ≤ self.new.faults }
@@ -212,7 +212,7 @@ impl Site for Player<'_> {
             return self.stopped();
         }
         let found = self.play.found(&self.tills, self.opened);
-        let at = found.behind;
+        let next_line = found.next_line;
         let now = found.now;
         let Ok(brought) = bring(self.alloc, found.event, buf) else {
             return self.stop();
@@ -220,7 +220,7 @@ impl Site for Player<'_> {
         if !follow(&mut self.tills, &mut self.opened, brought.what) {
             return self.stop();
         }
-        if !self.play.add_poll(now, brought.turn, at) {
+        if !self.play.add_poll(now, brought.turn, next_line) {
             return self.stop();
         }
         Polled {

@@ -6,7 +6,7 @@ ghost use Rattle.gw_run.specs.Replay.{IsInputRead, IsInputFault, IsPlayEnd, Repl
 ghost use Rattle.gw_run.specs.Top.{IsAccepted, IfBytesObserved, IsEnded, IsScriptLeft};
 
 use crate::ending::Ending;
-use crate::last_lines::tell;
+use crate::last_lines::write_last_lines;
 use crate::replay::play;
 use crate::script::{ScriptFault, read_script};
 use gw_base::Text;
@@ -32,6 +32,7 @@ fn read_input<I: Source>(alloc: Global, input: &mut I) -> Result<Vec<u8>, Ending
     ensures later { I.faults input.old ≤ I.faults input.new }
 {
     let mut bytes = Vec::new(alloc);
+    // A chunk at a time, so that at most one is read beyond the limit: an input may have no end.
     let mut buf = [0; 4096];
     while bytes.len() <= LONGEST_SCRIPT {
         match input.read(&mut buf) {
@@ -55,18 +56,18 @@ fn replay<I: Source, O: Sink>(alloc: Global, input: &mut I, out: &mut O) -> Endi
         (record { before = I.left input.old; after = I.left input.new; faults_before = I.faults input.old; faults_after = I.faults input.new })
         (record { before = O.written out.old; after = O.written out.new; faults_before = O.faults out.old; faults_after = O.faults out.new }) }
     ensures complete { IsScriptLeft (I.left input.old) → ¬ Rose (I.faults input.old) (I.faults input.new) → ¬ Rose (O.faults out.old) (O.faults out.new) → IsPlayEnd result }
-    ensures cut { result ≡ Ending.OutputFailed → Rose (O.faults out.old) (O.faults out.new) }
+    ensures output_failed { result ≡ Ending.OutputFailed → Rose (O.faults out.old) (O.faults out.new) }
     ensures input_later { I.faults input.old ≤ I.faults input.new }
     ensures out_later { O.faults out.old ≤ O.faults out.new }
 {
     match read_input(alloc, input) {
         Ok(text) => match read_script(alloc, &text) {
             Ok(script) => play(alloc, &text, script, out),
-            Err(ScriptFault::Long) => tell(alloc, Ending::Long, out),
-            Err(ScriptFault::Line { line }) => tell(alloc, Ending::Line(line), out),
-            Err(ScriptFault::Memory) => tell(alloc, Ending::Memory, out),
+            Err(ScriptFault::Long) => write_last_lines(alloc, Ending::Long, out),
+            Err(ScriptFault::Line { line }) => write_last_lines(alloc, Ending::Line(line), out),
+            Err(ScriptFault::Memory) => write_last_lines(alloc, Ending::Memory, out),
         },
-        Err(fault) => tell(alloc, fault, out),
+        Err(fault) => write_last_lines(alloc, fault, out),
     }
 }
 
@@ -79,7 +80,7 @@ fn replay<I: Source, O: Sink>(alloc: Global, input: &mut I, out: &mut O) -> Endi
 /// - 65: the input is no script (`script N` with the number of the first wrong line, or `script long`);
 /// - 66: the input could not be read (`input`);
 /// - 71: memory was refused (`memory`);
-/// - 73: the output could not be written, whose last line may be cut.
+/// - 73: the output could not be written, whose last line may be incomplete.
 ///
 /// The site that is handed in gets no call.
 pub fn top<S: Site, I: Source, O: Sink>(
@@ -106,6 +107,6 @@ pub fn top<S: Site, I: Source, O: Sink>(
     if is_replay(words) {
         replay(alloc, input, out).status()
     } else {
-        tell(alloc, Ending::Words, out).status()
+        write_last_lines(alloc, Ending::Words, out).status()
     }
 }

@@ -10,11 +10,12 @@ ghost use Rattle.gw_run.specs.ScriptRead.{script_value};
 
 use crate::ending::Ending;
 use crate::engine::{Ended, run_once};
-use crate::last_lines::tell;
+use crate::last_lines::write_last_lines;
 use crate::line::Script;
 use crate::player::Player;
 use crate::text::{Unwritten, write_log};
 use gw_base::{Ident, Pts, Setup, Text};
+use gw_bytes::MOST_SLOTS;
 use gw_site::{Sink, Turn};
 use std::alloc::Global;
 
@@ -35,7 +36,7 @@ fn script_setup(alloc: Global, name: Option<Ident<40>>) -> Setup
         journal: Text::new(String::new(alloc)),
         line: 0,
         wait: 60,
-        slots: 1_000_000,
+        slots: MOST_SLOTS,
         terminals: Pts::new(Vec::new(alloc)),
     }
 }
@@ -70,13 +71,13 @@ fn play_ending(whole: bool) -> Ending
 fn write_play<O: Sink>(alloc: Global, log: &[Turn], whole: bool, out: &mut O) -> Ending
     ensures written { (script : List ℕ) → IsPlayOf script whole log.now → Adds (O.written out.old) (O.written out.new) (PlayWritten script result) }
     ensures end { IsPlayEnd result }
-    ensures cut { result ≡ Ending.OutputFailed → Rose (O.faults out.old) (O.faults out.new) }
+    ensures output_failed { result ≡ Ending.OutputFailed → Rose (O.faults out.old) (O.faults out.new) }
     ensures later { O.faults out.old ≤ O.faults out.new }
 {
     let ending = play_ending(whole);
     match write_log(alloc, log, out) {
-        Ok(()) => tell(alloc, ending, out),
-        Err(Unwritten::Memory) => tell(alloc, Ending::Memory, out),
+        Ok(()) => write_last_lines(alloc, ending, out),
+        Err(Unwritten::Memory) => write_last_lines(alloc, Ending::Memory, out),
         Err(Unwritten::Sink) => Ending::OutputFailed,
     }
 }
@@ -86,7 +87,7 @@ pub(crate) fn play<O: Sink>(alloc: Global, text: &[u8], script: Script, out: &mu
     requires { script_of text.now ≡ Ok (script_value script) }
     ensures written { Adds (O.written out.old) (O.written out.new) (PlayWritten text.now result) }
     ensures end { IsPlayEnd result }
-    ensures cut { result ≡ Ending.OutputFailed → Rose (O.faults out.old) (O.faults out.new) }
+    ensures output_failed { result ≡ Ending.OutputFailed → Rose (O.faults out.old) (O.faults out.new) }
     ensures later { O.faults out.old ≤ O.faults out.new }
 {
     let name = script.name;

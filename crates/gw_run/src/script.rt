@@ -9,14 +9,14 @@ ghost use Rattle.gw_run.specs.ScriptRead.{entry_value, event_value, line_value, 
 
 use crate::line::{Chunk, Script, ScriptEvent, ScriptLine};
 use gw_base::{Bytes, Ident, LAST_MOMENT};
-use gw_bytes::{LONGEST_CHUNK, LONGEST_SCRIPT};
+use gw_bytes::{FRAME_LENGTH_SIZE, LONGEST_CHUNK, LONGEST_SCRIPT};
 use hex::FromHexError;
 use sale_frame::frame_length;
 use std::alloc::{AllocError, AllocFailed, Global};
 use std::str;
 
-/// The most bytes of a said text.
-const SAID_LIMIT: usize = 4_092;
+/// The most bytes of a said text: with its length it is one chunk.
+const SAID_LIMIT: usize = LONGEST_CHUNK - FRAME_LENGTH_SIZE;
 
 /// What one line of the text is.
 #[derive(Drop)]
@@ -63,6 +63,7 @@ impl<T: Drop> From<AllocFailed<T>> for ScriptFault {
 fn number(word: &str) -> Option<u64>
     ensures { result ≡ number word.now }
 {
+    // `parse` takes both, and a number has one spelling.
     if word.starts_with('+') || word.len() > 1 && word.starts_with('0') {
         return None;
     }
@@ -259,7 +260,7 @@ fn add_line(script: &mut Script, line: ScriptLine) -> Result<(), AllocError>
     Ok(())
 }
 
-/// Adds a line to the script. False where it may not stand there.
+/// Adds a line to the script. False where it may not come there.
 fn add_entry(script: &mut Script, entry: ReadEntry) -> Result<bool, AllocError>
     ensures { IfOk result (λ added. IsAdded added (with_entry (script_value script.old) (entry_value entry)) (script_value script.new)) }
 {
@@ -273,7 +274,7 @@ fn add_entry(script: &mut Script, entry: ReadEntry) -> Result<bool, AllocError>
     }
 }
 
-/// Adds the line that these bytes spell to the script. False where they spell none that may stand there.
+/// Adds the line that these bytes spell to the script. False where they spell none that may come there.
 fn add_text(alloc: Global, script: &mut Script, text: &[u8]) -> Result<bool, AllocError>
     ensures { IfOk result (λ added. IsAdded added (option_and_then (with_entry (script_value script.old)) (entry_of text.now)) (script_value script.new)) }
 {
@@ -283,7 +284,7 @@ fn add_text(alloc: Global, script: &mut Script, text: &[u8]) -> Result<bool, All
     }
 }
 
-/// The place of the first line end.
+/// The offset of the first line end.
 fn line_end(bytes: &[u8]) -> Option<usize>
     ensures { result ≡ position (λ byte. byte == 10) bytes.now }
 {
@@ -329,11 +330,11 @@ pub(crate) fn read_script(alloc: Global, bytes: &[u8]) -> Result<Script, ScriptF
     let mut rest = bytes;
     let mut number = 1;
     while !rest.is_empty() {
-        let (text, behind) = first_text(rest);
+        let (text, after) = first_text(rest);
         if !add_text(alloc, &mut script, text)? {
             return Err(ScriptFault::Line { line: number });
         }
-        rest = behind;
+        rest = after;
         number += 1;
     }
     Ok(script)

@@ -14,7 +14,7 @@ use sale_frame::framed_message;
 use std::alloc::{AllocError, Global};
 use std::str;
 
-/// As many bytes of lines are written at once, or more.
+/// As many bytes of lines are written at once, or more: a write of each line would be a call of the system for each.
 const CHUNK: usize = 65_536;
 
 /// Why a log was not written whole.
@@ -184,7 +184,7 @@ fn push_line(alloc: Global, lines: &mut String, turn: &Turn) -> Result<(), Alloc
 
 /// Writes the text of a log, a line for each turn.
 ///
-/// Where memory is refused, the lines that were written are whole; where the sink fails, the last one may be cut.
+/// Where memory is refused, the lines that were written are whole; where the sink fails, the last one may be incomplete.
 pub fn write_log<O: Sink>(alloc: Global, log: &[Turn], out: &mut O) -> Result<(), Unwritten>
     ensures written { Adds (O.written out.old) (O.written out.new) (LogWritten log.now result) }
     ensures sink { IsErrOf result Unwritten.Sink → Rose (O.faults out.old) (O.faults out.new) }

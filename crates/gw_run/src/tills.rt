@@ -5,24 +5,24 @@ ghost use Rattle.gw_run.specs.Tills.{rank, others};
 use sale_frame::FrameReader;
 use std::alloc::{AllocError, Global};
 
-/// A till, by the number of its line.
+/// A till, by the number of its connection.
 #[derive(Drop)]
 pub(crate) struct Till {
     pub(crate) number: u64,
     pub(crate) reader: FrameReader,
 }
 
-/// The place of the till of this number.
-pub(crate) fn place_of(tills: &[Till], number: u64) -> Option<usize>
-    ensures place { result ≡ rank number tills.now }
-    ensures within { IfSome result (λ at. at < length tills.now) }
+/// The index of the till of this number.
+pub(crate) fn index_of(tills: &[Till], number: u64) -> Option<usize>
+    ensures index { result ≡ rank number tills.now }
+    ensures within { IfSome result (λ index. index < length tills.now) }
 {
-    let mut at = 0;
-    while at < tills.len() {
-        if tills[at].number == number {
-            return Some(at);
+    let mut index = 0;
+    while index < tills.len() {
+        if tills[index].number == number {
+            return Some(index);
         }
-        at += 1;
+        index += 1;
     }
     None
 }

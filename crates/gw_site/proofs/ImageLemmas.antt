@@ -16,13 +16,13 @@ pub record Sound (o : Outside) : Type 0 where
 inside_covered : (range : Range) (offset : ℕ) → range.from ≤ offset → offset < range.from + range.size → covers offset range ≡ true
 inside_covered range offset le lt = and_from (nat_le range.from offset) (nat_lt offset (range.from + range.size)) (le-leb range.from offset le) (lt-ltb offset (range.from + range.size) lt)
 
-wrote_same : (o : Outside) (at : ℕ) (bytes : List ℕ) → Sound o → (offset : ℕ) → offset < length o.stable →
-    is_covered (record { from = at; size = length bytes } ∷ o.written) offset ≡ false → get_or (overwrite o.file at bytes) offset 0 ≡ get_or o.stable offset 0
-wrote_same o at bytes sound offset lt clean =
-    elim (cases_lt offset at) [ inl below ↦ over_below o.file at bytes offset below ∙ older | inr le ↦ elim (cases_lt offset (at + length bytes)) [ inl inside ↦ absurd (both_ways (covers offset range) parts.0 (inside_covered range offset le inside)) | inr above ↦ over_above o.file at bytes offset above ∙ older ] ]
+wrote_same : (o : Outside) (start : ℕ) (bytes : List ℕ) → Sound o → (offset : ℕ) → offset < length o.stable →
+    is_covered (record { from = start; size = length bytes } ∷ o.written) offset ≡ false → get_or (overwrite o.file start bytes) offset 0 ≡ get_or o.stable offset 0
+wrote_same o start bytes sound offset lt clean =
+    elim (cases_lt offset start) [ inl below ↦ over_below o.file start bytes offset below ∙ older | inr le ↦ elim (cases_lt offset (start + length bytes)) [ inl inside ↦ absurd (both_ways (covers offset range) parts.0 (inside_covered range offset le inside)) | inr above ↦ over_above o.file start bytes offset above ∙ older ] ]
   where
     range : Range
-    range = record { from = at; size = length bytes }
+    range = record { from = start; size = length bytes }
 
     parts : (covers offset range ≡ false) × (is_covered o.written offset ≡ false)
     parts = or_parts (covers offset range) (is_covered o.written offset) clean
@@ -46,7 +46,7 @@ sound_after o (SentTill till bytes ok) s = s
 sound_after o (SentPt pt bytes ok) s = s
 sound_after o (CutTill till) s = record { within = s.within; same = s.same }
 sound_after o (CutPt pt) s = record { within = s.within; same = s.same }
-sound_after o (Wrote at bytes) s = record { within = omega (arith, s.within, over_length o.file at bytes); same = wrote_same o at bytes s }
+sound_after o (Wrote offset bytes) s = record { within = omega (arith, s.within, over_length o.file offset bytes); same = wrote_same o offset bytes s }
 sound_after o Synced s = record { within = omega arith; same = λ offset lt clean. refl }
 sound_after o DiskFailed s = s
 sound_after o (Crash file) s = record { within = omega arith; same = λ offset lt clean. refl }
@@ -62,12 +62,12 @@ junked_length : (junk : ℕ) (ranges : List Range) (offset : ℕ) (bytes : List 
 junked_length junk ranges offset [] = refl
 junked_length junk ranges offset (byte ∷ bytes) = ap (λ n. suc n) (junked_length junk ranges (offset + 1) bytes)
 
-junked_get : (junk : ℕ) (ranges : List Range) (from i : ℕ) (bytes : List ℕ) → is_covered ranges (from + i) ≡ false → get_or (junked_from junk ranges from bytes) i 0 ≡ get_or bytes i 0
-junked_get junk ranges from i [] clean = refl
-junked_get junk ranges from zero (byte ∷ bytes) clean = let e : from + 0 ≡ from = omega arith in let c : is_covered ranges from ≡ false = rw e at clean in rw c refl
-junked_get junk ranges from (suc i) (byte ∷ bytes) clean =
-    let e : from + suc i ≡ (from + 1) + i = omega arith in
-    junked_get junk ranges (from + 1) i bytes (rw e at clean)
+junked_get : (junk : ℕ) (ranges : List Range) (start i : ℕ) (bytes : List ℕ) → is_covered ranges (start + i) ≡ false → get_or (junked_from junk ranges start bytes) i 0 ≡ get_or bytes i 0
+junked_get junk ranges start i [] clean = refl
+junked_get junk ranges start zero (byte ∷ bytes) clean = let e : start + 0 ≡ start = omega arith in let c : is_covered ranges start ≡ false = rw e at clean in rw c refl
+junked_get junk ranges start (suc i) (byte ∷ bytes) clean =
+    let e : start + suc i ≡ (start + 1) + i = omega arith in
+    junked_get junk ranges (start + 1) i bytes (rw e at clean)
 
 pub stable_image : (log : List Turn) → Image (outside_of log) (outside_of log).stable
 stable_image log = record { no_shorter = omega arith; no_longer = (sound_of log).within; kept = λ offset lt clean. refl }

@@ -3,5 +3,5 @@ use Rattle.std.proofs.Common.{◌≡◌, ℕ, ◌+◌, List, ◌++◌, take, dro
 use Rattle.std.proofs.lemmas.List.{drop-drop}
 
 -- the bytes from an offset on are so many of them and then the rest
-pub drop-prefix : (bytes : List ℕ) (at count : ℕ) → drop at bytes ≡ take count (drop at bytes) ++ drop (at + count) bytes
-drop-prefix bytes at count = sym (take-append-drop count (drop at bytes)) ∙ ap (λ rest. take count (drop at bytes) ++ rest) (drop-drop count at bytes)
+pub drop-prefix : (bytes : List ℕ) (offset count : ℕ) → drop offset bytes ≡ take count (drop offset bytes) ++ drop (offset + count) bytes
+drop-prefix bytes offset count = sym (take-append-drop count (drop offset bytes)) ∙ ap (λ rest. take count (drop offset bytes) ++ rest) (drop-drop count offset bytes)

@@ -14,12 +14,12 @@ pub record HasCause {T E : Type 0} (before now : ℕ) (result : Result T E) : Ty
 abbrev pub one_more : ℕ → ℕ
 one_more count = min (count + 1) (2 ^ 64 - 1)
 
--- the count of faults after a call: one more where it failed
+-- the count of failures after a call: one more where it failed
 abbrev pub faults_after : {T E : Type 0} → ℕ → Result T E → ℕ
 faults_after faults (Ok given) = faults
 faults_after faults (Err failed) = one_more faults
 
--- the call failed, and its fault was counted
+-- the call failed, and its failure was counted
 pub record HasFailed {T E : Type 0} (before now : ℕ) (result : Result T E) : Type 0 where
   pub later : before ≤ now
   pub failed : IsErr result

@@ -8,10 +8,10 @@ use Rattle.gw_site.specs.Image.{Image, junked}
 abbrev pub StableIsImage : Type 0
 StableIsImage = (log : List Turn) → Image (outside_of log) (outside_of log).stable
 
--- and the file with all writes
+-- after every log, it may leave the file with all writes
 abbrev pub FileIsImage : Type 0
 FileIsImage = (log : List Turn) → Image (outside_of log) (outside_of log).file
 
--- and the file with any one byte over all that was written since the last sync
+-- after every log, it may leave the file with any one byte over all that was written since the last sync
 abbrev pub JunkIsImage : Type 0
 JunkIsImage = (junk : ℕ) (log : List Turn) → Image (outside_of log) (junked junk (outside_of log))

@@ -10,7 +10,7 @@ pub record Connection : Type 0 where
   pub number : ℕ
   pub heard : List ℕ
 
--- a range of bytes of the file
+-- a range of bytes of the file, from an offset on
 pub record Range : Type 0 where
   pub from : ℕ
   pub size : ℕ
@@ -56,11 +56,11 @@ heard_on (connection ∷ connections) number = if connection.number == number th
 
 -- the file with bytes written at an offset, over what is there and past its end; a gap is filled with zeros
 abbrev pub overwrite : List ℕ → ℕ → List ℕ → List ℕ
-overwrite file at bytes = take at file ++ replicate (at - length file) 0 ++ bytes ++ drop (at + length bytes) file
+overwrite file offset bytes = take offset file ++ replicate (offset - length file) 0 ++ bytes ++ drop (offset + length bytes) file
 
 -- so many bytes of the file from an offset on, with zeros past its end
 abbrev pub file_part : List ℕ → ℕ → ℕ → List ℕ
-file_part file at count = take count (drop at file) ++ replicate (count - length (drop at file)) 0
+file_part file offset count = take count (drop offset file) ++ replicate (count - length (drop offset file)) 0
 
 -- no run: no connection is open, and no moment was polled
 abbrev pub no_run : Outside → Outside
@@ -83,7 +83,7 @@ outside_after o (SentTill till bytes ok) = o
 outside_after o (SentPt pt bytes ok) = o
 outside_after o (CutTill till) = record o { tills = without o.tills till }
 outside_after o (CutPt pt) = record o { links = without o.links pt }
-outside_after o (Wrote at bytes) = record o { file = overwrite o.file at bytes; written = record { from = at; size = length bytes } ∷ o.written }
+outside_after o (Wrote offset bytes) = record o { file = overwrite o.file offset bytes; written = record { from = offset; size = length bytes } ∷ o.written }
 outside_after o Synced = record o { stable = o.file; written = [] }
 outside_after o DiskFailed = o
 outside_after o (Crash file) = record (no_run o) { file = file; stable = file; written = [] }

@@ -6,9 +6,9 @@ use Rattle.gw_bytes.specs.Bytes.{IsPrefix}
 use Rattle.gw_base.specs.declared.setup.Setup.{Setup}
 use Rattle.gw_site.specs.declared.turn.Turn.{Turn}
 use Rattle.gw_site.specs.declared.turn.Turn.TheVariants.{Start, OpenFailed, Polled, Opened, HeardTill, Closed, HeardPt, Lost, Stopped, Linked, LinkFailed, SentTill, SentPt, Wrote, Synced, DiskFailed, Crash}
-use Rattle.gw_site.specs.declared.site.Polled.{Polled as Answer}
+use Rattle.gw_site.specs.declared.site.Polled.{Polled as PollResult}
 use Rattle.gw_site.specs.declared.site.What.{What}
-use Rattle.gw_site.specs.declared.site.What.TheVariants.{TillOpened, TillBytes, TillClosed, PtBytes, PtClosed, Nothing, Stopped as Stop}
+use Rattle.gw_site.specs.declared.site.What.TheVariants.{TillOpened, TillBytes, TillClosed, PtBytes, PtClosed, Nothing, Stopped as StoppedEvent}
 
 -- opening: a start, or the power failure before it, which leaves an image of the log before, and a start; or a failure
 abbrev pub OpenTurns : {E : Type 0} → Setup → Result (Unit {0}) E → List Turn → List Turn → Type 0
@@ -23,11 +23,11 @@ event_turns (TillClosed till) buf = Closed till ∷ []
 event_turns (PtBytes pt count) buf = HeardPt pt (take count buf) ∷ []
 event_turns (PtClosed pt) buf = Lost pt ∷ []
 event_turns Nothing buf = []
-event_turns Stop buf = Stopped ∷ []
+event_turns StoppedEvent buf = Stopped ∷ []
 
 -- a poll, and then its event
-abbrev pub PolledTurns : Answer → List ℕ → List Turn → Type 0
-PolledTurns answer buf turns = turns ≡ Polled answer.now ∷ event_turns answer.what buf
+abbrev pub PolledTurns : PollResult → List ℕ → List Turn → Type 0
+PolledTurns result buf turns = turns ≡ Polled result.now ∷ event_turns result.what buf
 
 -- a count of bytes is 1 to 4,096
 abbrev pub IsCount : ℕ → Type 0
@@ -41,7 +41,7 @@ IsWithinBuf (TillClosed till) = Unit {0}
 IsWithinBuf (PtBytes pt count) = IsCount count
 IsWithinBuf (PtClosed pt) = Unit {0}
 IsWithinBuf Nothing = Unit {0}
-IsWithinBuf Stop = Unit {0}
+IsWithinBuf StoppedEvent = Unit {0}
 
 -- what an event promises: a till opens with a number above all of this run, and everything else comes of a connection that is open
 abbrev pub IsPromised : Outside → What → Type 0
@@ -51,7 +51,7 @@ IsPromised o (TillClosed till) = is_connected o.tills till ≡ true
 IsPromised o (PtBytes pt count) = is_connected o.links pt ≡ true
 IsPromised o (PtClosed pt) = is_connected o.links pt ≡ true
 IsPromised o Nothing = Unit {0}
-IsPromised o Stop = Unit {0}
+IsPromised o StoppedEvent = Unit {0}
 
 -- a send to a till: all bytes, or where it failed a prefix of them
 abbrev pub SentTillTurns : {E : Type 0} → ℕ → List ℕ → Result (Unit {0}) E → List Turn → Type 0
@@ -63,7 +63,7 @@ abbrev pub SentPtTurns : {E : Type 0} → ℕ → List ℕ → Result (Unit {0})
 SentPtTurns pt bytes (Ok done) turns = turns ≡ SentPt pt bytes true ∷ []
 SentPtTurns pt bytes (Err failed) turns = (sent : List ℕ) × IsPrefix sent bytes × (turns ≡ SentPt pt sent false ∷ [])
 
--- the making of a link
+-- linking a terminal leaves a turn whether it is linked or not
 abbrev pub LinkTurns : {E : Type 0} → ℕ → Result (Unit {0}) E → List Turn → Type 0
 LinkTurns pt (Ok done) turns = turns ≡ Linked pt ∷ []
 LinkTurns pt (Err failed) turns = turns ≡ LinkFailed pt ∷ []
@@ -75,10 +75,10 @@ DiskTurns (Err failed) turns = turns ≡ DiskFailed ∷ []
 
 -- a write, which is in the log also where it failed
 abbrev pub WroteTurns : {E : Type 0} → ℕ → List ℕ → Result (Unit {0}) E → List Turn → Type 0
-WroteTurns at bytes (Ok done) turns = turns ≡ Wrote at bytes ∷ []
-WroteTurns at bytes (Err failed) turns = turns ≡ Wrote at bytes ∷ DiskFailed ∷ []
+WroteTurns offset bytes (Ok done) turns = turns ≡ Wrote offset bytes ∷ []
+WroteTurns offset bytes (Err failed) turns = turns ≡ Wrote offset bytes ∷ DiskFailed ∷ []
 
--- a sync
+-- a sync leaves its turn, or where it failed that of a failure of the disk
 abbrev pub SyncedTurns : {E : Type 0} → Result (Unit {0}) E → List Turn → Type 0
 SyncedTurns (Ok done) turns = turns ≡ Synced ∷ []
 SyncedTurns (Err failed) turns = turns ≡ DiskFailed ∷ []

@@ -1,4 +1,5 @@
-//! What the gateway sees of the outside: one object for connections and disk, whose log a proof may observe, and the streams of a program.
+//! The outside of the gateway: one object for connections and disk, whose log a proof may observe, and the streams of a
+//! program.
 #![tactic(auto)]
 
 ghost use Rattle.gw_site.specs.Laws.{StableIsImage, FileIsImage, JunkIsImage};

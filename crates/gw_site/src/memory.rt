@@ -7,10 +7,11 @@ ghost use Rattle.gw_site.specs.Streams.{TakesFrom, EndsAt, AddsTo};
 
 use crate::{Failed, Sink, Source};
 use gw_base::Bytes;
+use gw_bytes::LONGEST_CHUNK;
 use std::alloc::Global;
 use std::marker::Model;
 
-/// A count of failures after one more; it stays at its last value.
+/// A count of failures after one more. It stays at its last value, so that no count of calls makes it fall.
 fn risen(faults: u64) -> u64
     ensures exact { result ≡ one_more faults }
     ensures later { faults ≤ result }
@@ -28,17 +29,17 @@ fn fill(buf: &mut [u8; 4096], bytes: &[u8])
 }
 
 /// Fills the buffer with the bytes from an offset on, as many as it holds, and returns how many.
-fn give(buf: &mut [u8; 4096], bytes: &[u8], at: usize) -> usize
-    requires { at ≤ length bytes.now }
-    ensures prefix { drop at bytes.now ≡ take result buf.new ++ drop (at + result) bytes.now }
-    ensures end { result ≡ 0 → drop at bytes.now ≡ [] }
-    ensures within { at + result ≤ length bytes.now }
-    ensures full { result ≡ min (length bytes.now - at) 4096 }
+fn give(buf: &mut [u8; 4096], bytes: &[u8], offset: usize) -> usize
+    requires { offset ≤ length bytes.now }
+    ensures prefix { drop offset bytes.now ≡ take result buf.new ++ drop (offset + result) bytes.now }
+    ensures end { result ≡ 0 → drop offset bytes.now ≡ [] }
+    ensures within { offset + result ≤ length bytes.now }
+    ensures full { result ≡ min (length bytes.now - offset) 4096 }
     ensures bound { result ≤ 4096 }
     ensures buf { length buf.new ≡ 4096 }
 {
-    let count = (bytes.len() - at).min(4096);
-    fill(buf, &bytes[at..at + count]);
+    let count = (bytes.len() - offset).min(LONGEST_CHUNK);
+    fill(buf, &bytes[offset..offset + count]);
     count
 }
 
@@ -46,7 +47,8 @@ fn give(buf: &mut [u8; 4096], bytes: &[u8], at: usize) -> usize
 #[derive(Debug, Drop)]
 pub struct MemSource {
     bytes: Bytes,
-    at: usize,
+    /// The offset of the first byte that is left: no byte is moved by a read.
+    offset: usize,
     calls: u64,
     fails: Option<u64>,
     faults: u64,
@@ -59,13 +61,13 @@ impl Model for MemSource {
     ghost Value = { Giving };
 
     ghost view = { λ source. record {
-      left = drop source.at source.bytes;
+      left = drop source.offset source.bytes;
       calls = source.calls;
       fails = source.fails;
       faults = source.faults;
     } };
 
-    ghost invariant = { λ source. source.at ≤ length source.bytes };
+    ghost invariant = { λ source. source.offset ≤ length source.bytes };
 }
 
 impl MemSource {
@@ -75,7 +77,7 @@ impl MemSource {
     {
         MemSource {
             bytes,
-            at: 0,
+            offset: 0,
             calls: 0,
             fails,
             faults: 0,
@@ -106,13 +108,13 @@ impl Source for MemSource {
             self.faults = risen(self.faults);
             return Err(Failed);
         }
-        let count = give(buf, self.bytes.as_slice(), self.at);
-        self.at += count;
+        let count = give(buf, self.bytes.as_slice(), self.offset);
+        self.offset += count;
         Ok(count)
     }
 }
 
-/// Takes at most so many of the bytes; without memory none.
+/// Takes at most so many of the bytes; none where there is no memory.
 fn take_part(held: &mut Bytes, bytes: &[u8], most: usize)
     ensures prefix { (part : List ℕ) × IsPrefix part bytes.now × (held.new ≡ held.old ++ part) }
     ensures most { (held.new ≡ held.old ++ take most bytes.now) ⊎ (held.new ≡ held.old) }

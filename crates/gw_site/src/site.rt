@@ -9,7 +9,7 @@ ghost use Rattle.gw_site.specs.declared.turn.Turn.TheVariants.{CutTill, CutPt};
 
 use gw_base::Setup;
 
-/// A call on the outside has failed; the object's count of faults rose in it.
+/// A call on the outside has failed; the object's count of failures rose in it.
 #[derive(Clone, Copy, Debug, PartialEq, Eq)]
 pub struct Failed;
 
@@ -38,7 +38,7 @@ pub struct Polled {
 /// memory where its own log could not grow. A dark site stays dark and appends nothing; in the call in which it goes dark
 /// it appends a prefix of its turns.
 pub trait Site {
-    /// The log, the count of faults, whether the site is dark, and the bytes that determine what it plays.
+    /// The log, the count of failures, whether the site is dark, and the bytes that determine what it plays.
     ghost observed: { Self → Observed };
 
     /// Begins a run with this setup. No connection is open.
@@ -48,7 +48,7 @@ pub trait Site {
         ensures cause { HasCause (observed self.old).faults (observed self.new).faults result }
         ensures dark { (observed self.old).dark ≡ true → IsErr result };
 
-    /// What happened since the last poll, and the moment.
+    /// What happened since the last poll, and the moment. The buffer is the caller's, so that a poll takes no memory.
     fn poll(&mut self, buf: &mut [u8; 4096]) -> Polled
         ensures turns { Grows (observed self.old) (observed self.new) (PolledTurns result buf.new) }
         ensures promise { IfObserved (observed self.old) (λ log. IsPromised (outside_of log) result.what) }
@@ -57,11 +57,13 @@ pub trait Site {
         ensures cause { (observed self.old).faults ≤ (observed self.new).faults }
         ensures dark { (observed self.old).dark ≡ true → result.what ≡ What.Stopped };
 
+    /// Sends all of the bytes to the till, or fails after a prefix of them.
     fn send_till(&mut self, till: u64, bytes: &[u8]) -> Result<(), Failed>
         ensures turns { Grows (observed self.old) (observed self.new) (SentTillTurns till bytes.now result) }
         ensures cause { HasCause (observed self.old).faults (observed self.new).faults result }
         ensures dark { (observed self.old).dark ≡ true → IsErr result };
 
+    /// Sends all of the bytes to the terminal, or fails after a prefix of them.
     fn send_pt(&mut self, pt: u16, bytes: &[u8]) -> Result<(), Failed>
         ensures turns { Grows (observed self.old) (observed self.new) (SentPtTurns pt bytes.now result) }
         ensures cause { HasCause (observed self.old).faults (observed self.new).faults result }
@@ -73,10 +75,12 @@ pub trait Site {
         ensures cause { HasCause (observed self.old).faults (observed self.new).faults result }
         ensures dark { (observed self.old).dark ≡ true → IsErr result };
 
+    /// Closes the till's connection.
     fn cut_till(&mut self, till: u64)
         ensures turns { Grows (observed self.old) (observed self.new) (IsTurn (CutTill till)) }
         ensures cause { (observed self.old).faults ≤ (observed self.new).faults };
 
+    /// Closes the terminal's connection.
     fn cut_pt(&mut self, pt: u16)
         ensures turns { Grows (observed self.old) (observed self.new) (IsTurn (CutPt pt)) }
         ensures cause { (observed self.old).faults ≤ (observed self.new).faults };
@@ -101,7 +105,7 @@ pub trait Site {
         ensures cause { HasCause (observed self.old).faults (observed self.new).faults result }
         ensures dark { (observed self.old).dark ≡ true → IsErr result };
 
-    /// Once it answers Ok, a power failure leaves what was written up to now.
+    /// Once it returns Ok, a power failure leaves what was written up to now.
     fn sync(&mut self) -> Result<(), Failed>
         ensures turns { Grows (observed self.old) (observed self.new) (SyncedTurns result) }
         ensures cause { HasCause (observed self.old).faults (observed self.new).faults result }

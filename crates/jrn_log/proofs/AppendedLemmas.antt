@@ -10,7 +10,7 @@ use Rattle.jrn_log.specs.JournalTurns.{AppendTurns, body_write, gate_write}
 use Rattle.jrn_log.specs.Images.{AppendImages}
 use Rattle.jrn_log.specs.inner.FileReader.{WroteSyncedTurns}
 use Rattle.jrn_log.proofs.SlotLemmas.{one_slots}
-use Rattle.jrn_log.proofs.SequenceLemmas.{added_prefix, added_whole, told_before, told_same}
+use Rattle.jrn_log.proofs.SequenceLemmas.{added_prefix, added_whole, observed_before, observed_same}
 use Rattle.jrn_log.proofs.ImageLemmas.{Rest}
 use Rattle.jrn_log.proofs.AppendLemmas.{PrefixesLeave, whole_prefixes, body_prefixes, gate_prefixes, prefix_images, append_rests, rest_of}
 
@@ -41,12 +41,12 @@ stands_at journal len observed n stands lit log e = rw n (stands lit log e)
 
 pub grown_images : {T E : Type 0} (len : ℕ) (old new : Observed) (body : List ℕ) (result : Result T E) → length body ≡ 255 → RestsAt len old → Grows old new (AppendTurns len body result) →
     old.dark ≡ false → IfObserved old (λ before. IfObserved new (λ after. (bodies : List (List ℕ)) → AreKept before bodies → AppendImages before after bodies body))
-grown_images len old new body result e stands grows lit before observed after tells bodies kept =
+grown_images len old new body result e stands grows lit before observed after observed_after bodies kept =
     let rest = stands lit before observed in
     let a = grows.observed before observed in
     let f = added_prefix old.dark new.dark a.0 a.1 a.3 in
     let n = kept_len before len bodies rest kept in
-    prefix_images before after a.1 f.0 a.0 bodies body (told_same new after (before ++ a.1) tells a.4) f.1
+    prefix_images before after a.1 f.0 a.0 bodies body (observed_same new after (before ++ a.1) observed_after a.4) f.1
     (append_prefixes (outside_of before) bodies body result a.0 (rest_of before bodies (subst (λ len. IsAtRest before len) n rest) kept) e (subst (λ len. AppendTurns len body result a.0) n a.2))
 
 pub was_lit : (old new : Bool) → (old ≡ true → new ≡ true) → new ≡ false → old ≡ false
@@ -54,13 +54,13 @@ was_lit true new stays lit = absurd (let h : true ≡ false = sym (stays refl) �
 was_lit false new stays lit = refl
 
 -- what a log is after a whole append
-record Behind (before after : List Turn) (len : ℕ) (body : List ℕ) : Type 0 where
+record AfterAppend (before after : List Turn) (len : ℕ) (body : List ℕ) : Type 0 where
   rests : IsAtRest after (len + 1)
   keeps : (bodies : List (List ℕ)) → AreKept before bodies → AreKept after (bodies ++ body ∷ [])
 
-behind : {T : Type 0} (E : Type 0) (len : ℕ) (old new : Observed) (body : List ℕ) (given : T) → length body ≡ 255 → RestsAt len old → Grows old new (AppendTurns {E = E} len body (Ok given)) →
-    new.dark ≡ false → (before after : List Turn) → old.log ≡ Some before → new.log ≡ Some after → Behind before after len body
-behind E len old new body given e stands grows lit before after observed tells = record {
+after_append : {T : Type 0} (E : Type 0) (len : ℕ) (old new : Observed) (body : List ℕ) (given : T) → length body ≡ 255 → RestsAt len old → Grows old new (AppendTurns {E = E} len body (Ok given)) →
+    new.dark ≡ false → (before after : List Turn) → old.log ≡ Some before → new.log ≡ Some after → AfterAppend before after len body
+after_append E len old new body given e stands grows lit before after observed observed_after = record {
   rests = let n = kept_len before len rest.kept.0 rest rest.kept.1 in subst (λ len. IsAtRest after (len + 1)) (sym n) (whole rest.kept.0 rest.kept.1).0;
   keeps = λ bodies kept. (whole bodies kept).1;
 }
@@ -69,7 +69,7 @@ behind E len old new body given e stands grows lit before after observed tells =
     rest = stands (was_lit old.dark new.dark grows.stays lit) before observed
 
     grown : after ≡ before ++ body_write len body ∷ Synced ∷ gate_write len ∷ Synced ∷ []
-    grown = let a = grows.observed before observed in told_same new after (before ++ a.1) tells a.4 ∙ ap (λ xs. before ++ xs) (added_whole old.dark new.dark a.0 a.1 a.3 lit ∙ a.2)
+    grown = let a = grows.observed before observed in observed_same new after (before ++ a.1) observed_after a.4 ∙ ap (λ xs. before ++ xs) (added_whole old.dark new.dark a.0 a.1 a.3 lit ∙ a.2)
 
     whole : (bodies : List (List ℕ)) → AreKept before bodies → IsAtRest after (length bodies + 1) × AreKept after (bodies ++ body ∷ [])
     whole bodies kept =
@@ -78,10 +78,10 @@ behind E len old new body given e stands grows lit before after observed tells =
         rw log (append_rests before bodies body (subst (λ len. IsAtRest before len) n rest) kept e)
 
 pub grown_rests : {T : Type 0} (E : Type 0) (len : ℕ) (old new : Observed) (body : List ℕ) (given : T) → length body ≡ 255 → RestsAt len old → Grows old new (AppendTurns {E = E} len body (Ok given)) → RestsAt (len + 1) new
-grown_rests E len old new body given e stands grows lit after tells =
-    let b = told_before Added old new (λ before. AppendTurns {E = E} len body (Ok given)) after grows tells in
-    (behind E len old new body given e stands grows lit b.0 after b.1 tells).rests
+grown_rests E len old new body given e stands grows lit after observed_after =
+    let b = observed_before Added old new (λ before. AppendTurns {E = E} len body (Ok given)) after grows observed_after in
+    (after_append E len old new body given e stands grows lit b.0 after b.1 observed_after).rests
 
 pub grown_keeps : {T : Type 0} (E : Type 0) (len : ℕ) (old new : Observed) (body : List ℕ) (given : T) → length body ≡ 255 → RestsAt len old → Grows old new (AppendTurns {E = E} len body (Ok given)) →
     new.dark ≡ false → IfObserved old (λ before. IfObserved new (λ after. (bodies : List (List ℕ)) → AreKept before bodies → AreKept after (bodies ++ body ∷ [])))
-grown_keeps E len old new body given e stands grows lit before observed after tells = (behind E len old new body given e stands grows lit before after observed tells).keeps
+grown_keeps E len old new body given e stands grows lit before observed after observed_after = (after_append E len old new body given e stands grows lit before after observed observed_after).keeps

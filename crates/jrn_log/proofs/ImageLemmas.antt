@@ -51,8 +51,8 @@ pub body_size : (body : List ℕ) → length body ≡ 255 → length (body ++ 0 
 body_size body e = let zeros : List ℕ = 0 ∷ [] in omega (arith, length-append body zeros)
 
 -- a write reaches its end
-pub over_reach : (file : List ℕ) (at : ℕ) (bytes : List ℕ) → at + length bytes ≤ length (overwrite file at bytes)
-over_reach file at bytes = simp (length-append, length-take, length-replicate, length-drop) (omega arith)
+pub over_reach : (file : List ℕ) (offset : ℕ) (bytes : List ℕ) → offset + length bytes ≤ length (overwrite file offset bytes)
+over_reach file offset bytes = simp (length-append, length-take, length-replicate, length-drop) (omega arith)
 
 -- the file once a body was written after the gate at an offset
 pub record HasBody (file new : List ℕ) (offset : ℕ) (body : List ℕ) : Type 0 where
@@ -170,14 +170,14 @@ gate_sync_rest o bodies body r e =
     let g = over_but_gate new (256 * length bodies) in
     let room = h.room in
     let long = g.long in
-    let at : 256 * length (bodies ++ body ∷ []) ≡ 256 * length bodies + 256 = omega (arith, push_length bodies body) in
+    let next_gate : 256 * length (bodies ++ body ∷ []) ≡ 256 * length bodies + 256 = omega (arith, push_length bodies body) in
     let next : get_or file (256 * length bodies + 256) 0 ≡ 0 = g.same (256 * length bodies + 256) room (λ q. omega (arith, q)) ∙ h.next in
     record {
       synced = refl;
       clean = refl;
       slots = gate_open file new o.stable bodies body e r.slots h g (over_gate new (256 * length bodies));
-      gate = omega (arith, at, room, long);
-      closed = λ q. let z : get_or file (256 * length bodies + 256) 0 ≡ 165 = subst (λ k. get_or file k 0 ≡ 165) at q in omega (arith, z, next);
+      gate = omega (arith, next_gate, room, long);
+      closed = λ q. let z : get_or file (256 * length bodies + 256) 0 ≡ 165 = subst (λ k. get_or file k 0 ≡ 165) next_gate q in omega (arith, z, next);
     }
 
 pub new_leaves : (o : Outside) (bodies : List (List ℕ)) (body : List ℕ) (made : List Turn) → Rest o (bodies ++ body ∷ []) → IsGateWritten (length bodies) made → Leaves o bodies body made

@@ -1,5 +1,7 @@
+-- The lemmas of this crate.
 pub mod AppendLemmas
 pub mod AppendedLemmas
+pub mod DecodeLemmas
 pub mod ForeignLemmas
 pub mod ImageLemmas
 pub mod OpenLemmas

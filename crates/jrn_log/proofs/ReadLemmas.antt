@@ -7,7 +7,7 @@ use Rattle.jrn_log.specs.declared.fault.OpenFault.{OpenFault}
 use Rattle.jrn_log.specs.declared.fault.OpenFault.TheVariants.{Disk, TooLong, Cut, Memory}
 use Rattle.jrn_log.specs.declared.read.Taken.{Taken}
 use Rattle.jrn_log.specs.Slots.{AreSlots}
-use Rattle.jrn_log.specs.inner.FileReader.{BeginsWithSlots, Took, NotTook, IsChunkRead, NoChunkRead, LookTurns, FaultLooks, AreBodiesRead}
+use Rattle.jrn_log.specs.inner.FileReader.{BeginsWithSlots, AreSlotsTaken, IsSlotFault, IsChunkRead, IsReadFault, ReadTurns, ReadFaultTurns, AreBodiesRead}
 use Rattle.jrn_log.proofs.PartLemmas.{part_get, part_part}
 use Rattle.jrn_log.proofs.SlotLemmas.{begins_more, begins_end}
 
@@ -31,35 +31,35 @@ slot_more file slot bodies new body count e some gate size same grown b =
     (same ∙ ap (λ n. take n (drop 1 slot)) size ∙ slot_body file slot (256 * length bodies) e))
 
 -- a call without a fault of the disk has no turns
-pub no_disk_looks : {T : Type 0} (result : Result T OpenFault) (turns : List Turn) → (result ≡ Err Disk → ⊥) → turns ≡ [] → LookTurns result turns
+pub no_disk_looks : {T : Type 0} (result : Result T OpenFault) (turns : List Turn) → (result ≡ Err Disk → ⊥) → turns ≡ [] → ReadTurns result turns
 no_disk_looks (Ok done) turns n e = e
 no_disk_looks (Err fault) turns n e = by_fault fault turns (λ q. n (ap Err q)) e
   where
-    by_fault : (fault : OpenFault) (turns : List Turn) → (fault ≡ Disk → ⊥) → turns ≡ [] → FaultLooks fault turns
+    by_fault : (fault : OpenFault) (turns : List Turn) → (fault ≡ Disk → ⊥) → turns ≡ [] → ReadFaultTurns fault turns
     by_fault Disk turns n e = absurd (n refl)
     by_fault (TooLong count) turns n e = e
     by_fault (Cut slot) turns n e = e
     by_fault Memory turns n e = e
 
 -- what is known of the slots in memory is known of the file
-pub took_found : (file : List ℕ) (bodies : List (List ℕ)) (result : Result Taken OpenFault) → Took file bodies result → IsChunkRead file bodies result
-took_found file bodies (Ok taken) t = t
-took_found file bodies (Err fault) t = by_fault fault t
+pub taken_read : (file : List ℕ) (bodies : List (List ℕ)) (result : Result Taken OpenFault) → AreSlotsTaken file bodies result → IsChunkRead file bodies result
+taken_read file bodies (Ok taken) t = t
+taken_read file bodies (Err fault) t = by_fault fault t
   where
-    by_fault : (fault : OpenFault) → NotTook file fault → NoChunkRead file fault
+    by_fault : (fault : OpenFault) → IsSlotFault file fault → IsReadFault file fault
     by_fault Disk t = elim t [ ]
     by_fault (TooLong count) t = elim t [ ]
     by_fault (Cut slot) t = t
     by_fault Memory t = t
 
 -- a slot of a chunk of 16
-pub chunk_slot : (file chunk : List ℕ) (first count at size : ℕ) → chunk ≡ file_part file (256 * first) 4096 → count ≡ first + at → at < 16 → size ≡ 256 → take size (drop (256 * at) chunk) ≡ file_part file (256 * count) 256
-chunk_slot file chunk first count at size e c lt s =
-    let k : 256 * first + 256 * at ≡ 256 * count = omega arith in
-    ap (λ n. take n (drop (256 * at) chunk)) s ∙ ap (λ bytes. take 256 (drop (256 * at) bytes)) e ∙ part_part file (256 * first) 4096 (256 * at) 256 (omega arith) ∙ ap (λ n. file_part file n 256) k
+pub chunk_slot : (file chunk : List ℕ) (first count index size : ℕ) → chunk ≡ file_part file (256 * first) 4096 → count ≡ first + index → index < 16 → size ≡ 256 → take size (drop (256 * index) chunk) ≡ file_part file (256 * count) 256
+chunk_slot file chunk first count index size e c lt s =
+    let k : 256 * first + 256 * index ≡ 256 * count = omega arith in
+    ap (λ n. take n (drop (256 * index) chunk)) s ∙ ap (λ bytes. take 256 (drop (256 * index) bytes)) e ∙ part_part file (256 * first) 4096 (256 * index) 256 (omega arith) ∙ ap (λ n. file_part file n 256) k
 
 -- a call after calls without turns
-pub looks_then : (fault : OpenFault) (p q : List Turn) → p ≡ [] → FaultLooks fault q → FaultLooks fault (p ++ q)
+pub looks_then : (fault : OpenFault) (p q : List Turn) → p ≡ [] → ReadFaultTurns fault q → ReadFaultTurns fault (p ++ q)
 looks_then fault p q e f = rw e f
 
 -- the bodies that were read are those of the file

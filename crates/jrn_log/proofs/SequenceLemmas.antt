@@ -78,16 +78,16 @@ grows-nothing old new x before e =
     a.4 ∙ ap Some (ap (λ xs. before ++ xs) none ∙ append-nil before)
 
 -- a log that is observed was observed before
-pub told_before : (Add : Bool → Bool → List Turn → List Turn → Type 0) (old new : Observed) (Call : List Turn → List Turn → Type 0) (after : List Turn) → GrowsBy Add old new Call → new.log ≡ Some after → (before : List Turn) × (old.log ≡ Some before)
-told_before Add old new Call after x e = by_log old.log refl
+pub observed_before : (Add : Bool → Bool → List Turn → List Turn → Type 0) (old new : Observed) (Call : List Turn → List Turn → Type 0) (after : List Turn) → GrowsBy Add old new Call → new.log ≡ Some after → (before : List Turn) × (old.log ≡ Some before)
+observed_before Add old new Call after x e = by_log old.log refl
   where
     by_log : (log : Option (List Turn)) → old.log ≡ log → (before : List Turn) × (old.log ≡ Some before)
     by_log (Some before) f = (before, f)
     by_log None f = absurd (let h : None ≡ Some after = sym (x.unobserved f) ∙ e in cc)
 
 -- the log that is observed is one
-pub told_same : (observed : Observed) (log other : List Turn) → observed.log ≡ Some log → observed.log ≡ Some other → log ≡ other
-told_same observed log other e f = let h : Some log ≡ Some other = sym e ∙ f in cc
+pub observed_same : (observed : Observed) (log other : List Turn) → observed.log ≡ Some log → observed.log ≡ Some other → log ≡ other
+observed_same observed log other e f = let h : Some log ≡ Some other = sym e ∙ f in cc
 
 -- a sync leaves the file
 pub synced_same : (old mid : Observed) (Q : List ℕ → Type 0) → Grows old mid (λ turns. turns ≡ Synced ∷ []) → IfObserved mid (λ log. Q (outside_of log).file) → IfObserved old (λ log. Q (outside_of log).file)

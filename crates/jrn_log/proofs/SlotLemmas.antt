@@ -67,7 +67,7 @@ begins_none file = record { gates = λ slot lt. absurd (omega arith); each = λ 
 pub begins_end : (file : List ℕ) (bodies : List (List ℕ)) → BeginsWithSlots file bodies → (HasGate file (length bodies) → ⊥) → AreSlots file bodies
 begins_end file bodies b closed = are_slots file bodies b.gates closed b.each
 
-gate_cases : (file : List ℕ) (slot : ℕ) → HasGate file slot ⊎ (HasGate file slot → ⊥)
+pub gate_cases : (file : List ℕ) (slot : ℕ) → HasGate file slot ⊎ (HasGate file slot → ⊥)
 gate_cases file slot = elim (cases_lt 1 (length file)) [ inl lt ↦ elim (cases_eq (get_or file (256 * slot) 0) 165) [ inl e ↦ inl (lt, e) | inr ne ↦ inr (λ gate. ne gate.1) ] | inr ge ↦ inr (λ gate. omega (arith, gate.0)) ]
 
 pub past_closed : (file : List ℕ) (slot : ℕ) → length file ≤ 256 * slot → HasGate file slot → ⊥
@@ -84,8 +84,8 @@ pub each_slots : (file : List ℕ) → (bodies : List (List ℕ)) × AreSlots fi
 each_slots file = find_slots (length file) file [] (omega arith) (begins_none file)
 
 -- a file of at most one byte has no open slot
-pub short_slots : (file : List ℕ) → length file ≤ 1 → AreSlots file []
-short_slots file le = begins_end file [] (begins_none file) (λ gate. omega (arith, gate.0))
+pub one_byte_slots : (file : List ℕ) → length file ≤ 1 → AreSlots file []
+one_byte_slots file le = begins_end file [] (begins_none file) (λ gate. omega (arith, gate.0))
 
 -- open slots stay where the bytes of the slots stay and the gate after them is closed
 pub still_slots : (file other : List ℕ) (bodies : List (List ℕ)) → AreSlots other bodies → length other ≤ length file →

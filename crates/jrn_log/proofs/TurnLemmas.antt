@@ -10,6 +10,6 @@ pub sync_then_length : {E : Type 0} (result : Result ℕ E) (p q : List Turn) �
 sync_then_length (Ok size) p q e f = rw (e, f) refl
 sync_then_length (Err failed) p q e f = inr (rw (e, f) refl)
 
-pub write_then_sync : {E : Type 0} (result : Result (Unit {0}) E) (at : ℕ) (bytes : List ℕ) (p q : List Turn) → p ≡ Wrote at bytes ∷ [] → SyncedTurns result q → WroteSyncedTurns at bytes result (p ++ q)
-write_then_sync (Ok done) at bytes p q e f = rw (e, f) refl
-write_then_sync (Err failed) at bytes p q e f = rw (e, f) refl
+pub write_then_sync : {E : Type 0} (result : Result (Unit {0}) E) (offset : ℕ) (bytes : List ℕ) (p q : List Turn) → p ≡ Wrote offset bytes ∷ [] → SyncedTurns result q → WroteSyncedTurns offset bytes result (p ++ q)
+write_then_sync (Ok done) offset bytes p q e f = rw (e, f) refl
+write_then_sync (Err failed) offset bytes p q e f = rw (e, f) refl

@@ -1,16 +1,16 @@
 -- Which files openings and appends leave: a journal's file is hardly longer than its open slots, and the gate after these is closed until a body was written after it.
 use Rattle.std.specs.Prelude.{◌≡◌, ℕ, ◌+◌, ◌*◌, ◌<◌, ◌≤◌, List, [], ◌∷◌, ◌++◌, length, slice_index}
-use Rattle.gw_site.specs.Outside.{outside_of}
+use Rattle.gw_site.specs.Outside.{Outside, outside_after, outside_of}
 use Rattle.gw_site.specs.Image.{Image}
 use Rattle.gw_site.specs.declared.turn.Turn.{Turn}
-use Rattle.gw_site.specs.declared.turn.Turn.TheVariants.{Synced}
+use Rattle.gw_site.specs.declared.turn.Turn.TheVariants.{Synced, Crash}
 use Rattle.jrn_log.specs.Slots.{AreSlots}
 use Rattle.jrn_log.specs.Journal.{IsAtRest, AreKept}
-use Rattle.jrn_log.specs.JournalTurns.{body_write, gate_write, first_gate}
+use Rattle.jrn_log.specs.JournalTurns.{body_write, gate_write, first_gate, FailedAppendTurns, FailedTurns}
 
 -- a file of so many bytes has at most one slot and one gate past its open slots; where it has less than that, and more than one byte, the gate after them is 00
 pub record FitsSlots (size open_slots gate : ℕ) : Type 0 where
-  pub short : size ≤ 256 * (open_slots + 1) + 1
+  pub bounded : size ≤ 256 * (open_slots + 1) + 1
   pub closed : 1 < size → size ≤ 256 * (open_slots + 1) → gate ≡ 0
 
 -- a journal can have left this file
@@ -23,18 +23,18 @@ LeavesJournals log = (file : List ℕ) → Image (outside_of log) file → CanBe
 
 -- a journal's file between its calls: it ends with its open slots, and the gate after them is 00 unless a whole body was written after it
 pub record EndsClosed (file : List ℕ) (count : ℕ) : Type 0 where
-  pub short : length file ≤ 256 * (count + 1) + 1
+  pub bounded : length file ≤ 256 * (count + 1) + 1
   pub closed : length file ≤ 256 * (count + 1) → slice_index file (256 * count) ≡ 0
 
--- before the first turn
+-- whatever a power failure leaves before the first turn, a journal can have left
 abbrev pub BeginningLeaves : Type 0
 BeginningLeaves = LeavesJournals []
 
--- an opening on a file that a journal can have left: from its sync on, at each of its turns
+-- an opening on a file that a journal can have left: from its sync on, at each of its turns, whatever a power failure leaves a journal can have left
 abbrev pub OpeningLeavesJournals : Type 0
 OpeningLeavesJournals = (log made rest : List Turn) → CanBeJournal (outside_of log).file → first_gate (length (outside_of log).file) ≡ made ++ rest → LeavesJournals (log ++ Synced ∷ made)
 
--- and after its last turn the file ends as between calls
+-- after its last turn the file ends as between calls
 abbrev pub OpeningEndsClosed : Type 0
 OpeningEndsClosed = (log : List Turn) (bodies : List (List ℕ)) → CanBeJournal (outside_of log).file → AreSlots (outside_of log).file bodies →
     EndsClosed (outside_of (log ++ Synced ∷ first_gate (length (outside_of log).file))).file (length bodies)
@@ -43,12 +43,37 @@ OpeningEndsClosed = (log : List Turn) (bodies : List (List ℕ)) → CanBeJourna
 abbrev pub append_turns : ℕ → List ℕ → List Turn
 append_turns slot body = body_write slot body ∷ Synced ∷ gate_write slot ∷ Synced ∷ []
 
--- an append to a log at rest whose file ends so: at each of its turns
+-- an append to a log at rest whose file ends as between calls: at each of its turns, whatever a power failure leaves a journal can have left
 abbrev pub AppendLeavesJournals : Type 0
 AppendLeavesJournals = (log : List Turn) (bodies : List (List ℕ)) (body : List ℕ) (made rest : List Turn) → IsAtRest log (length bodies) → AreKept log bodies → EndsClosed (outside_of log).file (length bodies) → length body ≡ 255 →
     append_turns (length bodies) body ≡ made ++ rest → LeavesJournals (log ++ made)
 
--- and after its last turn the file ends so with one more slot
+-- after an append's last turn the file ends as between calls, with one more slot
 abbrev pub AppendEndsClosed : Type 0
 AppendEndsClosed = (log : List Turn) (bodies : List (List ℕ)) (body : List ℕ) → IsAtRest log (length bodies) → AreKept log bodies → EndsClosed (outside_of log).file (length bodies) → length body ≡ 255 →
     EndsClosed (outside_of (log ++ append_turns (length bodies) body)).file (length bodies + 1)
+
+-- the same at each turn of an append in which the disk failed
+abbrev pub FailedAppendLeavesJournals : Type 0
+FailedAppendLeavesJournals = (log : List Turn) (bodies : List (List ℕ)) (body : List ℕ) (made rest : List Turn) → IsAtRest log (length bodies) → AreKept log bodies → EndsClosed (outside_of log).file (length bodies) → length body ≡ 255 →
+    FailedAppendTurns (length bodies) body (made ++ rest) → LeavesJournals (log ++ made)
+
+-- and at each turn of an opening in which the disk failed, after a log that leaves what a journal can have left
+abbrev pub FailedOpeningLeavesJournals : Type 0
+FailedOpeningLeavesJournals = (log made rest : List Turn) → LeavesJournals log → FailedTurns (outside_of log).file (made ++ rest) → LeavesJournals (log ++ made)
+
+-- after a power failure that leaves one of these files, whatever a further one leaves a journal can have left
+abbrev pub CrashLeavesJournals : Type 0
+CrashLeavesJournals = (log : List Turn) (file : List ℕ) → LeavesJournals log → Image (outside_of log) file → LeavesJournals (log ++ Crash file ∷ [])
+
+-- the turn leaves the disk as it is
+abbrev pub LeavesDisk : Turn → Type 0
+LeavesDisk turn = (o : Outside) → ((outside_after o turn).file ≡ o.file) × ((outside_after o turn).stable ≡ o.stable) × ((outside_after o turn).written ≡ o.written)
+
+-- a turn that leaves the disk changes nothing of that
+abbrev pub OthersLeaveJournals : Type 0
+OthersLeaveJournals = (log : List Turn) (turn : Turn) → LeavesDisk turn → LeavesJournals log → LeavesJournals (log ++ turn ∷ [])
+
+-- and where this is so, a journal can have left the file itself
+abbrev pub FileIsJournals : Type 0
+FileIsJournals = (log : List Turn) → LeavesJournals log → CanBeJournal (outside_of log).file

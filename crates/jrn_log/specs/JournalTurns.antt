@@ -13,10 +13,14 @@ body_write slot body = Wrote (256 * slot + 1) (body ++ 0 ∷ [])
 abbrev pub gate_write : ℕ → Turn
 gate_write slot = Wrote (256 * slot) (165 ∷ [])
 
--- the turns of an append: the body, a sync, the gate, a sync; where the disk failed, those up to the write that failed or was not synced
+-- the turns of an append in which the disk failed: those up to the write that failed or was not synced
+abbrev pub FailedAppendTurns : ℕ → List ℕ → List Turn → Type 0
+FailedAppendTurns slot body turns = (turns ≡ body_write slot body ∷ DiskFailed ∷ []) ⊎ (turns ≡ body_write slot body ∷ Synced ∷ gate_write slot ∷ DiskFailed ∷ [])
+
+-- the turns of an append: the body, a sync, the gate, a sync; or those of one in which the disk failed
 abbrev pub AppendTurns : {T E : Type 0} → ℕ → List ℕ → Result T E → List Turn → Type 0
 AppendTurns slot body (Ok given) turns = turns ≡ body_write slot body ∷ Synced ∷ gate_write slot ∷ Synced ∷ []
-AppendTurns slot body (Err failed) turns = (turns ≡ body_write slot body ∷ DiskFailed ∷ []) ⊎ (turns ≡ body_write slot body ∷ Synced ∷ gate_write slot ∷ DiskFailed ∷ [])
+AppendTurns slot body (Err failed) turns = FailedAppendTurns slot body turns
 
 -- the turns by which a file of this size gets its first gate, closed: a write and a sync where it has at most one byte, none where it is longer
 abbrev pub first_gate : ℕ → List Turn
@@ -45,7 +49,7 @@ IsOutsideFault (TooLong count) = ⊥
 IsOutsideFault (Cut slot) = ⊥
 IsOutsideFault Memory = Unit {0}
 
--- an answer that says something of the file
+-- a result that says something of the file
 abbrev pub IsAboutFile : {T : Type 0} → Result T OpenFault → Type 0
 IsAboutFile (Ok opened) = Unit {0}
 IsAboutFile (Err fault) = IsOutsideFault fault → ⊥

@@ -3,6 +3,7 @@ use Rattle.std.specs.Prelude.{◌≡◌, ℕ, ◌+◌, List, [], ◌∷◌, ◌+
 use Rattle.gw_site.specs.declared.turn.Turn.{Turn}
 use Rattle.gw_site.specs.declared.turn.Turn.TheVariants.{Synced}
 use Rattle.jrn_log.specs.Slots.{AreSlots}
+use Rattle.jrn_log.specs.Decode.{decode_slots}
 use Rattle.jrn_log.specs.Journal.{IsAtRest, AreKept}
 use Rattle.jrn_log.specs.JournalTurns.{body_write, gate_write}
 use Rattle.jrn_log.specs.Images.{AppendImages}
@@ -14,6 +15,10 @@ EachHasSlots = (file : List ℕ) → (bodies : List (List ℕ)) × AreSlots file
 -- and no file has two lists of them
 abbrev pub SlotsAreOne : Type 0
 SlotsAreOne = (file : List ℕ) (bodies others : List (List ℕ)) → AreSlots file bodies → AreSlots file others → bodies ≡ others
+
+-- they are those that are decoded
+abbrev pub DecodedAreSlots : Type 0
+DecodedAreSlots = (file : List ℕ) → AreSlots file (decode_slots file)
 
 -- the log after an append
 abbrev pub appended : List Turn → ℕ → List ℕ → List Turn

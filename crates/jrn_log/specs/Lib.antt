@@ -1,3 +1,6 @@
+-- The definitions of this crate.
+pub mod Decode
+pub mod Example
 pub mod Foreign
 pub mod Images
 pub mod Journal

@@ -6,18 +6,14 @@ use Rattle.jrn_log.specs.Slots.{AreSlots, IsFileTooLong, IsTruncatedSlot}
 use Rattle.jrn_log.specs.Journal.{JournalValue}
 use Rattle.jrn_log.specs.JournalTurns.{IsAboutFile}
 
--- an opening's result: the journal and its bodies, or a fault
-abbrev pub OpenResult : Type 0
-OpenResult = Result (JournalValue × List (List ℕ)) OpenFault
-
 -- Ok: the bodies of the open slots, and a journal of just these
 abbrev pub OpensWith : ℕ → List ℕ → JournalValue × List (List ℕ) → Type 0
 OpensWith slots file (journal, bodies) = AreSlots file bodies × (journal ≡ record { len = length bodies; slots = slots; opened = length file })
 
 -- too long, with its length: exactly where the file is
-abbrev pub IsExactlyTooLong : ℕ → List ℕ → OpenResult → Type 0
+abbrev pub IsExactlyTooLong : {T : Type 0} → ℕ → List ℕ → Result T OpenFault → Type 0
 IsExactlyTooLong slots file result = IsAboutFile result → (count : ℕ) → (result ≡ Err (TooLong count)) ↔ ((count ≡ length file) × IsFileTooLong slots file)
 
 -- truncated, with the slot: exactly where a file that isn't too long is
-abbrev pub IsExactlyTruncated : ℕ → List ℕ → OpenResult → Type 0
+abbrev pub IsExactlyTruncated : {T : Type 0} → ℕ → List ℕ → Result T OpenFault → Type 0
 IsExactlyTruncated slots file result = IsAboutFile result → (slot : ℕ) → (result ≡ Err (Cut slot)) ↔ ((IsFileTooLong slots file → ⊥) × IsTruncatedSlot file slot)

@@ -1,6 +1,6 @@
 //! Which file a journal can have left.
 ghost use Rattle.std.specs.Prelude.{◌↔◌, IsTrue};
-ghost use Rattle.jrn_log.specs.Foreign.{AppendEndsClosed, AppendLeavesJournals, BeginningLeaves, FitsSlots, OpeningEndsClosed, OpeningLeavesJournals};
+ghost use Rattle.jrn_log.specs.Foreign.{AppendEndsClosed, AppendLeavesJournals, BeginningLeaves, CrashLeavesJournals, FailedAppendLeavesJournals, FailedOpeningLeavesJournals, FileIsJournals, FitsSlots, OpeningEndsClosed, OpeningLeavesJournals, OthersLeaveJournals};
 
 /// Whether openings, appends and power failures can leave a file of so many bytes, of which so many slots are open and
 /// the gate after them is this byte, `00` past the file's end.
@@ -12,11 +12,17 @@ pub fn can_be_journal(length: u64, slots: u32, gate: u8) -> bool
 }
 
 /// Whatever openings, appends and power failures leave, [`can_be_journal`] holds of it: at each turn of an opening on such
-/// a file and of an append, whatever bytes a torn write leaves.
+/// a file and of an append, whatever bytes a torn write leaves, where the disk fails in it too, after a power failure, and
+/// whatever happens between them on connections.
 pub fn law_files()
     ensures beginning { BeginningLeaves }
     ensures opening { OpeningLeavesJournals }
     ensures opened { OpeningEndsClosed }
     ensures append { AppendLeavesJournals }
     ensures appended { AppendEndsClosed }
+    ensures failed_opening { FailedOpeningLeavesJournals }
+    ensures failed_append { FailedAppendLeavesJournals }
+    ensures crash { CrashLeavesJournals }
+    ensures others { OthersLeaveJournals }
+    ensures file { FileIsJournals }
 {}

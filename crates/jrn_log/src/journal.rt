@@ -8,7 +8,7 @@ ghost use Rattle.jrn_log.specs.Journal.{AreKept, StandsFor};
 ghost use Rattle.jrn_log.specs.JournalTurns.{AppendTurns, OpeningTurns};
 ghost use Rattle.jrn_log.specs.Opening.{OpensWith, IsExactlyTooLong, IsExactlyTruncated};
 ghost use Rattle.jrn_log.specs.Images.{AppendImages, OpeningImages};
-ghost use Rattle.jrn_log.specs.inner.FileReader.{Sized, SizedTurns, SyncedLengthTurns};
+ghost use Rattle.jrn_log.specs.inner.FileReader.{IsFileRead, TurnsAfterLength, SyncedLengthTurns};
 
 use crate::fault::{AppendFault, OpenFault};
 use crate::read::read_bodies;
@@ -36,7 +36,7 @@ fn synced_length<S: Site>(site: &mut S) -> Result<u64, Failed>
 /// Writes the first gate, closed, of a file that has no bodies.
 fn begin_file<S: Site>(alloc: Global, site: &mut S) -> Result<Bodies, OpenFault>
     ensures none { IfOk result (λ bodies. bodies ≡ []) }
-    ensures turns { Grows (S.observed site.old) (S.observed site.new) (SizedTurns 0 result) }
+    ensures turns { Grows (S.observed site.old) (S.observed site.new) (TurnsAfterLength 0 result) }
     ensures disk { OnErr result (result ≡ Err OpenFault.Disk) }
     ensures cause { HasCause (S.observed site.old).faults (S.observed site.new).faults result }
 {
@@ -54,8 +54,8 @@ fn sized_bodies<S: Site>(
     size: u64,
 ) -> Result<Bodies, OpenFault>
     ensures few { IfOk result (λ bodies. length bodies ≤ slots) }
-    ensures sized { IfObserved (S.observed site.old) (λ log. size ≡ length (outside_of log).file → Sized slots (outside_of log).file result) }
-    ensures turns { Grows (S.observed site.old) (S.observed site.new) (SizedTurns size result) }
+    ensures sized { IfObserved (S.observed site.old) (λ log. size ≡ length (outside_of log).file → IsFileRead slots (outside_of log).file result) }
+    ensures turns { Grows (S.observed site.old) (S.observed site.new) (TurnsAfterLength size result) }
     ensures disk { result ≡ Err OpenFault.Disk → Rose (S.observed site.old).faults (S.observed site.new).faults }
     ensures later { (S.observed site.old).faults ≤ (S.observed site.new).faults }
 {

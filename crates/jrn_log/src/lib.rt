@@ -1,22 +1,25 @@
 //! The gated journal: bodies of 255 bytes in a file, of which a power failure leaves the old ones, or these and the new.
 #![tactic(auto)]
 
-ghost use Rattle.jrn_log.specs.Laws.{EachHasSlots, SlotsAreOne, AppendKeepsImages, AppendRests};
+ghost use Rattle.jrn_log.specs.Laws.{EachHasSlots, SlotsAreOne, DecodedAreSlots, AppendKeepsImages, AppendRests};
 
 mod fault;
 mod foreign;
 mod journal;
 mod read;
+mod slots;
 mod write;
 
 pub use fault::{AppendFault, OpenFault};
 pub use foreign::{can_be_journal, law_files};
 pub use journal::Journal;
+pub use slots::{read_part, read_slots};
 
-/// Each file has one list of the bodies of its open slots.
+/// Each file has one list of the bodies of its open slots, which can be computed.
 pub fn law_slots()
     ensures each { EachHasSlots }
     ensures one { SlotsAreOne }
+    ensures decoded { DecodedAreSlots }
 {}
 
 /// An append to a log at rest: at each turn, whatever bytes a torn write leaves, a power failure leaves the old bodies,

@@ -3,7 +3,7 @@ ghost use Rattle.std.specs.Prelude.{◌≡◌, ◌≢◌, ◌+◌, ◌*◌, ◌^
 ghost use Rattle.gw_site.specs.Failures.{Rose};
 ghost use Rattle.gw_site.specs.Outside.{outside_of, file_part};
 ghost use Rattle.gw_site.specs.Observed.{Grows, IfObserved};
-ghost use Rattle.jrn_log.specs.inner.FileReader.{BeginsWithSlots, Took, IsChunkRead, AreBodiesRead, LookTurns};
+ghost use Rattle.jrn_log.specs.inner.FileReader.{BeginsWithSlots, AreSlotsTaken, IsChunkRead, AreBodiesRead, ReadTurns};
 
 use crate::fault::OpenFault;
 use crate::write::OPEN;
@@ -21,7 +21,11 @@ pub(crate) enum Taken {
 }
 
 /// Takes the body of the next slot where the slot is open. The file has `size` bytes.
-fn take_slot(bodies: &mut Vec<[u8; 255]>, slot: &[u8], size: u64) -> Result<Taken, OpenFault>
+pub(crate) fn take_slot(
+    bodies: &mut Vec<[u8; 255]>,
+    slot: &[u8],
+    size: u64,
+) -> Result<Taken, OpenFault>
     requires slot { length slot.now ≡ 256 }
     requires some { 1 < size }
     requires small { size < 2 ^ 40 }
@@ -29,8 +33,8 @@ fn take_slot(bodies: &mut Vec<[u8; 255]>, slot: &[u8], size: u64) -> Result<Take
     ensures within { 256 * vec_len bodies.new < size }
     ensures more { result ≡ Ok Taken.More → vec_len bodies.new ≡ vec_len bodies.old + 1 }
     ensures looked { result ≢ Err OpenFault.Disk }
-    ensures took { (file : List ℕ) → size ≡ length file → slot.now ≡ file_part file (256 * length bodies.old.items) 256
-        → BeginsWithSlots file bodies.old.items → Took file bodies.new.items result }
+    ensures taken { (file : List ℕ) → size ≡ length file → slot.now ≡ file_part file (256 * length bodies.old.items) 256
+        → BeginsWithSlots file bodies.old.items → AreSlotsTaken file bodies.new.items result }
 {
     if slot[0] != OPEN {
         return Ok(Taken::End);
@@ -59,11 +63,11 @@ fn take_slots(
     ensures within { 256 * vec_len bodies.new < size }
     ensures more { result ≡ Ok Taken.More → vec_len bodies.new ≡ vec_len bodies.old + 16 }
     ensures looked { result ≢ Err OpenFault.Disk }
-    ensures took { (file : List ℕ) → size ≡ length file → chunk.now ≡ file_part file (256 * length bodies.old.items) 4096
-        → BeginsWithSlots file bodies.old.items → Took file bodies.new.items result }
+    ensures taken { (file : List ℕ) → size ≡ length file → chunk.now ≡ file_part file (256 * length bodies.old.items) 4096
+        → BeginsWithSlots file bodies.old.items → AreSlotsTaken file bodies.new.items result }
 {
-    for at in 0..16usize {
-        match take_slot(bodies, &chunk[256 * at..256 * at + 256], size) {
+    for index in 0..16usize {
+        match take_slot(bodies, &chunk[256 * index..256 * index + 256], size) {
             Ok(Taken::More) => {}
             Ok(Taken::End) => return Ok(Taken::End),
             Err(fault) => return Err(fault),
@@ -73,6 +77,7 @@ fn take_slots(
 }
 
 /// Reads the next 16 slots of the site's file, which has `size` bytes.
+// 16 slots are one page of 4,096 bytes: fewer calls than slot by slot, and no buffer that memory can refuse.
 fn read_chunk<S: Site>(
     site: &mut S,
     bodies: &mut Vec<[u8; 255]>,
@@ -85,7 +90,7 @@ fn read_chunk<S: Site>(
     ensures more { result ≡ Ok Taken.More → vec_len bodies.new ≡ vec_len bodies.old + 16 }
     ensures found { IfObserved (S.observed site.old) (λ log. size ≡ length (outside_of log).file
         → BeginsWithSlots (outside_of log).file bodies.old.items → IsChunkRead (outside_of log).file bodies.new.items result) }
-    ensures turns { Grows (S.observed site.old) (S.observed site.new) (LookTurns result) }
+    ensures turns { Grows (S.observed site.old) (S.observed site.new) (ReadTurns result) }
     ensures disk { result ≡ Err OpenFault.Disk → Rose (S.observed site.old).faults (S.observed site.new).faults }
     ensures later { (S.observed site.old).faults ≤ (S.observed site.new).faults }
 {
@@ -106,7 +111,7 @@ pub(crate) fn read_bodies<S: Site>(
     requires small { size < 2 ^ 40 }
     ensures within { IfOk result (λ bodies. 256 * length bodies < size) }
     ensures reads { IfObserved (S.observed site.old) (λ log. size ≡ length (outside_of log).file → AreBodiesRead (outside_of log).file result) }
-    ensures turns { Grows (S.observed site.old) (S.observed site.new) (LookTurns result) }
+    ensures turns { Grows (S.observed site.old) (S.observed site.new) (ReadTurns result) }
     ensures disk { result ≡ Err OpenFault.Disk → Rose (S.observed site.old).faults (S.observed site.new).faults }
     ensures later { (S.observed site.old).faults ≤ (S.observed site.new).faults }
 {

@@ -14,11 +14,11 @@ pub(crate) const OPEN: u8 = 0xA5;
 pub(crate) const CLOSED: u8 = 0x00;
 
 /// Writes bytes at an offset, and syncs.
-pub(crate) fn write_synced<S: Site>(site: &mut S, pos: u64, bytes: &[u8]) -> Result<(), Failed>
-    ensures turns { Grows (S.observed site.old) (S.observed site.new) (WroteSyncedTurns pos bytes.now result) }
+pub(crate) fn write_synced<S: Site>(site: &mut S, offset: u64, bytes: &[u8]) -> Result<(), Failed>
+    ensures turns { Grows (S.observed site.old) (S.observed site.new) (WroteSyncedTurns offset bytes.now result) }
     ensures cause { HasCause (S.observed site.old).faults (S.observed site.new).faults result }
 {
-    match site.write_at(pos, bytes) {
+    match site.write_at(offset, bytes) {
         Ok(()) => site.sync(),
         Err(Failed) => Err(Failed),
     }

@@ -11,15 +11,15 @@ IsRun at [] end = at ≡ end
 IsRun at (there ∷ table) end = (there.offset ≡ at) × IsRun (at + there.size) table end
 
 -- fields that agree with all of a body make it up
-pub joined-agree : (fields : List (List ℕ)) (table : List FieldRange) (at end : ℕ) (body : List ℕ) → length fields ≡ length table
-    → IsRun at table end → Agree (length table) fields table body → length body ≡ end → joined fields ≡ drop at body
-joined-agree [] [] at end body same run agrees len = sym (drop_of_length-le body (omega arith))
-joined-agree [] (there ∷ table) at end body same run agrees len = absurd (omega arith)
-joined-agree (field ∷ fields) [] at end body same run agrees len = absurd (omega arith)
-joined-agree (field ∷ fields) (there ∷ table) at end body same run agrees len =
-    let rest : joined fields ≡ drop (at + there.size) body =
-    joined-agree fields table (at + there.size) end body (omega arith) run.1 agrees.1 len in
-    let here : field ≡ take there.size (drop at body) = agrees.0 ∙ ap (λ offset. take there.size (drop offset body)) run.0 in
-    ap (λ first. first ++ joined fields) here
-    ∙ ap (λ tail. take there.size (drop at body) ++ tail) (rest ∙ sym (drop-drop there.size at body))
-    ∙ take-append-drop there.size (drop at body)
+pub joined-agree : (spelled : List (List ℕ)) (table : List FieldRange) (offset end : ℕ) (body : List ℕ) → length spelled ≡ length table
+    → IsRun offset table end → Agree (length table) spelled table body → length body ≡ end → joined spelled ≡ drop offset body
+joined-agree [] [] offset end body same run agrees len = sym (drop_of_length-le body (omega arith))
+joined-agree [] (there ∷ table) offset end body same run agrees len = absurd (omega arith)
+joined-agree (field ∷ spelled) [] offset end body same run agrees len = absurd (omega arith)
+joined-agree (field ∷ spelled) (there ∷ table) offset end body same run agrees len =
+    let rest : joined spelled ≡ drop (offset + there.size) body =
+    joined-agree spelled table (offset + there.size) end body (omega arith) run.1 agrees.1 len in
+    let here : field ≡ take there.size (drop offset body) = agrees.0 ∙ ap (λ start. take there.size (drop start body)) run.0 in
+    ap (λ first. first ++ joined spelled) here
+    ∙ ap (λ tail. take there.size (drop offset body) ++ tail) (rest ∙ sym (drop-drop there.size offset body))
+    ∙ take-append-drop there.size (drop offset body)

@@ -12,24 +12,24 @@ use Rattle.jrn_record.specs.declared.records.Deal.{Deal}
 use Rattle.jrn_record.specs.declared.records.Deal.TheVariants.{Reversal}
 
 -- digits are the spelling of their number
-pub told_ok : (count number : ℕ) (bytes : List ℕ) → length bytes ≡ count → IsBcd bytes × (number ≡ bcd_value bytes) → bcd_of count number ≡ bytes
-told_ok count number bytes e h =
+pub digits_spell : (count number : ℕ) (bytes : List ℕ) → length bytes ≡ count → IsBcd bytes × (number ≡ bcd_value bytes) → bcd_of count number ≡ bytes
+digits_spell count number bytes e h =
     ap (λ n. bcd_of n number) (sym e) ∙ ap (bcd_of (length bytes)) h.1 ∙ bcd_of-value bytes h.0
 
 -- a number that is present has few enough digits
-pub told_below : (present : Bool) (least greatest count number : ℕ) → greatest < 100 ^ count → IsPresentWithin present least greatest number → number < 100 ^ count
-told_below true least greatest count number fits h = omega arith
-told_below false least greatest count number fits h = omega arith
+pub present_below : (present : Bool) (least greatest count number : ℕ) → greatest < 100 ^ count → IsPresentWithin present least greatest number → number < 100 ^ count
+present_below true least greatest count number fits h = omega arith
+present_below false least greatest count number fits h = omega arith
 
 -- digits spell one number
-pub told_other : (count value number : ℕ) (bytes : List ℕ) → value < 100 ^ count → bcd_of count value ≡ bytes → number ≡ bcd_value bytes → value ≡ number
-told_other count value number bytes below e h = sym (bcd_value-of count value below).1 ∙ ap bcd_value e ∙ sym h
+pub digits_one : (count value number : ℕ) (bytes : List ℕ) → value < 100 ^ count → bcd_of count value ≡ bytes → number ≡ bcd_value bytes → value ≡ number
+digits_one count value number bytes below e h = sym (bcd_value-of count value below).1 ∙ ap bcd_value e ∙ sym h
 
 -- what isn't digits is no number's spelling
-pub told_none : (count value at : ℕ) (bytes : List ℕ) → value < 100 ^ count → bcd_of count value ≡ bytes → IsFirstNotBcd bytes at → ⊥
-told_none count value at bytes below e h =
+pub digits_none : (count value offset : ℕ) (bytes : List ℕ) → value < 100 ^ count → bcd_of count value ≡ bytes → IsFirstNotBcd bytes offset → ⊥
+digits_none count value offset bytes below e h =
     let digits : IsBcd bytes = subst IsBcd e (bcd_value-of count value below).0 in
-    h.here (All-get_or IsBcdByte bytes at 0 h.inside digits)
+    h.here (All-get_or IsBcdByte bytes offset 0 h.inside digits)
 
 -- a spelling determines its text
 pub text_field-injective : (size : ℕ) (a b : List ℕ) → text_field size a ≡ text_field size b → a ≡ b
@@ -57,11 +57,11 @@ text_field-parts cells first len rest e f fits zeros =
 -- a reversal has no text
 pub option_none : (what : Deal) (most size : ℕ) (bytes : List ℕ) → what ≡ Reversal → (replicate size 0 ≡ bytes → ⊥)
     → (value : Option (List ℕ)) → HasTillText what most value → option_field size value ≡ bytes → ⊥
-option_none what most size bytes e other value has f = at value (subst (λ w. HasTillText w most value) e has) f
+option_none what most size bytes e other value has f = by_case value (subst (λ w. HasTillText w most value) e has) f
   where
-    at : (value : Option (List ℕ)) → HasTillText Reversal most value → option_field size value ≡ bytes → ⊥
-    at None has f = other f
-    at (Some text) has f = has
+    by_case : (value : Option (List ℕ)) → HasTillText Reversal most value → option_field size value ≡ bytes → ⊥
+    by_case None has f = other f
+    by_case (Some text) has f = has
 
 -- a text that isn't one of an identifier spells no other identifier
 pub text_none : (size most : ℕ) (text bytes : List ℕ) → text_field size text ≡ bytes → (IsIdent most text → ⊥)

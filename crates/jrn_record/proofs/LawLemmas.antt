@@ -27,7 +27,7 @@ use Rattle.jrn_record.specs.declared.records.Outcome.{Outcome as TheOutcome}
 use Rattle.jrn_record.specs.declared.records.Settled.{Settled as TheSettled}
 use Rattle.jrn_record.specs.declared.records.Record.{Record}
 use Rattle.jrn_record.specs.declared.records.Record.TheVariants.{Intent, Outcome, Settled}
-use Rattle.jrn_record.proofs.FieldLemmas.{text_field-injective, told_below}
+use Rattle.jrn_record.proofs.FieldLemmas.{text_field-injective, present_below}
 use Rattle.jrn_record.proofs.ReadLemmas.{same_approval, same_deal}
 use Rattle.jrn_record.proofs.BodyLemmas.{IsRun}
 
@@ -37,25 +37,25 @@ use Rattle.jrn_record.proofs.BodyLemmas.{IsRun}
 abbrev HasSizes : List (List ℕ) → List FieldRange → Type 0
 HasSizes [] [] = Unit {0}
 HasSizes [] (there ∷ table) = ⊥
-HasSizes (field ∷ fields) [] = ⊥
-HasSizes (field ∷ fields) (there ∷ table) = (length field ≡ there.size) × HasSizes fields table
+HasSizes (field ∷ spelled) [] = ⊥
+HasSizes (field ∷ spelled) (there ∷ table) = (length field ≡ there.size) × HasSizes spelled table
 
 -- fields of the right sizes, one after the other, are at their offsets
-laid : (fields : List (List ℕ)) (table : List FieldRange) (at end : ℕ) (prefix : List ℕ) → HasSizes fields table → IsRun at table end
-    → length prefix ≡ at → Agree (length table) fields table (prefix ++ joined fields) × (at + length (joined fields) ≡ end)
-laid [] [] at end prefix sizes run len = (tt, omega (arith, run))
-laid [] (there ∷ table) at end prefix sizes run len = absurd sizes
-laid (field ∷ fields) [] at end prefix sizes run len = absurd sizes
-laid (field ∷ fields) (there ∷ table) at end prefix sizes run len =
-    let next = laid fields table (at + there.size) end (prefix ++ field) sizes.1 run.1
+laid : (spelled : List (List ℕ)) (table : List FieldRange) (offset end : ℕ) (prefix : List ℕ) → HasSizes spelled table → IsRun offset table end
+    → length prefix ≡ offset → Agree (length table) spelled table (prefix ++ joined spelled) × (offset + length (joined spelled) ≡ end)
+laid [] [] offset end prefix sizes run len = (tt, omega (arith, run))
+laid [] (there ∷ table) offset end prefix sizes run len = absurd sizes
+laid (field ∷ spelled) [] offset end prefix sizes run len = absurd sizes
+laid (field ∷ spelled) (there ∷ table) offset end prefix sizes run len =
+    let next = laid spelled table (offset + there.size) end (prefix ++ field) sizes.1 run.1
     (omega (arith, length-append prefix field, len, sizes.0)) in
-    let body : (prefix ++ field) ++ joined fields ≡ prefix ++ (field ++ joined fields) = append_assoc prefix field (joined fields) in
-    let rest : drop there.offset (prefix ++ (field ++ joined fields)) ≡ field ++ joined fields =
-    ap (λ offset. drop offset (prefix ++ (field ++ joined fields))) (run.0 ∙ sym len) ∙ drop-append_seam prefix (field ++ joined fields) in
-    let here : field ≡ take there.size (drop there.offset (prefix ++ (field ++ joined fields))) =
-    sym (ap (take there.size) rest ∙ ap (λ n. take n (field ++ joined fields)) (sym sizes.0) ∙ take-append_seam field (joined fields)) in (
-      (here, subst (λ b. Agree (length table) fields table b) body next.0),
-      omega (arith, next.1, length-append field (joined fields), sizes.0),
+    let body : (prefix ++ field) ++ joined spelled ≡ prefix ++ (field ++ joined spelled) = append_assoc prefix field (joined spelled) in
+    let rest : drop there.offset (prefix ++ (field ++ joined spelled)) ≡ field ++ joined spelled =
+    ap (λ offset. drop offset (prefix ++ (field ++ joined spelled))) (run.0 ∙ sym len) ∙ drop-append_seam prefix (field ++ joined spelled) in
+    let here : field ≡ take there.size (drop there.offset (prefix ++ (field ++ joined spelled))) =
+    sym (ap (take there.size) rest ∙ ap (λ n. take n (field ++ joined spelled)) (sym sizes.0) ∙ take-append_seam field (joined spelled)) in (
+      (here, subst (λ b. Agree (length table) spelled table b) body next.0),
+      omega (arith, next.1, length-append field (joined spelled), sizes.0),
     )
 
 length-text_field : (size : ℕ) (text : List ℕ) → length text < size → length (text_field size text) ≡ size
@@ -68,7 +68,7 @@ length-option_field Payment most (Some text) has = length-text_field (most + 1) 
 length-option_field Reversal most None has = length-replicate (most + 1) 0
 length-option_field Reversal most (Some text) has = absurd has
 
-sizes_of : (item : Record) → IsRecord item → HasSizes (record_fields item) (table_of item)
+sizes_of : (the_record : Record) → IsRecord the_record → HasSizes (record_fields the_record) (table_of the_record)
 sizes_of (Intent i) is = (
   refl,
   (
@@ -116,15 +116,15 @@ sizes_of (Settled s) is = (
   ),
 )
 
-run_of : (item : Record) → IsRun 0 (table_of item) 255
+run_of : (the_record : Record) → IsRun 0 (table_of the_record) 255
 run_of (Intent i) = (refl, (refl, (refl, (refl, (refl, (refl, (refl, (refl, (refl, (refl, (refl, (refl, (refl, refl)))))))))))))
 run_of (Outcome o) = (refl, (refl, (refl, (refl, (refl, (refl, (refl, (refl, (refl, refl)))))))))
 run_of (Settled s) = (refl, (refl, (refl, (refl, (refl, (refl, (refl, (refl, refl))))))))
 
-pub body_of-places : (item : Record) → IsRecord item
-    → (length (record_body item) ≡ 255) × Agree (length (table_of item)) (record_fields item) (table_of item) (record_body item)
-body_of-places item is =
-    let h = laid (record_fields item) (table_of item) 0 255 [] (sizes_of item is) (run_of item) refl in
+pub record_body-offsets : (the_record : Record) → IsRecord the_record
+    → (length (record_body the_record) ≡ 255) × Agree (length (table_of the_record)) (record_fields the_record) (table_of the_record) (record_body the_record)
+record_body-offsets the_record is =
+    let h = laid (record_fields the_record) (table_of the_record) 0 255 [] (sizes_of the_record is) (run_of the_record) refl in
     (omega (arith, h.1), h.0)
 
 -- ---- one spelling, one value
@@ -223,13 +223,13 @@ moment_same (pos a) (negsuc b) is too e = absurd (omega (arith, ints))
 moment_same (negsuc a) b is too e = absurd (omega (arith, ints))
 
 how_same : (a b : How) → how_code a ∷ [] ≡ how_code b ∷ [] → a ≡ b
-how_same a b e = at a b (ap (λ code. get_or code 0 0) e)
+how_same a b e = by_case a b (ap (λ code. get_or code 0 0) e)
   where
-    at : (a b : How) → how_code a ≡ how_code b → a ≡ b
-    at Sale Sale e = refl
-    at Sale Acquirer e = absurd (omega arith)
-    at Acquirer Sale e = absurd (omega arith)
-    at Acquirer Acquirer e = refl
+    by_case : (a b : How) → how_code a ≡ how_code b → a ≡ b
+    by_case Sale Sale e = refl
+    by_case Sale Acquirer e = absurd (omega arith)
+    by_case Acquirer Sale e = absurd (omega arith)
+    by_case Acquirer Acquirer e = refl
 
 -- ---- one body, one record
 
@@ -240,8 +240,8 @@ Same [] (g ∷ gs) = ⊥
 Same (f ∷ fs) [] = ⊥
 Same (f ∷ fs) (g ∷ gs) = (f ≡ g) × Same fs gs
 
-agree_same : (fields others : List (List ℕ)) (table : List FieldRange) (body : List ℕ) → length fields ≡ length table → length others ≡ length table
-    → Agree (length table) fields table body → Agree (length table) others table body → Same fields others
+agree_same : (spelled others : List (List ℕ)) (table : List FieldRange) (body : List ℕ) → length spelled ≡ length table → length others ≡ length table
+    → Agree (length table) spelled table body → Agree (length table) others table body → Same spelled others
 agree_same [] [] table body len too a b = tt
 agree_same [] (g ∷ gs) table body len too a b = absurd (omega (arith, len, too))
 agree_same (f ∷ fs) [] table body len too a b = absurd (omega (arith, len, too))
@@ -283,12 +283,12 @@ outcome_same : (o p : TheOutcome) → IsOutcome o → IsOutcome p → Same (outc
 outcome_same o p is too s =
     let approved : o.approved ≡ p.approved = same_approval o.approved p.approved _ s.1.0 refl in
     let slot = sym (from_be_bytes-to_be_bytes_4 o.slot is.slot) ∙ ap (from_be_bytes w32) s.1.1.0 ∙ from_be_bytes-to_be_bytes_4 p.slot too.slot in
-    let number = bcd_same 3 o.number p.number (told_below o.approved 1 999999 3 o.number (omega arith) is.number)
-    (told_below p.approved 1 999999 3 p.number (omega arith) too.number) s.1.1.1.0 in
-    let receipt = bcd_same 2 o.receipt p.receipt (told_below o.approved 0 9999 2 o.receipt (omega arith) is.receipt)
-    (told_below p.approved 0 9999 2 p.receipt (omega arith) too.receipt) s.1.1.1.1.0 in
-    let amount = bcd_same 6 o.amount p.amount (told_below o.approved 1 999999999999 6 o.amount (omega arith) is.amount)
-    (told_below p.approved 1 999999999999 6 p.amount (omega arith) too.amount) s.1.1.1.1.1.0 in
+    let number = bcd_same 3 o.number p.number (present_below o.approved 1 999999 3 o.number (omega arith) is.number)
+    (present_below p.approved 1 999999 3 p.number (omega arith) too.number) s.1.1.1.0 in
+    let receipt = bcd_same 2 o.receipt p.receipt (present_below o.approved 0 9999 2 o.receipt (omega arith) is.receipt)
+    (present_below p.approved 0 9999 2 p.receipt (omega arith) too.receipt) s.1.1.1.1.0 in
+    let amount = bcd_same 6 o.amount p.amount (present_below o.approved 1 999999999999 6 o.amount (omega arith) is.amount)
+    (present_below p.approved 1 999999999999 6 p.amount (omega arith) too.amount) s.1.1.1.1.1.0 in
     let has : HasReason o.approved p.condition = subst (λ a. HasReason a p.condition) (sym approved) too.condition in
     let condition = condition_same o.approved o.condition p.condition is.condition has s.1.1.1.1.1.1.0 in
     let moment = moment_same o.moment p.moment is.moment too.moment s.1.1.1.1.1.1.1.0 in
@@ -315,13 +315,13 @@ settled_same s t is too a =
 pub body_of-injective : (a b : Record) → IsRecord a → IsRecord b → record_body a ≡ record_body b → a ≡ b
 body_of-injective (Intent i) (Intent j) is too e =
     ap Intent (intent_same i j is too (agree_same (intent_fields i) (intent_fields j) intent_table (record_body (Intent i)) refl refl
-    (body_of-places (Intent i) is).1 (subst (λ body. Agree 13 (intent_fields j) intent_table body) (sym e) (body_of-places (Intent j) too).1)))
+    (record_body-offsets (Intent i) is).1 (subst (λ body. Agree 13 (intent_fields j) intent_table body) (sym e) (record_body-offsets (Intent j) too).1)))
 body_of-injective (Outcome o) (Outcome p) is too e =
     ap Outcome (outcome_same o p is too (agree_same (outcome_fields o) (outcome_fields p) outcome_table (record_body (Outcome o)) refl refl
-    (body_of-places (Outcome o) is).1 (subst (λ body. Agree 9 (outcome_fields p) outcome_table body) (sym e) (body_of-places (Outcome p) too).1)))
+    (record_body-offsets (Outcome o) is).1 (subst (λ body. Agree 9 (outcome_fields p) outcome_table body) (sym e) (record_body-offsets (Outcome p) too).1)))
 body_of-injective (Settled s) (Settled t) is too e =
     ap Settled (settled_same s t is too (agree_same (settled_fields s) (settled_fields t) settled_table (record_body (Settled s)) refl refl
-    (body_of-places (Settled s) is).1 (subst (λ body. Agree 8 (settled_fields t) settled_table body) (sym e) (body_of-places (Settled t) too).1)))
+    (record_body-offsets (Settled s) is).1 (subst (λ body. Agree 8 (settled_fields t) settled_table body) (sym e) (record_body-offsets (Settled t) too).1)))
 body_of-injective (Intent i) (Outcome p) is too e = let f : 1 ≡ 2 = ap (λ body. get_or body 0 0) e in absurd (omega (arith, f))
 body_of-injective (Intent i) (Settled t) is too e = let f : 1 ≡ 3 = ap (λ body. get_or body 0 0) e in absurd (omega (arith, f))
 body_of-injective (Outcome o) (Intent j) is too e = let f : 2 ≡ 1 = ap (λ body. get_or body 0 0) e in absurd (omega (arith, f))
@@ -331,44 +331,44 @@ body_of-injective (Settled s) (Outcome p) is too e = let f : 3 ≡ 2 = ap (λ bo
 
 -- ---- a body with a fault is that of no record
 
-agree_prefix : (count more : ℕ) (fields : List (List ℕ)) (table : List FieldRange) (body : List ℕ) → count ≤ more
-    → Agree more fields table body → Agree count fields table body
-agree_prefix zero more fields table body few a = tt
-agree_prefix (suc count) zero fields table body few a = absurd (omega arith)
+agree_prefix : (count more : ℕ) (spelled : List (List ℕ)) (table : List FieldRange) (body : List ℕ) → count ≤ more
+    → Agree more spelled table body → Agree count spelled table body
+agree_prefix zero more spelled table body few a = tt
+agree_prefix (suc count) zero spelled table body few a = absurd (omega arith)
 agree_prefix (suc count) (suc more) [] table body few a = absurd a
 agree_prefix (suc count) (suc more) (f ∷ fs) [] body few a = absurd a
 agree_prefix (suc count) (suc more) (f ∷ fs) (there ∷ table) body few a = (a.0, agree_prefix count more fs table body (omega arith) a.1)
 
-table_at-body : (item : Record) → table_at (record_body item) ≡ table_of item
+table_at-body : (the_record : Record) → table_at (record_body the_record) ≡ table_of the_record
 table_at-body (Intent i) = refl
 table_at-body (Outcome o) = refl
 table_at-body (Settled s) = refl
 
-pub fault-no_record : (body : List ℕ) (at : ℕ) → IsFirstRecordFault (table_at body) body at → (item : Record) → IsRecord item → body ≡ record_body item → ⊥
-fault-no_record body at fault item is e =
-    let table : table_at body ≡ table_of item = ap table_at e ∙ table_at-body item in
-    let whole : Agree (length (table_of item)) (record_fields item) (table_of item) body =
-    subst (λ b. Agree (length (table_of item)) (record_fields item) (table_of item) b) (sym e) (body_of-places item is).1 in
-    let same : Agree (length (table_at body)) (record_fields item) (table_at body) body =
-    subst (λ t. Agree (length t) (record_fields item) t body) (sym table) whole in
-    fault.not_spelled item is (agree_prefix (suc fault.count) (length (table_at body)) (record_fields item) (table_at body) body fault.inside same)
+pub fault-no_record : (body : List ℕ) (reported : ℕ) → IsFirstRecordFault (table_at body) body reported → (the_record : Record) → IsRecord the_record → body ≡ record_body the_record → ⊥
+fault-no_record body reported fault the_record is e =
+    let table : table_at body ≡ table_of the_record = ap table_at e ∙ table_at-body the_record in
+    let whole : Agree (length (table_of the_record)) (record_fields the_record) (table_of the_record) body =
+    subst (λ b. Agree (length (table_of the_record)) (record_fields the_record) (table_of the_record) b) (sym e) (record_body-offsets the_record is).1 in
+    let same : Agree (length (table_at body)) (record_fields the_record) (table_at body) body =
+    subst (λ t. Agree (length t) (record_fields the_record) t body) (sym table) whole in
+    fault.not_spelled the_record is (agree_prefix (suc fault.count) (length (table_at body)) (record_fields the_record) (table_at body) body fault.inside same)
 
 -- ---- a body has one first fault
 
 -- the fields before a first fault are spelled, so another isn't among them
-no_less : (table : List FieldRange) (body : List ℕ) (at other : ℕ) (fault : IsFirstRecordFault table body at) (later : IsFirstRecordFault table body other) → fault.count < later.count → ⊥
-no_less table body at other fault later less =
+no_less : (table : List FieldRange) (body : List ℕ) (reported other : ℕ) (fault : IsFirstRecordFault table body reported) (later : IsFirstRecordFault table body other) → fault.count < later.count → ⊥
+no_less table body reported other fault later less =
     let before = later.spelled_before in
     fault.not_spelled before.0 before.1 (agree_prefix (suc fault.count) later.count (record_fields before.0) table body (omega arith) before.2)
 
-pub first_fault-one : (table : List FieldRange) (body : List ℕ) (at other : ℕ) → IsFirstRecordFault table body at → IsFirstRecordFault table body other → at ≡ other
-first_fault-one table body at other fault later = fault.offset ∙ ap (λ count. slice_index (map (λ there. there.offset) table) count) same ∙ sym later.offset
+pub first_fault-one : (table : List FieldRange) (body : List ℕ) (reported other : ℕ) → IsFirstRecordFault table body reported → IsFirstRecordFault table body other → reported ≡ other
+first_fault-one table body reported other fault later = fault.offset ∙ ap (λ count. slice_index (map (λ there. there.offset) table) count) same ∙ sym later.offset
   where
     same : fault.count ≡ later.count
     same = elim (cases_lt fault.count later.count) [
-      | inl less ↦ absurd (no_less table body at other fault later less)
+      | inl less ↦ absurd (no_less table body reported other fault later less)
       | inr le ↦ elim (cases_lt later.count fault.count) [
-        | inl less ↦ absurd (no_less table body other at later fault less)
+        | inl less ↦ absurd (no_less table body other reported later fault less)
         | inr ge ↦ omega arith
       ]
     ]

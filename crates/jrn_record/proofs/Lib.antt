@@ -1,3 +1,4 @@
+-- The lemmas of this crate.
 pub mod BodyLemmas
 pub mod FieldLemmas
 pub mod LawLemmas

@@ -46,17 +46,17 @@ pub blank_original_is : (what : Deal) → HasOriginal what (blank_original what)
 blank_original_is Payment = tt
 blank_original_is Reversal = omega arith
 
-abbrev pub blank_told : Bool → ℕ
-blank_told true = 1
-blank_told false = 0
+abbrev pub blank_number : Bool → ℕ
+blank_number true = 1
+blank_number false = 0
 
-pub blank_told_is : (present : Bool) (most : ℕ) → 1 ≤ most → IsPresentWithin present 1 most (blank_told present)
-blank_told_is true most room = (omega arith, room)
-blank_told_is false most room = refl
+pub blank_number_is : (present : Bool) (most : ℕ) → 1 ≤ most → IsPresentWithin present 1 most (blank_number present)
+blank_number_is true most room = (omega arith, room)
+blank_number_is false most room = refl
 
-pub zero_told_is : (present : Bool) (most : ℕ) → IsPresentWithin present 0 most 0
-zero_told_is true most = (omega arith, omega arith)
-zero_told_is false most = refl
+pub zero_number_is : (present : Bool) (most : ℕ) → IsPresentWithin present 0 most 0
+zero_number_is true most = (omega arith, omega arith)
+zero_number_is false most = refl
 
 abbrev pub blank_reason : Bool → Option Condition
 blank_reason true = None
@@ -72,22 +72,22 @@ zero_moment = (omega (arith, ints), omega (arith, ints))
 -- ---- one code, one kind
 
 pub same_deal : (a b : Deal) (bytes : List ℕ) → deal_code a ∷ [] ≡ bytes → deal_code b ∷ [] ≡ bytes → a ≡ b
-same_deal a b bytes e f = at a b (ap (λ code. get_or code 0 0) (e ∙ sym f))
+same_deal a b bytes e f = by_case a b (ap (λ code. get_or code 0 0) (e ∙ sym f))
   where
-    at : (a b : Deal) → deal_code a ≡ deal_code b → a ≡ b
-    at Payment Payment e = refl
-    at Payment Reversal e = absurd (omega arith)
-    at Reversal Payment e = absurd (omega arith)
-    at Reversal Reversal e = refl
+    by_case : (a b : Deal) → deal_code a ≡ deal_code b → a ≡ b
+    by_case Payment Payment e = refl
+    by_case Payment Reversal e = absurd (omega arith)
+    by_case Reversal Payment e = absurd (omega arith)
+    by_case Reversal Reversal e = refl
 
 pub same_approval : (a b : Bool) (bytes : List ℕ) → approval_code a ∷ [] ≡ bytes → approval_code b ∷ [] ≡ bytes → a ≡ b
-same_approval a b bytes e f = at a b (ap (λ code. get_or code 0 0) (e ∙ sym f))
+same_approval a b bytes e f = by_case a b (ap (λ code. get_or code 0 0) (e ∙ sym f))
   where
-    at : (a b : Bool) → approval_code a ≡ approval_code b → a ≡ b
-    at true true e = refl
-    at true false e = absurd (omega arith)
-    at false true e = absurd (omega arith)
-    at false false e = refl
+    by_case : (a b : Bool) → approval_code a ≡ approval_code b → a ≡ b
+    by_case true true e = refl
+    by_case true false e = absurd (omega arith)
+    by_case false true e = absurd (omega arith)
+    by_case false false e = refl
 
 -- two first bytes that differ
 pub first_differs : (a b : ℕ) (bytes : List ℕ) → (a ≡ b → ⊥) → a ∷ [] ≡ bytes → b ∷ [] ≡ bytes → ⊥
@@ -95,12 +95,12 @@ first_differs a b bytes other e f = other (ap (λ code. get_or code 0 0) (e ∙ 
 
 -- ---- what isn't spelled by an Intent is spelled by no record, and so on
 
-pub intent_fault : (body : List ℕ) (count at : ℕ) (draft : TheIntent) → count < 13
-    → at ≡ get_or (map (λ there. there.offset) intent_table) count 0
+pub intent_fault : (body : List ℕ) (count reported : ℕ) (draft : TheIntent) → count < 13
+    → reported ≡ get_or (map (λ there. there.offset) intent_table) count 0
     → IsIntent draft → Agree count (intent_fields draft) intent_table body → 1 ∷ [] ≡ body_field body (field 0 1)
     → ((i : TheIntent) → IsIntent i → Agree (suc count) (intent_fields i) intent_table body → ⊥)
-    → IsFirstRecordFault intent_table body at
-intent_fault body count at draft inside offset is agrees kind none = record {
+    → IsFirstRecordFault intent_table body reported
+intent_fault body count reported draft inside offset is agrees kind none = record {
   count = count;
   inside = inside;
   offset = offset;
@@ -108,17 +108,17 @@ intent_fault body count at draft inside offset is agrees kind none = record {
   not_spelled = other;
 }
   where
-    other : (item : Record) → IsRecord item → Agree (suc count) (record_fields item) intent_table body → ⊥
+    other : (the_record : Record) → IsRecord the_record → Agree (suc count) (record_fields the_record) intent_table body → ⊥
     other (Intent i) is a = none i is a
     other (Outcome o) is a = first_differs 2 1 (body_field body (field 0 1)) (λ e. omega arith) a.0 kind
     other (Settled s) is a = first_differs 3 1 (body_field body (field 0 1)) (λ e. omega arith) a.0 kind
 
-pub outcome_fault : (body : List ℕ) (count at : ℕ) (draft : TheOutcome) → count < 9
-    → at ≡ get_or (map (λ there. there.offset) outcome_table) count 0
+pub outcome_fault : (body : List ℕ) (count reported : ℕ) (draft : TheOutcome) → count < 9
+    → reported ≡ get_or (map (λ there. there.offset) outcome_table) count 0
     → IsOutcome draft → Agree count (outcome_fields draft) outcome_table body → 2 ∷ [] ≡ body_field body (field 0 1)
     → ((o : TheOutcome) → IsOutcome o → Agree (suc count) (outcome_fields o) outcome_table body → ⊥)
-    → IsFirstRecordFault outcome_table body at
-outcome_fault body count at draft inside offset is agrees kind none = record {
+    → IsFirstRecordFault outcome_table body reported
+outcome_fault body count reported draft inside offset is agrees kind none = record {
   count = count;
   inside = inside;
   offset = offset;
@@ -126,17 +126,17 @@ outcome_fault body count at draft inside offset is agrees kind none = record {
   not_spelled = other;
 }
   where
-    other : (item : Record) → IsRecord item → Agree (suc count) (record_fields item) outcome_table body → ⊥
+    other : (the_record : Record) → IsRecord the_record → Agree (suc count) (record_fields the_record) outcome_table body → ⊥
     other (Intent i) is a = first_differs 1 2 (body_field body (field 0 1)) (λ e. omega arith) a.0 kind
     other (Outcome o) is a = none o is a
     other (Settled s) is a = first_differs 3 2 (body_field body (field 0 1)) (λ e. omega arith) a.0 kind
 
-pub settled_fault : (body : List ℕ) (count at : ℕ) (draft : TheSettled) → count < 8
-    → at ≡ get_or (map (λ there. there.offset) settled_table) count 0
+pub settled_fault : (body : List ℕ) (count reported : ℕ) (draft : TheSettled) → count < 8
+    → reported ≡ get_or (map (λ there. there.offset) settled_table) count 0
     → IsSettled draft → Agree count (settled_fields draft) settled_table body → 3 ∷ [] ≡ body_field body (field 0 1)
     → ((s : TheSettled) → IsSettled s → Agree (suc count) (settled_fields s) settled_table body → ⊥)
-    → IsFirstRecordFault settled_table body at
-settled_fault body count at draft inside offset is agrees kind none = record {
+    → IsFirstRecordFault settled_table body reported
+settled_fault body count reported draft inside offset is agrees kind none = record {
   count = count;
   inside = inside;
   offset = offset;
@@ -144,7 +144,7 @@ settled_fault body count at draft inside offset is agrees kind none = record {
   not_spelled = other;
 }
   where
-    other : (item : Record) → IsRecord item → Agree (suc count) (record_fields item) settled_table body → ⊥
+    other : (the_record : Record) → IsRecord the_record → Agree (suc count) (record_fields the_record) settled_table body → ⊥
     other (Intent i) is a = first_differs 1 3 (body_field body (field 0 1)) (λ e. omega arith) a.0 kind
     other (Outcome o) is a = first_differs 2 3 (body_field body (field 0 1)) (λ e. omega arith) a.0 kind
     other (Settled s) is a = none s is a
@@ -203,10 +203,10 @@ no_kind body len one two three =
     not_equal : (a b : ℕ) → (a ≡ b → ⊥) → (a == b) ≡ false
     not_equal a b other = grind (arith, nat_tests)
 
-    first : (kind : ℕ) → kind ∷ [] ≡ body_field body (field 0 1) → get_or body 0 0 ≡ kind
-    first kind e = sym (ap (λ bytes. get_or bytes 0 0) e ∙ get_or-take 1 (drop 0 body) 0 0 (omega arith) ∙ get_or-drop 0 body 0 0)
+    first : (byte : ℕ) → byte ∷ [] ≡ body_field body (field 0 1) → get_or body 0 0 ≡ byte
+    first byte e = sym (ap (λ bytes. get_or bytes 0 0) e ∙ get_or-take 1 (drop 0 body) 0 0 (omega arith) ∙ get_or-drop 0 body 0 0)
 
-    none : (item : Record) → IsRecord item → Agree 1 (record_fields item) intent_table body → ⊥
+    none : (the_record : Record) → IsRecord the_record → Agree 1 (record_fields the_record) intent_table body → ⊥
     none (Intent i) is a = one (first 1 a.0)
     none (Outcome o) is a = two (first 2 a.0)
     none (Settled s) is a = three (first 3 a.0)

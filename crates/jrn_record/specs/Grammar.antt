@@ -86,4 +86,4 @@ joined (field ∷ fields) = field ++ joined fields
 
 -- the body of a record
 abbrev pub record_body : Record → List ℕ
-record_body item = joined (record_fields item)
+record_body the_record = joined (record_fields the_record)

@@ -1,3 +1,4 @@
+-- The definitions of this crate.
 pub mod Grammar
 pub mod Limits
 pub mod Table

@@ -38,7 +38,7 @@ table_of (Settled _) = settled_table
 
 -- the bytes of a body at a field
 abbrev pub body_field : List ℕ → FieldRange → List ℕ
-body_field body at = take at.size (drop at.offset body)
+body_field body there = take there.size (drop there.offset body)
 
 -- the table of the kind that a body's first byte says; a body of no kind is looked at as an Intent
 abbrev pub table_at : List ℕ → List FieldRange
@@ -51,13 +51,13 @@ abbrev pub Agree : ℕ → List (List ℕ) → List FieldRange → List ℕ → 
 Agree zero fields table body = Unit {0}
 Agree (suc count) [] table body = ⊥
 Agree (suc count) (field ∷ fields) [] body = ⊥
-Agree (suc count) (field ∷ fields) (at ∷ table) body = (field ≡ body_field body at) × Agree count fields table body
+Agree (suc count) (field ∷ fields) (there ∷ table) body = (field ≡ body_field body there) × Agree count fields table body
 
 -- the offset of the first field that no record spells: some record agrees with the body on the fields
 -- before it, and none on these and the one at the offset
-pub record IsFirstRecordFault (table : List FieldRange) (body : List ℕ) (at : ℕ) : Type 0 where
+pub record IsFirstRecordFault (table : List FieldRange) (body : List ℕ) (reported : ℕ) : Type 0 where
   pub count : ℕ
   pub inside : count < length table
-  pub offset : at ≡ slice_index (map (λ there. there.offset) table) count
-  pub spelled_before : (item : Record) × IsRecord item × Agree count (record_fields item) table body
-  pub not_spelled : (item : Record) → IsRecord item → Agree (suc count) (record_fields item) table body → ⊥
+  pub offset : reported ≡ slice_index (map (λ there. there.offset) table) count
+  pub spelled_before : (the_record : Record) × IsRecord the_record × Agree count (record_fields the_record) table body
+  pub not_spelled : (the_record : Record) → IsRecord the_record → Agree (suc count) (record_fields the_record) table body → ⊥

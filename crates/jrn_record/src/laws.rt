@@ -8,12 +8,12 @@ ghost use Rattle.jrn_record.specs.declared.records.Record.{Record};
 /// A body has 255 bytes, each field of the record is at its offset of the table, a body is that of one
 /// record, a body with a fault is that of none, and it has one first fault.
 pub fn law_bodies()
-    ensures size { (item : Record) → IsRecord item → length (record_body item) ≡ 255 }
-    ensures offsets { (item : Record) → IsRecord item
-        → Agree (length (table_of item)) (record_fields item) (table_of item) (record_body item) }
+    ensures size { (the_record : Record) → IsRecord the_record → length (record_body the_record) ≡ 255 }
+    ensures offsets { (the_record : Record) → IsRecord the_record
+        → Agree (length (table_of the_record)) (record_fields the_record) (table_of the_record) (record_body the_record) }
     ensures one_record { (a b : Record) → IsRecord a → IsRecord b → record_body a ≡ record_body b → a ≡ b }
-    ensures faulty { (body : List ℕ) (at : ℕ) → IsFirstRecordFault (table_at body) body at
-        → (item : Record) → IsRecord item → body ≢ record_body item }
-    ensures one_fault { (body : List ℕ) (at other : ℕ) → IsFirstRecordFault (table_at body) body at
-        → IsFirstRecordFault (table_at body) body other → at ≡ other }
+    ensures faulty { (body : List ℕ) (reported : ℕ) → IsFirstRecordFault (table_at body) body reported
+        → (the_record : Record) → IsRecord the_record → body ≢ record_body the_record }
+    ensures one_fault { (body : List ℕ) (reported other : ℕ) → IsFirstRecordFault (table_at body) body reported
+        → IsFirstRecordFault (table_at body) body other → reported ≡ other }
 {}

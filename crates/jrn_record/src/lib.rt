@@ -3,6 +3,7 @@
 
 mod body_fields;
 mod laws;
+mod layout;
 mod read;
 mod records;
 mod write;

@@ -8,21 +8,28 @@ use crate::body_fields::{
     RecordFault, read_approval, read_condition, read_currency, read_deal, read_how, read_moment,
     read_number, read_option, read_original, read_text, read_zeros, slot_at,
 };
+use crate::layout::{
+    AMOUNT_SIZE, BODY_SIZE, INTENT_AMOUNT, INTENT_BEFORE, INTENT_CURRENCY, INTENT_MOMENT,
+    INTENT_ORIGINAL, INTENT_STAMP, INTENT_TRANSACTION, INTENT_UNUSED, KIND, OUTCOME_AMOUNT,
+    OUTCOME_MOMENT, OUTCOME_NUMBER, OUTCOME_RECEIPT, OUTCOME_SLOT, OUTCOME_UNUSED, POI,
+    RECEIPT_SIZE, SALE, SERVICE, SETTLED_CURRENCY, SETTLED_MOMENT, SETTLED_UNUSED, TRACE_SIZE,
+};
 use crate::{Intent, Outcome, Record, Settled};
+use gw_bytes::{GREATEST_AMOUNT, GREATEST_RECEIPT, GREATEST_TRACE};
 
 /// The record that spells this body, or the offset of the first field that no record spells.
 ///
-/// The fields are looked at in the order of their offsets. A field's faults depend on the kind of the record,
+/// The fields are looked at in the order of their offsets, so that the first fault is reported. A field's faults depend on the kind of the record,
 /// and on whether it is a payment or approved.
 pub fn from_body(body: &[u8; 255]) -> Result<Record, RecordFault>
-    ensures { MatchResult result (λ item. IsRecord item × (body.now ≡ record_body item))
+    ensures { MatchResult result (λ the_record. IsRecord the_record × (body.now ≡ record_body the_record))
         (λ fault. IsFirstRecordFault (table_at body.now) body.now fault.at) }
 {
-    match body[0] {
+    match body[KIND] {
         1 => Ok(Record::Intent(read_intent(body)?)),
         2 => Ok(Record::Outcome(read_outcome(body)?)),
         3 => Ok(Record::Settled(read_settled(body)?)),
-        _ => Err(RecordFault { at: 0 }),
+        _ => Err(RecordFault { at: KIND }),
     }
 }
 
@@ -33,17 +40,24 @@ fn read_intent(body: &[u8; 255]) -> Result<Intent, RecordFault>
         (λ fault. IsFirstRecordFault intent_table body.now fault.at) }
 {
     let what = read_deal(body)?;
-    let sale = read_text(body, 2)?;
-    let poi = read_text(body, 43)?;
-    let service = read_text(body, 84)?;
-    let transaction = read_option(body, 95, what)?;
-    let stamp = read_option(body, 176, what)?;
-    let amount = read_number(body, 212, 6, true, 1, 999_999_999_999)?;
-    let currency = read_currency(body, 218)?;
-    let before = read_number(body, 220, 3, true, 0, 999_999)?;
-    let original = read_original(body, 223, what)?;
-    let moment = read_moment(body, 227)?;
-    read_zeros(body, 235, 20)?;
+    let sale = read_text(body, SALE)?;
+    let poi = read_text(body, POI)?;
+    let service = read_text(body, SERVICE)?;
+    let transaction = read_option(body, INTENT_TRANSACTION, what)?;
+    let stamp = read_option(body, INTENT_STAMP, what)?;
+    let amount = read_number(body, INTENT_AMOUNT, AMOUNT_SIZE, true, 1, GREATEST_AMOUNT)?;
+    let currency = read_currency(body, INTENT_CURRENCY)?;
+    let before = read_number(
+        body,
+        INTENT_BEFORE,
+        TRACE_SIZE,
+        true,
+        0,
+        GREATEST_TRACE as u64,
+    )?;
+    let original = read_original(body, INTENT_ORIGINAL, what)?;
+    let moment = read_moment(body, INTENT_MOMENT)?;
+    read_zeros(body, INTENT_UNUSED, BODY_SIZE - INTENT_UNUSED)?;
     Ok(Intent {
         what,
         sale,
@@ -66,13 +80,34 @@ fn read_outcome(body: &[u8; 255]) -> Result<Outcome, RecordFault>
         (λ fault. IsFirstRecordFault outcome_table body.now fault.at) }
 {
     let approved = read_approval(body)?;
-    let slot = slot_at(body, 2);
-    let number = read_number(body, 6, 3, approved, 1, 999_999)?;
-    let receipt = read_number(body, 9, 2, approved, 0, 9_999)?;
-    let amount = read_number(body, 11, 6, approved, 1, 999_999_999_999)?;
+    let slot = slot_at(body, OUTCOME_SLOT);
+    let number = read_number(
+        body,
+        OUTCOME_NUMBER,
+        TRACE_SIZE,
+        approved,
+        1,
+        GREATEST_TRACE as u64,
+    )?;
+    let receipt = read_number(
+        body,
+        OUTCOME_RECEIPT,
+        RECEIPT_SIZE,
+        approved,
+        0,
+        GREATEST_RECEIPT as u64,
+    )?;
+    let amount = read_number(
+        body,
+        OUTCOME_AMOUNT,
+        AMOUNT_SIZE,
+        approved,
+        1,
+        GREATEST_AMOUNT,
+    )?;
     let condition = read_condition(body, approved)?;
-    let moment = read_moment(body, 18)?;
-    read_zeros(body, 26, 229)?;
+    let moment = read_moment(body, OUTCOME_MOMENT)?;
+    read_zeros(body, OUTCOME_UNUSED, BODY_SIZE - OUTCOME_UNUSED)?;
     Ok(Outcome {
         approved,
         slot,
@@ -91,12 +126,12 @@ fn read_settled(body: &[u8; 255]) -> Result<Settled, RecordFault>
         (λ fault. IsFirstRecordFault settled_table body.now fault.at) }
 {
     let how = read_how(body)?;
-    let sale = read_text(body, 2)?;
-    let poi = read_text(body, 43)?;
-    let service = read_text(body, 84)?;
-    let currency = read_currency(body, 95)?;
-    let moment = read_moment(body, 97)?;
-    read_zeros(body, 105, 150)?;
+    let sale = read_text(body, SALE)?;
+    let poi = read_text(body, POI)?;
+    let service = read_text(body, SERVICE)?;
+    let currency = read_currency(body, SETTLED_CURRENCY)?;
+    let moment = read_moment(body, SETTLED_MOMENT)?;
+    read_zeros(body, SETTLED_UNUSED, BODY_SIZE - SETTLED_UNUSED)?;
     Ok(Settled {
         how,
         sale,

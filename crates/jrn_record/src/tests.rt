@@ -52,8 +52,8 @@ const SETTLED: [(usize, &[u8]); 6] = [
 /// Bytes at their offsets in a body of zeros.
 fn body(parts: &[(usize, &[u8])]) -> [u8; 255] {
     let mut body = [0; 255];
-    for (at, bytes) in parts {
-        for (cell, byte) in body.iter_mut().skip(*at).zip(bytes.iter()) {
+    for (offset, bytes) in parts {
+        for (cell, byte) in body.iter_mut().skip(*offset).zip(bytes.iter()) {
             *cell = *byte;
         }
     }
@@ -61,10 +61,10 @@ fn body(parts: &[(usize, &[u8])]) -> [u8; 255] {
 }
 
 /// The body with one other byte.
-fn changed(body: &[u8; 255], at: usize, byte: u8) -> [u8; 255] {
+fn changed(body: &[u8; 255], offset: usize, byte: u8) -> [u8; 255] {
     let mut changed = *body;
-    if at < 255 {
-        changed[at] = byte;
+    if offset < 255 {
+        changed[offset] = byte;
     }
     changed
 }
@@ -132,9 +132,9 @@ fn bodies(rt: HostRuntime) -> Result<(), Fail> {
         (body(&DECLINED), Record::Outcome(declined)),
         (body(&SETTLED), Record::Settled(settled)),
     ];
-    for (bytes, item) in rows {
-        assert_eq!(rt; to_body(&item).as_slice(), bytes.as_slice());
-        assert_eq!(rt; from_body(&bytes), Ok(item));
+    for (bytes, record) in rows {
+        assert_eq!(rt; to_body(&record).as_slice(), bytes.as_slice());
+        assert_eq!(rt; from_body(&bytes), Ok(record));
     }
     Ok(())
 }
@@ -184,10 +184,10 @@ fn faults(rt: HostRuntime) {
         (&settled, 97, 0xFF, 97),
         (&settled, 105, 1, 105),
     ];
-    for (bytes, offset, byte, at) in rows {
+    for (bytes, changed_at, byte, reported) in rows {
         assert_eq!(rt;
-            from_body(&changed(bytes, offset, byte)),
-            Err(RecordFault { at })
+            from_body(&changed(bytes, changed_at, byte)),
+            Err(RecordFault { at: reported })
         );
     }
 }

@@ -8,12 +8,16 @@ ghost use Rattle.gw_base.specs.Moment.{IsMoment};
 ghost use Rattle.jrn_record.specs.Limits.{IsIntent, IsOutcome, IsRecord, IsSettled};
 ghost use Rattle.jrn_record.specs.Grammar.{record_body, condition_code, deal_code, how_code, intent_fields, joined, moment_field, option_field, original_code, outcome_fields, settled_fields, text_field};
 
+use crate::layout::{
+    AMOUNT_SIZE, BODY_SIZE, CURRENCY_SIZE, INTENT_UNUSED, OUTCOME_UNUSED, PARTY_SIZE, RECEIPT_SIZE,
+    SERVICE_SIZE, SETTLED_UNUSED, STAMP_SIZE, TRACE_SIZE, TRANSACTION_SIZE,
+};
 use crate::{Deal, How, Intent, Outcome, Record, Settled};
 use arrayvec::ArrayVec;
 use gw_base::{Condition, Currency, Ident, bcd_write};
 
-/// A body as far as it is written.
-type Draft = ArrayVec<u8, 255>;
+/// A body as far as it is written. Fields are appended in their order, so that writing counts no offsets.
+type Draft = ArrayVec<u8, BODY_SIZE>;
 
 /// Appends bytes to a draft.
 fn put(draft: &mut Draft, bytes: &[u8])
@@ -75,10 +79,10 @@ fn put_currency(draft: &mut Draft, currency: Currency)
     requires { array_vec_len draft.old + 2 ≤ 255 }
     ensures { draft.new.items ≡ draft.old.items ++ bcd_of 2 (currency_number currency) }
 {
-    put_bcd(draft, u64::from(currency.number()), 2);
+    put_bcd(draft, u64::from(currency.number()), CURRENCY_SIZE);
 }
 
-/// Appends the slot of an original, or the greatest number where there is none.
+/// Appends the slot of an original, or the greatest number where there is none, since 0 is a slot.
 fn put_original(draft: &mut Draft, original: Option<u32>)
     requires { array_vec_len draft.old + 4 ≤ 255 }
     ensures { draft.new.items ≡ draft.old.items ++ to_be_bytes w32 (original_code original) }
@@ -101,9 +105,9 @@ fn put_key(draft: &mut Draft, sale: &Ident<40>, poi: &Ident<40>, service: &Ident
     ensures { draft.new.items ≡ draft.old.items
         ++ (text_field 41 sale.now ++ (text_field 41 poi.now ++ text_field 11 service.now)) }
 {
-    put_text(draft, sale.as_bytes(), 41);
-    put_text(draft, poi.as_bytes(), 41);
-    put_text(draft, service.as_bytes(), 11);
+    put_text(draft, sale.as_bytes(), PARTY_SIZE);
+    put_text(draft, poi.as_bytes(), PARTY_SIZE);
+    put_text(draft, service.as_bytes(), SERVICE_SIZE);
 }
 
 /// Writes an Intent.
@@ -114,14 +118,14 @@ fn put_intent(draft: &mut Draft, intent: &Intent)
 {
     put(draft, &[1, deal_byte(intent.what)]);
     put_key(draft, &intent.sale, &intent.poi, &intent.service);
-    put_option(draft, &intent.transaction, 81);
-    put_option(draft, &intent.stamp, 36);
-    put_bcd(draft, intent.amount, 6);
+    put_option(draft, &intent.transaction, TRANSACTION_SIZE);
+    put_option(draft, &intent.stamp, STAMP_SIZE);
+    put_bcd(draft, intent.amount, AMOUNT_SIZE);
     put_currency(draft, intent.currency);
-    put_bcd(draft, u64::from(intent.before), 3);
+    put_bcd(draft, u64::from(intent.before), TRACE_SIZE);
     put_original(draft, intent.original);
     put_moment(draft, intent.moment);
-    put_zeros(draft, 20);
+    put_zeros(draft, BODY_SIZE - INTENT_UNUSED);
 }
 
 /// Writes an Outcome.
@@ -132,12 +136,12 @@ fn put_outcome(draft: &mut Draft, outcome: &Outcome)
 {
     put(draft, &[2, if outcome.approved { 1 } else { 2 }]);
     put(draft, &outcome.slot.to_be_bytes());
-    put_bcd(draft, u64::from(outcome.number), 3);
-    put_bcd(draft, u64::from(outcome.receipt), 2);
-    put_bcd(draft, outcome.amount, 6);
+    put_bcd(draft, u64::from(outcome.number), TRACE_SIZE);
+    put_bcd(draft, u64::from(outcome.receipt), RECEIPT_SIZE);
+    put_bcd(draft, outcome.amount, AMOUNT_SIZE);
     put(draft, &[condition_byte(outcome.condition)]);
     put_moment(draft, outcome.moment);
-    put_zeros(draft, 229);
+    put_zeros(draft, BODY_SIZE - OUTCOME_UNUSED);
 }
 
 /// Writes a Settled.
@@ -150,7 +154,7 @@ fn put_settled(draft: &mut Draft, settled: &Settled)
     put_key(draft, &settled.sale, &settled.poi, &settled.service);
     put_currency(draft, settled.currency);
     put_moment(draft, settled.moment);
-    put_zeros(draft, 150);
+    put_zeros(draft, BODY_SIZE - SETTLED_UNUSED);
 }
 
 fn deal_byte(what: Deal) -> u8
@@ -187,12 +191,12 @@ fn condition_byte(condition: Option<Condition>) -> u8
 }
 
 /// The body of a record, whose fields lie within their limits.
-pub fn to_body(item: &Record) -> [u8; 255]
-    requires { IsRecord item.now }
-    ensures { result ≡ record_body item.now }
+pub fn to_body(the_record: &Record) -> [u8; 255]
+    requires { IsRecord the_record.now }
+    ensures { result ≡ record_body the_record.now }
 {
     let mut draft = Draft::new();
-    match item {
+    match the_record {
         Record::Intent(intent) => put_intent(&mut draft, intent),
         Record::Outcome(outcome) => put_outcome(&mut draft, outcome),
         Record::Settled(settled) => put_settled(&mut draft, settled),

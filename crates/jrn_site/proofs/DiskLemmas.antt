@@ -26,12 +26,12 @@ dark_grows old new Call turns call d l o = record {
 after : (log new : List Turn) (turn : Turn) → new ≡ log ++ turn ∷ [] → outside_of new ≡ outside_after (outside_of log) turn
 after log new turn e = ap (λ turns. outside_of turns) e ∙ outside_of_more log turn
 
-pub file_wrote : (log new : List Turn) (old file bytes copy : List ℕ) (at : ℕ) → new ≡ log ++ Wrote at copy ∷ [] → old ≡ (outside_of log).file → copy ≡ bytes → file ≡ overwrite old at bytes → file ≡ (outside_of new).file
-file_wrote log new old file bytes copy at e o c f =
-    f ∙ ap (λ before. overwrite before at bytes) o ∙ ap (λ bs. overwrite (outside_of log).file at bs) (sym c) ∙ sym (ap (λ outside. outside.file) (after log new (Wrote at copy) e))
+pub file_wrote : (log new : List Turn) (old file bytes copy : List ℕ) (offset : ℕ) → new ≡ log ++ Wrote offset copy ∷ [] → old ≡ (outside_of log).file → copy ≡ bytes → file ≡ overwrite old offset bytes → file ≡ (outside_of new).file
+file_wrote log new old file bytes copy offset e o c f =
+    f ∙ ap (λ before. overwrite before offset bytes) o ∙ ap (λ bs. overwrite (outside_of log).file offset bs) (sym c) ∙ sym (ap (λ outside. outside.file) (after log new (Wrote offset copy) e))
 
-pub stable_wrote : (log new : List Turn) (stable copy : List ℕ) (at : ℕ) → new ≡ log ++ Wrote at copy ∷ [] → stable ≡ (outside_of log).stable → stable ≡ (outside_of new).stable
-stable_wrote log new stable copy at e s = s ∙ sym (ap (λ outside. outside.stable) (after log new (Wrote at copy) e))
+pub stable_wrote : (log new : List Turn) (stable copy : List ℕ) (offset : ℕ) → new ≡ log ++ Wrote offset copy ∷ [] → stable ≡ (outside_of log).stable → stable ≡ (outside_of new).stable
+stable_wrote log new stable copy offset e s = s ∙ sym (ap (λ outside. outside.stable) (after log new (Wrote offset copy) e))
 
 pub file_synced : (log new : List Turn) (file : List ℕ) → new ≡ log ++ Synced ∷ [] → file ≡ (outside_of log).file → file ≡ (outside_of new).file
 file_synced log new file e f = f ∙ sym (ap (λ outside. outside.file) (after log new Synced e))

@@ -12,13 +12,13 @@ junked_length : (junk : ℕ) (ranges : List Range) (offset : ℕ) (bytes : List 
 junked_length junk ranges offset [] = refl
 junked_length junk ranges offset (byte ∷ bytes) = ap (λ n. suc n) (junked_length junk ranges (offset + 1) bytes)
 
-junked_get : (junk : ℕ) (ranges : List Range) (from i : ℕ) (bytes : List ℕ) → i < length bytes
-    → get_or (junked_from junk ranges from bytes) i 0 ≡ (if is_covered ranges (from + i) then junk else get_or bytes i 0)
-junked_get junk ranges from i [] lt = absurd (omega arith)
-junked_get junk ranges from zero (byte ∷ bytes) lt = let e : from + 0 ≡ from = omega arith in rw e refl
-junked_get junk ranges from (suc i) (byte ∷ bytes) lt =
-    let e : from + suc i ≡ (from + 1) + i = omega arith in
-    rw e (junked_get junk ranges (from + 1) i bytes (omega arith))
+junked_get : (junk : ℕ) (ranges : List Range) (start i : ℕ) (bytes : List ℕ) → i < length bytes
+    → get_or (junked_from junk ranges start bytes) i 0 ≡ (if is_covered ranges (start + i) then junk else get_or bytes i 0)
+junked_get junk ranges start i [] lt = absurd (omega arith)
+junked_get junk ranges start zero (byte ∷ bytes) lt = let e : start + 0 ≡ start = omega arith in rw e refl
+junked_get junk ranges start (suc i) (byte ∷ bytes) lt =
+    let e : start + suc i ≡ (start + 1) + i = omega arith in
+    rw e (junked_get junk ranges (start + 1) i bytes (omega arith))
 
 junked_at : (junk : ℕ) (ranges : List Range) (i : ℕ) (bytes : List ℕ) → i < length bytes
     → get_or (junked_from junk ranges 0 bytes) i 0 ≡ (if is_covered ranges i then junk else get_or bytes i 0)

@@ -8,9 +8,10 @@ ghost use Rattle.gw_site.specs.declared.turn.Turn.{Turn as ATurn};
 ghost use Rattle.gw_site.specs.declared.turn.Turn.TheVariants.{Crash, Synced, Wrote};
 ghost use Rattle.jrn_site.specs.ImageKind.{image_file};
 
-use crate::disk::{overwritten, put_junk, read_part};
+use crate::disk::{overwritten, put_junk};
 use gw_base::{Bytes, Setup};
 use gw_site::{Failed, Polled, Site, Turn, What};
+use jrn_log::read_part;
 use std::alloc::{AllocError, Global};
 
 /// What a power failure leaves.
@@ -122,20 +123,20 @@ impl DiskSite {
     }
 
     /// Writes, where there is memory.
-    fn wrote(&mut self, pos: u64, bytes: &[u8]) -> bool
-        ensures wrote { result ≡ true → self.new.log.items ≡ self.old.log.items ++ Wrote pos bytes.now ∷ [] }
+    fn wrote(&mut self, offset: u64, bytes: &[u8]) -> bool
+        ensures wrote { result ≡ true → self.new.log.items ≡ self.old.log.items ++ Wrote offset bytes.now ∷ [] }
         ensures same { result ≡ false → self.new.log.items ≡ self.old.log.items }
         ensures faults { self.new.faults ≡ self.old.faults }
         ensures dark { self.new.dark ≡ self.old.dark }
         ensures calls { self.new.calls ≡ self.old.calls }
     {
-        let Ok(file) = overwritten(self.alloc, &self.file, pos as usize, bytes) else {
+        let Ok(file) = overwritten(self.alloc, &self.file, offset as usize, bytes) else {
             return false;
         };
         let Ok(bytes) = Bytes::copied(self.alloc, bytes) else {
             return false;
         };
-        if !grown(&mut self.log, Turn::Wrote { pos, bytes }) {
+        if !grown(&mut self.log, Turn::Wrote { pos: offset, bytes }) {
             return false;
         }
         self.file = file;

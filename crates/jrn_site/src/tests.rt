@@ -26,8 +26,8 @@ fn keep(site: &mut DiskSite, journal: &mut Journal, body: &[u8; 255]) -> Result<
 /// How many bodies a site's file has, of which the first two are these.
 fn count_bodies(alloc: Global, site: &mut DiskSite) -> Result<usize, Fail> {
     let (_, bodies) = Journal::open(alloc, site, 3)?;
-    for (at, body) in bodies.as_slice().iter().enumerate() {
-        let expected = if at == 0 { &FIRST } else { &SECOND };
+    for (index, body) in bodies.as_slice().iter().enumerate() {
+        let expected = if index == 0 { &FIRST } else { &SECOND };
         if body.as_slice() != expected.as_slice() {
             return Err(Fail::from("another body"));
         }
@@ -126,26 +126,35 @@ fn every_stop_leaves_the_old_bodies_or_the_new(rt: HostRuntime) -> Result<(), Fa
 
 #[test]
 fn a_first_opening_reads_nothing(rt: HostRuntime) -> Result<(), Fail> {
-    // After how many calls the power fails, whether the journal was opened, and the turns that were added. The calls
-    // are a sync, the length, the write of the first gate and a sync: no read, and no length before the sync.
-    let rows = [
-        (0, false, 0),
-        (1, false, 1),
-        (2, false, 1),
-        (3, false, 2),
-        (4, true, 3),
+    // The file, after how many calls every further one fails, whether the journal was opened, and the turns that were
+    // added. With at most one byte the calls are a sync, the length, the write of the first gate and a sync: no read, and
+    // no length before the sync. With two bytes they are a sync, the length and a read.
+    let rows: [(&[u8], u64, bool, usize); 14] = [
+        (b"", 0, false, 0),
+        (b"", 1, false, 1),
+        (b"", 2, false, 1),
+        (b"", 3, false, 2),
+        (b"", 4, true, 3),
+        (b"\xA5", 0, false, 0),
+        (b"\xA5", 1, false, 1),
+        (b"\xA5", 2, false, 1),
+        (b"\xA5", 3, false, 2),
+        (b"\xA5", 4, true, 3),
+        (b"\x00\x00", 0, false, 0),
+        (b"\x00\x00", 1, false, 1),
+        (b"\x00\x00", 2, false, 1),
+        (b"\x00\x00", 3, true, 1),
     ];
-    for file in [b"".as_slice(), b"\xA5".as_slice()] {
-        for (calls, opened, turns) in rows {
-            let mut site = DiskSite::holding(rt.alloc(), file)?;
-            site.stop_after(calls);
-            let is_opened = Journal::open(rt.alloc(), &mut site, 3).is_ok();
-            assert_eq!(rt;
-                (is_opened, site.log().len()),
-                (opened, turns + 1),
-                "{calls} calls"
-            );
-        }
+    for (file, calls, opened, turns) in rows {
+        let mut site = DiskSite::holding(rt.alloc(), file)?;
+        site.stop_after(calls);
+        let is_opened = Journal::open(rt.alloc(), &mut site, 3).is_ok();
+        assert_eq!(rt;
+            (is_opened, site.log().len()),
+            (opened, turns + 1),
+            "{} bytes, {calls} calls",
+            file.len()
+        );
     }
     Ok(())
 }
@@ -177,8 +186,8 @@ fn files_that_others_wrote(rt: HostRuntime) -> Result<(), Fail> {
         (0xA5, 512, 0xA5, Err(OpenFault::Cut { slot: 2 })),
     ];
     for (byte, size, last, expected) in rows {
-        let answer = opened(rt.alloc(), byte, size, last)?;
-        assert_eq!(rt; answer, expected, "{size} bytes");
+        let result = opened(rt.alloc(), byte, size, last)?;
+        assert_eq!(rt; result, expected, "{size} bytes");
     }
     Ok(())
 }

@@ -257,8 +257,8 @@ escape_dead x e ne w c h = dead (escaped_by c x w h)
 -- ---- hexadecimal digits
 
 pub record HexRange (x v : ℕ) : Type 0 where
-  pub from : 48 ≤ x
-  pub to : x ≤ 102
+  pub least : 48 ≤ x
+  pub most : x ≤ 102
   pub no_backslash : x ≢ 92
   pub small : v < 16
 
@@ -270,9 +270,9 @@ hex_range x v e = range (is_in_range 48 57 x) (is_in_range 97 102 x) (is_in_rang
   where
     range : (a b c : Bool) → is_in_range 48 57 x ≡ a → is_in_range 97 102 x ≡ b → is_in_range 65 70 x ≡ c
         → cond a (Some (x - 48)) (cond b (Some (x - 87)) (cond c (Some (x - 55)) None)) ≡ Some v → HexRange x v
-    range true b c i j k e = let r = in_range 48 57 x i in let is = some_is _ _ e in record { from = r.0; to = omega arith; no_backslash = omega arith; small = omega arith }
-    range false true c i j k e = let r = in_range 97 102 x j in let is = some_is _ _ e in record { from = omega arith; to = r.1; no_backslash = omega arith; small = omega arith }
-    range false false true i j k e = let r = in_range 65 70 x k in let is = some_is _ _ e in record { from = omega arith; to = omega arith; no_backslash = omega arith; small = omega arith }
+    range true b c i j k e = let r = in_range 48 57 x i in let is = some_is _ _ e in record { least = r.0; most = omega arith; no_backslash = omega arith; small = omega arith }
+    range false true c i j k e = let r = in_range 97 102 x j in let is = some_is _ _ e in record { least = omega arith; most = r.1; no_backslash = omega arith; small = omega arith }
+    range false false true i j k e = let r = in_range 65 70 x k in let is = some_is _ _ e in record { least = omega arith; most = omega arith; no_backslash = omega arith; small = omega arith }
     range false false false i j k e = absurd (none_is v e)
 
 same_hex : (x v u : ℕ) → hex_value x ≡ Some v → hex_value x ≡ Some u → v ≡ u

@@ -49,30 +49,30 @@ limited n = record { limit = n; distinct = true }
 abbrev lax : Rules
 lax = record { limit = 32; distinct = false }
 
-none_after : (b : List ℕ) (at : ℕ) → (BeginsText (take (at + 1) b) → ⊥) → (v : Tree) → Spells v b → ⊥
-none_after b at dead v h = dead (v, drop (at + 1) b, subst (λ (t : List ℕ). SpellsBy profile v t) (sym (take-append-drop (at + 1) b)) h)
+none_after : (b : List ℕ) (offset : ℕ) → (BeginsText (take (offset + 1) b) → ⊥) → (v : Tree) → Spells v b → ⊥
+none_after b offset dead v h = dead (v, drop (offset + 1) b, subst (λ (t : List ℕ). SpellsBy profile v t) (sym (take-append-drop (offset + 1) b)) h)
 
 -- the byte at the offset, and the bytes before it
-pub record IsAt (b : List ℕ) (at c : ℕ) : Type 0 where
-  pub within : at < length b
-  pub byte : c ≡ get_or b at 0
-  pub taken : take (at + 1) b ≡ take at b ++ c ∷ []
+pub record IsAt (b : List ℕ) (offset c : ℕ) : Type 0 where
+  pub within : offset < length b
+  pub byte : c ≡ get_or b offset 0
+  pub taken : take (offset + 1) b ≡ take offset b ++ c ∷ []
 
-pub at_byte : (b : List ℕ) (at c : ℕ) → at < length b → c ≡ get_or b at 0 → IsAt b at c
-at_byte b at c lt e = record { within = lt; byte = e; taken = rw e (take_more b at 0 lt) }
+pub at_byte : (b : List ℕ) (offset c : ℕ) → offset < length b → c ≡ get_or b offset 0 → IsAt b offset c
+at_byte b offset c lt e = record { within = lt; byte = e; taken = rw e (take_more b offset 0 lt) }
 
-more_begins : (R : Rules) (b : List ℕ) (at c : ℕ) (p : ReaderState) (st : List Level) → IsAt b at c → Follows R (take at b) p st → IsAlive R p st c → BeginsTextBy R (take (at + 1) b)
-more_begins R b at c p st i f l = subst (λ (t : List ℕ). BeginsTextBy R t) (sym i.taken) (begins_more R (take at b) p st c f l)
+more_begins : (R : Rules) (b : List ℕ) (offset c : ℕ) (p : ReaderState) (st : List Level) → IsAt b offset c → Follows R (take offset b) p st → IsAlive R p st c → BeginsTextBy R (take (offset + 1) b)
+more_begins R b offset c p st i f l = subst (λ (t : List ℕ). BeginsTextBy R t) (sym i.taken) (begins_more R (take offset b) p st c f l)
 
-more_dead : (R : Rules) (b : List ℕ) (at c : ℕ) (p : ReaderState) (st : List Level) → IsAt b at c → Follows R (take at b) p st → IsDead R p st c → BeginsTextBy R (take (at + 1) b) → ⊥
-more_dead R b at c p st i f dead g = dead_end R (take at b) p st c f dead (subst (λ (t : List ℕ). BeginsTextBy R t) i.taken g)
+more_dead : (R : Rules) (b : List ℕ) (offset c : ℕ) (p : ReaderState) (st : List Level) → IsAt b offset c → Follows R (take offset b) p st → IsDead R p st c → BeginsTextBy R (take (offset + 1) b) → ⊥
+more_dead R b offset c p st i f dead g = dead_end R (take offset b) p st c f dead (subst (λ (t : List ℕ). BeginsTextBy R t) i.taken g)
 
 -- what the scan says of the byte at the offset
-utf8_at : (b : List ℕ) (at c : ℕ) (p : ReaderState) → IsAt b at c → scan (take at b) ≡ scan_of p → BreaksUtf8 b at → IsBadUtf8 (scan_of p) c
-utf8_at b at c p i s h = subst (λ (x : ℕ). IsBadUtf8 (scan_of p) x) (sym i.byte) (subst (λ (x : Scan). IsBadUtf8 x (get_or b at 0)) s h.1)
+utf8_at : (b : List ℕ) (offset c : ℕ) (p : ReaderState) → IsAt b offset c → scan (take offset b) ≡ scan_of p → BreaksUtf8 b offset → IsBadUtf8 (scan_of p) c
+utf8_at b offset c p i s h = subst (λ (x : ℕ). IsBadUtf8 (scan_of p) x) (sym i.byte) (subst (λ (x : Scan). IsBadUtf8 x (get_or b offset 0)) s h.1)
 
-utf8_there : (b : List ℕ) (at c : ℕ) (p : ReaderState) → IsAt b at c → scan (take at b) ≡ scan_of p → IsBadUtf8 (scan_of p) c → BreaksUtf8 b at
-utf8_there b at c p i s h = (i.within, subst (λ (x : Scan). IsBadUtf8 x (get_or b at 0)) (sym s) (subst (λ (x : ℕ). IsBadUtf8 (scan_of p) x) i.byte h))
+utf8_there : (b : List ℕ) (offset c : ℕ) (p : ReaderState) → IsAt b offset c → scan (take offset b) ≡ scan_of p → IsBadUtf8 (scan_of p) c → BreaksUtf8 b offset
+utf8_there b offset c p i s h = (i.within, subst (λ (x : Scan). IsBadUtf8 x (get_or b offset 0)) (sym s) (subst (λ (x : ℕ). IsBadUtf8 (scan_of p) x) i.byte h))
 
 not_bad : (s : Scan) (c : ℕ) → s ≡ outside → IsBadUtf8 s c → ⊥
 not_bad s c e h = subst (λ (x : Scan). IsBadUtf8 x c) e h
@@ -80,51 +80,51 @@ not_bad s c e h = subst (λ (x : Scan). IsBadUtf8 x c) e h
 quote_not_bad : (s : Scan) (c : ℕ) → s ≡ inside → c ≡ 34 → IsBadUtf8 s c → ⊥
 quote_not_bad s c e q h = let le : 128 ≤ c = subst (λ (x : Scan). IsBadUtf8 x c) e h in omega arith
 
-pub fault : (b : List ℕ) (at c : ℕ) (p : ReaderState) (st : List Level) (kind : FaultKind) → IsAt b at c → IsRead (take at b) p st → FailsAt p st c kind → IsJsonFault b at kind
-fault b at c p st kinds.NotJson i r f =
-    let stuck = more_dead profile b at c p st i (r.follows profile (omega arith)) (f.dead profile) in
+pub fault : (b : List ℕ) (offset c : ℕ) (p : ReaderState) (st : List Level) (kind : FaultKind) → IsAt b offset c → IsRead (take offset b) p st → FailsAt p st c kind → IsJsonFault b offset kind
+fault b offset c p st kinds.NotJson i r f =
+    let stuck = more_dead profile b offset c p st i (r.follows profile (omega arith)) (f.dead profile) in
     record {
       within = omega (arith, i.within);
-      begins = begins profile (take at b) p st (r.follows profile (omega arith)) (r.live profile);
+      begins = begins profile (take offset b) p st (r.follows profile (omega arith)) (r.live profile);
       longest = λ _ g. stuck g;
-      spelled_by_none = none_after b at stuck;
-      too_deep = (λ e. absurd cc, λ g. absurd (more_dead (limited g.1.0) b at c p st i (r.follows (limited g.1.0) g.1.1) (f.dead (limited g.1.0)) g.1.2));
-      repeated = (λ e. absurd cc, λ g. absurd (more_dead lax b at c p st i (r.follows lax (omega arith)) (f.dead lax) g.1));
-      bad_utf8 = (λ e. absurd cc, λ g. absurd (f.utf8 (utf8_at b at c p i r.scans g)));
+      spelled_by_none = none_after b offset stuck;
+      too_deep = (λ e. absurd cc, λ g. absurd (more_dead (limited g.1.0) b offset c p st i (r.follows (limited g.1.0) g.1.1) (f.dead (limited g.1.0)) g.1.2));
+      repeated = (λ e. absurd cc, λ g. absurd (more_dead lax b offset c p st i (r.follows lax (omega arith)) (f.dead lax) g.1));
+      bad_utf8 = (λ e. absurd cc, λ g. absurd (f.utf8 (utf8_at b offset c p i r.scans g)));
     }
-fault b at c p st kinds.BadUtf8 i r f =
-    let stuck = more_dead profile b at c p st i (r.follows profile (omega arith)) (f.dead profile) in
+fault b offset c p st kinds.BadUtf8 i r f =
+    let stuck = more_dead profile b offset c p st i (r.follows profile (omega arith)) (f.dead profile) in
     record {
       within = omega (arith, i.within);
-      begins = begins profile (take at b) p st (r.follows profile (omega arith)) (r.live profile);
+      begins = begins profile (take offset b) p st (r.follows profile (omega arith)) (r.live profile);
       longest = λ _ g. stuck g;
-      spelled_by_none = none_after b at stuck;
-      too_deep = (λ e. absurd cc, λ g. absurd (more_dead (limited g.1.0) b at c p st i (r.follows (limited g.1.0) g.1.1) (f.dead (limited g.1.0)) g.1.2));
-      repeated = (λ e. absurd cc, λ g. absurd (more_dead lax b at c p st i (r.follows lax (omega arith)) (f.dead lax) g.1));
-      bad_utf8 = (λ e. utf8_there b at c p i r.scans f.utf8, λ g. refl);
+      spelled_by_none = none_after b offset stuck;
+      too_deep = (λ e. absurd cc, λ g. absurd (more_dead (limited g.1.0) b offset c p st i (r.follows (limited g.1.0) g.1.1) (f.dead (limited g.1.0)) g.1.2));
+      repeated = (λ e. absurd cc, λ g. absurd (more_dead lax b offset c p st i (r.follows lax (omega arith)) (f.dead lax) g.1));
+      bad_utf8 = (λ e. utf8_there b offset c p i r.scans f.utf8, λ g. refl);
     }
-fault b at c p st kinds.TooDeep i r f =
-    let stuck = more_dead profile b at c p st i (r.follows profile (omega arith)) (f.dead profile (omega arith)) in
+fault b offset c p st kinds.TooDeep i r f =
+    let stuck = more_dead profile b offset c p st i (r.follows profile (omega arith)) (f.dead profile (omega arith)) in
     let more = limited (32 + suc f.enough) in
     record {
       within = omega (arith, i.within);
-      begins = begins profile (take at b) p st (r.follows profile (omega arith)) (r.live profile);
+      begins = begins profile (take offset b) p st (r.follows profile (omega arith)) (r.live profile);
       longest = λ _ g. stuck g;
-      spelled_by_none = none_after b at stuck;
-      too_deep = (λ e. (i.within, (32 + suc f.enough, omega arith, more_begins more b at c p st i (r.follows more (omega arith)) (f.alive more (omega arith)))), λ g. refl);
-      repeated = (λ e. absurd cc, λ g. absurd (more_dead lax b at c p st i (r.follows lax (omega arith)) (f.dead lax (omega arith)) g.1));
-      bad_utf8 = (λ e. absurd cc, λ g. absurd (not_bad (scan_of p) c f.scans (utf8_at b at c p i r.scans g)));
+      spelled_by_none = none_after b offset stuck;
+      too_deep = (λ e. (i.within, (32 + suc f.enough, omega arith, more_begins more b offset c p st i (r.follows more (omega arith)) (f.alive more (omega arith)))), λ g. refl);
+      repeated = (λ e. absurd cc, λ g. absurd (more_dead lax b offset c p st i (r.follows lax (omega arith)) (f.dead lax (omega arith)) g.1));
+      bad_utf8 = (λ e. absurd cc, λ g. absurd (not_bad (scan_of p) c f.scans (utf8_at b offset c p i r.scans g)));
     }
-fault b at c p st kinds.Repeated i r f =
-    let stuck = more_dead profile b at c p st i (r.follows profile (omega arith)) (f.dead profile refl) in
+fault b offset c p st kinds.Repeated i r f =
+    let stuck = more_dead profile b offset c p st i (r.follows profile (omega arith)) (f.dead profile refl) in
     record {
       within = omega (arith, i.within);
-      begins = begins profile (take at b) p st (r.follows profile (omega arith)) (r.live profile);
+      begins = begins profile (take offset b) p st (r.follows profile (omega arith)) (r.live profile);
       longest = λ _ g. stuck g;
-      spelled_by_none = none_after b at stuck;
-      too_deep = (λ e. absurd cc, λ g. absurd (more_dead (limited g.1.0) b at c p st i (r.follows (limited g.1.0) g.1.1) (f.dead (limited g.1.0) refl) g.1.2));
-      repeated = (λ e. (i.within, more_begins lax b at c p st i (r.follows lax (omega arith)) (f.alive lax refl)), λ g. refl);
-      bad_utf8 = (λ e. absurd cc, λ g. absurd (quote_not_bad (scan_of p) c f.scans f.quote (utf8_at b at c p i r.scans g)));
+      spelled_by_none = none_after b offset stuck;
+      too_deep = (λ e. absurd cc, λ g. absurd (more_dead (limited g.1.0) b offset c p st i (r.follows (limited g.1.0) g.1.1) (f.dead (limited g.1.0) refl) g.1.2));
+      repeated = (λ e. (i.within, more_begins lax b offset c p st i (r.follows lax (omega arith)) (f.alive lax refl)), λ g. refl);
+      bad_utf8 = (λ e. absurd cc, λ g. absurd (quote_not_bad (scan_of p) c f.scans f.quote (utf8_at b offset c p i r.scans g)));
     }
 
 -- the bytes end in the middle

@@ -23,7 +23,7 @@ use Rattle.json_text.specs.declared.fault.StepError.{StepError}
 use Rattle.json_text.specs.declared.fault.StepError.TheVariants as step_errors
 use Rattle.json_text.specs.declared.fault.FaultKind.TheVariants as kinds
 use Rattle.json_text.proofs.NameLemmas.{are_new}
-use Rattle.json_text.proofs.LiveLemmas.{AreSound, IsRoleSound, IsLive, value_live, first_item_live, first_name_live, name_live, colon_live, after_live, literal_live, number_live, text_live, character_live}
+use Rattle.json_text.proofs.LiveLemmas.{AreSound, IsRoleSound, IsLive, value_live, first_element_live, first_name_live, name_live, colon_live, after_live, literal_live, number_live, text_live, character_live}
 
 -- ---- names
 
@@ -76,12 +76,12 @@ role_sound (targets.Name f) = fields_distinct f
 
 pub mode_live : (R : Rules) (m : Mode) (fs : List OpenLevel) → IsWithin m → IsLive R (reader_state m) (levels fs)
 mode_live R modes.Value fs w = value_live R (levels fs) (levels_sound fs)
-mode_live R modes.FirstItem fs w = first_item_live R (levels fs) (levels_sound fs)
+mode_live R modes.FirstElement fs w = first_element_live R (levels fs) (levels_sound fs)
 mode_live R modes.FirstName fs w = first_name_live R (levels fs) (levels_sound fs)
 mode_live R (modes.Name f) fs w = name_live R (levels fs) (pairs f.members.items) (levels_sound fs) (fields_distinct f)
 mode_live R (modes.Colon n) fs w = colon_live R (levels fs) (pairs n.members.items) n.name (levels_sound fs) (named_distinct n)
 mode_live R (modes.After x) fs w = after_live R (levels fs) (value_of x) (levels_sound fs)
-mode_live R (modes.Literal at read) fs w = literal_live R _ _ (levels fs) (levels_sound fs)
+mode_live R (modes.Literal wanted read) fs w = literal_live R _ _ (levels fs) (levels_sound fs)
 mode_live R (modes.Number text p) fs w = number_live R (string_bytes text) p (levels fs) (levels_sound fs)
 mode_live R (modes.Str t text) fs w = text_live R (levels fs) (role_of t) (string_bytes text) (levels_sound fs) (role_sound t)
 mode_live R (modes.Character t text s) fs w = character_live R (levels fs) (role_of t) (string_bytes text) s (levels_sound fs) (role_sound t) w

@@ -3,6 +3,7 @@ pub mod CanonicalLemmas
 pub mod CharacterLemmas
 pub mod EndLemmas
 pub mod FollowLemmas
+pub mod GrowthLemmas
 pub mod LevelLemmas
 pub mod ListLemmas
 pub mod LiveLemmas

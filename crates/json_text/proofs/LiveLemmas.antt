@@ -9,8 +9,8 @@ use Rattle.json_text.specs.ValueOf.{items_onto, members_onto}
 use Rattle.json_text.specs.MemberNames.{pair_names}
 use Rattle.json_text.specs.Character.{unescaped, short, AreCharacters, AreHex, IsUnit, IsLow, of_pair}
 use Rattle.json_text.specs.Grammar.{Rules, Allows, AreDistinct, IsNew}
-use Rattle.json_text.specs.inner.CharacterLeft.{Completes, LeftOfCharacter as CharacterLeft, AfterUnit, InFirst, InSecond, IsSecond, IsSound, Bounds, Utf8Bounds, FirstBounds, SecondBounds}
-use Rattle.json_text.specs.inner.ReaderStates.{Level, in_list, in_object, IsStringRest, Role, as_value, as_name, ReaderState, value, first_item, first_name, name, colon, after, literal, number_in, string_in, character_in, Closed, Rest}
+use Rattle.json_text.specs.inner.CharacterLeft.{Completes, LeftOfCharacter, AfterUnit, InFirst, InSecond, IsSecond, IsSound, Bounds, Utf8Bounds, FirstBounds, SecondBounds}
+use Rattle.json_text.specs.inner.ReaderStates.{Level, in_list, in_object, IsStringRest, Role, as_value, as_name, ReaderState, value, first_element, first_name, name, colon, after, literal, number_in, string_in, character_in, Closed, Rest}
 use Rattle.json_text.specs.declared.character.CharacterState.{CharacterState}
 use Rattle.json_text.specs.declared.character.CharacterState.TheVariants as character_states
 use Rattle.json_text.specs.declared.number.NumberState.{NumberState}
@@ -64,8 +64,8 @@ after_live R (in_object done k ∷ st) x s =
 pub value_live : (R : Rules) (st : List Level) → AreSound st → IsLive R value st
 value_live R st s = let a = after_live R st null s in (110 ∷ 117 ∷ 108 ∷ 108 ∷ a.0, a.1, record { tree = null; rest = a.0; valued = refl; after = a.2 })
 
-pub first_item_live : (R : Rules) (st : List Level) → AreSound st → IsLive R first_item st
-first_item_live R st s = let a = after_live R st (array no_items) s in (93 ∷ a.0, a.1, (no_items, a.0, refl, a.2))
+pub first_element_live : (R : Rules) (st : List Level) → AreSound st → IsLive R first_element st
+first_element_live R st s = let a = after_live R st (array no_items) s in (93 ∷ a.0, a.1, (no_items, a.0, refl, a.2))
 
 pub first_name_live : (R : Rules) (st : List Level) → AreSound st → IsLive R first_name st
 first_name_live R st s = let a = after_live R st (object no_members) s in (125 ∷ a.0, a.1, (no_members, a.0, refl, λ strict. tt, a.2))
@@ -153,7 +153,7 @@ unfolding fill completed
 completes-fill bits zero = refl
 completes-fill bits (suc k) = (omega arith, omega arith, completes-fill (bits * 64 + (128 - 128)) k)
 
-utf8_live : (owed low high bits : ℕ) → Utf8Bounds owed low high bits → (w : List ℕ) × (c : ℕ) × CharacterLeft (character_states.Utf8 owed low high bits) w c
+utf8_live : (owed low high bits : ℕ) → Utf8Bounds owed low high bits → (w : List ℕ) × (c : ℕ) × LeftOfCharacter (character_states.Utf8 owed low high bits) w c
 utf8_live owed low high bits b =
     let w = fill 128 (owed - 1) in
     let next = bits * 64 + (low - 128) in
@@ -206,7 +206,7 @@ hex_zeros_2 bits = (0, refl, hex_zeros_1 (bits * 16 + 0))
 hex_zeros_3 : (bits : ℕ) → AreHex (48 ∷ 48 ∷ 48 ∷ []) bits (((bits * 16 + 0) * 16 + 0) * 16 + 0)
 hex_zeros_3 bits = (0, refl, hex_zeros_2 (bits * 16 + 0))
 
-first_live : (owed bits : ℕ) → FirstBounds owed bits → (w : List ℕ) × (c : ℕ) × CharacterLeft (character_states.First owed bits) w c
+first_live : (owed bits : ℕ) → FirstBounds owed bits → (w : List ℕ) × (c : ℕ) × LeftOfCharacter (character_states.First owed bits) w c
 first_live owed bits b = by (owed_of owed b.some b.few)
   where
     by : Owed owed → (w : List ℕ) × (c : ℕ) × InFirst owed bits w c
@@ -218,7 +218,7 @@ first_live owed bits b = by (owed_of owed b.some b.few)
 in_second : (high owed bits low : ℕ) (digits : List ℕ) → length digits ≡ owed → AreHex digits bits low → IsLow low → (w : List ℕ) × (c : ℕ) × InSecond high owed bits w c
 in_second high owed bits low digits len makes is = (digits, of_pair high low, record { low = low; len = len; value = makes; low_is = is; c_is = refl })
 
-second_live : (high owed bits : ℕ) → SecondBounds owed bits → (w : List ℕ) × (c : ℕ) × CharacterLeft (character_states.Second high owed bits) w c
+second_live : (high owed bits : ℕ) → SecondBounds owed bits → (w : List ℕ) × (c : ℕ) × LeftOfCharacter (character_states.Second high owed bits) w c
 second_live high owed bits b = by (owed_of owed b.some b.few)
   where
     by : Owed owed → (w : List ℕ) × (c : ℕ) × InSecond high owed bits w c
@@ -227,7 +227,7 @@ second_live high owed bits b = by (owed_of owed b.some b.few)
     by (three e) = let d = b.one_digit e in in_second high owed bits (((bits * 16 + 12) * 16 + 0) * 16 + 0) (99 ∷ 48 ∷ 48 ∷ []) (sym e) (12, refl, hex_zeros_2 (bits * 16 + 12)) (omega arith, omega arith)
     by (four e) = let d = b.no_digit e in in_second high owed bits ((((bits * 16 + 13) * 16 + 12) * 16 + 0) * 16 + 0) (100 ∷ 99 ∷ 48 ∷ 48 ∷ []) (sym e) (13, refl, (12, refl, hex_zeros_2 ((bits * 16 + 13) * 16 + 12))) (omega arith, omega arith)
 
-within_live : (s : CharacterState) → Bounds s → (w : List ℕ) × (c : ℕ) × CharacterLeft s w c
+within_live : (s : CharacterState) → Bounds s → (w : List ℕ) × (c : ℕ) × LeftOfCharacter s w c
 within_live (character_states.Utf8 owed low high bits) b = utf8_live owed low high bits b
 within_live character_states.Escape b = (110 ∷ [], 10, short 110 refl refl)
 within_live (character_states.First owed bits) b = first_live owed bits b

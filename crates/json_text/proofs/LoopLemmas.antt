@@ -19,19 +19,19 @@ use Rattle.json_text.proofs.FollowLemmas.{IsRead, IsAt, at_byte, start, one_more
 pub first_read : (fs : List OpenLevel) → fs ≡ [] → IsRead [] value (levels fs)
 first_read fs e = subst (λ (st : List Level). IsRead [] value st) (sym (ap levels e)) (record { follows = λ R le. start R; live = λ R. value_live R [] tt; scans = refl })
 
-one_read : (b : List ℕ) (at c : ℕ) (p : ReaderState) (st : List Level) (t : State) → IsAt b at c → IsRead (take at b) p st → StepsOn p st c t → IsRead (take (at + 1) b) (reader_state t.mode) (levels t.stack.items)
-one_read b at c p st t i r s = record {
-  follows = λ R le. rw i.taken (one_more R (take at b) p st c (reader_state t.mode) (levels t.stack.items) (r.follows R le) (s.moves R le));
+one_read : (b : List ℕ) (offset c : ℕ) (p : ReaderState) (st : List Level) (t : State) → IsAt b offset c → IsRead (take offset b) p st → StepsOn p st c t → IsRead (take (offset + 1) b) (reader_state t.mode) (levels t.stack.items)
+one_read b offset c p st t i r s = record {
+  follows = λ R le. rw i.taken (one_more R (take offset b) p st c (reader_state t.mode) (levels t.stack.items) (r.follows R le) (s.moves R le));
   live = λ R. mode_live R t.mode t.stack.items s.within;
-  scans = ap scan i.taken ∙ stand_from-append outside (take at b) c ∙ ap (λ (x : Scan). scan_step x c) r.scans ∙ s.scans;
+  scans = ap scan i.taken ∙ stand_from-append outside (take offset b) c ∙ ap (λ (x : Scan). scan_step x c) r.scans ∙ s.scans;
 }
 
-pub next_read : (b : List ℕ) (at c : ℕ) (p : ReaderState) (st : List Level) (t : State) → at < length b → c ≡ get_or b at 0 → IsRead (take at b) p st → StepsOn p st c t → IsRead (take (at + 1) b) (reader_state t.mode) (levels t.stack.items)
-next_read b at c p st t lt e r s = one_read b at c p st t (at_byte b at c lt e) r s
+pub next_read : (b : List ℕ) (offset c : ℕ) (p : ReaderState) (st : List Level) (t : State) → offset < length b → c ≡ get_or b offset 0 → IsRead (take offset b) p st → StepsOn p st c t → IsRead (take (offset + 1) b) (reader_state t.mode) (levels t.stack.items)
+next_read b offset c p st t lt e r s = one_read b offset c p st t (at_byte b offset c lt e) r s
 
 -- the mode hasn't changed
-pub same_read : (b : List ℕ) (at : ℕ) (m n : Mode) (st : List Level) → n ≡ m → IsRead (take at b) (reader_state m) st → IsRead (take at b) (reader_state n) st
-same_read b at m n st e r = subst (λ (o : Mode). IsRead (take at b) (reader_state o) st) (sym e) r
+pub same_read : (b : List ℕ) (offset : ℕ) (m n : Mode) (st : List Level) → n ≡ m → IsRead (take offset b) (reader_state m) st → IsRead (take offset b) (reader_state n) st
+same_read b offset m n st e r = subst (λ (o : Mode). IsRead (take offset b) (reader_state o) st) (sym e) r
 
 pub taken : (m n : Mode) (c : ℕ) (b : Bool) → b ≡ true → MatchBool b (Stays m c n) (n ≡ m) → Stays m c n
 taken m n c true e h = h
@@ -41,9 +41,9 @@ pub untouched : (m n : Mode) (c : ℕ) (b : Bool) → b ≡ false → MatchBool 
 untouched m n c true e h = absurd (true≢false e)
 untouched m n c false e h = h
 
-pub refused : (b : List ℕ) (at c : ℕ) (p : ReaderState) (st : List Level) (s : StepError) → at < length b → c ≡ get_or b at 0 → IsRead (take at b) p st → Fails p st c s → RefusesText b (read_error_at s at)
-refused b at c p st step_errors.Memory lt e r f = tt
-refused b at c p st (step_errors.Fault kind) lt e r f = fault b at c p st kind (at_byte b at c lt e) r f
+pub refused : (b : List ℕ) (offset c : ℕ) (p : ReaderState) (st : List Level) (s : StepError) → offset < length b → c ≡ get_or b offset 0 → IsRead (take offset b) p st → Fails p st c s → RefusesText b (read_error_at s offset)
+refused b offset c p st step_errors.Memory lt e r f = tt
+refused b offset c p st (step_errors.Fault kind) lt e r f = fault b offset c p st kind (at_byte b offset c lt e) r f
 
-pub all_read : (b : List ℕ) (at : ℕ) (p : ReaderState) (st : List Level) → length b ≤ at → IsRead (take at b) p st → IsRead b p st
-all_read b at p st le r = subst (λ (t : List ℕ). IsRead t p st) (take_all at b le) r
+pub all_read : (b : List ℕ) (offset : ℕ) (p : ReaderState) (st : List Level) → length b ≤ offset → IsRead (take offset b) p st → IsRead b p st
+all_read b offset p st le r = subst (λ (t : List ℕ). IsRead t p st) (take_all offset b le) r

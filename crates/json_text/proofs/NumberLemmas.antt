@@ -302,7 +302,7 @@ pub number_nil : IsNumberText [] → ⊥
 number_nil (inl h) = minus_open h
 number_nil (inr h) = h
 
--- each phase can come to an end
+-- each state can come to an end
 pub number_state_live : (p : NumberState) → (s : List ℕ) × LeftOfNumber p s
 number_state_live number_states.Minus = (48 ∷ [], with_zero 48 [] refl no_fraction)
 number_state_live number_states.Zero = ([], zero_whole)

@@ -1,10 +1,9 @@
 -- The prefix of a string that is written where memory is refused.
-use Rattle.std.proofs.Common.{◌≡◌, ℕ, List, [], ◌∷◌, ◌++◌, length, take, drop, cond, sym, ap, subst, ◌∙◌, append_assoc, Result, Ok, Err, OnErr}
+use Rattle.std.proofs.Common.{◌≡◌, ℕ, List, [], ◌∷◌, ◌++◌, take, drop, cond, sym, ap, subst, ◌∙◌, append_assoc, Result, Ok, Err, OnErr}
 use Rattle.std.specs.Prelude.{flat_map}
 use Rattle.std.specs.Result.{is_ok}
 use Rattle.std.proofs.lemmas.Grind.{flat_map-append}
 use Rattle.std.proofs.lemmas.List.{take-append-drop}
-use Rattle.std.proofs.Math.Seq.{take-append_seam}
 use Rattle.json_text.specs.Canonical.{AppendsPrefix, canonical_byte, canonical_string}
 
 split : (text : List ℕ) (n : ℕ) → canonical_string text ≡ (34 ∷ flat_map canonical_byte (take n text)) ++ (flat_map canonical_byte (drop n text) ++ 34 ∷ [])
@@ -26,8 +25,3 @@ pub unchanged : {T E : Type 0} (r : Result T E) (new old chunk : List ℕ) (P : 
     → OnErr r (P new)
 unchanged (Ok x) new old chunk P e h = tt
 unchanged (Err x) new old chunk P e h = subst P (sym e) h
-
--- what was appended is taken away by the length before
-pub truncated : (chunk old now new : List ℕ) (n : ℕ) → AppendsPrefix chunk old now → n ≡ length old → new ≡ take n now → new ≡ old
-truncated chunk old now new n (part, rest, _, appended) size taken =
-    taken ∙ ap (λ k. take k now) size ∙ ap (take (length old)) appended ∙ take-append_seam old part

@@ -10,9 +10,9 @@ use Rattle.json_text.specs.Number.{IsNumberText}
 use Rattle.json_text.specs.MemberNames.{has_name, pair_names}
 use Rattle.json_text.specs.Grammar.{Rules, is_space}
 use Rattle.json_text.specs.Scan.{outside, inside, scan_step}
-use Rattle.json_text.specs.inner.CharacterLeft.{LeftOfCharacter as CharacterLeft, IsSound, LeavesNext, LeavesNone, Starts, scan_within}
-use Rattle.json_text.specs.inner.NumberLeft.{LeftOfNumber as NumberLeft, LeavesNumber, EndsNumber}
-use Rattle.json_text.specs.inner.ReaderStates.{Level, in_list, in_object, ReaderState, value, first_item, first_name, name, colon, after, number_in, string_in, character_in, as_value, as_name, LeadsTo, IsDead, scan_of, pairs, levels, role_of, reader_state, IsWithin, IsPlain, Stays, StepsOn}
+use Rattle.json_text.specs.inner.CharacterLeft.{LeftOfCharacter, IsSound, LeavesNext, LeavesNone, Starts, scan_within}
+use Rattle.json_text.specs.inner.NumberLeft.{LeftOfNumber, LeavesNumber, EndsNumber}
+use Rattle.json_text.specs.inner.ReaderStates.{Level, in_list, in_object, ReaderState, value, first_element, first_name, name, colon, after, number_in, string_in, character_in, as_value, as_name, LeadsTo, IsDead, scan_of, pairs, levels, role_of, reader_state, IsWithin, IsPlain, Stays, StepsOn}
 use Rattle.json_text.specs.inner.StepErrors.{FailsAt, Fails, IsTooDeep, IsRepeated, IsKindAt, IsNoMark}
 use Rattle.json_text.specs.declared.character.CharacterState.{CharacterState}
 use Rattle.json_text.specs.declared.number.NumberState.{NumberState}
@@ -39,7 +39,7 @@ use Rattle.json_text.proofs.CharacterLemmas.{starts_scalar, first_ascii}
 use Rattle.json_text.proofs.ValueLemmas as values
 use Rattle.json_text.proofs.ObjectLemmas as objects
 use Rattle.json_text.proofs.StateLemmas.{space_after, list_dead, object_dead, number_on, number_ends, number_ended, text_closes, text_next, text_whole, text_dead, character_next, character_whole, character_dead}
-use Rattle.json_text.proofs.LiveLemmas.{first_item_live, first_name_live, lax_colon_live}
+use Rattle.json_text.proofs.LiveLemmas.{first_element_live, first_name_live, lax_colon_live}
 use Rattle.json_text.proofs.LevelLemmas.{levels_sound, levels_pushed, length-levels, names_pairs, pairs_append, named_distinct, steps_to, same_result, outside_wrong}
 
 abbrev pub state : Vec OpenLevel Global → Mode → State
@@ -56,8 +56,8 @@ space_stays c e = let s = space_is c e in stays_outside c (omega arith)
 
 -- ---- in_value
 
-pub list_opens : (o : Vec OpenLevel Global) (c : ℕ) → c ≡ 91 → length o.items < 32 → StepsOn value (levels o.items) c (state o modes.FirstItem)
-list_opens o c e lt = stays value o c 91 modes.FirstItem first_item e refl tt (λ R le. values.opens_list R (levels o.items) (omega (arith, length-levels o.items))) refl
+pub list_opens : (o : Vec OpenLevel Global) (c : ℕ) → c ≡ 91 → length o.items < 32 → StepsOn value (levels o.items) c (state o modes.FirstElement)
+list_opens o c e lt = stays value o c 91 modes.FirstElement first_element e refl tt (λ R le. values.opens_list R (levels o.items) (omega (arith, length-levels o.items))) refl
 
 pub object_opens : (o : Vec OpenLevel Global) (c : ℕ) → c ≡ 123 → length o.items < 32 → StepsOn value (levels o.items) c (state o modes.FirstName)
 object_opens o c e lt = stays value o c 123 modes.FirstName first_name e refl tt (λ R le. objects.opens_object R (levels o.items) (omega (arith, length-levels o.items))) refl
@@ -66,7 +66,7 @@ pub list_too_deep : (fs : List OpenLevel) (c : ℕ) → c ≡ 91 → 32 ≤ leng
 list_too_deep fs c e le = subst (λ (k : ℕ). IsTooDeep value (levels fs) k) (sym e) (record {
   dead = λ R lim. values.too_deep_list R (levels fs) (omega (arith, length-levels fs));
   enough = length (levels fs);
-  alive = λ R lt. (let l = first_item_live R (levels fs) (levels_sound fs) in (l.0, l.1, (values.opens_list R (levels fs) lt).back l.0 l.1 l.2));
+  alive = λ R lt. (let l = first_element_live R (levels fs) (levels_sound fs) in (l.0, l.1, (values.opens_list R (levels fs) lt).back l.0 l.1 l.2));
   scans = refl;
 })
 
@@ -87,57 +87,57 @@ number_begins o text p c ch old m is none e =
     (ap (λ (t : List ℕ). number_in t p) (e ∙ ap (λ (l : List ℕ). l ++ encode_utf8 ch) none ∙ ap encode_utf8 is ∙ encode_ascii c m.byte.ascii))
     tt (λ R le. values.begins_number R (levels o.items) c p m) (stays_outside c m.byte.no_mark.3)
 
-pub null_begins : (o : Vec OpenLevel Global) (at : Literal) (c : ℕ) → c ≡ 110 → at ≡ literals.Null → StepsOn value (levels o.items) c (state o (modes.Literal at 1))
-null_begins o at c e is = subst (λ (w : Literal). StepsOn value (levels o.items) c (state o (modes.Literal w 1))) (sym is) (stays value o c 110 (modes.Literal literals.Null 1) _ e refl (omega arith) (λ R le. values.begins_null R (levels o.items)) refl)
+pub null_begins : (o : Vec OpenLevel Global) (wanted : Literal) (c : ℕ) → c ≡ 110 → wanted ≡ literals.Null → StepsOn value (levels o.items) c (state o (modes.Literal wanted 1))
+null_begins o wanted c e is = subst (λ (w : Literal). StepsOn value (levels o.items) c (state o (modes.Literal w 1))) (sym is) (stays value o c 110 (modes.Literal literals.Null 1) _ e refl (omega arith) (λ R le. values.begins_null R (levels o.items)) refl)
 
-pub true_begins : (o : Vec OpenLevel Global) (at : Literal) (c : ℕ) → c ≡ 116 → at ≡ literals.True → StepsOn value (levels o.items) c (state o (modes.Literal at 1))
-true_begins o at c e is = subst (λ (w : Literal). StepsOn value (levels o.items) c (state o (modes.Literal w 1))) (sym is) (stays value o c 116 (modes.Literal literals.True 1) _ e refl (omega arith) (λ R le. values.begins_true R (levels o.items)) refl)
+pub true_begins : (o : Vec OpenLevel Global) (wanted : Literal) (c : ℕ) → c ≡ 116 → wanted ≡ literals.True → StepsOn value (levels o.items) c (state o (modes.Literal wanted 1))
+true_begins o wanted c e is = subst (λ (w : Literal). StepsOn value (levels o.items) c (state o (modes.Literal w 1))) (sym is) (stays value o c 116 (modes.Literal literals.True 1) _ e refl (omega arith) (λ R le. values.begins_true R (levels o.items)) refl)
 
-pub false_begins : (o : Vec OpenLevel Global) (at : Literal) (c : ℕ) → c ≡ 102 → at ≡ literals.False → StepsOn value (levels o.items) c (state o (modes.Literal at 1))
-false_begins o at c e is = subst (λ (w : Literal). StepsOn value (levels o.items) c (state o (modes.Literal w 1))) (sym is) (stays value o c 102 (modes.Literal literals.False 1) _ e refl (omega arith) (λ R le. values.begins_false R (levels o.items)) refl)
+pub false_begins : (o : Vec OpenLevel Global) (wanted : Literal) (c : ℕ) → c ≡ 102 → wanted ≡ literals.False → StepsOn value (levels o.items) c (state o (modes.Literal wanted 1))
+false_begins o wanted c e is = subst (λ (w : Literal). StepsOn value (levels o.items) c (state o (modes.Literal w 1))) (sym is) (stays value o c 102 (modes.Literal literals.False 1) _ e refl (omega arith) (λ R le. values.begins_false R (levels o.items)) refl)
 
 pub no_value : (fs : List OpenLevel) (c : ℕ) → is_space c ≡ false → IsNoMark c → EndsNumber IsNumberText c → c ≢ 110 → c ≢ 116 → c ≢ 102 → FailsAt value (levels fs) c kinds.NotJson
 no_value fs c space mark stop n t f = outside_wrong value (levels fs) c refl (λ R. values.value_dead R (levels fs) c space (n, t, f, mark.bracket, mark.brace, mark.quote) stop)
 
 -- ---- lists
 
-pub item_space : (o : Vec OpenLevel Global) (c : ℕ) → is_space c ≡ true → StepsOn first_item (levels o.items) c (state o modes.FirstItem)
-item_space o c e = stays first_item o c c modes.FirstItem first_item refl refl tt (λ R le. values.space_first_item R (levels o.items) c e) (space_stays c e)
+pub element_space : (o : Vec OpenLevel Global) (c : ℕ) → is_space c ≡ true → StepsOn first_element (levels o.items) c (state o modes.FirstElement)
+element_space o c e = stays first_element o c c modes.FirstElement first_element refl refl tt (λ R le. values.space_first_element R (levels o.items) c e) (space_stays c e)
 
-pub empty_list : (o : Vec OpenLevel Global) (v : Vec Json Global) (c : ℕ) → c ≡ 93 → v.items ≡ [] → StepsOn first_item (levels o.items) c (state o (modes.After (jsons.List v)))
+pub empty_list : (o : Vec OpenLevel Global) (v : Vec Json Global) (c : ℕ) → c ≡ 93 → v.items ≡ [] → StepsOn first_element (levels o.items) c (state o (modes.After (jsons.List v)))
 empty_list o v c e none =
-    stays first_item o c 93 (modes.After (jsons.List v)) (after (array no_items)) e
+    stays first_element o c 93 (modes.After (jsons.List v)) (after (array no_items)) e
     (ap after (view-List v ∙ ap (λ (x : List Json). array (items_onto (map value_of x) no_items)) none)) tt (λ R le. values.closes_empty R (levels o.items)) refl
 
 pub first_result : {U : Type 0} (r : Result U StepError) (t : State) (old new : List OpenLevel) (v : Vec Json Global) (c : ℕ) → is_space c ≡ false → c ≢ 93 → new ≡ old ++ open_levels.List v ∷ [] → v.items ≡ []
-    → MatchResult r (λ _. StepsOn value (levels new) c t) (Fails value (levels new) c) → MatchResult r (λ _. StepsOn first_item (levels old) c t) (Fails first_item (levels old) c)
+    → MatchResult r (λ _. StepsOn value (levels new) c t) (Fails value (levels new) c) → MatchResult r (λ _. StepsOn first_element (levels old) c t) (Fails first_element (levels old) c)
 first_result r t old new v c solid ne e none h =
     let pushed : levels new ≡ in_list [] ∷ levels old = levels_pushed old new (open_levels.List v) e ∙ ap (λ (x : List Json). in_list (map value_of x) ∷ levels old) none in
-    same_result first_item (levels old) c value (in_list [] ∷ levels old) t r
+    same_result first_element (levels old) c value (in_list [] ∷ levels old) t r
     (record { on = λ R b v g. values.first_on R (levels old) c solid ne b v g; back = λ R b v g. values.first_back R (levels old) c b v g; scans = refl })
     (subst (λ (st : List Level). MatchResult r (λ _. StepsOn value st c t) (Fails value st c)) pushed h)
 
--- the items with one more
-list_view : (items done : List Json) (j : Json) → items ≡ done ++ j ∷ [] → map value_of items ≡ map value_of done ++ value_of j ∷ []
-list_view items done j e = ap (map value_of) e ∙ map-append value_of done (j ∷ [])
+-- the elements with one more
+list_view : (elements done : List Json) (j : Json) → elements ≡ done ++ j ∷ [] → map value_of elements ≡ map value_of done ++ value_of j ∷ []
+list_view elements done j e = ap (map value_of) e ∙ map-append value_of done (j ∷ [])
 
-pub next_item : (o new : Vec OpenLevel Global) (items done : Vec Json Global) (j : Json) (c : ℕ) → c ≡ 44 → items.items ≡ done.items ++ j ∷ [] → new.items ≡ o.items ++ open_levels.List items ∷ []
+pub next_element : (o new : Vec OpenLevel Global) (elements done : Vec Json Global) (j : Json) (c : ℕ) → c ≡ 44 → elements.items ≡ done.items ++ j ∷ [] → new.items ≡ o.items ++ open_levels.List elements ∷ []
     → StepsOn (after (value_of j)) (in_list (map value_of done.items) ∷ levels o.items) c (state new modes.Value)
-next_item o new items done j c e f g =
-    let pushed : levels new.items ≡ in_list (map value_of done.items ++ value_of j ∷ []) ∷ levels o.items = levels_pushed o.items new.items (open_levels.List items) g ∙ ap (λ (x : List Tree). in_list x ∷ levels o.items) (list_view items.items done.items j f) in
+next_element o new elements done j c e f g =
+    let pushed : levels new.items ≡ in_list (map value_of done.items ++ value_of j ∷ []) ∷ levels o.items = levels_pushed o.items new.items (open_levels.List elements) g ∙ ap (λ (x : List Tree). in_list x ∷ levels o.items) (list_view elements.items done.items j f) in
     subst (λ (x : ℕ). StepsOn (after (value_of j)) (in_list (map value_of done.items) ∷ levels o.items) x (state new modes.Value)) (sym e)
     (steps_to (after (value_of j)) (in_list (map value_of done.items) ∷ levels o.items) 44 (state new modes.Value) value (in_list (map value_of done.items ++ value_of j ∷ []) ∷ levels o.items) refl pushed tt
-    (λ R le. values.next_item R (map value_of done.items) (value_of j) (levels o.items)) refl)
+    (λ R le. values.next_element R (map value_of done.items) (value_of j) (levels o.items)) refl)
 
-pub list_closes : (o : Vec OpenLevel Global) (items done : Vec Json Global) (j : Json) (c : ℕ) → c ≡ 93 → items.items ≡ done.items ++ j ∷ [] → StepsOn (after (value_of j)) (in_list (map value_of done.items) ∷ levels o.items) c (state o (modes.After (jsons.List items)))
-list_closes o items done j c e f =
-    subst (λ (x : ℕ). StepsOn (after (value_of j)) (in_list (map value_of done.items) ∷ levels o.items) x (state o (modes.After (jsons.List items)))) (sym e)
-    (steps_to (after (value_of j)) (in_list (map value_of done.items) ∷ levels o.items) 93 (state o (modes.After (jsons.List items))) (after (array (items_onto (map value_of done.items ++ value_of j ∷ []) no_items))) (levels o.items)
-    (ap after (view-List items ∙ ap (λ (x : List Tree). array (items_onto x no_items)) (list_view items.items done.items j f))) refl tt
+pub list_closes : (o : Vec OpenLevel Global) (elements done : Vec Json Global) (j : Json) (c : ℕ) → c ≡ 93 → elements.items ≡ done.items ++ j ∷ [] → StepsOn (after (value_of j)) (in_list (map value_of done.items) ∷ levels o.items) c (state o (modes.After (jsons.List elements)))
+list_closes o elements done j c e f =
+    subst (λ (x : ℕ). StepsOn (after (value_of j)) (in_list (map value_of done.items) ∷ levels o.items) x (state o (modes.After (jsons.List elements)))) (sym e)
+    (steps_to (after (value_of j)) (in_list (map value_of done.items) ∷ levels o.items) 93 (state o (modes.After (jsons.List elements))) (after (array (items_onto (map value_of done.items ++ value_of j ∷ []) no_items))) (levels o.items)
+    (ap after (view-List elements ∙ ap (λ (x : List Tree). array (items_onto x no_items)) (list_view elements.items done.items j f))) refl tt
     (λ R le. values.closes_list R (map value_of done.items) (value_of j) (levels o.items)) refl)
 
-pub no_item : (x : Tree) (done : List Tree) (st : List Level) (c : ℕ) → is_space c ≡ false → c ≢ 44 → c ≢ 93 → FailsAt (after x) (in_list done ∷ st) c kinds.NotJson
-no_item x done st c solid comma close = outside_wrong (after x) (in_list done ∷ st) c refl (λ R. list_dead R x done st c solid comma close)
+pub no_element : (x : Tree) (done : List Tree) (st : List Level) (c : ℕ) → is_space c ≡ false → c ≢ 44 → c ≢ 93 → FailsAt (after x) (in_list done ∷ st) c kinds.NotJson
+no_element x done st c solid comma close = outside_wrong (after x) (in_list done ∷ st) c refl (λ R. list_dead R x done st c solid comma close)
 
 -- ---- objects
 
@@ -186,13 +186,13 @@ after_space o j c e = stays (after (value_of j)) o c c (modes.After j) (after (v
 
 -- ---- numbers
 
-pub number_goes : (o : Vec OpenLevel Global) (old new : String Global) (p q : NumberState) (c ch : ℕ) → LeavesNumber (NumberLeft p) c q → ch ≡ c → string_bytes new ≡ string_bytes old ++ encode_utf8 ch → StepsOn (number_in (string_bytes old) p) (levels o.items) c (state o (modes.Number new q))
+pub number_goes : (o : Vec OpenLevel Global) (old new : String Global) (p q : NumberState) (c ch : ℕ) → LeavesNumber (LeftOfNumber p) c q → ch ≡ c → string_bytes new ≡ string_bytes old ++ encode_utf8 ch → StepsOn (number_in (string_bytes old) p) (levels o.items) c (state o (modes.Number new q))
 number_goes o old new p q c ch m is e =
     stays (number_in (string_bytes old) p) o c c (modes.Number new q) (number_in (string_bytes old ++ c ∷ []) q) refl
     (ap (λ (t : List ℕ). number_in t q) (e ∙ ap (λ (l : List ℕ). string_bytes old ++ l) (ap encode_utf8 is ∙ encode_ascii c m.byte.ascii)))
     tt (λ R le. number_on R (levels o.items) (string_bytes old) p q c m) (stays_outside c m.byte.no_mark.3)
 
-pub number_result : {U : Type 0} (r : Result U StepError) (t : State) (fs : List OpenLevel) (text : List ℕ) (p : NumberState) (x : Tree) (c : ℕ) → EndsNumber (NumberLeft p) c → NumberLeft p [] → x ≡ number text
+pub number_result : {U : Type 0} (r : Result U StepError) (t : State) (fs : List OpenLevel) (text : List ℕ) (p : NumberState) (x : Tree) (c : ℕ) → EndsNumber (LeftOfNumber p) c → LeftOfNumber p [] → x ≡ number text
     → MatchResult r (λ _. StepsOn (after x) (levels fs) c t) (Fails (after x) (levels fs) c) → MatchResult r (λ _. StepsOn (number_in text p) (levels fs) c t) (Fails (number_in text p) (levels fs) c)
 number_result r t fs text p x c stop whole e h =
     same_result (number_in text p) (levels fs) c (after (number text)) (levels fs) t r
@@ -212,13 +212,13 @@ text_enters o t text x s ne m =
     (record { bounds = m.bounds; scalar = λ w c l. starts_scalar (x ∷ w) c (m.back w c l) })
     (λ R le. text_next R (levels o.items) (role_of t) (string_bytes text) x s ne m) m.scans
 
-pub character_goes : (o : Vec OpenLevel Global) (t : Target) (text : String Global) (x : ℕ) (s u : CharacterState) → IsSound s → LeavesNext (CharacterLeft s) (scan_within s) x u → StepsOn (character_in (role_of t) (string_bytes text) s) (levels o.items) x (state o (modes.Character t text u))
+pub character_goes : (o : Vec OpenLevel Global) (t : Target) (text : String Global) (x : ℕ) (s u : CharacterState) → IsSound s → LeavesNext (LeftOfCharacter s) (scan_within s) x u → StepsOn (character_in (role_of t) (string_bytes text) s) (levels o.items) x (state o (modes.Character t text u))
 character_goes o t text x s u sound m =
     stays (character_in (role_of t) (string_bytes text) s) o x x (modes.Character t text u) (character_in (role_of t) (string_bytes text) u) refl refl
     (record { bounds = m.bounds; scalar = λ w c l. sound.scalar (x ∷ w) c (m.back w c l) })
     (λ R le. character_next R (levels o.items) (role_of t) (string_bytes text) s u (scan_within s) x sound m) m.scans
 
-pub character_ends : (o : Vec OpenLevel Global) (t : Target) (old new : String Global) (x ch : ℕ) (s : CharacterState) → IsSound s → LeavesNone (CharacterLeft s) (scan_within s) x ch → string_bytes new ≡ string_bytes old ++ encode_utf8 ch → StepsOn (character_in (role_of t) (string_bytes old) s) (levels o.items) x (state o (modes.Str t new))
+pub character_ends : (o : Vec OpenLevel Global) (t : Target) (old new : String Global) (x ch : ℕ) (s : CharacterState) → IsSound s → LeavesNone (LeftOfCharacter s) (scan_within s) x ch → string_bytes new ≡ string_bytes old ++ encode_utf8 ch → StepsOn (character_in (role_of t) (string_bytes old) s) (levels o.items) x (state o (modes.Str t new))
 character_ends o t old new x ch s sound m e =
     stays (character_in (role_of t) (string_bytes old) s) o x x (modes.Str t new) (string_in (role_of t) (string_bytes old ++ encode_utf8 ch)) refl (ap (string_in (role_of t)) e) tt
     (λ R le. character_whole R (levels o.items) (role_of t) (string_bytes old) s (scan_within s) x ch sound m) m.scans
@@ -232,7 +232,7 @@ by_kind p st c kinds.Repeated dead k = absurd k
 pub text_wrong : (fs : List OpenLevel) (t : Target) (text : List ℕ) (x : ℕ) (kind : FaultKind) → x ≢ 34 → ((w : List ℕ) (c : ℕ) → Starts (x ∷ w) c → ⊥) → IsKindAt inside x kind → FailsAt (string_in (role_of t) text) (levels fs) x kind
 text_wrong fs t text x kind ne dead k = by_kind (string_in (role_of t) text) (levels fs) x kind (λ R. text_dead R (levels fs) (role_of t) text x ne dead) k
 
-pub character_wrong : (fs : List OpenLevel) (t : Target) (text : List ℕ) (s : CharacterState) (x : ℕ) (kind : FaultKind) → IsSound s → ((w : List ℕ) (c : ℕ) → CharacterLeft s (x ∷ w) c → ⊥) → IsKindAt (scan_within s) x kind → FailsAt (character_in (role_of t) text s) (levels fs) x kind
+pub character_wrong : (fs : List OpenLevel) (t : Target) (text : List ℕ) (s : CharacterState) (x : ℕ) (kind : FaultKind) → IsSound s → ((w : List ℕ) (c : ℕ) → LeftOfCharacter s (x ∷ w) c → ⊥) → IsKindAt (scan_within s) x kind → FailsAt (character_in (role_of t) text s) (levels fs) x kind
 character_wrong fs t text s x kind sound dead k = by_kind (character_in (role_of t) text s) (levels fs) x kind (λ R. character_dead R (levels fs) (role_of t) text s x sound dead) k
 
 -- ---- bytes appended to the text so far
@@ -246,7 +246,7 @@ text_stays m t old new x ch is p e f =
       scans = l.scans;
     })
 
-pub number_stays : (m : Mode) (old new : String Global) (p q : NumberState) (c ch : ℕ) → m ≡ modes.Number old p → LeavesNumber (NumberLeft p) c q → ch ≡ c → string_bytes new ≡ string_bytes old ++ encode_utf8 ch → Stays m c (modes.Number new q)
+pub number_stays : (m : Mode) (old new : String Global) (p q : NumberState) (c ch : ℕ) → m ≡ modes.Number old p → LeavesNumber (LeftOfNumber p) c q → ch ≡ c → string_bytes new ≡ string_bytes old ++ encode_utf8 ch → Stays m c (modes.Number new q)
 number_stays m old new p q c ch is l e f =
     let g : string_bytes new ≡ string_bytes old ++ c ∷ [] = f ∙ ap (λ (t : List ℕ). string_bytes old ++ t) (ap encode_utf8 e ∙ encode_ascii c l.byte.ascii) in
     subst (λ (n : Mode). Stays n c (modes.Number new q)) (sym is) (record {

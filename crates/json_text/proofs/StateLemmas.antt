@@ -4,8 +4,8 @@ use Rattle.std.specs.Char.{encode_utf8}
 use Rattle.json_text.specs.Tree.{Tree, number, string}
 use Rattle.json_text.specs.Grammar.{Rules, is_space}
 use Rattle.json_text.specs.Scan.{Scan, inside}
-use Rattle.json_text.specs.inner.CharacterLeft.{LeftOfCharacter as CharacterLeft, IsSound, LeavesNext, LeavesNone, Starts}
-use Rattle.json_text.specs.inner.NumberLeft.{LeftOfNumber as NumberLeft, IsNumberByte, LeavesNumber, EndsNumber}
+use Rattle.json_text.specs.inner.CharacterLeft.{LeftOfCharacter, IsSound, LeavesNext, LeavesNone, Starts}
+use Rattle.json_text.specs.inner.NumberLeft.{LeftOfNumber, IsNumberByte, LeavesNumber, EndsNumber}
 use Rattle.json_text.specs.inner.ReaderStates.{Level, in_list, in_object, After, Role, as_value, after, number_in, string_in, character_in, Closed, Rest, LeadsTo, IsDead}
 use Rattle.json_text.specs.declared.character.CharacterState.{CharacterState}
 use Rattle.json_text.specs.declared.number.NumberState.{NumberState}
@@ -48,20 +48,20 @@ number_byte_dead R x st c n = dead st (let o = n.no_space in no_space c o.0 o.1 
 
 -- ---- numbers
 
-pub number_on : (R : Rules) (st : List Level) (text : List ℕ) (p q : NumberState) (c : ℕ) → LeavesNumber (NumberLeft p) c q → LeadsTo R (number_in text p) st c (number_in (text ++ c ∷ []) q) st
+pub number_on : (R : Rules) (st : List Level) (text : List ℕ) (p q : NumberState) (c : ℕ) → LeavesNumber (LeftOfNumber p) c q → LeadsTo R (number_in text p) st c (number_in (text ++ c ∷ []) q) st
 number_on R st text p q c m = record {
-  on = λ b v h. numeral_on (NumberLeft p) (λ s n. After R st (number s) n v) text c q b m (λ s n. number_byte_dead R (number s) st c m.byte n v) h;
-  back = λ b v h. numeral_back (NumberLeft p) (λ s n. After R st (number s) n v) text c q b m h;
+  on = λ b v h. numeral_on (LeftOfNumber p) (λ s n. After R st (number s) n v) text c q b m (λ s n. number_byte_dead R (number s) st c m.byte n v) h;
+  back = λ b v h. numeral_back (LeftOfNumber p) (λ s n. After R st (number s) n v) text c q b m h;
 }
 
-pub number_ends : (R : Rules) (st : List Level) (text : List ℕ) (p : NumberState) (c : ℕ) → EndsNumber (NumberLeft p) c → (b : List ℕ) (v : Tree) → Rest R (number_in text p) st (c ∷ b) v → Rest R (after (number text)) st (c ∷ b) v
-number_ends R st text p c dead b v h = (numeral_ends (NumberLeft p) (λ s n. After R st (number s) n v) text c b dead h).1
+pub number_ends : (R : Rules) (st : List Level) (text : List ℕ) (p : NumberState) (c : ℕ) → EndsNumber (LeftOfNumber p) c → (b : List ℕ) (v : Tree) → Rest R (number_in text p) st (c ∷ b) v → Rest R (after (number text)) st (c ∷ b) v
+number_ends R st text p c dead b v h = (numeral_ends (LeftOfNumber p) (λ s n. After R st (number s) n v) text c b dead h).1
 
-pub number_ended : (R : Rules) (st : List Level) (text : List ℕ) (p : NumberState) → NumberLeft p [] → (b : List ℕ) (v : Tree) → Rest R (after (number text)) st b v → Rest R (number_in text p) st b v
-number_ended R st text p whole b v h = numeral_ended (NumberLeft p) (λ s n. After R st (number s) n v) text b whole h
+pub number_ended : (R : Rules) (st : List Level) (text : List ℕ) (p : NumberState) → LeftOfNumber p [] → (b : List ℕ) (v : Tree) → Rest R (after (number text)) st b v → Rest R (number_in text p) st b v
+number_ended R st text p whole b v h = numeral_ended (LeftOfNumber p) (λ s n. After R st (number s) n v) text b whole h
 
-pub number_dead : (R : Rules) (st : List Level) (text : List ℕ) (p : NumberState) (c : ℕ) → EndsNumber (NumberLeft p) c → (NumberLeft p [] → ⊥) → IsDead R (number_in text p) st c
-number_dead R st text p c dead open_ b v h = open_ (numeral_ends (NumberLeft p) (λ s n. After R st (number s) n v) text c b dead h).0
+pub number_dead : (R : Rules) (st : List Level) (text : List ℕ) (p : NumberState) (c : ℕ) → EndsNumber (LeftOfNumber p) c → (LeftOfNumber p [] → ⊥) → IsDead R (number_in text p) st c
+number_dead R st text p c dead open_ b v h = open_ (numeral_ends (LeftOfNumber p) (λ s n. After R st (number s) n v) text c b dead h).0
 
 -- ---- strings
 
@@ -83,17 +83,17 @@ text_whole R st role text x c ne m = record {
 pub text_dead : (R : Rules) (st : List Level) (role : Role) (text : List ℕ) (x : ℕ) → x ≢ 34 → ((w : List ℕ) (c : ℕ) → Starts (x ∷ w) c → ⊥) → IsDead R (string_in role text) st x
 text_dead R st role text x ne dead b v h = wrong_byte Starts (λ t n. Closed R st role t n v) text x b starts_pending dead (begins_on (λ t n. Closed R st role t n v) text x b ne h)
 
-pub character_next : (R : Rules) (st : List Level) (role : Role) (text : List ℕ) (s t : CharacterState) (here : Scan) (x : ℕ) → IsSound s → LeavesNext (CharacterLeft s) here x t → LeadsTo R (character_in role text s) st x (character_in role text t) st
+pub character_next : (R : Rules) (st : List Level) (role : Role) (text : List ℕ) (s t : CharacterState) (here : Scan) (x : ℕ) → IsSound s → LeavesNext (LeftOfCharacter s) here x t → LeadsTo R (character_in role text s) st x (character_in role text t) st
 character_next R st role text s t here x sound m = record {
-  on = λ b v h. next_on (CharacterLeft s) (λ t n. Closed R st role t n v) text here x t b (pending s sound) m h;
-  back = λ b v h. next_back (CharacterLeft s) (λ t n. Closed R st role t n v) text here x t b m h;
+  on = λ b v h. next_on (LeftOfCharacter s) (λ t n. Closed R st role t n v) text here x t b (pending s sound) m h;
+  back = λ b v h. next_back (LeftOfCharacter s) (λ t n. Closed R st role t n v) text here x t b m h;
 }
 
-pub character_whole : (R : Rules) (st : List Level) (role : Role) (text : List ℕ) (s : CharacterState) (here : Scan) (x c : ℕ) → IsSound s → LeavesNone (CharacterLeft s) here x c → LeadsTo R (character_in role text s) st x (string_in role (text ++ encode_utf8 c)) st
+pub character_whole : (R : Rules) (st : List Level) (role : Role) (text : List ℕ) (s : CharacterState) (here : Scan) (x c : ℕ) → IsSound s → LeavesNone (LeftOfCharacter s) here x c → LeadsTo R (character_in role text s) st x (string_in role (text ++ encode_utf8 c)) st
 character_whole R st role text s here x c sound m = record {
-  on = λ b v h. whole_on (CharacterLeft s) (λ t n. Closed R st role t n v) text here x c b (pending s sound) m h;
-  back = λ b v h. whole_back (CharacterLeft s) (λ t n. Closed R st role t n v) text here x c b m h;
+  on = λ b v h. whole_on (LeftOfCharacter s) (λ t n. Closed R st role t n v) text here x c b (pending s sound) m h;
+  back = λ b v h. whole_back (LeftOfCharacter s) (λ t n. Closed R st role t n v) text here x c b m h;
 }
 
-pub character_dead : (R : Rules) (st : List Level) (role : Role) (text : List ℕ) (s : CharacterState) (x : ℕ) → IsSound s → ((w : List ℕ) (c : ℕ) → CharacterLeft s (x ∷ w) c → ⊥) → IsDead R (character_in role text s) st x
-character_dead R st role text s x sound dead b v h = wrong_byte (CharacterLeft s) (λ t n. Closed R st role t n v) text x b (pending s sound) dead h
+pub character_dead : (R : Rules) (st : List Level) (role : Role) (text : List ℕ) (s : CharacterState) (x : ℕ) → IsSound s → ((w : List ℕ) (c : ℕ) → LeftOfCharacter s (x ∷ w) c → ⊥) → IsDead R (character_in role text s) st x
+character_dead R st role text s x sound dead b v h = wrong_byte (LeftOfCharacter s) (λ t n. Closed R st role t n v) text x b (pending s sound) dead h

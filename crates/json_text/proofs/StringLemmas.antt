@@ -6,7 +6,7 @@ use Rattle.std.specs.Str.{encode_utf8_all}
 use Rattle.json_text.specs.Character.{IsCharacter, unescaped, short, unit, pair, AreCharacters}
 use Rattle.json_text.specs.Scan.{Scan}
 use Rattle.json_text.specs.inner.CharacterLeft.{LeftOfCharacter, IsSound, Bounds, LeavesNext, LeavesNone, Starts}
-use Rattle.json_text.specs.inner.NumberLeft.{LeftOfNumber as NumberLeft, LeavesNumber, EndsNumber}
+use Rattle.json_text.specs.inner.NumberLeft.{LeftOfNumber, LeavesNumber, EndsNumber}
 use Rattle.json_text.specs.inner.ReaderStates.{IsStringRest, IsInside, IsNumberRest}
 use Rattle.json_text.specs.declared.character.CharacterState.{CharacterState}
 use Rattle.json_text.specs.declared.character.CharacterState.TheVariants as character_states
@@ -117,10 +117,10 @@ wrong_byte L K text x b p dead h = inside_first L K text x b ⊥ p h (λ w c n l
 
 -- ---- numbers
 
-pub numeral_on : (L : List ℕ → Type 0) (K : List ℕ → List ℕ → Type 0) (text : List ℕ) (c : ℕ) (q : NumberState) (b : List ℕ) → LeavesNumber L c q → ((s n : List ℕ) → K s (c ∷ n) → ⊥) → IsNumberRest L K text (c ∷ b) → IsNumberRest (NumberLeft q) K (text ++ c ∷ []) b
+pub numeral_on : (L : List ℕ → Type 0) (K : List ℕ → List ℕ → Type 0) (text : List ℕ) (c : ℕ) (q : NumberState) (b : List ℕ) → LeavesNumber L c q → ((s n : List ℕ) → K s (c ∷ n) → ⊥) → IsNumberRest L K text (c ∷ b) → IsNumberRest (LeftOfNumber q) K (text ++ c ∷ []) b
 numeral_on L K text c q b m dead h = on h.digits h.left h.parts h.following
   where
-    on : (s : List ℕ) → L s → c ∷ b ≡ s ++ h.rest → K (text ++ s) h.rest → IsNumberRest (NumberLeft q) K (text ++ c ∷ []) b
+    on : (s : List ℕ) → L s → c ∷ b ≡ s ++ h.rest → K (text ++ s) h.rest → IsNumberRest (LeftOfNumber q) K (text ++ c ∷ []) b
     on [] l e k = absurd (dead (text ++ []) b (subst (λ (n : List ℕ). K (text ++ []) n) (sym e) k))
     on (x ∷ s) l e k =
         let is = head_is _ _ _ _ e in
@@ -132,7 +132,7 @@ numeral_on L K text c q b m dead h = on h.digits h.left h.parts h.following
           following = subst (λ (t : List ℕ). K t h.rest) (ap (λ (i : ℕ). text ++ i ∷ s) (sym is) ∙ sym (append_assoc text (c ∷ []) s)) k;
         }
 
-pub numeral_back : (L : List ℕ → Type 0) (K : List ℕ → List ℕ → Type 0) (text : List ℕ) (c : ℕ) (q : NumberState) (b : List ℕ) → LeavesNumber L c q → IsNumberRest (NumberLeft q) K (text ++ c ∷ []) b → IsNumberRest L K text (c ∷ b)
+pub numeral_back : (L : List ℕ → Type 0) (K : List ℕ → List ℕ → Type 0) (text : List ℕ) (c : ℕ) (q : NumberState) (b : List ℕ) → LeavesNumber L c q → IsNumberRest (LeftOfNumber q) K (text ++ c ∷ []) b → IsNumberRest L K text (c ∷ b)
 numeral_back L K text c q b m h = record {
   digits = c ∷ h.digits;
   rest = h.rest;

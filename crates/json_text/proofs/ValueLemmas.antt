@@ -5,9 +5,9 @@ use Rattle.json_text.specs.ValueOf.{items_onto}
 use Rattle.json_text.specs.Number.{IsNumberText}
 use Rattle.std.specs.Str.{encode_utf8_all}
 use Rattle.json_text.specs.Character.{AreCharacters}
-use Rattle.json_text.specs.inner.NumberLeft.{LeavesNumber, EndsNumber as NumberStops}
+use Rattle.json_text.specs.inner.NumberLeft.{LeavesNumber, EndsNumber}
 use Rattle.json_text.specs.Grammar.{Rules, is_space, skip, Value, First, More}
-use Rattle.json_text.specs.inner.ReaderStates.{Level, in_list, After, value, first_item, after, literal, number_in, string_in, as_value, Rest, LeadsTo, IsDead}
+use Rattle.json_text.specs.inner.ReaderStates.{Level, in_list, After, value, first_element, after, literal, number_in, string_in, as_value, Rest, LeadsTo, IsDead}
 use Rattle.json_text.specs.declared.number.NumberState.{NumberState}
 use Rattle.json_text.proofs.ListLemmas.{head_is, tail_is, not_nil}
 use Rattle.json_text.proofs.NumberLemmas.{number_head, number_nil, number_state_live}
@@ -147,11 +147,11 @@ begins_number R st c p m = record { on = λ b v h. on b v h; back = λ b v h. ba
 
 -- ---- lists
 
-list_on : (R : Rules) (st : List Level) (b : List ℕ) (v x : Tree) (n : List ℕ) → Value R (length st) x (91 ∷ b) n → After R st x n v → Rest R first_item st b v
+list_on : (R : Rules) (st : List Level) (b : List ℕ) (v x : Tree) (n : List ℕ) → Value R (length st) x (91 ∷ b) n → After R st x n v → Rest R first_element st b v
 list_on R st b v (array xs) n h a = (xs, n, subst (λ (t : List ℕ). First R (suc (length st)) xs t n) (sym (tail_is _ _ _ _ h.1.1)) h.1.2, a)
 list_on R st b v x n h a = absurd (omega (arith, value_starts R (length st) x 91 b n h))
 
-pub opens_list : (R : Rules) (st : List Level) → length st < R.limit → LeadsTo R value st 91 first_item st
+pub opens_list : (R : Rules) (st : List Level) → length st < R.limit → LeadsTo R value st 91 first_element st
 opens_list R st lt = record {
   on = λ b v h. list_on R st b v h.tree h.rest h.valued h.after;
   back = λ b v h. record { tree = array h.0; rest = h.1; valued = (lt, (b, refl, h.2)); after = h.3 };
@@ -173,8 +173,8 @@ comma_on R done x st b v (item y ys) n h a = record {
   after = (ys, n, h.4, rw (items_onto_append done x (item y ys)) a);
 }
 
-pub next_item : (R : Rules) (done : List Tree) (x : Tree) (st : List Level) → LeadsTo R (after x) (in_list done ∷ st) 44 value (in_list (done ++ x ∷ []) ∷ st)
-next_item R done x st = record {
+pub next_element : (R : Rules) (done : List Tree) (x : Tree) (st : List Level) → LeadsTo R (after x) (in_list done ∷ st) 44 value (in_list (done ++ x ∷ []) ∷ st)
+next_element R done x st = record {
   on = λ b v h. comma_on R done x st b v h.0 h.1 h.2 h.3;
   back = λ b v h. let a = h.after in (item h.tree a.0, a.1, (b, h.rest, refl, h.valued, a.2), rw (items_onto_append done x (item h.tree a.0)) at a.3);
 }
@@ -194,22 +194,22 @@ first_off : (R : Rules) (st : List Level) (b : List ℕ) (v : Tree) (xs : Items)
 first_off R st b v no_items n h a = subst (λ (t : List ℕ). After R st (array no_items) t v) (sym (tail_is _ _ _ _ h)) a
 first_off R st b v (item x ys) n h a = absurd (no_bracket R (suc (length st)) x b h.0 h.1)
 
-pub closes_empty : (R : Rules) (st : List Level) → LeadsTo R first_item st 93 (after (array no_items)) st
+pub closes_empty : (R : Rules) (st : List Level) → LeadsTo R first_element st 93 (after (array no_items)) st
 closes_empty R st = record { on = λ b v h. first_off R st b v h.0 h.1 h.2 h.3; back = λ b v h. (no_items, b, refl, h) }
 
--- where the list isn't closed at once, its first item comes
-pub first_on : (R : Rules) (st : List Level) (c : ℕ) → is_space c ≡ false → c ≢ 93 → (b : List ℕ) (v : Tree) → Rest R first_item st (c ∷ b) v → Rest R value (in_list [] ∷ st) (c ∷ b) v
+-- where the list isn't closed at once, its first element comes
+pub first_on : (R : Rules) (st : List Level) (c : ℕ) → is_space c ≡ false → c ≢ 93 → (b : List ℕ) (v : Tree) → Rest R first_element st (c ∷ b) v → Rest R value (in_list [] ∷ st) (c ∷ b) v
 first_on R st c solid ne b v h = on h.0 h.2 h.3
   where
     on : (xs : Items) → First R (suc (length st)) xs (c ∷ b) h.1 → After R st (array xs) h.1 v → Rest R value (in_list [] ∷ st) (c ∷ b) v
     on no_items f a = absurd (ne (head_is _ _ _ _ (rw solid at f)))
     on (item x xs) f a = record { tree = x; rest = f.0; valued = f.1; after = (xs, h.1, f.2, a) }
 
-pub first_back : (R : Rules) (st : List Level) (c : ℕ) (b : List ℕ) (v : Tree) → Rest R value (in_list [] ∷ st) (c ∷ b) v → Rest R first_item st (c ∷ b) v
+pub first_back : (R : Rules) (st : List Level) (c : ℕ) (b : List ℕ) (v : Tree) → Rest R value (in_list [] ∷ st) (c ∷ b) v → Rest R first_element st (c ∷ b) v
 first_back R st c b v h = let a = h.after in (item h.tree a.0, a.1, (h.rest, h.valued, a.2), a.3)
 
-pub space_first_item : (R : Rules) (st : List Level) (c : ℕ) → is_space c ≡ true → LeadsTo R first_item st c first_item st
-space_first_item R st c e = record { on = λ b v h. (h.0, h.1, on h.0 h.1 b h.2, h.3); back = λ b v h. (h.0, h.1, off h.0 h.1 b h.2, h.3) }
+pub space_first_element : (R : Rules) (st : List Level) (c : ℕ) → is_space c ≡ true → LeadsTo R first_element st c first_element st
+space_first_element R st c e = record { on = λ b v h. (h.0, h.1, on h.0 h.1 b h.2, h.3); back = λ b v h. (h.0, h.1, off h.0 h.1 b h.2, h.3) }
   where
     on : (xs : Items) (n b : List ℕ) → First R (suc (length st)) xs (c ∷ b) n → First R (suc (length st)) xs b n
     on no_items n b h = rw e at h
@@ -231,16 +231,16 @@ pub more_nil : (R : Rules) (d : ℕ) (xs : Items) (n : List ℕ) → More R d xs
 more_nil R d no_items n h = not_nil 93 _ h
 more_nil R d (item x xs) n h = not_nil 44 _ h.2
 
-pub first_item_nil : (R : Rules) (d : ℕ) (xs : Items) (n : List ℕ) → First R d xs [] n → ⊥
-first_item_nil R d no_items n h = not_nil 93 _ h
-first_item_nil R d (item x xs) n h = value_nil R d x h.0 h.1
+pub first_element_nil : (R : Rules) (d : ℕ) (xs : Items) (n : List ℕ) → First R d xs [] n → ⊥
+first_element_nil R d no_items n h = not_nil 93 _ h
+first_element_nil R d (item x xs) n h = value_nil R d x h.0 h.1
 
 -- ---- no other byte
 
 abbrev pub IsNoStart : ℕ → Type 0
 IsNoStart c = (c ≢ 110) × (c ≢ 116) × (c ≢ 102) × (c ≢ 91) × (c ≢ 123) × (c ≢ 34)
 
-pub value_dead : (R : Rules) (st : List Level) (c : ℕ) → is_space c ≡ false → IsNoStart c → NumberStops IsNumberText c → IsDead R value st c
+pub value_dead : (R : Rules) (st : List Level) (c : ℕ) → is_space c ≡ false → IsNoStart c → EndsNumber IsNumberText c → IsDead R value st c
 value_dead R st c space solid step_errors b v h = none h.tree h.rest (rw space at h.valued)
   where
     number_none : (text n : List ℕ) → IsNumberText text → c ∷ b ≡ text ++ n → ⊥

@@ -16,7 +16,7 @@ abbrev pub canonical_string : List ℕ → List ℕ
 canonical_string text = 34 ∷ (flat_map canonical_byte text ++ 34 ∷ [])
 
 abbrev mutual
-  -- no white space, items and members in order
+  -- no white space, elements and members in order
   pub canonical : Tree → List ℕ
   canonical null = literal_null
   canonical (boolean true) = literal_true
@@ -31,7 +31,7 @@ abbrev mutual
   canonical_first no_items = 93 ∷ []
   canonical_first (item x rest) = canonical x ++ canonical_more rest
 
-  -- after an item
+  -- after an element
   pub canonical_more : Items → List ℕ
   canonical_more no_items = 93 ∷ []
   canonical_more (item x rest) = 44 ∷ (canonical x ++ canonical_more rest)
@@ -46,7 +46,7 @@ abbrev mutual
   canonical_more_members no_members = 125 ∷ []
   canonical_more_members (member name x rest) = 44 ∷ (canonical_string name ++ (58 ∷ (canonical x ++ canonical_more_members rest)))
 
--- Inner: the items that follow: true where they are the first after the bracket
+-- Inner: the elements that follow: true where they are the first after the bracket
 abbrev pub canonical_items : Bool → Items → List ℕ
 canonical_items true xs = canonical_first xs
 canonical_items false xs = canonical_more xs

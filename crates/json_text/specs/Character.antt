@@ -11,7 +11,7 @@ pub record IsUnescaped (c : ℕ) (w : List ℕ) : Type 0 where
   pub no_backslash : c ≢ 92
   pub bytes : w ≡ encode_utf8 c
 
--- the character that a letter behind a backslash stands for
+-- the character that a letter after a backslash means
 abbrev pub short_escape : ℕ → Option ℕ
 short_escape letter =
     if letter == 34 then Some 34 else

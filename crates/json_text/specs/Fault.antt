@@ -10,26 +10,26 @@ use Rattle.json_text.specs.declared.fault.ReadError.TheVariants as errors
 
 -- with more levels allowed, some text begins with the bytes up to this offset and the byte there
 abbrev pub OpensTooDeep : List ℕ → ℕ → Type 0
-OpensTooDeep b at = (at < length b) × ((limit : ℕ) × (32 ≤ limit) × BeginsTextBy (record { limit = limit; distinct = true }) (take (at + 1) b))
+OpensTooDeep b offset = (offset < length b) × ((limit : ℕ) × (32 ≤ limit) × BeginsTextBy (record { limit = limit; distinct = true }) (take (offset + 1) b))
 
 -- with a name allowed twice, some text begins with the bytes up to this offset and the byte there
 abbrev pub ClosesRepeated : List ℕ → ℕ → Type 0
-ClosesRepeated b at = (at < length b) × BeginsTextBy (record { limit = 32; distinct = false }) (take (at + 1) b)
+ClosesRepeated b offset = (offset < length b) × BeginsTextBy (record { limit = 32; distinct = false }) (take (offset + 1) b)
 
 -- the byte at this offset is in a string, and is 80 or above or truncates a character
 abbrev pub BreaksUtf8 : List ℕ → ℕ → Type 0
-BreaksUtf8 b at = (at < length b) × IsBadUtf8 (scan (take at b)) (slice_index b at)
+BreaksUtf8 b offset = (offset < length b) × IsBadUtf8 (scan (take offset b)) (slice_index b offset)
 
 -- b is no text: some text begins with its bytes up to this offset, and none with one byte more
-pub record IsJsonFault (b : List ℕ) (at : ℕ) (kind : FaultKind) : Type 0 where
-  pub within : at ≤ length b
-  pub begins : BeginsText (take at b)
-  pub longest : at < length b → BeginsText (take (at + 1) b) → ⊥
+pub record IsJsonFault (b : List ℕ) (offset : ℕ) (kind : FaultKind) : Type 0 where
+  pub within : offset ≤ length b
+  pub begins : BeginsText (take offset b)
+  pub longest : offset < length b → BeginsText (take (offset + 1) b) → ⊥
   pub spelled_by_none : (v : Tree) → Spells v b → ⊥
-  -- NotJson is where it is none of these
-  pub too_deep : (kind ≡ kinds.TooDeep) ↔ OpensTooDeep b at
-  pub repeated : (kind ≡ kinds.Repeated) ↔ ClosesRepeated b at
-  pub bad_utf8 : (kind ≡ kinds.BadUtf8) ↔ BreaksUtf8 b at
+  -- the kind is NotJson exactly where it is none of these
+  pub too_deep : (kind ≡ kinds.TooDeep) ↔ OpensTooDeep b offset
+  pub repeated : (kind ≡ kinds.Repeated) ↔ ClosesRepeated b offset
+  pub bad_utf8 : (kind ≡ kinds.BadUtf8) ↔ BreaksUtf8 b offset
 
 -- the bytes have this fault, or memory was refused
 abbrev pub RefusesText : List ℕ → ReadError → Type 0

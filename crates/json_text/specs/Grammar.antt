@@ -19,13 +19,15 @@ abbrev pub skip : List ℕ → List ℕ
 skip [] = []
 skip (c ∷ b) = cond (is_space c) (skip b) (c ∷ b)
 
--- null, true and false
+-- the letters of null
 abbrev pub literal_null : List ℕ
 literal_null = 110 ∷ 117 ∷ 108 ∷ 108 ∷ []
 
+-- the letters of true
 abbrev pub literal_true : List ℕ
 literal_true = 116 ∷ 114 ∷ 117 ∷ 101 ∷ []
 
+-- the letters of false
 abbrev pub literal_false : List ℕ
 literal_false = 102 ∷ 97 ∷ 108 ∷ 115 ∷ 101 ∷ []
 
@@ -75,7 +77,7 @@ abbrev mutual
   First R d no_items b r = skip b ≡ 93 ∷ r
   First R d (item x rest) b r = (n : List ℕ) × Value R d x (skip b) n × More R d rest n r
 
-  -- after an item
+  -- after an element
   pub More : Rules → ℕ → Items → List ℕ → List ℕ → Type 0
   More R d no_items b r = skip b ≡ 93 ∷ r
   More R d (item x rest) b r = (m : List ℕ) × (n : List ℕ) × (skip b ≡ 44 ∷ m) × Value R d x (skip m) n × More R d rest n r

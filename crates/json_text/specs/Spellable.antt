@@ -16,7 +16,7 @@ abbrev mutual
   IsSpellableAt d (array xs) = (d < profile.limit) × AreSpellable (suc d) xs
   IsSpellableAt d (object ms) = (d < profile.limit) × AreDistinct (names ms) × HaveSpellable (suc d) ms
 
-  -- each item is
+  -- each element is
   pub AreSpellable : ℕ → Items → Type 0
   AreSpellable d no_items = Unit {0}
   AreSpellable d (item x rest) = IsSpellableAt d x × AreSpellable d rest

@@ -11,7 +11,7 @@ mutual
     array : Items → Tree
     object : Members → Tree
 
-  -- the items of a list, in order
+  -- the elements of an array, in order
   pub data Items : Type 0 where
     no_items : Items
     item : Tree → Items → Items
@@ -26,7 +26,7 @@ abbrev pub names : Members → List (List ℕ)
 names no_members = []
 names (member name value rest) = name ∷ names rest
 
--- the items as a list
+-- the elements as a list
 abbrev pub items_list : Items → List Tree
 items_list no_items = []
 items_list (item x rest) = x ∷ items_list rest
@@ -81,7 +81,7 @@ string_of (string text) = Some text
 string_of (array xs) = None
 string_of (object ms) = None
 
--- the items, where the tree is a list
+-- the elements, where the tree is an array
 abbrev pub array_of : Tree → Option (List Tree)
 array_of null = None
 array_of (boolean b) = None

@@ -4,7 +4,7 @@ use Rattle.json_text.specs.Tree.{Tree, null, boolean, number, string, array, obj
 use Rattle.json_text.specs.declared.tree.Json.{Json, fold-Json}
 use Rattle.json_text.specs.declared.tree.Json.TheOpen.{Json-F}
 
--- these items, and then the others
+-- these elements, and then the others
 abbrev pub items_onto : List Tree → Items → Items
 items_onto [] rest = rest
 items_onto (x ∷ xs) rest = item x (items_onto xs rest)

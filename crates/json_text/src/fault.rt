@@ -1,4 +1,4 @@
-//! What a text can be refused for.
+//! The faults of a text, and the errors of the reader.
 ghost use Rattle.std.specs.Prelude.{◌≡◌, ◌≤◌, length};
 ghost use Rattle.json_text.specs.inner.StepErrors.{read_error_at};
 ghost use Rattle.json_text.specs.FaultText.{kind_text};
@@ -28,6 +28,7 @@ pub struct JsonFault {
     pub kind: FaultKind,
 }
 
+/// Why no tree is returned: no memory, or a fault of the text.
 #[derive(Clone, Copy, Debug, PartialEq, Eq)]
 pub enum ReadError {
     Memory,
@@ -56,8 +57,8 @@ impl fmt::Display for JsonFault {
     ghost output = { λ f. Some (fault_text f) };
 
     fn fmt<W: fmt::Write>(&self, f: &mut fmt::Formatter<W>) -> fmt::Result {
-        let (kind, at) = (self.kind.as_str(), self.at);
-        write!(f, "{kind} {at}")
+        let (kind, offset) = (self.kind.as_str(), self.at);
+        write!(f, "{kind} {offset}")
     }
 }
 
@@ -87,12 +88,13 @@ pub(crate) enum StepError {
 }
 
 impl StepError {
-    pub(crate) fn at(self, at: usize) -> ReadError
-        ensures { result ≡ read_error_at self at }
+    /// The error of the whole text, with the offset of the byte.
+    pub(crate) fn at_offset(self, offset: usize) -> ReadError
+        ensures { result ≡ read_error_at self offset }
     {
         match self {
             StepError::Memory => ReadError::Memory,
-            StepError::Fault(kind) => ReadError::Fault(JsonFault { at, kind }),
+            StepError::Fault(kind) => ReadError::Fault(JsonFault { at: offset, kind }),
         }
     }
 }

@@ -27,6 +27,7 @@ pub(crate) struct NamedObject {
 }
 
 impl OpenObject {
+    /// An object without members.
     pub(crate) fn new(alloc: Global) -> OpenObject
         ensures { result.members.items ≡ [] }
     {
@@ -36,13 +37,14 @@ impl OpenObject {
         }
     }
 
+    /// The members, without the set of their names.
     pub(crate) fn into_members(self) -> Vec<(Chars, Json)>
         ensures { result.items ≡ self.members.items }
     {
         self.members
     }
 
-    /// `None` where a member has this name.
+    /// The object with this name for its next member; `None` where a member has it.
     pub(crate) fn named(
         self,
         alloc: Global,
@@ -69,7 +71,7 @@ impl OpenObject {
 impl NamedObject {
     /// The members, and then one with this value.
     pub(crate) fn with(self, value: Json) -> Result<OpenObject, AllocFailed<(Chars, Json)>>
-        ensures { IfOk result (λ fields. fields.members.items ≡ self.members.items ++ (self.name, value) ∷ []) }
+        ensures { IfOk result (λ opened. opened.members.items ≡ self.members.items ++ (self.name, value) ∷ []) }
     {
         let NamedObject {
             mut members,

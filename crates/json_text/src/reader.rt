@@ -7,7 +7,7 @@ ghost use Rattle.json_text.specs.Number.{IsNumberText};
 ghost use Rattle.json_text.specs.inner.CharacterLeft.{IsSound, scan_within};
 ghost use Rattle.json_text.specs.Scan.{inside};
 ghost use Rattle.json_text.specs.Grammar.{is_space, Spells};
-ghost use Rattle.json_text.specs.inner.ReaderStates.{pairs, levels, reader_state, role_of, literal_text, literal_tree, value, first_item, first_name, name, colon, after, literal, number_in, string_in, character_in, in_list, in_object, IsWithin, IsPlain, Stays, StepsOn, CannotEnd, Ends};
+ghost use Rattle.json_text.specs.inner.ReaderStates.{pairs, levels, reader_state, role_of, literal_text, literal_tree, value, first_element, first_name, name, colon, after, literal, number_in, string_in, character_in, in_list, in_object, IsWithin, IsPlain, Stays, StepsOn, CannotEnd, Ends};
 ghost use Rattle.json_text.specs.inner.StepErrors.{Fails, IsKindAt, IsNoMark};
 ghost use Rattle.json_text.specs.Fault.{RefusesText};
 
@@ -38,7 +38,7 @@ pub fn read(alloc: Global, bytes: &[u8]) -> Result<Json, ReadError>
         stack: Vec::new(alloc),
         mode: Mode::Value,
     };
-    for (at, byte) in bytes.iter().enumerate() {
+    for (offset, byte) in bytes.iter().enumerate() {
         match take(&mut state.mode, *byte) {
             Ok(true) => continue,
             Ok(false) => {}
@@ -46,7 +46,7 @@ pub fn read(alloc: Global, bytes: &[u8]) -> Result<Json, ReadError>
         }
         match step(alloc, &mut state, *byte) {
             Ok(()) => {}
-            Err(stop) => return Err(stop.at(at)),
+            Err(error) => return Err(error.at_offset(offset)),
         }
     }
     match finish(state) {
@@ -90,27 +90,28 @@ fn is_plain(byte: u8) -> bool
     byte >= 0x20 && byte < 0x80 && byte != b'"' && byte != b'\\'
 }
 
+/// Takes one byte, by the mode of the reader.
 fn step(alloc: Global, state: &mut State, byte: u8) -> Result<(), StepError>
     requires { IsWithin state.old.mode }
     ensures { MatchResult result (λ _. StepsOn (reader_state state.old.mode) (levels state.old.stack.items) byte state.new) (Fails (reader_state state.old.mode) (levels state.old.stack.items) byte) }
 {
-    // The mode is taken out of the state, so that each function owns what was read so far and copies nothing. What is
-    // left in its place is set by that function, or is dropped with the state after a fault.
+    // The mode is taken out of the state, so that each function owns what was read so far and copies nothing. The
+    // mode that is left in the state is set by that function, or is dropped with the state after a fault.
     match mem::replace(&mut state.mode, Mode::Value) {
         Mode::Value => in_value(alloc, state, byte),
-        Mode::FirstItem => in_first_item(alloc, state, byte),
+        Mode::FirstElement => in_first_element(alloc, state, byte),
         Mode::FirstName => in_first_name(alloc, state, byte),
-        Mode::Name(fields) => in_name(alloc, state, fields, byte),
+        Mode::Name(opened) => in_name(alloc, state, opened, byte),
         Mode::Colon(named) => in_colon(state, named, byte),
         Mode::After(json) => in_after(state, json, byte),
-        Mode::Literal(at, read) => in_literal(state, at, read, byte),
+        Mode::Literal(wanted, read) => in_literal(state, wanted, read, byte),
         Mode::Number(text, number_state) => in_number(state, text, number_state, byte),
         Mode::Str(target, text) => in_string(alloc, state, target, text, byte),
         Mode::Character(target, text, within) => in_character(state, target, text, within, byte),
     }
 }
 
-/// What the text is if it ends here.
+/// The tree of the text if it ends here; `None` where it can't.
 fn finish(state: State) -> Option<Json>
     requires { IsWithin state.mode }
     ensures { MatchOption result (CannotEnd (reader_state state.mode) (levels state.stack.items)) (λ j. Ends (reader_state state.mode) (levels state.stack.items) (value_of j)) }
@@ -132,7 +133,7 @@ fn finish(state: State) -> Option<Json>
     }
 }
 
-/// White space.
+/// White space between tokens (RFC 8259, section 2).
 fn is_white(byte: u8) -> bool
     ensures { result ≡ is_space byte }
 {
@@ -154,7 +155,7 @@ fn in_value(alloc: Global, state: &mut State, byte: u8) -> Result<(), StepError>
             if state.stack.len() >= MOST_LEVELS {
                 return Err(StepError::Fault(FaultKind::TooDeep));
             }
-            state.mode = Mode::FirstItem;
+            state.mode = Mode::FirstElement;
             Ok(())
         }
         b'{' => {
@@ -178,13 +179,13 @@ fn begin_literal(state: &mut State, byte: u8) -> Result<(), StepError>
     requires number { EndsNumber IsNumberText byte }
     ensures { MatchResult result (λ _. StepsOn value (levels state.old.stack.items) byte state.new) (Fails value (levels state.old.stack.items) byte) }
 {
-    let at = match byte {
+    let wanted = match byte {
         b'n' => Literal::Null,
         b't' => Literal::True,
         b'f' => Literal::False,
         _ => return Err(StepError::Fault(FaultKind::NotJson)),
     };
-    state.mode = Mode::Literal(at, 1);
+    state.mode = Mode::Literal(wanted, 1);
     Ok(())
 }
 
@@ -203,20 +204,20 @@ fn begin_number(
     Ok(())
 }
 
-fn in_first_item(alloc: Global, state: &mut State, byte: u8) -> Result<(), StepError>
-    ensures { MatchResult result (λ _. StepsOn first_item (levels state.old.stack.items) byte state.new) (Fails first_item (levels state.old.stack.items) byte) }
+fn in_first_element(alloc: Global, state: &mut State, byte: u8) -> Result<(), StepError>
+    ensures { MatchResult result (λ _. StepsOn first_element (levels state.old.stack.items) byte state.new) (Fails first_element (levels state.old.stack.items) byte) }
 {
     if is_white(byte) {
-        state.mode = Mode::FirstItem;
+        state.mode = Mode::FirstElement;
         return Ok(());
     }
     if byte == b']' {
         state.mode = Mode::After(Json::List(Vec::new(alloc)));
         return Ok(());
     }
-    // Most lists of messages have one item.
-    let items = Vec::with_capacity(alloc, 1)?;
-    state.stack.push(OpenLevel::List(items))?;
+    // Most arrays of messages have one element.
+    let elements = Vec::with_capacity(alloc, 1)?;
+    state.stack.push(OpenLevel::List(elements))?;
     in_value(alloc, state, byte)
 }
 
@@ -240,17 +241,17 @@ fn in_first_name(alloc: Global, state: &mut State, byte: u8) -> Result<(), StepE
     }
 }
 
-fn in_name(alloc: Global, state: &mut State, fields: OpenObject, byte: u8) -> Result<(), StepError>
-    ensures { MatchResult result (λ _. StepsOn (name (pairs fields.members.items)) (levels state.old.stack.items) byte state.new) (Fails (name (pairs fields.members.items)) (levels state.old.stack.items) byte) }
+fn in_name(alloc: Global, state: &mut State, opened: OpenObject, byte: u8) -> Result<(), StepError>
+    ensures { MatchResult result (λ _. StepsOn (name (pairs opened.members.items)) (levels state.old.stack.items) byte state.new) (Fails (name (pairs opened.members.items)) (levels state.old.stack.items) byte) }
 {
     if is_white(byte) {
-        state.mode = Mode::Name(fields);
+        state.mode = Mode::Name(opened);
         return Ok(());
     }
     if byte != b'"' {
         return Err(StepError::Fault(FaultKind::NotJson));
     }
-    state.mode = Mode::Str(Target::Name(fields), String::new(alloc));
+    state.mode = Mode::Str(Target::Name(opened), String::new(alloc));
     Ok(())
 }
 
@@ -278,25 +279,30 @@ fn in_after(state: &mut State, json: Json, byte: u8) -> Result<(), StepError>
     }
     match state.stack.pop() {
         None => Err(StepError::Fault(FaultKind::NotJson)),
-        Some(OpenLevel::List(items)) => after_item(state, items, json, byte),
+        Some(OpenLevel::List(elements)) => after_element(state, elements, json, byte),
         Some(OpenLevel::Object(named)) => after_member(state, named, json, byte),
     }
 }
 
-fn after_item(state: &mut State, items: Vec<Json>, json: Json, byte: u8) -> Result<(), StepError>
+fn after_element(
+    state: &mut State,
+    elements: Vec<Json>,
+    json: Json,
+    byte: u8,
+) -> Result<(), StepError>
     requires { is_space byte ≡ false }
-    ensures { MatchResult result (λ _. StepsOn (after (value_of json)) (in_list (map value_of items.items) ∷ levels state.old.stack.items) byte state.new) (Fails (after (value_of json)) (in_list (map value_of items.items) ∷ levels state.old.stack.items) byte) }
+    ensures { MatchResult result (λ _. StepsOn (after (value_of json)) (in_list (map value_of elements.items) ∷ levels state.old.stack.items) byte state.new) (Fails (after (value_of json)) (in_list (map value_of elements.items) ∷ levels state.old.stack.items) byte) }
 {
-    let mut items = items;
-    items.push(json)?;
+    let mut elements = elements;
+    elements.push(json)?;
     match byte {
         b',' => {
-            state.stack.push(OpenLevel::List(items))?;
+            state.stack.push(OpenLevel::List(elements))?;
             state.mode = Mode::Value;
             Ok(())
         }
         b']' => {
-            state.mode = Mode::After(Json::List(items));
+            state.mode = Mode::After(Json::List(elements));
             Ok(())
         }
         _ => Err(StepError::Fault(FaultKind::NotJson)),
@@ -312,33 +318,33 @@ fn after_member(
     requires { is_space byte ≡ false }
     ensures { MatchResult result (λ _. StepsOn (after (value_of json)) (in_object (pairs named.members.items) named.name ∷ levels state.old.stack.items) byte state.new) (Fails (after (value_of json)) (in_object (pairs named.members.items) named.name ∷ levels state.old.stack.items) byte) }
 {
-    let fields = named.with(json)?;
+    let opened = named.with(json)?;
     match byte {
         b',' => {
-            state.mode = Mode::Name(fields);
+            state.mode = Mode::Name(opened);
             Ok(())
         }
         b'}' => {
-            state.mode = Mode::After(Json::Object(fields.into_members()));
+            state.mode = Mode::After(Json::Object(opened.into_members()));
             Ok(())
         }
         _ => Err(StepError::Fault(FaultKind::NotJson)),
     }
 }
 
-fn in_literal(state: &mut State, at: Literal, read: usize, byte: u8) -> Result<(), StepError>
-    requires { read < length (literal_text at) }
-    ensures { MatchResult result (λ _. StepsOn (literal (drop read (literal_text at)) (literal_tree at)) (levels state.old.stack.items) byte state.new) (Fails (literal (drop read (literal_text at)) (literal_tree at)) (levels state.old.stack.items) byte) }
+fn in_literal(state: &mut State, wanted: Literal, read: usize, byte: u8) -> Result<(), StepError>
+    requires { read < length (literal_text wanted) }
+    ensures { MatchResult result (λ _. StepsOn (literal (drop read (literal_text wanted)) (literal_tree wanted)) (levels state.old.stack.items) byte state.new) (Fails (literal (drop read (literal_text wanted)) (literal_tree wanted)) (levels state.old.stack.items) byte) }
 {
-    let text = at.text();
+    let text = wanted.text();
     if byte != text[read] {
         return Err(StepError::Fault(FaultKind::NotJson));
     }
     if read + 1 < text.len() {
-        state.mode = Mode::Literal(at, read + 1);
+        state.mode = Mode::Literal(wanted, read + 1);
         Ok(())
     } else {
-        state.mode = Mode::After(at.json());
+        state.mode = Mode::After(wanted.json());
         Ok(())
     }
 }
@@ -429,8 +435,8 @@ fn closed(alloc: Global, state: &mut State, target: Target, text: String) -> Res
             state.mode = Mode::After(Json::Str(Chars::new(text)));
             Ok(())
         }
-        Target::Name(fields) => {
-            let found = fields.named(alloc, text)?;
+        Target::Name(opened) => {
+            let found = opened.named(alloc, text)?;
             match found {
                 Some(named) => {
                     state.mode = Mode::Colon(named);

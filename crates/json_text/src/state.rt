@@ -32,6 +32,7 @@ pub(crate) enum Literal {
 }
 
 impl Literal {
+    /// The letters of the literal.
     pub(crate) fn text(self) -> &'static [u8]
         ensures { result.now ≡ literal_text self }
     {
@@ -42,6 +43,7 @@ impl Literal {
         }
     }
 
+    /// The value that the literal names.
     pub(crate) fn json(self) -> Json
         ensures { value_of result ≡ literal_tree self }
     {
@@ -59,7 +61,7 @@ pub(crate) enum Mode {
     /// A value comes.
     Value,
     /// A value or the closing bracket comes.
-    FirstItem,
+    FirstElement,
     /// A name or the closing brace comes.
     FirstName,
     /// The name of the member after these comes.
@@ -78,6 +80,7 @@ pub(crate) enum Mode {
     Character(Target, String, CharacterState),
 }
 
+/// The state of the reader between two bytes.
 #[derive(Drop)]
 pub(crate) struct State {
     /// The innermost is last.

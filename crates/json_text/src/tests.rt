@@ -64,8 +64,12 @@ fn refused(rt: HostRuntime) -> Result<(), Fail> {
         (b"[[[[[[[[[[[[[[[[[[[[[[[[[[[[[[[[[", TooDeep, 32),
         (b"[[[[[[[[[[[[[[[[[[[[[[[[[[[[[[[{\"a\":{", TooDeep, 36),
     ];
-    for (text, kind, at) in rows {
-        assert_eq!(rt; fault(rt.alloc(), text), Some((kind, at)), "at {text:?}");
+    for (text, kind, offset) in rows {
+        assert_eq!(rt;
+            fault(rt.alloc(), text),
+            Some((kind, offset)),
+            "at {text:?}"
+        );
     }
     Ok(())
 }

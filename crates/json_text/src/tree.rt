@@ -6,7 +6,7 @@ ghost use Rattle.json_text.specs.ValueOf.{value_of, members_value};
 
 use std::marker::Model;
 
-/// The text of a string or of a member's name, in UTF-8, its escapes read.
+/// The text of a string or of a member's name, in UTF-8, its escapes decoded.
 #[derive(Debug, Drop)]
 pub struct Chars {
     text: String,
@@ -88,6 +88,7 @@ impl Json {
         self.member(name)
     }
 
+    /// The value of the member of this name; `None` where this is no object.
     fn member(&self, name: &[u8]) -> Option<&Json>
         ensures { option_map (λ v. value_of v.now) result ≡ get_of name.now (value_of self.now) }
     {
@@ -97,6 +98,7 @@ impl Json {
         }
     }
 
+    /// The value of `true` and `false`.
     pub fn as_bool(&self) -> Option<bool>
         ensures { result ≡ boolean_of (value_of self.now) }
     {
@@ -106,6 +108,7 @@ impl Json {
         }
     }
 
+    /// The text, where this is a number.
     pub fn as_number(&self) -> Option<&Numeral>
         ensures { option_copied result ≡ numeral_of (value_of self.now) }
     {
@@ -115,6 +118,7 @@ impl Json {
         }
     }
 
+    /// The text, where this is a string.
     pub fn as_str(&self) -> Option<&Chars>
         ensures { option_copied result ≡ string_of (value_of self.now) }
     {
@@ -124,15 +128,17 @@ impl Json {
         }
     }
 
+    /// The elements, where this is an array.
     pub fn as_list(&self) -> Option<&[Json]>
-        ensures { option_map (λ items. map value_of items.now) result ≡ array_of (value_of self.now) }
+        ensures { option_map (λ elements. map value_of elements.now) result ≡ array_of (value_of self.now) }
     {
         match self {
-            Json::List(items) => Some(items),
+            Json::List(elements) => Some(elements),
             _ => None,
         }
     }
 
+    /// Whether this is an object.
     pub fn is_object(&self) -> bool
         ensures { result ≡ is_some (members_of (value_of self.now)) }
     {
@@ -143,6 +149,7 @@ impl Json {
     }
 }
 
+/// The value of the first member of this name.
 fn find<'a>(members: &'a [(Chars, Json)], name: &[u8]) -> Option<&'a Json>
     ensures { option_map (λ v. value_of v.now) result ≡ member_of name.now (members_value members.now) }
 {

@@ -1,5 +1,6 @@
 //! The canonical spelling of a tree.
-ghost use Rattle.std.specs.Prelude.{◌≡◌, ℕ, List, ◌++◌, ◌<◌, map, flat_map, OnOk, OnErr};
+ghost use Rattle.std.specs.Prelude.{◌≡◌, ℕ, List, ◌∷◌, ◌++◌, ◌<◌, map, flat_map, OnOk, OnErr};
+ghost use Rattle.gw_bytes.specs.Bytes.{IsPrefix};
 ghost use Rattle.json_text.specs.Tree.{Tree, no_items};
 ghost use Rattle.json_text.specs.ValueOf.{value_of, items_onto, members_value};
 ghost use Rattle.json_text.specs.Grammar.{Spells};
@@ -12,15 +13,21 @@ use std::alloc::{AllocError, Global};
 
 /// Appends the canonical spelling of the tree: no white space, members in their order.
 ///
-/// Takes as much stack as the tree is deep; a tree that [`read`](crate::read) gave is at most 32 deep.
-pub fn write(alloc: Global, tree: &Json, out: &mut Vec<u8>) -> Result<(), AllocError>
+/// It writes straight into `out`, which grows by its own allocator: `_alloc` only marks that the call takes memory. It takes
+/// as much stack as the tree is deep; a tree that [`read`](crate::read) gave is at most 32 deep.
+pub fn write(_alloc: Global, tree: &Json, out: &mut Vec<u8>) -> Result<(), AllocError>
     ensures ok { OnOk result (out.new.items ≡ out.old.items ++ canonical (value_of tree.now)) }
     ensures err { OnErr result (out.new.items ≡ out.old.items) }
 {
-    // Into a buffer of its own: where memory is refused halfway, no part of the tree stays in `out`.
-    let mut text = Vec::new(alloc);
-    write_value(tree, &mut text)?;
-    out.extend_from_slice(&text)
+    let before = out.len();
+    match write_value(tree, out) {
+        Ok(()) => Ok(()),
+        Err(error) => {
+            // Memory was refused halfway: the part of the tree that there was room for is taken away again.
+            out.truncate(before);
+            Err(error)
+        }
+    }
 }
 
 /// The canonical spelling of a tree that has a text is a text of it, so [`read`](crate::read) returns this tree for it.
@@ -28,9 +35,11 @@ pub fn written_is_read_again()
     ensures { (v : Tree) (b : List ℕ) → Spells v b → Spells v (canonical v) }
 {}
 
+/// Appends a value. Where memory is refused, the part of it that there was room for stays.
 #[cycle(values)]
 fn write_value(tree: &Json, out: &mut Vec<u8>) -> Result<(), AllocError>
-    ensures { OnOk result (out.new.items ≡ out.old.items ++ canonical (value_of tree.now)) }
+    ensures ok { OnOk result (out.new.items ≡ out.old.items ++ canonical (value_of tree.now)) }
+    ensures grows { IsPrefix out.old.items out.new.items }
 {
     match tree {
         Json::Null => out.extend_from_slice(b"null"),
@@ -38,9 +47,9 @@ fn write_value(tree: &Json, out: &mut Vec<u8>) -> Result<(), AllocError>
         Json::Bool(false) => out.extend_from_slice(b"false"),
         Json::Number(text) => out.extend_from_slice(text.as_bytes()),
         Json::Str(text) => write_text(text.as_bytes(), out),
-        Json::List(items) => {
+        Json::List(elements) => {
             out.extend_from_slice(b"[")?;
-            write_items(items, out)
+            write_elements(elements, out)
         }
         Json::Object(members) => {
             out.extend_from_slice(b"{")?;
@@ -49,35 +58,48 @@ fn write_value(tree: &Json, out: &mut Vec<u8>) -> Result<(), AllocError>
     }
 }
 
+/// Appends the elements of an array, with commas between them, and the closing bracket.
 #[cycle(values)]
-fn write_items(items: &[Json], out: &mut Vec<u8>) -> Result<(), AllocError>
-    ensures { OnOk result (out.new.items ≡ out.old.items ++ canonical_first (items_onto (map value_of items.now) no_items)) }
+fn write_elements(elements: &[Json], out: &mut Vec<u8>) -> Result<(), AllocError>
+    ensures ok { OnOk result (out.new.items ≡ out.old.items ++ canonical_first (items_onto (map value_of elements.now) no_items)) }
+    ensures grows { IsPrefix out.old.items out.new.items }
 {
-    for (i, item) in items.iter().enumerate() {
+    for (i, element) in elements.iter().enumerate() {
         if i > 0 {
             out.extend_from_slice(b",")?;
         }
-        write_value(item, out)?;
+        write_value(element, out)?;
     }
     out.extend_from_slice(b"]")
 }
 
+/// Appends the members of an object, with commas between them, and the closing brace.
 #[cycle(values)]
 fn write_members(members: &[(Chars, Json)], out: &mut Vec<u8>) -> Result<(), AllocError>
-    ensures { OnOk result (out.new.items ≡ out.old.items ++ canonical_first_member (members_value members.now)) }
+    ensures ok { OnOk result (out.new.items ≡ out.old.items ++ canonical_first_member (members_value members.now)) }
+    ensures grows { IsPrefix out.old.items out.new.items }
 {
     for (i, (name, value)) in members.iter().enumerate() {
         if i > 0 {
             out.extend_from_slice(b",")?;
         }
-        write_text(name.as_bytes(), out)?;
-        out.extend_from_slice(b":")?;
-        write_value(value, out)?;
+        write_member(name, value, out)?;
     }
     out.extend_from_slice(b"}")
 }
 
-/// Appends the canonical spelling of a string, with its quotation marks. Without memory nothing is appended.
+/// Appends a member: its name, a colon and its value.
+#[cycle(values)]
+fn write_member(name: &Chars, value: &Json, out: &mut Vec<u8>) -> Result<(), AllocError>
+    ensures ok { OnOk result (out.new.items ≡ out.old.items ++ (canonical_string name.now ++ (58 ∷ canonical (value_of value.now)))) }
+    ensures grows { IsPrefix out.old.items out.new.items }
+{
+    write_text(name.as_bytes(), out)?;
+    out.extend_from_slice(b":")?;
+    write_value(value, out)
+}
+
+/// Appends the canonical spelling of a string, with its quotation marks; nothing where there is no memory.
 pub fn write_text(text: &[u8], out: &mut Vec<u8>) -> Result<(), AllocError>
     ensures ok { OnOk result (out.new.items ≡ out.old.items ++ canonical_string text.now) }
     ensures err { OnErr result (out.new.items ≡ out.old.items) }
@@ -123,6 +145,7 @@ pub fn escaped(byte: u8) -> ArrayVec<u8, 6>
     spelling
 }
 
+/// Appends the spelling of one byte of a string.
 fn write_byte(byte: u8, out: &mut Vec<u8>) -> Result<(), AllocError>
     ensures ok { OnOk result (out.new.items ≡ out.old.items ++ canonical_byte byte) }
     ensures err { OnErr result (out.new.items ≡ out.old.items) }

@@ -1,9 +1,9 @@
--- What one read of a line brings, and whether a link is up.
+-- What one read of a connection brings, and whether a link is up.
 use Rattle.std.specs.Prelude.{ℕ, ◌<◌, ◌≤◌, Bool, true, false, not, ◌==◌, List, filter}
-use Rattle.net_site.specs.declared.line.Heard.{Heard}
-use Rattle.net_site.specs.declared.line.Heard.TheVariants.{Bytes, End, Nothing}
+use Rattle.net_site.specs.declared.connection.Heard.{Heard}
+use Rattle.net_site.specs.declared.connection.Heard.TheVariants.{Bytes, End, Nothing}
 use Rattle.net_site.specs.declared.links.Link.{Link}
-use Rattle.net_site.specs.declared.tills.Line.{Line}
+use Rattle.net_site.specs.declared.tills.Connection.{Connection}
 use Rattle.net_site.specs.declared.links.Link.TheVariants.{Down, Making, Up}
 
 -- a count is 1 to 4,096
@@ -18,6 +18,6 @@ is_up Down = false
 is_up (Making stream) = false
 is_up (Up stream) = true
 
--- the lines without that of this till
-abbrev pub lines_without : List Line → ℕ → List Line
-lines_without lines till = filter (λ (line : Line). not (line.till == till)) lines
+-- the connections without that of this till
+abbrev pub connections_without : List Connection → ℕ → List Connection
+connections_without connections till = filter (λ (connection : Connection). not (connection.till == till)) connections

@@ -8,29 +8,29 @@ use std::process::Command;
 use std::test::Fail;
 use std::{env, fs};
 
-/// Starts this test program anew with some words of a shell before and after it, and gives what the child wrote to
-/// the file that it was named.
+/// Starts this test program anew with some words of a shell before and after it, and returns what the child wrote to
+/// the file that it was given.
 fn run_child(rt: &HostRuntime, child: &str, before: &str, after: &str) -> Result<String, Fail> {
-    let told = path(rt, child)?;
-    let mut line = format!(in rt.alloc();
-        "{before} NET_SITE_CHILD='{child}' NET_SITE_FILE='{told}' exec"
+    let report = path(rt, child)?;
+    let mut command = format!(in rt.alloc();
+        "{before} NET_SITE_CHILD='{child}' NET_SITE_FILE='{report}' exec"
     )?;
     for word in env::args(rt)? {
-        line.push_str(" '")?;
-        line.push_str(word.as_str())?;
-        line.push_str("'")?;
+        command.push_str(" '")?;
+        command.push_str(word.as_str())?;
+        command.push_str("'")?;
     }
-    line.push_str(after)?;
+    command.push_str(after)?;
     let _ = Command::new(rt.alloc(), "/bin/sh")?
         .arg("-c")?
-        .arg(line.as_str())?
+        .arg(command.as_str())?
         .output(rt)?;
-    let text = fs::read_to_string(rt, told.as_str())?;
-    fs::remove_file(rt, told.as_str())?;
+    let text = fs::read_to_string(rt, report.as_str())?;
+    fs::remove_file(rt, report.as_str())?;
     Ok(text)
 }
 
-/// Whether this process was started for this, and the file that it tells its result in.
+/// Whether this process was started for this, and the file to which it reports.
 fn child_file(rt: &HostRuntime, child: &str) -> Option<String> {
     match env::var(rt, "NET_SITE_CHILD") {
         Ok(name) if name.as_str() == child => env::var(rt, "NET_SITE_FILE").ok(),
@@ -52,7 +52,7 @@ fn fill(site: &mut NetSite<&HostRuntime>) -> Result<(), Fail> {
 
 #[test]
 fn a_disk_that_is_full(rt: HostRuntime) -> Result<(), Fail> {
-    let Some(told) = child_file(&rt, "full") else {
+    let Some(report) = child_file(&rt, "full") else {
         if is_child(&rt) {
             return Ok(());
         }
@@ -60,10 +60,10 @@ fn a_disk_that_is_full(rt: HostRuntime) -> Result<(), Fail> {
         return check(text.as_str() == "failed for good", "the child has failed");
     };
     let journal = path(&rt, "full_journal")?;
-    let mut site = opened(&rt, address(&rt, 47011), journal.as_str(), None)?;
+    let mut site = opened(&rt, address(&rt, 47011), journal.as_str(), &[])?;
     fill(&mut site)?;
     fs::remove_file(&rt, journal.as_str())?;
-    fs::write(&rt, told.as_str(), "failed for good")?;
+    fs::write(&rt, report.as_str(), "failed for good")?;
     Ok(())
 }
 
@@ -83,7 +83,7 @@ fn print(
 
 #[test]
 fn descriptors_that_are_closed(rt: HostRuntime) -> Result<(), Fail> {
-    let Some(told) = child_file(&rt, "closed") else {
+    let Some(report) = child_file(&rt, "closed") else {
         if is_child(&rt) {
             return Ok(());
         }
@@ -95,11 +95,11 @@ fn descriptors_that_are_closed(rt: HostRuntime) -> Result<(), Fail> {
     };
     let journal = path(&rt, "closed_journal")?;
     let near = address(&rt, 47012);
-    let mut site = opened(&rt, near, journal.as_str(), None)?;
+    let mut site = opened(&rt, near, journal.as_str(), &[])?;
     let mut till = TcpStream::connect(&rt, near)?;
     brings(&mut site, What::TillOpened(1), "a till opens")?;
     print(&rt, &mut site, &mut till)?;
     fs::remove_file(&rt, journal.as_str())?;
-    fs::write(&rt, told.as_str(), "nothing went astray")?;
+    fs::write(&rt, report.as_str(), "nothing went astray")?;
     Ok(())
 }

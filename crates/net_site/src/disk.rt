@@ -12,8 +12,8 @@ const PATH: usize = 4095;
 
 /// The journal's file while it is open, and whether a call on it has failed.
 ///
-/// After a failed sync Linux takes the pages that it couldn't write for written, and the next sync answers Ok. So nothing
-/// that a call says after a failed one can be relied on.
+/// After a failed sync Linux takes the pages that it couldn't write for written, and the next sync returns Ok. So no result
+/// of a call after a failed one can be relied on.
 #[derive(Drop)]
 pub(crate) struct Disk {
     opened: Option<File>,
@@ -46,10 +46,7 @@ impl Disk {
         ensures same { self.new.failed ≡ self.old.failed }
         ensures failed { self.old.failed ≡ true → IsErr result }
     {
-        if self.failed {
-            return Err(io::Error::from(ErrorKind::BrokenPipe));
-        }
-        if path.len() > PATH {
+        if self.failed || path.len() > PATH {
             return Err(io::Error::from(ErrorKind::InvalidInput));
         }
         self.path.clear();
@@ -80,21 +77,21 @@ impl Disk {
         }
     }
 
-    fn read(&self, pos: u64, buf: &mut [u8]) -> io::Result<()>
+    fn read(&self, offset: u64, buf: &mut [u8]) -> io::Result<()>
         ensures failed { self.now.failed ≡ true → IsErr result }
         ensures size { length buf.new ≡ length buf.old }
     {
         match self.file() {
-            Ok(file) => file::read_full(file, pos, buf),
+            Ok(file) => file::read_full(file, offset, buf),
             Err(error) => Err(error),
         }
     }
 
-    fn write<R: Files<File = File>>(&self, rt: &R, pos: u64, bytes: &[u8]) -> io::Result<()>
+    fn write<R: Files<File = File>>(&self, rt: &R, offset: u64, bytes: &[u8]) -> io::Result<()>
         ensures { self.now.failed ≡ true → IsErr result }
     {
         match self.file() {
-            Ok(file) => file::write_named(rt, file, self.path.as_str(), pos, bytes),
+            Ok(file) => file::write_named(rt, file, self.path.as_str(), offset, bytes),
             Err(error) => Err(error),
         }
     }
@@ -129,27 +126,27 @@ impl Disk {
         self.noted(done)
     }
 
-    /// Fills the buffer from a place on, with zeros past the file's end.
-    pub(crate) fn read_at(&mut self, pos: u64, buf: &mut [u8]) -> io::Result<()>
+    /// Fills the buffer from an offset on, with zeros past the file's end.
+    pub(crate) fn read_at(&mut self, offset: u64, buf: &mut [u8]) -> io::Result<()>
         ensures ok { OnOk result ((self.old.failed ≡ false) × (self.new.failed ≡ false)) }
         ensures err { OnErr result (self.new.failed ≡ true) }
         ensures size { length buf.new ≡ length buf.old }
     {
-        let done = self.read(pos, buf);
+        let done = self.read(offset, buf);
         self.noted(done)
     }
 
-    /// Writes all of the bytes at a place.
+    /// Writes all of the bytes at an offset.
     pub(crate) fn write_at<R: Files<File = File>>(
         &mut self,
         rt: &R,
-        pos: u64,
+        offset: u64,
         bytes: &[u8],
     ) -> io::Result<()>
         ensures ok { OnOk result ((self.old.failed ≡ false) × (self.new.failed ≡ false)) }
         ensures err { OnErr result (self.new.failed ≡ true) }
     {
-        let done = self.write(rt, pos, bytes);
+        let done = self.write(rt, offset, bytes);
         self.noted(done)
     }
 

@@ -1,6 +1,7 @@
 //! The journal's file: how it is opened, so that what is read is what the disk has, and that nobody else writes it.
 ghost use Rattle.std.specs.Prelude.{◌≡◌, ◌≤◌, length};
 
+use gw_bytes::MOST_SLOTS;
 use jrn_log::can_be_journal;
 use libc::{POSIX_FADV_DONTNEED, posix_fadvise};
 use std::fs::{self, File, OpenOptions, TryLockError};
@@ -14,10 +15,11 @@ const SLOT: u64 = 256;
 
 const OPEN: u8 = 0xA5;
 
-/// The slots that are looked at together, and the most such groups: some more slots than a journal has.
+/// The slots that are read together, and the most such groups: one more than the greatest journal has, whose last gate comes
+/// after its slots.
 const GROUP: usize = 16;
 
-const GROUPS: u32 = 62_501;
+const GROUPS: u32 = MOST_SLOTS / 16 + 1;
 
 /// Opens the journal's file, and makes it where it is missing and its folder is there.
 pub(crate) fn open_journal<R: Files<File = File>>(rt: &R, path: &str) -> io::Result<File> {
@@ -88,7 +90,7 @@ fn folder(path: &str) -> &str {
 /// Sees to it that the next read asks the disk, and that the file's name is on it.
 ///
 /// A process before this one may have had a failed sync. Linux then keeps its pages in the cache as if they were written,
-/// and later syncs answer Ok, so what is read could be lost by a power failure. So the cached pages are given back.
+/// and later syncs return Ok, so what is read could be lost by a power failure. So the cached pages are given back.
 fn read_from_disk<R: Files<File = File>>(rt: &R, file: &File, path: &str) -> io::Result<()> {
     file.sync_all()?;
     if posix_fadvise(file.as_raw_fd(), 0, 0, POSIX_FADV_DONTNEED) != 0 {
@@ -141,18 +143,18 @@ fn check_content(file: &File) -> io::Result<()> {
     }
 }
 
-/// Fills the buffer from a place on, with zeros past the file's end.
-pub(crate) fn read_full(file: &File, pos: u64, buf: &mut [u8]) -> io::Result<()>
+/// Fills the buffer from an offset on, with zeros past the file's end.
+pub(crate) fn read_full(file: &File, offset: u64, buf: &mut [u8]) -> io::Result<()>
     ensures { length buf.new ≡ length buf.old }
 {
-    let mut at = 0;
+    let mut filled = 0;
     for _ in 0..u64::MAX {
-        if at >= buf.len() {
+        if filled >= buf.len() {
             return Ok(());
         }
-        match file.read_at(&mut buf[at..], pos.saturating_add(at as u64)) {
+        match file.read_at(&mut buf[filled..], offset.saturating_add(filled as u64)) {
             Ok(0) => break,
-            Ok(count) => at += count,
+            Ok(count) => filled += count,
             Err(error) => {
                 if error.kind() != ErrorKind::Interrupted {
                     return Err(error);
@@ -160,28 +162,28 @@ pub(crate) fn read_full(file: &File, pos: u64, buf: &mut [u8]) -> io::Result<()>
             }
         }
     }
-    for byte in buf[at..].iter_mut() {
+    for byte in buf[filled..].iter_mut() {
         *byte = 0;
     }
     Ok(())
 }
 
-/// Writes all of the bytes at a place, where the file still has its name.
+/// Writes all of the bytes at an offset, where the file still has its name.
 pub(crate) fn write_named<R: Files<File = File>>(
     rt: &R,
     file: &File,
     path: &str,
-    pos: u64,
+    offset: u64,
     bytes: &[u8],
 ) -> io::Result<()> {
     check_name(rt, file, path)?;
-    file.write_all_at(bytes, pos)
+    file.write_all_at(bytes, offset)
 }
 
 /// Opens `/dev/null` until descriptors 0 to 2 are taken.
 ///
 /// A process may be started with some of them closed. A socket or the journal would then get the number of standard
-/// output, and the status line would be written to a till, or over the journal's first gate.
+/// output, and what is printed would be written to a till, or over the journal's first gate.
 pub(crate) fn take_standard<R: Files<File = File>>(rt: &R, kept: &mut Vec<File>) -> io::Result<()> {
     for _ in 0..4 {
         let file = File::open(rt, "/dev/null")?;

@@ -34,10 +34,10 @@ fn a_file_is_read_as_it_was_written(rt: HostRuntime) -> Result<(), Fail> {
         return Ok(());
     }
     let journal = path(&rt, "file")?;
-    let mut site = opened(&rt, address(&rt, 47007), journal.as_str(), None)?;
+    let mut site = opened(&rt, address(&rt, 47007), journal.as_str(), &[])?;
     what_was_written(&mut site)?;
     // A second gateway doesn't get the file while the first has it.
-    let other = tried(&rt, address(&rt, 47008), journal.as_str(), None)?;
+    let other = tried(&rt, address(&rt, 47008), journal.as_str(), &[])?;
     check(other.is_none(), "the file is locked")?;
     fs::remove_file(&rt, journal.as_str())?;
     a_failed_disk(&mut site)
@@ -68,7 +68,7 @@ fn a_journal_is_opened_again(rt: HostRuntime) -> Result<(), Fail> {
     }
     let journal = path(&rt, "journal")?;
     for bodies in [0, 20, 40] {
-        let mut site = opened(&rt, address(&rt, 47009), journal.as_str(), None)?;
+        let mut site = opened(&rt, address(&rt, 47009), journal.as_str(), &[])?;
         twenty_records(&rt, &mut site, bodies)?;
     }
     fs::remove_file(&rt, journal.as_str())?;
@@ -121,20 +121,20 @@ fn a_file_that_is_no_journal_is_refused(rt: HostRuntime) -> Result<(), Fail> {
     let journal = path(&rt, "foreign")?;
     let near = format!(in rt.alloc(); "{}", address(&rt, 47010))?;
     let mut site = NetSite::new(&rt, rt.alloc())?;
-    let there = setup(&rt, near.as_str(), journal.as_str(), "")?;
+    let there = setup(&rt, near.as_str(), journal.as_str(), &[])?;
     for (length, gates, is_ours) in ROWS {
         is_left(&rt, &mut site, &there, length, gates, is_ours)?;
     }
     fs::remove_file(&rt, journal.as_str())?;
     // A folder, devices, a folder that is missing, and no path.
-    for at in [
+    for other_path in [
         "/tmp",
         "/dev/zero",
         "/dev/null",
         "/tmp/net_site-none/journal",
         "",
     ] {
-        let other = setup(&rt, near.as_str(), at, "")?;
+        let other = setup(&rt, near.as_str(), other_path, &[])?;
         let is_open = open(&mut site, &other)?;
         check(!is_open, "that is no file for a journal")?;
     }
@@ -149,10 +149,10 @@ fn a_file_with_two_names_is_refused(rt: HostRuntime) -> Result<(), Fail> {
     let (journal, second) = (path(&rt, "one")?, path(&rt, "two")?);
     fs::write(&rt, journal.as_str(), b"\0")?;
     fs::hard_link(&rt, journal.as_str(), second.as_str())?;
-    let refused = tried(&rt, address(&rt, 47013), journal.as_str(), None)?;
+    let refused = tried(&rt, address(&rt, 47013), journal.as_str(), &[])?;
     check(refused.is_none(), "it has two names")?;
     fs::remove_file(&rt, second.as_str())?;
-    let _site = opened(&rt, address(&rt, 47013), journal.as_str(), None)?;
+    let _site = opened(&rt, address(&rt, 47013), journal.as_str(), &[])?;
     fs::remove_file(&rt, journal.as_str())?;
     Ok(())
 }

@@ -24,9 +24,10 @@ pub(crate) fn is_child(rt: &HostRuntime) -> bool {
     env::var(rt, "NET_SITE_CHILD").is_ok()
 }
 
-fn terminal(rt: &HostRuntime, address: &str) -> Result<Pt, Fail> {
+fn terminal(rt: &HostRuntime, number: usize, address: SocketAddr) -> Result<Pt, Fail> {
+    let poi = format!(in rt.alloc(); "T{number}")?;
     Ok(Pt {
-        poi: Ident::of(b"T1").ok_or("an identifier")?,
+        poi: Ident::of(poi.as_str().as_bytes()).ok_or("an identifier")?,
         address: Text::new(format!(in rt.alloc(); "{address}")?),
         password: [0; 3],
         currency: Currency::Eur,
@@ -37,16 +38,16 @@ fn terminal(rt: &HostRuntime, address: &str) -> Result<Pt, Fail> {
     })
 }
 
-/// A setup with at most one terminal.
+/// A setup with a terminal at each of these addresses.
 pub(crate) fn setup(
     rt: &HostRuntime,
     listen: &str,
     journal: &str,
-    terminal_at: &str,
+    far: &[SocketAddr],
 ) -> Result<Setup, Fail> {
     let mut terminals = Vec::new(rt.alloc());
-    if !terminal_at.is_empty() {
-        terminals.push(terminal(rt, terminal_at)?)?;
+    for (number, address) in far.iter().enumerate() {
+        terminals.push(terminal(rt, number, *address)?)?;
     }
     Ok(Setup {
         name: Ident::of(b"GATEWAY").ok_or("an identifier")?,
@@ -97,14 +98,10 @@ pub(crate) fn tried<'a>(
     rt: &'a HostRuntime,
     near: SocketAddr,
     journal: &str,
-    far: Option<SocketAddr>,
+    far: &[SocketAddr],
 ) -> Result<Option<NetSite<&'a HostRuntime>>, Fail> {
     let near_text = format!(in rt.alloc(); "{near}")?;
-    let far_text = match far {
-        Some(far) => format!(in rt.alloc(); "{far}")?,
-        None => String::new(rt.alloc()),
-    };
-    let setup = setup(rt, near_text.as_str(), journal, far_text.as_str())?;
+    let setup = setup(rt, near_text.as_str(), journal, far)?;
     let mut site = NetSite::new(rt, rt.alloc())?;
     if open(&mut site, &setup)? {
         return Ok(Some(site));
@@ -117,7 +114,7 @@ pub(crate) fn opened<'a>(
     rt: &'a HostRuntime,
     near: SocketAddr,
     journal: &str,
-    far: Option<SocketAddr>,
+    far: &[SocketAddr],
 ) -> Result<NetSite<&'a HostRuntime>, Fail> {
     match tried(rt, near, journal, far)? {
         Some(site) => Ok(site),

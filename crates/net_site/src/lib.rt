@@ -1,9 +1,9 @@
 //! A site over sockets and a file: the edge of the gateway, where the operating system is trusted.
 #![tactic(auto)]
 
+mod connection;
 mod disk;
 mod file;
-mod line;
 mod links;
 mod site;
 mod tills;

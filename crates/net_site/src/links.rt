@@ -4,8 +4,9 @@ ghost use Rattle.gw_site.specs.Turns.{IsWithinBuf};
 ghost use Rattle.net_site.specs.Heard.{is_up};
 ghost use Rattle.net_site.specs.Holding.{LinkHears, IsLinked};
 
-use crate::line::{self, Heard};
+use crate::connection::{self, Heard};
 use gw_base::Pt;
+use gw_bytes::{LONGEST_CHUNK, MOST_TERMINALS};
 use gw_site::What;
 use libc::net::{POLLOUT, poll};
 use libc::types::pollfd;
@@ -16,9 +17,6 @@ use std::mem;
 use std::net::{Net, SocketAddr, TcpStream};
 use std::os::fd::AsRawFd;
 use std::time::{Clock, Instant};
-
-/// The most terminals.
-pub(crate) const MOST: usize = 32;
 
 /// How long all links together may wait for their peers between two polls, in microseconds.
 const WAIT: u16 = 20_000;
@@ -81,7 +79,7 @@ fn begin<R: Net>(rt: &R, old: Link, address: SocketAddr, millis: i32) -> io::Res
         return Ok(Link::Making(stream));
     }
     let stream = TcpStream::from(stream);
-    line::set_up(&stream)?;
+    connection::set_up(&stream)?;
     Ok(Link::Up(stream))
 }
 
@@ -90,7 +88,7 @@ impl Links {
     pub(crate) fn new(alloc: Global) -> Result<Links, AllocError>
         ensures { IfOk result (λ links. links ≡ []) }
     {
-        let terminals = Vec::with_capacity(alloc, MOST)?;
+        let terminals = Vec::with_capacity(alloc, MOST_TERMINALS)?;
         Ok(Links {
             terminals,
             patience: WAIT,
@@ -111,8 +109,8 @@ impl Links {
         self.terminals.len()
     }
 
-    /// Takes one more terminal, which isn't linked. Its address is an IP address and a port: to look a name up would hold
-    /// the loop up.
+    /// Takes one more terminal, which isn't linked. Its address is an IP address and a port: to look a name up can
+    /// take seconds.
     fn add(&mut self, pt: &Pt) -> io::Result<()>
         ensures ok { OnOk result (self.new ≡ self.old ++ false ∷ []) }
         ensures err { OnErr result (self.new ≡ self.old) }
@@ -120,7 +118,7 @@ impl Links {
         let Ok(address) = pt.address.as_str().parse::<SocketAddr>() else {
             return Err(io::Error::from(ErrorKind::InvalidInput));
         };
-        if self.terminals.len() >= MOST {
+        if self.terminals.len() >= MOST_TERMINALS {
             return Err(io::Error::from(ErrorKind::InvalidInput));
         }
         self.terminals.push_reserved(Terminal {
@@ -133,7 +131,8 @@ impl Links {
     /// Takes these terminals, none of them linked.
     pub(crate) fn set(&mut self, terminals: &[Pt]) -> io::Result<()>
         requires { self.old ≡ [] }
-        ensures { All (λ up. up ≡ false) self.new }
+        ensures down { All (λ up. up ≡ false) self.new }
+        ensures count { OnOk result (length self.new ≡ length terminals.now) }
     {
         for pt in terminals {
             self.add(pt)?;
@@ -159,7 +158,7 @@ impl Links {
         }
     }
 
-    /// Puts a link in the place of the one before, whose connection is closed.
+    /// Replaces a link, whose connection is closed.
     fn put(&mut self, at: usize, link: Link)
         requires { at < length self.old }
         ensures { self.new ≡ slice_set self.old at (is_up link) }
@@ -189,7 +188,7 @@ impl Links {
     }
 
     /// Links a terminal. An earlier connection of it is replaced; one that is still being made is taken up.
-    #[tactic(auto, using(crate::proofs::LineLemmas::set_again))]
+    #[tactic(auto, using(crate::proofs::ListLemmas::set_again))]
     pub(crate) fn make<R: Net + Clock>(&mut self, rt: &R, pt: u16) -> io::Result<()>
         ensures ok { OnOk result ((pt < length self.old) × (self.new ≡ slice_set self.old pt true)) }
         ensures err { OnErr result (self.new ≡ slice_set self.old pt false) }
@@ -211,8 +210,8 @@ impl Links {
         }
     }
 
-    /// What the terminal at this place brings.
-    pub(crate) fn hear(&mut self, at: usize, buf: &mut [u8; 4096]) -> What
+    /// What the terminal of this number brings.
+    pub(crate) fn hear(&mut self, at: usize, buf: &mut [u8; LONGEST_CHUNK]) -> What
         ensures hears { LinkHears self.old self.new result }
         ensures buf { length buf.new ≡ 4096 }
         ensures count { IsWithinBuf result }
@@ -224,7 +223,7 @@ impl Links {
             return What::Nothing;
         };
         let pt = at as u16;
-        match line::hear(stream, buf) {
+        match connection::hear(stream, buf) {
             Heard::Nothing => What::Nothing,
             Heard::Bytes(count) => What::PtBytes(pt, count),
             Heard::End => {
@@ -250,7 +249,7 @@ impl Links {
     {
         match self.terminals.get(usize::from(pt)) {
             Some(terminal) => match &terminal.link {
-                Link::Up(stream) => line::send(rt, stream, bytes),
+                Link::Up(stream) => connection::send(rt, stream, bytes),
                 Link::Down | Link::Making(_) => Err(io::Error::from(ErrorKind::NotConnected)),
             },
             None => Err(io::Error::from(ErrorKind::NotConnected)),

@@ -1,14 +1,15 @@
 //! The site.
-ghost use Rattle.std.specs.Prelude.{◌≡◌, ◌↔◌, All, length, [], None, true, false, IfOk, IsErr, Contains, slice_set};
+ghost use Rattle.std.specs.Prelude.{◌≡◌, ◌↔◌, ◌≤◌, All, length, [], None, true, false, IfOk, IsErr, OnOk, OnErr, Contains, slice_set};
 ghost use Rattle.gw_site.specs.Failures.{HasCause, faults_after};
 ghost use Rattle.gw_site.specs.Turns.{IsWithinBuf};
 ghost use Rattle.net_site.specs.Holding.{AllGone, Brings, IsLinked, Links as LinksTo, OpensSite, UsesDisk, without_till};
 
 use crate::disk::Disk;
 use crate::file;
-use crate::links::{self, Links};
+use crate::links::Links;
 use crate::tills::{self, Tills};
 use gw_base::Setup;
+use gw_bytes::{LONGEST_CHUNK, MOST_TERMINALS};
 use gw_site::{Failed, Polled, Site, What};
 use libc::net::{POLLIN, poll};
 use libc::types::pollfd;
@@ -24,16 +25,16 @@ use std::time::Clock;
 /// How long a poll waits at most where nothing has come, in milliseconds.
 const WAIT: i32 = 50;
 
-/// The places that a poll asks: the tills, then the listener, then the terminals.
+/// A poll asks the tills, then the listener, then the terminals.
 const LISTENER: usize = tills::MOST;
 
 const FIRST_LINK: usize = LISTENER + 1;
 
-const PLACES: usize = FIRST_LINK + links::MOST;
+const ASKED: usize = FIRST_LINK + MOST_TERMINALS;
 
-/// Sockets and a file. It tells no log.
+/// Sockets and a file, whose log no proof observes.
 ///
-/// Room is taken when it is made, and no call takes more.
+/// Memory is taken when it is made, and no call takes more: once it serves, it can't fail for lack of memory.
 #[derive(Drop)]
 pub struct NetSite<R: Drop> {
     rt: R,
@@ -43,9 +44,12 @@ pub struct NetSite<R: Drop> {
     tills: Tills,
     links: Links,
     disk: Disk,
-    /// What stands at descriptors 0 to 2 where they were closed.
+    /// What has descriptors 0 to 2 where the process began without them.
     standard: Vec<File>,
-    /// The place at which the next poll begins.
+    /// What poll(2) is asked, and what it reported last. Of a till or a terminal the descriptor changes only where its
+    /// connection is made or closed.
+    asked: [pollfd; ASKED],
+    /// Where the next poll begins.
     next: usize,
     now: i64,
     faults: u64,
@@ -64,7 +68,23 @@ impl<R: Drop> Model for NetSite<R> {
     } };
 }
 
-/// The moment; the last one where the clock can't be read.
+/// What poll(2) is asked of a descriptor.
+fn asked(fd: i32) -> pollfd {
+    pollfd {
+        fd,
+        events: POLLIN,
+        revents: 0,
+    }
+}
+
+/// Asks poll(2) for each till.
+fn ask_for_each(fds: &mut [pollfd; ASKED], tills: &Tills) {
+    for (index, fd) in fds[..LISTENER].iter_mut().enumerate() {
+        *fd = asked(tills.descriptor(index));
+    }
+}
+
+/// The moment; the last one where the clock can't be read, since a poll can't fail.
 fn moment<R: Clock>(rt: &R, last: i64) -> i64 {
     match rt.since_1970() {
         Ok(since) => i64::try_from(since.as_secs()).unwrap_or(i64::MAX),
@@ -89,7 +109,7 @@ fn listen<R: Net<Listener = TcpListener, Stream = TcpStream>>(
 impl<R: Drop> NetSite<R> {
     /// A site on which nothing is open yet.
     pub fn new(rt: R, alloc: Global) -> Result<NetSite<R>, AllocError>
-        ensures { IfOk result (λ site. site ≡ record { tills = record { there = []; last = 0 }; links = []; disk_failed = false; faults = 0 }) }
+        ensures { IfOk result (λ site. site ≡ record { tills = record { connected = []; last = 0 }; links = []; disk_failed = false; faults = 0 }) }
     {
         let tills = Tills::new(alloc)?;
         let links = Links::new(alloc)?;
@@ -103,20 +123,21 @@ impl<R: Drop> NetSite<R> {
             links,
             disk,
             standard,
+            asked: [asked(-1); ASKED],
             next: 0,
             now: 0,
             faults: 0,
         })
     }
 
-    /// The answer to a call, whose failure is counted.
+    /// The result of a call, whose failure is counted.
     fn counted<T>(&mut self, done: io::Result<T>) -> Result<T, Failed>
         ensures same { IsErr result ↔ IsErr done }
         ensures cause { HasCause self.old.faults self.new.faults result }
         ensures site { self.new ≡ record self.old { faults = faults_after self.old.faults result } }
     {
         match done {
-            Ok(told) => Ok(told),
+            Ok(value) => Ok(value),
             Err(_) => {
                 self.faults = self.faults.saturating_add(1);
                 Err(Failed)
@@ -124,13 +145,14 @@ impl<R: Drop> NetSite<R> {
         }
     }
 
-    /// Closes all lines, the listener and the file.
+    /// Closes all connections, the listener and the file.
     fn close(&mut self)
-        ensures { self.new ≡ record self.old { tills = record self.old.tills { there = [] }; links = [] } }
+        ensures { self.new ≡ record self.old { tills = record self.old.tills { connected = [] }; links = [] } }
     {
         self.listener = None;
         self.tills.clear();
         self.links.clear();
+        self.asked = [asked(-1); ASKED];
         self.disk.close();
     }
 
@@ -141,41 +163,60 @@ impl<R: Drop> NetSite<R> {
         ensures numbers { self.new.tills ≡ self.old.tills }
         ensures disk { self.new.disk_failed ≡ self.old.disk_failed }
         ensures faults { self.new.faults ≡ self.old.faults }
+        ensures kept { is_open ≡ true → self.new.links ≡ self.old.links }
+        ensures none { is_open ≡ false → self.new.links ≡ [] }
     {
         if !is_open {
             self.close();
         }
     }
 
-    /// The descriptor at a place, or -1, which poll(2) passes over.
+    /// The listener's descriptor, or -1, which poll(2) passes over.
     ///
-    /// The listener is left out while no more tills are taken, and once after `accept` failed: poll(2) would return at
-    /// once for a connection that can't be taken, again and again.
-    fn descriptor(&self, place: usize) -> i32 {
-        if place < LISTENER {
-            return self.tills.descriptor(place);
-        }
-        if place > LISTENER {
-            return self.links.descriptor(place - FIRST_LINK);
-        }
+    /// It is left out while no more tills are taken, and once after `accept` failed: poll(2) would return at once for a
+    /// connection that can't be taken, again and again.
+    fn listening(&self) -> i32 {
         match &self.listener {
             Some(listener) if !self.resting && self.tills.has_room() => listener.as_raw_fd(),
             _ => -1,
         }
     }
 
-    /// What each place has, after at most 50 ms where none has anything.
-    fn wait(&self) -> [pollfd; PLACES] {
-        let mut fds = [pollfd {
-            fd: -1,
-            events: POLLIN,
-            revents: 0,
-        }; PLACES];
-        for (place, asked) in fds.iter_mut().enumerate() {
-            asked.fd = self.descriptor(place);
+    /// Asks for the tills anew, after one came or went. Those after one that went have moved up.
+    fn ask_for_tills(&mut self)
+        ensures { self.new ≡ self.old }
+    {
+        ask_for_each(&mut self.asked, &self.tills);
+    }
+
+    /// Asks for a terminal anew, after its connection was made or closed.
+    fn ask_for_terminal(&mut self, pt: u16)
+        ensures { self.new ≡ self.old }
+    {
+        let at = usize::from(pt);
+        if at < MOST_TERMINALS {
+            self.asked[FIRST_LINK + at] = asked(self.links.descriptor(at));
         }
-        let _ = poll(&mut fds, WAIT);
-        fds
+    }
+
+    /// Asks anew for what an event has changed.
+    fn ask_anew(&mut self, what: What)
+        ensures { self.new ≡ self.old }
+    {
+        match what {
+            What::TillOpened(_) | What::TillClosed(_) => self.ask_for_tills(),
+            What::PtClosed(pt) => self.ask_for_terminal(pt),
+            What::TillBytes(_, _) | What::PtBytes(_, _) | What::Nothing | What::Stopped => {}
+        }
+    }
+
+    /// Waits until one of them has something, at most 50 ms. Returns whether one has.
+    fn wait(&mut self) -> bool
+        ensures { self.new ≡ self.old }
+    {
+        self.asked[LISTENER] = asked(self.listening());
+        self.resting = false;
+        poll(&mut self.asked, WAIT) > 0
     }
 
     /// Takes a till that waits.
@@ -196,40 +237,56 @@ impl<R: Drop> NetSite<R> {
         }
     }
 
-    /// What there is at a place.
-    fn hear(&mut self, place: usize, buf: &mut [u8; 4096]) -> What
+    /// What there is at an index.
+    fn hear(&mut self, index: usize, buf: &mut [u8; LONGEST_CHUNK]) -> What
         ensures brings { Brings self.old self.new result }
         ensures buf { length buf.new ≡ 4096 }
         ensures count { IsWithinBuf result }
     {
-        if place < LISTENER {
-            self.tills.hear(place, buf)
-        } else if place > LISTENER {
-            self.links.hear(place - FIRST_LINK, buf)
+        if index < LISTENER {
+            self.tills.hear(index, buf)
+        } else if index > LISTENER {
+            self.links.hear(index - FIRST_LINK, buf)
         } else {
             self.accept()
         }
     }
 
-    /// The first thing that there is, from the place on at which the last poll stopped, so that a line that talks without
-    /// end doesn't keep the others from being heard.
-    fn ask(&mut self, fds: &[pollfd; PLACES], buf: &mut [u8; 4096]) -> What
+    /// The first thing that there is at the indices from `first` to `end`.
+    fn hear_first(&mut self, first: usize, end: usize, buf: &mut [u8; LONGEST_CHUNK]) -> What
+        requires { end ≤ 98 }
         ensures brings { Brings self.old self.new result }
         ensures buf { length buf.new ≡ 4096 }
         ensures count { IsWithinBuf result }
     {
-        for step in 0..PLACES {
-            let place = (self.next % PLACES + step) % PLACES;
-            if fds[place].revents == 0 {
+        for index in first..end {
+            if self.asked[index].revents == 0 {
                 continue;
             }
-            let what = self.hear(place, buf);
+            let what = self.hear(index, buf);
             if what != What::Nothing {
-                self.next = place + 1;
+                self.next = index + 1;
                 return what;
             }
         }
         What::Nothing
+    }
+
+    /// The first thing that there is, from the index on at which the last poll stopped: else a connection that talks without
+    /// end would keep the ones after it from being heard.
+    fn ask(&mut self, buf: &mut [u8; LONGEST_CHUNK]) -> What
+        ensures brings { Brings self.old self.new result }
+        ensures buf { length buf.new ≡ 4096 }
+        ensures count { IsWithinBuf result }
+    {
+        if !self.wait() {
+            return What::Nothing;
+        }
+        let next = self.next.min(ASKED);
+        match self.hear_first(next, ASKED, buf) {
+            What::Nothing => self.hear_first(0, next, buf),
+            what => what,
+        }
     }
 }
 
@@ -243,6 +300,7 @@ impl<
         ensures links { All (λ up. up ≡ false) self.new.links }
         ensures disk { self.new.disk_failed ≡ self.old.disk_failed }
         ensures faults { self.new.faults ≡ self.old.faults }
+        ensures terminals { OnOk result (length self.new.links ≡ length setup.now.terminals) }
         ensures failed { self.old.disk_failed ≡ true → IsErr result }
     {
         file::take_standard(&self.rt, &mut self.standard)?;
@@ -258,7 +316,7 @@ impl<R: Net<Listener = TcpListener, Stream = TcpStream> + Files<File = File> + C
     ghost observed = { λ site. record { log = None; faults = site.faults; dark = false; origin = [] } };
 
     fn open(&mut self, setup: &Setup) -> Result<(), Failed>
-        ensures opens { OpensSite self.old self.new result }
+        ensures opens { OpensSite setup.now self.old self.new result }
         ensures cause { HasCause self.old.faults self.new.faults result }
         ensures failed { self.old.disk_failed ≡ true → IsErr result }
     {
@@ -268,15 +326,14 @@ impl<R: Net<Listener = TcpListener, Stream = TcpStream> + Files<File = File> + C
         self.counted(done)
     }
 
-    fn poll(&mut self, buf: &mut [u8; 4096]) -> Polled
+    fn poll(&mut self, buf: &mut [u8; LONGEST_CHUNK]) -> Polled
         ensures brings { Brings self.old self.new result.what }
         ensures buf { length buf.new ≡ 4096 }
         ensures count { IsWithinBuf result.what }
     {
-        let fds = self.wait();
-        self.resting = false;
         self.links.rest();
-        let what = self.ask(&fds, buf);
+        let what = self.ask(buf);
+        self.ask_anew(what);
         self.now = moment(&self.rt, self.now);
         Polled {
             now: self.now,
@@ -285,7 +342,7 @@ impl<R: Net<Listener = TcpListener, Stream = TcpStream> + Files<File = File> + C
     }
 
     fn send_till(&mut self, till: u64, bytes: &[u8]) -> Result<(), Failed>
-        ensures held { IfOk result (λ done. Contains self.old.tills.there till) }
+        ensures held { IfOk result (λ done. Contains self.old.tills.connected till) }
         ensures cause { HasCause self.old.faults self.new.faults result }
         ensures site { self.new ≡ record self.old { faults = faults_after self.old.faults result } }
     {
@@ -307,6 +364,7 @@ impl<R: Net<Listener = TcpListener, Stream = TcpStream> + Files<File = File> + C
         ensures cause { HasCause self.old.faults self.new.faults result }
     {
         let done = self.links.make(&self.rt, pt);
+        self.ask_for_terminal(pt);
         self.counted(done)
     }
 
@@ -314,12 +372,14 @@ impl<R: Net<Listener = TcpListener, Stream = TcpStream> + Files<File = File> + C
         ensures { self.new ≡ record self.old { tills = without_till self.old.tills till } }
     {
         self.tills.close(till);
+        self.ask_for_tills();
     }
 
     fn cut_pt(&mut self, pt: u16)
         ensures { self.new ≡ record self.old { links = slice_set self.old.links pt false } }
     {
         self.links.close(pt);
+        self.ask_for_terminal(pt);
     }
 
     fn length(&mut self) -> Result<u64, Failed>

@@ -1,6 +1,7 @@
 //! Tests of the sockets, over loopback.
 use crate::NetSite;
 use crate::fixture::{address, brings, brings_bytes, check, is_child, opened, path, read};
+use gw_bytes::{LONGEST_CHUNK, MOST_TERMINALS};
 use gw_site::{Site, What};
 use libc::net::listen;
 use std::fs;
@@ -74,7 +75,7 @@ fn a_till_and_a_terminal_over_loopback(rt: HostRuntime) -> Result<(), Fail> {
     let journal = path(&rt, "loopback")?;
     let (near, far) = (address(&rt, 47001), address(&rt, 47002));
     let listener = TcpListener::bind(&rt, far)?;
-    let mut site = opened(&rt, near, journal.as_str(), Some(far))?;
+    let mut site = opened(&rt, near, journal.as_str(), &[far])?;
     a_till(&rt, &mut site, near)?;
     a_terminal(&rt, &mut site, &listener)?;
     a_second_link(&mut site, &listener)?;
@@ -91,7 +92,7 @@ fn a_byte_at_a_time(site: &mut NetSite<&HostRuntime>, peer: &mut TcpStream) -> R
     Ok(())
 }
 
-/// A line that is closed with bytes unread is reset.
+/// A connection that is closed with bytes unread is reset.
 fn a_reset(
     rt: &HostRuntime,
     site: &mut NetSite<&HostRuntime>,
@@ -104,7 +105,7 @@ fn a_reset(
     brings(site, What::TillClosed(2), "it is reset")
 }
 
-/// What was sent before a half close comes, and then the line's end.
+/// What was sent before a half close comes, and then the connection's end.
 fn a_half_close(
     rt: &HostRuntime,
     site: &mut NetSite<&HostRuntime>,
@@ -141,7 +142,7 @@ fn a_peer_that_never_reads(
     )
 }
 
-/// A line that has more bytes than are read at once doesn't keep another from being heard.
+/// A connection that has more bytes than are read at once doesn't keep another from being heard.
 fn a_talker(
     rt: &HostRuntime,
     site: &mut NetSite<&HostRuntime>,
@@ -163,7 +164,7 @@ fn peers_that_misbehave(rt: HostRuntime) -> Result<(), Fail> {
     }
     let journal = path(&rt, "peers")?;
     let near = address(&rt, 47003);
-    let mut site = opened(&rt, near, journal.as_str(), None)?;
+    let mut site = opened(&rt, near, journal.as_str(), &[])?;
     let mut slow = TcpStream::connect(&rt, near)?;
     brings(&mut site, What::TillOpened(1), "a till opens")?;
     a_byte_at_a_time(&mut site, &mut slow)?;
@@ -195,7 +196,7 @@ fn a_hundred_connections(rt: HostRuntime) -> Result<(), Fail> {
     }
     let journal = path(&rt, "hundred")?;
     let near = address(&rt, 47004);
-    let mut site = opened(&rt, near, journal.as_str(), None)?;
+    let mut site = opened(&rt, near, journal.as_str(), &[])?;
     let mut peers = Vec::new(rt.alloc());
     for _ in 0..100 {
         peers.push(TcpStream::connect(&rt, near)?)?;
@@ -210,7 +211,7 @@ fn a_hundred_connections(rt: HostRuntime) -> Result<(), Fail> {
     Ok(())
 }
 
-/// Fills the queue of a listener that doesn't accept, so that it answers no connection.
+/// Fills the queue of a listener, so that it accepts no connection and refuses none, as a host that is switched off.
 fn fill_queue(
     rt: &HostRuntime,
     listener: &TcpListener,
@@ -228,21 +229,41 @@ fn fill_queue(
     Ok(held)
 }
 
-/// All links between two polls wait 20 ms together.
-fn links_wait_together(rt: &HostRuntime, site: &mut NetSite<&HostRuntime>) -> Result<(), Fail> {
+/// How long it takes to try each of the terminals once.
+fn links(rt: &HostRuntime, site: &mut NetSite<&HostRuntime>) -> Result<Duration, Fail> {
     let start = Instant::now(rt)?;
-    for _ in 0..32 {
-        check(site.link_pt(0).is_err(), "nobody answers")?;
+    for pt in 0..MOST_TERMINALS {
+        check(site.link_pt(pt as u16).is_err(), "nobody accepts")?;
     }
-    let passed = start.elapsed(rt)?;
-    check(passed >= Duration::from_millis(19), "they wait")?;
-    check(passed < Duration::from_secs(30), "and end")
+    Ok(start.elapsed(rt)?)
+}
+
+/// All links between two polls wait 20 ms together: in the shortest of some rounds less than two of them would wait one
+/// after the other. A busy machine makes rounds longer, but hardly all of them.
+fn links_wait_together(rt: &HostRuntime, site: &mut NetSite<&HostRuntime>) -> Result<(), Fail> {
+    let mut buf = [0; LONGEST_CHUNK];
+    let mut shortest = Duration::MAX;
+    for _ in 0..20 {
+        let _ = site.poll(&mut buf);
+        shortest = shortest.min(links(rt, site)?);
+        if shortest < Duration::from_millis(40) {
+            break;
+        }
+    }
+    check(shortest >= Duration::from_millis(19), "they wait")?;
+    check(
+        shortest < Duration::from_millis(40),
+        "and they wait together",
+    )
 }
 
 /// The connection goes on being made, and is taken up once the queue has room.
-fn link_is_taken_up(site: &mut NetSite<&HostRuntime>) -> Result<(), Fail> {
-    let mut buf = [0; 4096];
-    for _ in 0..100 {
+fn link_is_taken_up(site: &mut NetSite<&HostRuntime>, listener: &TcpListener) -> Result<(), Fail> {
+    let mut buf = [0; LONGEST_CHUNK];
+    listener.set_nonblocking(true)?;
+    for _ in 0..200 {
+        // The other terminals' connections come into the queue too.
+        let _ = listener.accept();
         let _ = site.poll(&mut buf);
         if site.link_pt(0).is_ok() {
             return Ok(());
@@ -252,20 +273,17 @@ fn link_is_taken_up(site: &mut NetSite<&HostRuntime>) -> Result<(), Fail> {
 }
 
 #[test]
-fn terminals_that_do_not_answer(rt: HostRuntime) -> Result<(), Fail> {
+fn terminals_that_are_switched_off(rt: HostRuntime) -> Result<(), Fail> {
     if is_child(&rt) {
         return Ok(());
     }
     let journal = path(&rt, "links")?;
     let (near, far) = (address(&rt, 47005), address(&rt, 47006));
     let listener = TcpListener::bind(&rt, far)?;
-    let held = fill_queue(&rt, &listener, far)?;
-    let mut site = opened(&rt, near, journal.as_str(), Some(far))?;
+    let _held = fill_queue(&rt, &listener, far)?;
+    let mut site = opened(&rt, near, journal.as_str(), &[far; MOST_TERMINALS])?;
     links_wait_together(&rt, &mut site)?;
-    for _ in 0..held.len() {
-        let _ = listener.accept()?;
-    }
-    link_is_taken_up(&mut site)?;
+    link_is_taken_up(&mut site, &listener)?;
     // Where nobody listens, the link fails at once.
     drop(listener);
     check(site.link_pt(0).is_err(), "nobody listens")?;

@@ -8,12 +8,12 @@ use Rattle.pt_core.specs.declared.book.BookEntry.{BookEntry}
 use Rattle.pt_core.specs.declared.play.Play.{Play}
 use Rattle.pt_core.specs.Book.{all_fit, fits_status, is_payment_with, last_payment}
 
-both : (a b : Bool) → (a && b) ≡ true → (a ≡ true) × (b ≡ true)
+pub both : (a b : Bool) → (a && b) ≡ true → (a ≡ true) × (b ≡ true)
 both true true e = (refl, refl)
 both true false e = absurd cc
 both false b e = absurd cc
 
-of_both : (a b : Bool) → a ≡ true → b ≡ true → (a && b) ≡ true
+pub of_both : (a b : Bool) → a ≡ true → b ≡ true → (a && b) ≡ true
 of_both true true p q = refl
 of_both true false p q = q
 of_both false b p q = p

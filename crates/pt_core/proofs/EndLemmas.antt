@@ -3,6 +3,8 @@ use Rattle.std.proofs.Common.{◌≡◌, ℕ, ℤ, Bool, true, false, cond, eqb,
 use Rattle.std.specs.Prelude.{◌⊎◌, ◌&&◌}
 use Rattle.std.specs.List.{filter_map, last_or, list_any}
 use Rattle.std.proofs.lemmas.List.Elements.{filter_map-append}
+use Rattle.gw_bytes.specs.Bytes.{IsPrefix}
+use Rattle.zvt_bmp.specs.declared.fields.Fields.{Fields}
 use Rattle.zvt_msg.specs.declared.command.Command.{Command}
 use Rattle.zvt_msg.specs.declared.command.Command.TheVariants as command
 use Rattle.zvt_msg.specs.Message.{MessageValue, Ack, Nack, Intermediate, Line, Block, Status, Completion, Abort, Other}
@@ -11,7 +13,7 @@ use Rattle.zvt_talk.specs.declared.dialogue_kind.DialogueKind.TheVariants.{Regis
 use Rattle.zvt_talk.specs.declared.meaning.Heard.{Heard}
 use Rattle.zvt_talk.specs.declared.meaning.Heard.TheVariants as heard
 use Rattle.zvt_talk.specs.Dialogue.{Dialogue, dialogue_kind_of}
-use Rattle.zvt_talk.specs.Came.{Came, Message, StopWished, status_fields_of, has_result, is_asked, is_stop_wished, messages, taken_message}
+use Rattle.zvt_talk.specs.Came.{Came, Message, StopWished, status_fields_of, has_ended, has_result, is_asked, is_stop_wished, messages, taken_message}
 use Rattle.zvt_talk.specs.Table.{meaning_when_asked, meaning_when_begun, approved_with, enquiry_approved}
 use Rattle.zvt_talk.specs.Laws.{IsTransaction}
 use Rattle.zvt_talk.specs.Talk.{meaning, end_from, end_of, is_end}
@@ -21,8 +23,38 @@ use Rattle.pt_core.specs.declared.play.Play.TheVariants as play
 use Rattle.pt_core.specs.declared.reaction.Reaction.{Reaction}
 use Rattle.pt_core.specs.declared.reaction.Reaction.TheVariants as reaction
 use Rattle.pt_core.specs.Book.{is_full, last_book_entry, last_payment, next_entry}
-use Rattle.pt_core.specs.Table.{at_command, by_command, enquiry, entries_of, messages_of, payment, reversal, status_of_entry}
-use Rattle.pt_core.specs.Ends.{AreFirstOf, IsReported, IsTrueEnd, entry_figures}
+use Rattle.pt_core.specs.Table.{at_command, by_command, cuts, enquiry, entries_of, messages_of, payment, reversal, status_of_entry}
+use Rattle.pt_core.specs.Ends.{IsReported, IsTrueEnd, entry_figures}
+
+-- ---- the messages of an answer as they are read
+
+-- the status of an entry, with a tail at this offset
+abbrev pub read_status : ℕ → BookEntry → Fields
+read_status tail entry = record (status_of_entry entry) { tail = tail }
+
+-- the messages of an answer, whose statuses have their tail at this offset
+abbrev pub read_messages : ℕ → Reaction → List MessageValue
+read_messages tail reaction.Silent = []
+read_messages tail reaction.Acknowledged = Ack ∷ []
+read_messages tail reaction.Refused = Nack 0x83 ∷ []
+read_messages tail reaction.Completed = Ack ∷ Completion ∷ []
+read_messages tail (reaction.Approved entry) = Ack ∷ Status (read_status tail entry) ∷ Completion ∷ []
+read_messages tail (reaction.Reported entry) = Ack ∷ Status (read_status tail entry) ∷ Completion ∷ []
+read_messages tail (reaction.Aborted code) = Ack ∷ Abort (Some code) ∷ []
+read_messages tail (reaction.Booked entry) = Ack ∷ []
+read_messages tail reaction.Dropped = []
+
+-- without a tail they are those that are written
+pub same_messages : (done : Reaction) → read_messages 0 done ≡ messages_of done
+same_messages reaction.Silent = refl
+same_messages reaction.Acknowledged = refl
+same_messages reaction.Refused = refl
+same_messages reaction.Completed = refl
+same_messages (reaction.Approved entry) = refl
+same_messages (reaction.Reported entry) = refl
+same_messages (reaction.Aborted code) = refl
+same_messages (reaction.Booked entry) = refl
+same_messages reaction.Dropped = refl
 
 -- ---- the message that ends a dialogue
 
@@ -30,12 +62,12 @@ record EndsAt (dialogue : Dialogue) (came : List Came) (end : Heard) : Type 0 wh
   before : List Came
   message : MessageValue
   at : ℤ
-  behind : List Came
-  parts : came ≡ before ++ Message message at ∷ behind
+  following : List Came
+  parts : came ≡ before ++ Message message at ∷ following
   ends : is_end (meaning dialogue before message) ≡ true
   is : meaning dialogue before message ≡ end
 
-some_is : (a b : Heard) → (let o : Option Heard = Some a in o) ≡ Some b → a ≡ b
+pub some_is : (a b : Heard) → (let o : Option Heard = Some a in o) ≡ Some b → a ≡ b
 some_is a b e = cc
 
 ends_choice : (dialogue : Dialogue) (before rest : List Came) (message : MessageValue) (at : ℤ) (end : Heard) (is : Bool)
@@ -44,7 +76,7 @@ ends_choice : (dialogue : Dialogue) (before rest : List Came) (message : Message
     → (end_from dialogue (before ++ Message message at ∷ []) rest ≡ Some end → EndsAt dialogue ((before ++ Message message at ∷ []) ++ rest) end)
     → EndsAt dialogue (before ++ Message message at ∷ rest) end
 ends_choice dialogue before rest message at end true is e later =
-    record { before = before; message = message; at = at; behind = rest; parts = refl; ends = is; is = some_is _ end e }
+    record { before = before; message = message; at = at; following = rest; parts = refl; ends = is; is = some_is _ end e }
 ends_choice dialogue before rest message at end false is e later =
     let Ends : List Came → Type 0 = λ c. EndsAt dialogue c end in
     subst Ends (append_assoc before (Message message at ∷ []) rest) (later e)
@@ -60,92 +92,92 @@ ends_at dialogue before (Message message at ∷ rest) end e =
 -- ---- what a message means, by the messages before it alone
 
 abbrev kind_meaning : DialogueKind → ℕ → Bool → List MessageValue → MessageValue → Heard
-kind_meaning kind none wished taken message =
-    cond (is_asked taken) (meaning_when_asked kind wished message)
-    (meaning_when_begun kind none (record { last = last_or None (filter_map status_fields_of taken); approved = list_any (λ status. has_result 0 status.result) (filter_map status_fields_of taken) }) message)
+kind_meaning dialogue_kind none stop_wished taken message =
+    cond (is_asked taken) (meaning_when_asked dialogue_kind stop_wished message)
+    (meaning_when_begun dialogue_kind none (record { last = last_or None (filter_map status_fields_of taken); approved = list_any (λ status. has_result 0 status.result) (filter_map status_fields_of taken) }) message)
 
 -- an end is none that the message Other brings
-other_never : (kind : DialogueKind) (none : ℕ) (wished : Bool) (taken : List MessageValue) → is_end (kind_meaning kind none wished taken Other) ≡ true → ⊥
-other_never kind none wished [] e = cc
-other_never kind none wished (first ∷ taken) e = cc
+other_never : (dialogue_kind : DialogueKind) (none : ℕ) (stop_wished : Bool) (taken : List MessageValue) → is_end (kind_meaning dialogue_kind none stop_wished taken Other) ≡ true → ⊥
+other_never dialogue_kind none stop_wished [] e = cc
+other_never dialogue_kind none stop_wished (first ∷ taken) e = cc
 
-taken_first : (message : MessageValue) (at : ℤ) (behind : List Came) → (message ≡ Other → ⊥) → messages (Message message at ∷ behind) ≡ message ∷ messages behind
-taken_first Ack at behind apart = refl
-taken_first (Nack code) at behind apart = refl
-taken_first (Intermediate code) at behind apart = refl
-taken_first (Line text) at behind apart = refl
-taken_first (Block objects) at behind apart = refl
-taken_first (Status fields) at behind apart = refl
-taken_first Completion at behind apart = refl
-taken_first (Abort code) at behind apart = refl
-taken_first Other at behind apart = absurd (apart refl)
+pub taken_first : (message : MessageValue) (at : ℤ) (following : List Came) → (message ≡ Other → ⊥) → messages (Message message at ∷ following) ≡ message ∷ messages following
+taken_first Ack at following apart = refl
+taken_first (Nack code) at following apart = refl
+taken_first (Intermediate code) at following apart = refl
+taken_first (Line text) at following apart = refl
+taken_first (Block objects) at following apart = refl
+taken_first (Status fields) at following apart = refl
+taken_first Completion at following apart = refl
+taken_first (Abort code) at following apart = refl
+taken_first Other at following apart = absurd (apart refl)
 
--- ---- where a message stands among few
+-- ---- where a message is among few
 
-at_one : (before : List MessageValue) (message : MessageValue) (behind : List MessageValue) (a : MessageValue) → before ++ message ∷ behind ≡ a ∷ [] → (before ≡ []) × (message ≡ a)
-at_one [] message behind a e = (refl, cc)
-at_one (x ∷ []) message behind a e = absurd cc
-at_one (x ∷ y ∷ before) message behind a e = absurd cc
+at_one : (before : List MessageValue) (message : MessageValue) (following : List MessageValue) (a : MessageValue) → before ++ message ∷ following ≡ a ∷ [] → (before ≡ []) × (message ≡ a)
+at_one [] message following a e = (refl, cc)
+at_one (x ∷ []) message following a e = absurd cc
+at_one (x ∷ y ∷ before) message following a e = absurd cc
 
-at_two : (before : List MessageValue) (message : MessageValue) (behind : List MessageValue) (a b : MessageValue) → before ++ message ∷ behind ≡ a ∷ b ∷ []
+at_two : (before : List MessageValue) (message : MessageValue) (following : List MessageValue) (a b : MessageValue) → before ++ message ∷ following ≡ a ∷ b ∷ []
     → ((before ≡ []) × (message ≡ a)) ⊎ ((before ≡ a ∷ []) × (message ≡ b))
-at_two [] message behind a b e = inl (refl, cc)
-at_two (x ∷ []) message behind a b e = inr (cc, cc)
-at_two (x ∷ y ∷ []) message behind a b e = absurd cc
-at_two (x ∷ y ∷ z ∷ before) message behind a b e = absurd cc
+at_two [] message following a b e = inl (refl, cc)
+at_two (x ∷ []) message following a b e = inr (cc, cc)
+at_two (x ∷ y ∷ []) message following a b e = absurd cc
+at_two (x ∷ y ∷ z ∷ before) message following a b e = absurd cc
 
-at_three : (before : List MessageValue) (message : MessageValue) (behind : List MessageValue) (a b c : MessageValue) → before ++ message ∷ behind ≡ a ∷ b ∷ c ∷ []
+at_three : (before : List MessageValue) (message : MessageValue) (following : List MessageValue) (a b c : MessageValue) → before ++ message ∷ following ≡ a ∷ b ∷ c ∷ []
     → ((before ≡ []) × (message ≡ a)) ⊎ (((before ≡ a ∷ []) × (message ≡ b)) ⊎ ((before ≡ a ∷ b ∷ []) × (message ≡ c)))
-at_three [] message behind a b c e = inl (refl, cc)
-at_three (x ∷ []) message behind a b c e = inr (inl (cc, cc))
-at_three (x ∷ y ∷ []) message behind a b c e = inr (inr (cc, cc))
-at_three (x ∷ y ∷ z ∷ []) message behind a b c e = absurd cc
-at_three (x ∷ y ∷ z ∷ w ∷ before) message behind a b c e = absurd cc
+at_three [] message following a b c e = inl (refl, cc)
+at_three (x ∷ []) message following a b c e = inr (inl (cc, cc))
+at_three (x ∷ y ∷ []) message following a b c e = inr (inr (cc, cc))
+at_three (x ∷ y ∷ z ∷ []) message following a b c e = absurd cc
+at_three (x ∷ y ∷ z ∷ w ∷ before) message following a b c e = absurd cc
 
 -- ---- what is true of each
 
 -- where the message ends the dialogue, that is true
-abbrev Tells : DialogueKind → ℕ → Bool → List BookEntry → List BookEntry → List MessageValue → MessageValue → Type 0
-Tells kind none wished book entries taken message = is_end (kind_meaning kind none wished taken message) ≡ true → IsTrueEnd book entries (kind_meaning kind none wished taken message)
+abbrev EndsTruly : DialogueKind → ℕ → Bool → List BookEntry → List BookEntry → List MessageValue → MessageValue → Type 0
+EndsTruly dialogue_kind none stop_wished book entries taken message = is_end (kind_meaning dialogue_kind none stop_wished taken message) ≡ true → IsTrueEnd book entries (kind_meaning dialogue_kind none stop_wished taken message)
 
-tells_along : (kind : DialogueKind) (none : ℕ) (wished : Bool) (book entries : List BookEntry) {taken seen : List MessageValue} {message here : MessageValue}
-    → taken ≡ seen → message ≡ here → Tells kind none wished book entries seen here → Tells kind none wished book entries taken message
-tells_along kind none wished book entries {taken} {seen} {message} {here} before is tells =
-    let P : List MessageValue → Type 0 = λ t. Tells kind none wished book entries t message in
-    let Q : MessageValue → Type 0 = λ m. Tells kind none wished book entries seen m in
-    subst P (sym before) (subst Q (sym is) tells)
+ends_along : (dialogue_kind : DialogueKind) (none : ℕ) (stop_wished : Bool) (book entries : List BookEntry) {taken earlier : List MessageValue} {message here : MessageValue}
+    → taken ≡ earlier → message ≡ here → EndsTruly dialogue_kind none stop_wished book entries earlier here → EndsTruly dialogue_kind none stop_wished book entries taken message
+ends_along dialogue_kind none stop_wished book entries {taken} {earlier} {message} {here} before is holds =
+    let P : List MessageValue → Type 0 = λ t. EndsTruly dialogue_kind none stop_wished book entries t message in
+    let Q : MessageValue → Type 0 = λ m. EndsTruly dialogue_kind none stop_wished book entries earlier m in
+    subst P (sym before) (subst Q (sym is) holds)
 
 -- each message of these
-abbrev AllTell : DialogueKind → ℕ → Bool → List BookEntry → List BookEntry → List MessageValue → Type 0
-AllTell kind none wished book entries answered = (before : List MessageValue) (message : MessageValue) (behind : List MessageValue)
-    → before ++ message ∷ behind ≡ answered → Tells kind none wished book entries before message
+abbrev AllEndTruly : DialogueKind → ℕ → Bool → List BookEntry → List BookEntry → List MessageValue → Type 0
+AllEndTruly dialogue_kind none stop_wished book entries answered = (before : List MessageValue) (message : MessageValue) (following : List MessageValue)
+    → before ++ message ∷ following ≡ answered → EndsTruly dialogue_kind none stop_wished book entries before message
 
-none_tells : (kind : DialogueKind) (none : ℕ) (wished : Bool) (book entries : List BookEntry) → AllTell kind none wished book entries []
-none_tells kind none wished book entries [] message behind e = absurd cc
-none_tells kind none wished book entries (x ∷ before) message behind e = absurd cc
+none_ends : (dialogue_kind : DialogueKind) (none : ℕ) (stop_wished : Bool) (book entries : List BookEntry) → AllEndTruly dialogue_kind none stop_wished book entries []
+none_ends dialogue_kind none stop_wished book entries [] message following e = absurd cc
+none_ends dialogue_kind none stop_wished book entries (x ∷ before) message following e = absurd cc
 
-one_tells : (kind : DialogueKind) (none : ℕ) (wished : Bool) (book entries : List BookEntry) (a : MessageValue)
-    → Tells kind none wished book entries [] a → AllTell kind none wished book entries (a ∷ [])
-one_tells kind none wished book entries a first before message behind e =
-    let place = at_one before message behind a e in tells_along kind none wished book entries place.0 place.1 first
+one_ends : (dialogue_kind : DialogueKind) (none : ℕ) (stop_wished : Bool) (book entries : List BookEntry) (a : MessageValue)
+    → EndsTruly dialogue_kind none stop_wished book entries [] a → AllEndTruly dialogue_kind none stop_wished book entries (a ∷ [])
+one_ends dialogue_kind none stop_wished book entries a first before message following e =
+    let found = at_one before message following a e in ends_along dialogue_kind none stop_wished book entries found.0 found.1 first
 
-two_tell : (kind : DialogueKind) (none : ℕ) (wished : Bool) (book entries : List BookEntry) (a b : MessageValue)
-    → Tells kind none wished book entries [] a → Tells kind none wished book entries (a ∷ []) b → AllTell kind none wished book entries (a ∷ b ∷ [])
-two_tell kind none wished book entries a b first second before message behind e =
-    elim (at_two before message behind a b e) [
-      | inl place ↦ tells_along kind none wished book entries place.0 place.1 first
-      | inr place ↦ tells_along kind none wished book entries place.0 place.1 second
+two_end : (dialogue_kind : DialogueKind) (none : ℕ) (stop_wished : Bool) (book entries : List BookEntry) (a b : MessageValue)
+    → EndsTruly dialogue_kind none stop_wished book entries [] a → EndsTruly dialogue_kind none stop_wished book entries (a ∷ []) b → AllEndTruly dialogue_kind none stop_wished book entries (a ∷ b ∷ [])
+two_end dialogue_kind none stop_wished book entries a b first second before message following e =
+    elim (at_two before message following a b e) [
+      | inl found ↦ ends_along dialogue_kind none stop_wished book entries found.0 found.1 first
+      | inr found ↦ ends_along dialogue_kind none stop_wished book entries found.0 found.1 second
     ]
 
-three_tell : (kind : DialogueKind) (none : ℕ) (wished : Bool) (book entries : List BookEntry) (a b c : MessageValue)
-    → Tells kind none wished book entries [] a → Tells kind none wished book entries (a ∷ []) b → Tells kind none wished book entries (a ∷ b ∷ []) c
-    → AllTell kind none wished book entries (a ∷ b ∷ c ∷ [])
-three_tell kind none wished book entries a b c first second third before message behind e =
-    elim (at_three before message behind a b c e) [
-      | inl place ↦ tells_along kind none wished book entries place.0 place.1 first
+three_end : (dialogue_kind : DialogueKind) (none : ℕ) (stop_wished : Bool) (book entries : List BookEntry) (a b c : MessageValue)
+    → EndsTruly dialogue_kind none stop_wished book entries [] a → EndsTruly dialogue_kind none stop_wished book entries (a ∷ []) b → EndsTruly dialogue_kind none stop_wished book entries (a ∷ b ∷ []) c
+    → AllEndTruly dialogue_kind none stop_wished book entries (a ∷ b ∷ c ∷ [])
+three_end dialogue_kind none stop_wished book entries a b c first second third before message following e =
+    elim (at_three before message following a b c e) [
+      | inl found ↦ ends_along dialogue_kind none stop_wished book entries found.0 found.1 first
       | inr later ↦ elim later [
-        | inl place ↦ tells_along kind none wished book entries place.0 place.1 second
-        | inr place ↦ tells_along kind none wished book entries place.0 place.1 third
+        | inl found ↦ ends_along dialogue_kind none stop_wished book entries found.0 found.1 second
+        | inr found ↦ ends_along dialogue_kind none stop_wished book entries found.0 found.1 third
       ]
     ]
 
@@ -170,43 +202,43 @@ reports_none false true code book entries last =
     let P : Option BookEntry → Type 0 = λ o. IsReported o 0 None in subst P (sym last) (refl, refl)
 reports_none false false code book entries last = tt
 
-abort_tells : (kind : DialogueKind) → IsTransaction kind → (none : ℕ) (wished : Bool) (book : List BookEntry) (code : ℕ) → AllTell kind none wished book [] (Ack ∷ Abort (Some code) ∷ [])
-abort_tells Registration is none wished book code = absurd is
-abort_tells Enquiry is none wished book code = absurd is
-abort_tells Payment is none wished book code = two_tell Payment none wished book [] Ack (Abort (Some code)) (λ _. tt) (λ _. declines (eqb code 0) code book)
-abort_tells Reversal is none wished book code = two_tell Reversal none wished book [] Ack (Abort (Some code)) (λ _. tt) (λ _. declines (eqb code 0) code book)
-abort_tells EndOfDay is none wished book code = absurd is
-abort_tells Display is none wished book code = absurd is
+abort_ends : (dialogue_kind : DialogueKind) → IsTransaction dialogue_kind → (none : ℕ) (stop_wished : Bool) (book : List BookEntry) (code : ℕ) → AllEndTruly dialogue_kind none stop_wished book [] (Ack ∷ Abort (Some code) ∷ [])
+abort_ends Registration is none stop_wished book code = absurd is
+abort_ends Enquiry is none stop_wished book code = absurd is
+abort_ends Payment is none stop_wished book code = two_end Payment none stop_wished book [] Ack (Abort (Some code)) (λ _. tt) (λ _. declines (eqb code 0) code book)
+abort_ends Reversal is none stop_wished book code = two_end Reversal none stop_wished book [] Ack (Abort (Some code)) (λ _. tt) (λ _. declines (eqb code 0) code book)
+abort_ends EndOfDay is none stop_wished book code = absurd is
+abort_ends Display is none stop_wished book code = absurd is
 
-approval_tells : (kind : DialogueKind) → IsTransaction kind → (none : ℕ) (wished : Bool) (book : List BookEntry) (entry : BookEntry) → AllTell kind none wished book (entry ∷ []) (Ack ∷ Status (status_of_entry entry) ∷ Completion ∷ [])
-approval_tells Registration is none wished book entry = absurd is
-approval_tells Enquiry is none wished book entry = absurd is
-approval_tells Payment is none wished book entry = three_tell Payment none wished book (entry ∷ []) Ack (Status (status_of_entry entry)) Completion (λ _. tt) (λ _. tt) (λ _. approves (leb 1 entry.number && leb 1 entry.amount) entry book)
-approval_tells Reversal is none wished book entry = three_tell Reversal none wished book (entry ∷ []) Ack (Status (status_of_entry entry)) Completion (λ _. tt) (λ _. tt) (λ _. approves (leb 1 entry.number && leb 1 entry.amount) entry book)
-approval_tells EndOfDay is none wished book entry = absurd is
-approval_tells Display is none wished book entry = absurd is
+approval_ends : (dialogue_kind : DialogueKind) → IsTransaction dialogue_kind → (none : ℕ) (stop_wished : Bool) (book : List BookEntry) (tail : ℕ) (entry : BookEntry) → AllEndTruly dialogue_kind none stop_wished book (entry ∷ []) (Ack ∷ Status (read_status tail entry) ∷ Completion ∷ [])
+approval_ends Registration is none stop_wished book tail entry = absurd is
+approval_ends Enquiry is none stop_wished book tail entry = absurd is
+approval_ends Payment is none stop_wished book tail entry = three_end Payment none stop_wished book (entry ∷ []) Ack (Status (read_status tail entry)) Completion (λ _. tt) (λ _. tt) (λ _. approves (leb 1 entry.number && leb 1 entry.amount) entry book)
+approval_ends Reversal is none stop_wished book tail entry = three_end Reversal none stop_wished book (entry ∷ []) Ack (Status (read_status tail entry)) Completion (λ _. tt) (λ _. tt) (λ _. approves (leb 1 entry.number && leb 1 entry.amount) entry book)
+approval_ends EndOfDay is none stop_wished book tail entry = absurd is
+approval_ends Display is none stop_wished book tail entry = absurd is
 
 -- ---- each command
 
 -- what is done at a command is truly answered
-abbrev Truly : DialogueKind → ℕ → Bool → List BookEntry → Reaction → Type 0
-Truly kind none wished book done = AllTell kind none wished book (entries_of done) (messages_of done)
+abbrev Truly : ℕ → DialogueKind → ℕ → Bool → List BookEntry → Reaction → Type 0
+Truly tail dialogue_kind none stop_wished book done = AllEndTruly dialogue_kind none stop_wished book (entries_of done) (read_messages tail done)
 
-payment_truly : (full : Bool) (kind : Play) (none : ℕ) (wished : Bool) (book : List BookEntry) (amount : ℕ) → Truly Payment none wished book (cond full (reaction.Aborted 0x83) (payment kind book amount))
-payment_truly true kind none wished book amount = abort_tells Payment tt none wished book 0x83
-payment_truly false play.Approve none wished book amount = approval_tells Payment tt none wished book (next_entry book amount false)
-payment_truly false (play.Decline code) none wished book amount = abort_tells Payment tt none wished book code
-payment_truly false play.CutAfterBook none wished book amount = one_tells Payment none wished book (next_entry book amount false ∷ []) Ack (λ _. tt)
-payment_truly false play.DropAtOnce none wished book amount = none_tells Payment none wished book []
+payment_truly : (tail : ℕ) (full : Bool) (chosen : Play) (none : ℕ) (stop_wished : Bool) (book : List BookEntry) (amount : ℕ) → Truly tail Payment none stop_wished book (cond full (reaction.Aborted 0x83) (payment chosen book amount))
+payment_truly tail true chosen none stop_wished book amount = abort_ends Payment tt none stop_wished book 0x83
+payment_truly tail false play.Approve none stop_wished book amount = approval_ends Payment tt none stop_wished book tail (next_entry book amount false)
+payment_truly tail false (play.Decline code) none stop_wished book amount = abort_ends Payment tt none stop_wished book code
+payment_truly tail false play.CutAfterBook none stop_wished book amount = one_ends Payment none stop_wished book (next_entry book amount false ∷ []) Ack (λ _. tt)
+payment_truly tail false play.DropAtOnce none stop_wished book amount = none_ends Payment none stop_wished book []
 
-reversal_truly : (full : Bool) (found : Option BookEntry) (none : ℕ) (wished : Bool) (book : List BookEntry) → Truly Reversal none wished book (cond full (reaction.Aborted 0x83) (reversal found book))
-reversal_truly true found none wished book = abort_tells Reversal tt none wished book 0x83
-reversal_truly false None none wished book = abort_tells Reversal tt none wished book 0xB4
-reversal_truly false (Some paid) none wished book = approval_tells Reversal tt none wished book (next_entry book paid.amount true)
+reversal_truly : (tail : ℕ) (full : Bool) (found : Option BookEntry) (none : ℕ) (stop_wished : Bool) (book : List BookEntry) → Truly tail Reversal none stop_wished book (cond full (reaction.Aborted 0x83) (reversal found book))
+reversal_truly tail true found none stop_wished book = abort_ends Reversal tt none stop_wished book 0x83
+reversal_truly tail false None none stop_wished book = abort_ends Reversal tt none stop_wished book 0xB4
+reversal_truly tail false (Some paid) none stop_wished book = approval_ends Reversal tt none stop_wished book tail (next_entry book paid.amount true)
 
-enquiry_truly : (last : Option BookEntry) (none own : ℕ) (wished : Bool) (book : List BookEntry) → last_book_entry book ≡ last → Truly Enquiry none wished book (enquiry own last)
-enquiry_truly None none own wished book is = two_tell Enquiry none wished book [] Ack (Abort (Some own)) (λ _. tt) (λ _. reports_none (eqb own 0) (eqb own none) own book [] is)
-enquiry_truly (Some entry) none own wished book is = three_tell Enquiry none wished book [] Ack (Status (status_of_entry entry)) Completion (λ _. tt) (λ _. tt) (λ _. reports (leb 1 entry.number && leb 1 entry.amount) entry book [] is)
+enquiry_truly : (tail : ℕ) (last : Option BookEntry) (none own : ℕ) (stop_wished : Bool) (book : List BookEntry) → last_book_entry book ≡ last → Truly tail Enquiry none stop_wished book (enquiry own last)
+enquiry_truly tail None none own stop_wished book is = two_end Enquiry none stop_wished book [] Ack (Abort (Some own)) (λ _. tt) (λ _. reports_none (eqb own 0) (eqb own none) own book [] is)
+enquiry_truly tail (Some entry) none own stop_wished book is = three_end Enquiry none stop_wished book [] Ack (Status (read_status tail entry)) Completion (λ _. tt) (λ _. tt) (λ _. reports (leb 1 entry.number && leb 1 entry.amount) entry book [] is)
 
 kind_is : (a b : DialogueKind) → (let o : Option DialogueKind = Some a in o) ≡ Some b → a ≡ b
 kind_is a b e = cc
@@ -214,47 +246,102 @@ kind_is a b e = cc
 no_kind : (b : DialogueKind) → (let o : Option DialogueKind = None in o) ≡ Some b → ⊥
 no_kind b e = cc
 
-command_truly : (own : ℕ) (kind : Play) (book : List BookEntry) (asked : Command) (which : DialogueKind) (none : ℕ) (wished : Bool) → dialogue_kind_of asked ≡ Some which → Truly which none wished book (at_command own kind book asked)
-command_truly own kind book (command.Register password config currency) which none wished e =
-    let P : DialogueKind → Type 0 = λ k. Truly k none wished book reaction.Completed in
-    subst P (kind_is Registration which e) (two_tell Registration none wished book [] Ack Completion (λ _. tt) (λ _. refl))
-command_truly own kind book (command.Authorise amount currency) which none wished e =
-    let P : DialogueKind → Type 0 = λ k. Truly k none wished book (at_command own kind book (command.Authorise amount currency)) in
-    subst P (kind_is Payment which e) (payment_truly (is_full book) kind none wished book amount)
-command_truly own kind book (command.Enquire password) which none wished e =
-    let P : DialogueKind → Type 0 = λ k. Truly k none wished book (at_command own kind book (command.Enquire password)) in
-    subst P (kind_is Enquiry which e) (enquiry_truly (last_book_entry book) none own wished book refl)
-command_truly own kind book (command.Reverse password receipt) which none wished e =
-    let P : DialogueKind → Type 0 = λ k. Truly k none wished book (at_command own kind book (command.Reverse password receipt)) in
-    subst P (kind_is Reversal which e) (reversal_truly (is_full book) (last_payment receipt book) none wished book)
-command_truly own kind book (command.EndOfDay password) which none wished e =
-    let P : DialogueKind → Type 0 = λ k. Truly k none wished book reaction.Completed in
-    subst P (kind_is EndOfDay which e) (two_tell EndOfDay none wished book [] Ack Completion (λ _. tt) (λ _. refl))
-command_truly own kind book command.Stop which none wished e = absurd (no_kind which e)
-command_truly own kind book (command.Show lines) which none wished e =
-    let P : DialogueKind → Type 0 = λ k. Truly k none wished book reaction.Acknowledged in
-    subst P (kind_is Display which e) (one_tells Display none wished book [] Ack (λ _. refl))
+command_truly : (tail own : ℕ) (chosen : Play) (book : List BookEntry) (asked : Command) (which : DialogueKind) (none : ℕ) (stop_wished : Bool) → dialogue_kind_of asked ≡ Some which → Truly tail which none stop_wished book (at_command own chosen book asked)
+command_truly tail own chosen book (command.Register password config currency) which none stop_wished e =
+    let P : DialogueKind → Type 0 = λ k. Truly tail k none stop_wished book reaction.Completed in
+    subst P (kind_is Registration which e) (two_end Registration none stop_wished book [] Ack Completion (λ _. tt) (λ _. refl))
+command_truly tail own chosen book (command.Authorise amount currency) which none stop_wished e =
+    let P : DialogueKind → Type 0 = λ k. Truly tail k none stop_wished book (at_command own chosen book (command.Authorise amount currency)) in
+    subst P (kind_is Payment which e) (payment_truly tail (is_full book) chosen none stop_wished book amount)
+command_truly tail own chosen book (command.Enquire password) which none stop_wished e =
+    let P : DialogueKind → Type 0 = λ k. Truly tail k none stop_wished book (at_command own chosen book (command.Enquire password)) in
+    subst P (kind_is Enquiry which e) (enquiry_truly tail (last_book_entry book) none own stop_wished book refl)
+command_truly tail own chosen book (command.Reverse password receipt) which none stop_wished e =
+    let P : DialogueKind → Type 0 = λ k. Truly tail k none stop_wished book (at_command own chosen book (command.Reverse password receipt)) in
+    subst P (kind_is Reversal which e) (reversal_truly tail (is_full book) (last_payment receipt book) none stop_wished book)
+command_truly tail own chosen book (command.EndOfDay password) which none stop_wished e =
+    let P : DialogueKind → Type 0 = λ k. Truly tail k none stop_wished book reaction.Completed in
+    subst P (kind_is EndOfDay which e) (two_end EndOfDay none stop_wished book [] Ack Completion (λ _. tt) (λ _. refl))
+command_truly tail own chosen book command.Stop which none stop_wished e = absurd (no_kind which e)
+command_truly tail own chosen book (command.Show lines) which none stop_wished e =
+    let P : DialogueKind → Type 0 = λ k. Truly tail k none stop_wished book reaction.Acknowledged in
+    subst P (kind_is Display which e) (one_ends Display none stop_wished book [] Ack (λ _. refl))
 
 -- ---- any dialogue
 
-pub true_end : (own : ℕ) (kind : Play) (book : List BookEntry) (class : ℕ) (asked : Option Command) (command : Command) (dialogue : Dialogue) (came : List Came) (end : Heard)
-    → asked ≡ Some command → dialogue_kind_of command ≡ Some dialogue.kind → AreFirstOf (messages came) (messages_of (by_command own kind book class asked))
-    → end_of dialogue came ≡ Some end → IsTrueEnd book (entries_of (by_command own kind book class asked)) end
-true_end own kind book class asked command dialogue came end spells which first e =
-    let done = at_command own kind book command in
-    let P : Option Command → Type 0 = λ o. AreFirstOf (messages came) (messages_of (by_command own kind book class o)) in
-    let Q : Option Command → Type 0 = λ o. IsTrueEnd book (entries_of (by_command own kind book class o)) end in
-    let heard_first : AreFirstOf (messages came) (messages_of done) = subst P spells first in
-    let place = ends_at dialogue [] came end e in
-    let wished = is_stop_wished place.before in
-    let apart : place.message ≡ Other → ⊥ = λ other.
-    let R : MessageValue → Type 0 = λ m. is_end (kind_meaning dialogue.kind dialogue.none wished (messages place.before) m) ≡ true in
-    other_never dialogue.kind dialogue.none wished (messages place.before) (subst R other place.ends) in
-    let all : messages came ≡ messages place.before ++ (place.message ∷ messages place.behind) =
-    ap messages place.parts ∙ filter_map-append taken_message place.before (Message place.message place.at ∷ place.behind)
-    ∙ ap (λ (t : List MessageValue). messages place.before ++ t) (taken_first place.message place.at place.behind apart) in
-    let standing : messages place.before ++ (place.message ∷ (messages place.behind ++ heard_first.0)) ≡ messages_of done =
-    sym (heard_first.1 ∙ ap (λ (t : List MessageValue). t ++ heard_first.0) all ∙ append_assoc (messages place.before) (place.message ∷ messages place.behind) heard_first.0) in
-    let told = command_truly own kind book command dialogue.kind dialogue.none wished which (messages place.before) place.message (messages place.behind ++ heard_first.0) standing place.ends in
+pub true_end : (tail own : ℕ) (chosen : Play) (book : List BookEntry) (class : ℕ) (asked : Option Command) (command : Command) (dialogue : Dialogue) (came : List Came) (end : Heard)
+    → asked ≡ Some command → dialogue_kind_of command ≡ Some dialogue.dialogue_kind → IsPrefix (messages came) (read_messages tail (by_command own chosen book class asked))
+    → end_of dialogue came ≡ Some end → IsTrueEnd book (entries_of (by_command own chosen book class asked)) end
+true_end tail own chosen book class asked command dialogue came end spells which first e =
+    let done = at_command own chosen book command in
+    let P : Option Command → Type 0 = λ o. IsPrefix (messages came) (read_messages tail (by_command own chosen book class o)) in
+    let Q : Option Command → Type 0 = λ o. IsTrueEnd book (entries_of (by_command own chosen book class o)) end in
+    let heard_first : IsPrefix (messages came) (read_messages tail done) = subst P spells first in
+    let found = ends_at dialogue [] came end e in
+    let stop_wished = is_stop_wished found.before in
+    let apart : found.message ≡ Other → ⊥ = λ other.
+    let R : MessageValue → Type 0 = λ m. is_end (kind_meaning dialogue.dialogue_kind dialogue.none stop_wished (messages found.before) m) ≡ true in
+    other_never dialogue.dialogue_kind dialogue.none stop_wished (messages found.before) (subst R other found.ends) in
+    let all : messages came ≡ messages found.before ++ (found.message ∷ messages found.following) =
+    ap messages found.parts ∙ filter_map-append taken_message found.before (Message found.message found.at ∷ found.following)
+    ∙ ap (λ (t : List MessageValue). messages found.before ++ t) (taken_first found.message found.at found.following apart) in
+    let sequence : messages found.before ++ (found.message ∷ (messages found.following ++ heard_first.0)) ≡ read_messages tail done =
+    sym (heard_first.1 ∙ ap (λ (t : List MessageValue). t ++ heard_first.0) all ∙ append_assoc (messages found.before) (found.message ∷ messages found.following) heard_first.0) in
+    let truly = command_truly tail own chosen book command dialogue.dialogue_kind dialogue.none stop_wished which (messages found.before) found.message (messages found.following ++ heard_first.0) sequence found.ends in
     let S : Heard → Type 0 = λ h. IsTrueEnd book (entries_of done) h in
-    subst Q (sym spells) (subst S place.is told)
+    subst Q (sym spells) (subst S found.is truly)
+
+-- ---- after a whole answer the dialogue has ended
+
+whole_payment : (full : Bool) (chosen : Play) (tail : ℕ) (book : List BookEntry) (amount : ℕ) → (let done = cond full (reaction.Aborted 0x83) (payment chosen book amount) in cuts done ≡ false → has_ended Payment (read_messages tail done) ≡ true)
+whole_payment true chosen tail book amount goes_on = refl
+whole_payment false play.Approve tail book amount goes_on = refl
+whole_payment false (play.Decline code) tail book amount goes_on = refl
+whole_payment false play.CutAfterBook tail book amount goes_on = absurd cc
+whole_payment false play.DropAtOnce tail book amount goes_on = absurd cc
+
+whole_reversal : (full : Bool) (found : Option BookEntry) (tail : ℕ) (book : List BookEntry) → has_ended Reversal (read_messages tail (cond full (reaction.Aborted 0x83) (reversal found book))) ≡ true
+whole_reversal true found tail book = refl
+whole_reversal false None tail book = refl
+whole_reversal false (Some paid) tail book = refl
+
+whole_enquiry : (last : Option BookEntry) (tail own : ℕ) → has_ended Enquiry (read_messages tail (enquiry own last)) ≡ true
+whole_enquiry None tail own = refl
+whole_enquiry (Some entry) tail own = refl
+
+pub whole_answer : (tail own : ℕ) (chosen : Play) (book : List BookEntry) (asked : Command) (which : DialogueKind) → dialogue_kind_of asked ≡ Some which
+    → cuts (at_command own chosen book asked) ≡ false → has_ended which (read_messages tail (at_command own chosen book asked)) ≡ true
+whole_answer tail own chosen book (command.Register password config currency) which e goes_on =
+    let P : DialogueKind → Type 0 = λ k. has_ended k (Ack ∷ Completion ∷ []) ≡ true in
+    subst P (kind_is Registration which e) refl
+whole_answer tail own chosen book (command.Authorise amount currency) which e goes_on =
+    let P : DialogueKind → Type 0 = λ k. has_ended k (read_messages tail (at_command own chosen book (command.Authorise amount currency))) ≡ true in
+    subst P (kind_is Payment which e) (whole_payment (is_full book) chosen tail book amount goes_on)
+whole_answer tail own chosen book (command.Enquire password) which e goes_on =
+    let P : DialogueKind → Type 0 = λ k. has_ended k (read_messages tail (at_command own chosen book (command.Enquire password))) ≡ true in
+    subst P (kind_is Enquiry which e) (whole_enquiry (last_book_entry book) tail own)
+whole_answer tail own chosen book (command.Reverse password receipt) which e goes_on =
+    let P : DialogueKind → Type 0 = λ k. has_ended k (read_messages tail (at_command own chosen book (command.Reverse password receipt))) ≡ true in
+    subst P (kind_is Reversal which e) (whole_reversal (is_full book) (last_payment receipt book) tail book)
+whole_answer tail own chosen book (command.EndOfDay password) which e goes_on =
+    let P : DialogueKind → Type 0 = λ k. has_ended k (Ack ∷ Completion ∷ []) ≡ true in
+    subst P (kind_is EndOfDay which e) refl
+whole_answer tail own chosen book command.Stop which e goes_on = absurd (no_kind which e)
+whole_answer tail own chosen book (command.Show lines) which e goes_on =
+    let P : DialogueKind → Type 0 = λ k. has_ended k (Ack ∷ []) ≡ true in
+    subst P (kind_is Display which e) refl
+
+-- ---- an end stays the end
+
+stays_choice : (dialogue : Dialogue) (before rest more : List Came) (message : MessageValue) (at : ℤ) (end : Heard) (is : Bool)
+    → (end_from dialogue (before ++ Message message at ∷ []) rest ≡ Some end → end_from dialogue (before ++ Message message at ∷ []) (rest ++ more) ≡ Some end)
+    → cond is (Some (meaning dialogue before message)) (end_from dialogue (before ++ Message message at ∷ []) rest) ≡ Some end
+    → cond is (Some (meaning dialogue before message)) (end_from dialogue (before ++ Message message at ∷ []) (rest ++ more)) ≡ Some end
+stays_choice dialogue before rest more message at end true later e = e
+stays_choice dialogue before rest more message at end false later e = later e
+
+pub end_stays : (dialogue : Dialogue) (before rest more : List Came) (end : Heard) → end_from dialogue before rest ≡ Some end → end_from dialogue before (rest ++ more) ≡ Some end
+end_stays dialogue before [] more end e = absurd cc
+end_stays dialogue before (StopWished ∷ rest) more end e = end_stays dialogue (before ++ StopWished ∷ []) rest more end e
+end_stays dialogue before (Message message at ∷ rest) more end e =
+    stays_choice dialogue before rest more message at end (is_end (meaning dialogue before message)) (end_stays dialogue (before ++ Message message at ∷ []) rest more end) e

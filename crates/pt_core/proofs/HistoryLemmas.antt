@@ -9,7 +9,7 @@ use Rattle.zvt_msg.specs.CommandDecode.{decode_command}
 use Rattle.pt_core.specs.declared.play.Play.{Play}
 use Rattle.pt_core.specs.declared.play.Play.TheVariants as play
 use Rattle.pt_core.specs.Table.{bytes_of, cuts, entries_of, reaction_at, is_authorisation}
-use Rattle.pt_core.specs.Serving.{AccountValue, Served, TerminalValue, account_after, after_bytes, first_play, heard, heard_by_terminal, is_bad, line_behind, reaction_by, served, terminal_behind, with_rest}
+use Rattle.pt_core.specs.Serving.{AccountValue, Served, TerminalValue, account_after, after_bytes, first_play, heard, heard_by_terminal, is_bad, connection_after, reaction_by, served, next_terminal, with_rest}
 use Rattle.pt_core.specs.History.{Setting, Met, Chunk, terminal_account, all_handled, answered, answers_to, book_of, count_authorisations, earlier, handled, has_cut, is_cut_by, link_bytes, reaction_after, requests, terminal_after}
 use Rattle.pt_core.proofs.SplitLemmas.{Laws, joined, joins}
 
@@ -90,14 +90,14 @@ met_is setting met =
     ap (λ (s : Served). with_rest s (decode_apdus (link_bytes met)).rest) (served_is setting (earlier setting met) (requests met))
     ∙ with_bad (is_cut_by setting (earlier setting met) (requests met)) (answered setting met) (terminal_account setting (all_handled setting met)) (decode_apdu (decode_apdus (link_bytes met)).rest)
 
--- all that bytes on the line change
+-- all that bytes on the connection change
 pub record Adds (setting : Setting) (met : List Met) (bytes : List ℕ) : Type 0 where
-  pub terminal : terminal_behind (terminal_after setting met) bytes ≡ terminal_after setting (Chunk bytes ∷ met)
-  pub answer : answered setting (Chunk bytes ∷ met) ≡ answered setting met ++ (heard_by_terminal (terminal_after setting met) (terminal_after setting met).line bytes).bytes
-  pub cut : has_cut setting (Chunk bytes ∷ met) ≡ (has_cut setting met || (heard_by_terminal (terminal_after setting met) (terminal_after setting met).line bytes).cut)
+  pub terminal : next_terminal (terminal_after setting met) bytes ≡ terminal_after setting (Chunk bytes ∷ met)
+  pub answer : answered setting (Chunk bytes ∷ met) ≡ answered setting met ++ (heard_by_terminal (terminal_after setting met) (terminal_after setting met).connection bytes).bytes
+  pub cut : has_cut setting (Chunk bytes ∷ met) ≡ (has_cut setting met || (heard_by_terminal (terminal_after setting met) (terminal_after setting met).connection bytes).cut)
 
-same_terminal : {a b : AccountValue} → {x y : Option (List ℕ)} → a ≡ b → x ≡ y → (let t : TerminalValue = record { account = a; line = x } in t) ≡ record { account = b; line = y }
-same_terminal {a} {b} {x} {y} same line = ap (λ (v : AccountValue). let t : TerminalValue = record { account = v; line = x } in t) same ∙ ap (λ (l : Option (List ℕ)). let t : TerminalValue = record { account = b; line = l } in t) line
+same_terminal : {a b : AccountValue} → {x y : Option (List ℕ)} → a ≡ b → x ≡ y → (let t : TerminalValue = record { account = a; connection = x } in t) ≡ record { account = b; connection = y }
+same_terminal {a} {b} {x} {y} same connection = ap (λ (v : AccountValue). let t : TerminalValue = record { account = v; connection = x } in t) same ∙ ap (λ (l : Option (List ℕ)). let t : TerminalValue = record { account = b; connection = l } in t) connection
 
 -- the present link by what it came to
 adds_by : (setting : Setting) (met : List Met) (bytes : List ℕ) (cut : Bool)
@@ -105,40 +105,40 @@ adds_by : (setting : Setting) (met : List Met) (bytes : List ℕ) (cut : Bool)
     → (has_cut setting met ≡ false → (decode_apdus (link_bytes met ++ bytes)).rest ≡ (decode_apdus ((decode_apdus (link_bytes met)).rest ++ bytes)).rest)
     → has_cut setting met ≡ cut → Adds setting met bytes
 adds_by setting met bytes true all rest is =
-    let cut_line : (terminal_after setting met).line ≡ None = ap (λ (c : Bool). cond c None (Some (decode_apdus (link_bytes met)).rest)) is in
+    let cut_connection : (terminal_after setting met).connection ≡ None = ap (λ (c : Bool). cond c None (Some (decode_apdus (link_bytes met)).rest)) is in
     let all_is : met_served setting (Chunk bytes ∷ met) ≡ met_served setting met = all ∙ ap (λ (c : Bool). cond c (met_served setting met) (after_bytes (answered setting met) (heard (terminal_account setting (all_handled setting met)) ((decode_apdus (link_bytes met)).rest ++ bytes)))) is in
     let still : has_cut setting (Chunk bytes ∷ met) ≡ true = ap (λ (s : Served). s.cut) all_is ∙ is in
-    let account_is : (heard_by_terminal (terminal_after setting met) (terminal_after setting met).line bytes).account ≡ terminal_account setting (all_handled setting (Chunk bytes ∷ met)) =
-    ap (λ (l : Option (List ℕ)). (heard_by_terminal (terminal_after setting met) l bytes).account) cut_line ∙ ap (λ (s : Served). s.account) (sym all_is) in
-    let line_is : line_behind (terminal_after setting met) (terminal_after setting met).line bytes ≡ (terminal_after setting (Chunk bytes ∷ met)).line =
-    ap (λ (l : Option (List ℕ)). line_behind (terminal_after setting met) l bytes) cut_line
+    let account_is : (heard_by_terminal (terminal_after setting met) (terminal_after setting met).connection bytes).account ≡ terminal_account setting (all_handled setting (Chunk bytes ∷ met)) =
+    ap (λ (l : Option (List ℕ)). (heard_by_terminal (terminal_after setting met) l bytes).account) cut_connection ∙ ap (λ (s : Served). s.account) (sym all_is) in
+    let connection_is : connection_after (terminal_after setting met) (terminal_after setting met).connection bytes ≡ (terminal_after setting (Chunk bytes ∷ met)).connection =
+    ap (λ (l : Option (List ℕ)). connection_after (terminal_after setting met) l bytes) cut_connection
     ∙ ap (λ (c : Bool). cond c None (Some (decode_apdus (link_bytes met ++ bytes)).rest)) (sym still) in
     record {
-      terminal = same_terminal account_is line_is;
-      answer = ap (λ (s : Served). s.bytes) all_is ∙ sym (append-nil (answered setting met)) ∙ ap (λ (l : Option (List ℕ)). answered setting met ++ (heard_by_terminal (terminal_after setting met) l bytes).bytes) (sym cut_line);
-      cut = still ∙ ap (λ (c : Bool). c || (heard_by_terminal (terminal_after setting met) (terminal_after setting met).line bytes).cut) (sym is);
+      terminal = same_terminal account_is connection_is;
+      answer = ap (λ (s : Served). s.bytes) all_is ∙ sym (append-nil (answered setting met)) ∙ ap (λ (l : Option (List ℕ)). answered setting met ++ (heard_by_terminal (terminal_after setting met) l bytes).bytes) (sym cut_connection);
+      cut = still ∙ ap (λ (c : Bool). c || (heard_by_terminal (terminal_after setting met) (terminal_after setting met).connection bytes).cut) (sym is);
     }
 adds_by setting met bytes false all rest is =
     let waiting = (decode_apdus (link_bytes met)).rest in
     let account = terminal_account setting (all_handled setting met) in
     let here = heard account (waiting ++ bytes) in
-    let open_line : (terminal_after setting met).line ≡ Some waiting = ap (λ (c : Bool). cond c None (Some waiting)) is in
+    let open_connection : (terminal_after setting met).connection ≡ Some waiting = ap (λ (c : Bool). cond c None (Some waiting)) is in
     let all_is : met_served setting (Chunk bytes ∷ met) ≡ after_bytes (answered setting met) here = all ∙ ap (λ (c : Bool). cond c (met_served setting met) (after_bytes (answered setting met) here)) is in
-    let account_is : (heard_by_terminal (terminal_after setting met) (terminal_after setting met).line bytes).account ≡ terminal_account setting (all_handled setting (Chunk bytes ∷ met)) =
-    ap (λ (l : Option (List ℕ)). (heard_by_terminal (terminal_after setting met) l bytes).account) open_line ∙ ap (λ (s : Served). s.account) (sym all_is) in
-    let line_is : line_behind (terminal_after setting met) (terminal_after setting met).line bytes ≡ (terminal_after setting (Chunk bytes ∷ met)).line =
-    ap (λ (l : Option (List ℕ)). line_behind (terminal_after setting met) l bytes) open_line
+    let account_is : (heard_by_terminal (terminal_after setting met) (terminal_after setting met).connection bytes).account ≡ terminal_account setting (all_handled setting (Chunk bytes ∷ met)) =
+    ap (λ (l : Option (List ℕ)). (heard_by_terminal (terminal_after setting met) l bytes).account) open_connection ∙ ap (λ (s : Served). s.account) (sym all_is) in
+    let connection_is : connection_after (terminal_after setting met) (terminal_after setting met).connection bytes ≡ (terminal_after setting (Chunk bytes ∷ met)).connection =
+    ap (λ (l : Option (List ℕ)). connection_after (terminal_after setting met) l bytes) open_connection
     ∙ ap (λ (r : List ℕ). cond here.cut None (Some r)) (sym (rest is))
     ∙ ap (λ (c : Bool). cond c None (Some (decode_apdus (link_bytes met ++ bytes)).rest)) (ap (λ (s : Served). s.cut) (sym all_is)) in
     record {
-      terminal = same_terminal account_is line_is;
-      answer = ap (λ (s : Served). s.bytes) all_is ∙ ap (λ (l : Option (List ℕ)). answered setting met ++ (heard_by_terminal (terminal_after setting met) l bytes).bytes) (sym open_line);
+      terminal = same_terminal account_is connection_is;
+      answer = ap (λ (s : Served). s.bytes) all_is ∙ ap (λ (l : Option (List ℕ)). answered setting met ++ (heard_by_terminal (terminal_after setting met) l bytes).bytes) (sym open_connection);
       cut = ap (λ (s : Served). s.cut) all_is
-          ∙ ap (λ (l : Option (List ℕ)). (heard_by_terminal (terminal_after setting met) l bytes).cut) (sym open_line)
-          ∙ ap (λ (c : Bool). c || (heard_by_terminal (terminal_after setting met) (terminal_after setting met).line bytes).cut) (sym is);
+          ∙ ap (λ (l : Option (List ℕ)). (heard_by_terminal (terminal_after setting met) l bytes).cut) (sym open_connection)
+          ∙ ap (λ (c : Bool). c || (heard_by_terminal (terminal_after setting met) (terminal_after setting met).connection bytes).cut) (sym is);
     }
 
--- bytes on the line do to a terminal what its history says
+-- bytes on the connection do to a terminal what its history says
 pub adds : Laws → (setting : Setting) (met : List Met) (bytes : List ℕ) → Adds setting met bytes
 adds laws setting met bytes =
     let before = terminal_account setting (earlier setting met) in

@@ -1,4 +1,4 @@
--- The book of a played terminal is honest for its line.
+-- The book of a played terminal is honest for its connection.
 use Rattle.std.proofs.Common.{◌≡◌, ℕ, ◌+◌, ◌≤◌, Bool, true, false, cond, List, [], ◌∷◌, ◌++◌, length, Option, None, Some, refl, sym, ap, subst, ◌∙◌, append_assoc, append-nil, arith}
 use Rattle.std.proofs.lemmas.List.{length-append}
 use Rattle.std.proofs.lemmas.Bool.{leb-false}
@@ -13,7 +13,7 @@ use Rattle.pt_core.specs.declared.play.Play.TheVariants as play
 use Rattle.pt_core.specs.declared.reaction.Reaction.TheVariants as reaction
 use Rattle.pt_core.specs.Book.{is_full, last_book_entry, last_payment, next_entry}
 use Rattle.pt_core.specs.Table.{by_command, bytes_of, cuts, enquiry, entries_of, payment, reversal}
-use Rattle.pt_core.specs.Serving.{AccountValue, Served, TerminalValue, account_after, after_bytes, heard_by_terminal, reaction_by, served, terminal_behind}
+use Rattle.pt_core.specs.Serving.{AccountValue, Served, TerminalValue, account_after, after_bytes, heard_by_terminal, reaction_by, served, next_terminal}
 use Rattle.pt_core.specs.History.{Setting, Met, NewLink, Chunk, book_after, book_of, play_left, reaction_after, terminal_after}
 use Rattle.pt_core.specs.Honest.{AreEntriesNumbered, Books, FollowsEntry, BookGrows}
 
@@ -22,9 +22,9 @@ use Rattle.pt_core.specs.Honest.{AreEntriesNumbered, Books, FollowsEntry, BookGr
 follows : (book : List BookEntry) (amount : ℕ) (is : Bool) → is_full book ≡ false → FollowsEntry book (next_entry book amount is)
 follows book amount is room = record { number = refl; approved = refl; room = leb-false 999999 (length book) room }
 
-authorised : (full : Bool) (kind : Play) (book : List BookEntry) (amount currency : ℕ) → is_full book ≡ full
-    → Books book (Some (command.Authorise amount currency)) (entries_of (cond full (reaction.Aborted 0x83) (payment kind book amount)))
-authorised true kind book amount currency room = tt
+authorised : (full : Bool) (chosen : Play) (book : List BookEntry) (amount currency : ℕ) → is_full book ≡ full
+    → Books book (Some (command.Authorise amount currency)) (entries_of (cond full (reaction.Aborted 0x83) (payment chosen book amount)))
+authorised true chosen book amount currency room = tt
 authorised false play.Approve book amount currency room = ((refl, refl), follows book amount false room)
 authorised false (play.Decline code) book amount currency room = tt
 authorised false play.CutAfterBook book amount currency room = ((refl, refl), follows book amount false room)
@@ -44,15 +44,15 @@ other : (silent : Bool) (book : List BookEntry) → Books book None (entries_of 
 other true book = tt
 other false book = tt
 
-pub booked : (none : ℕ) (kind : Play) (book : List BookEntry) (class : ℕ) (asked : Option Command) → Books book asked (entries_of (by_command none kind book class asked))
-booked none kind book class None = other _ book
-booked none kind book class (Some (command.Register password config currency)) = tt
-booked none kind book class (Some (command.Authorise amount currency)) = authorised (is_full book) kind book amount currency refl
-booked none kind book class (Some (command.Enquire password)) = enquired none (last_book_entry book) book (Some (command.Enquire password))
-booked none kind book class (Some (command.Reverse password receipt)) = reversed (is_full book) (last_payment receipt book) book password receipt refl refl
-booked none kind book class (Some (command.EndOfDay password)) = tt
-booked none kind book class (Some command.Stop) = tt
-booked none kind book class (Some (command.Show lines)) = tt
+pub booked : (none : ℕ) (chosen : Play) (book : List BookEntry) (class : ℕ) (asked : Option Command) → Books book asked (entries_of (by_command none chosen book class asked))
+booked none chosen book class None = other _ book
+booked none chosen book class (Some (command.Register password config currency)) = tt
+booked none chosen book class (Some (command.Authorise amount currency)) = authorised (is_full book) chosen book amount currency refl
+booked none chosen book class (Some (command.Enquire password)) = enquired none (last_book_entry book) book (Some (command.Enquire password))
+booked none chosen book class (Some (command.Reverse password receipt)) = reversed (is_full book) (last_payment receipt book) book password receipt refl refl
+booked none chosen book class (Some (command.EndOfDay password)) = tt
+booked none chosen book class (Some command.Stop) = tt
+booked none chosen book class (Some (command.Show lines)) = tt
 
 -- ---- the numbers of a book
 
@@ -102,17 +102,17 @@ rest_extends : (cut is : Bool) (bytes : List ℕ) (account : AccountValue) (old 
 rest_extends true is bytes account old extends = extends
 rest_extends false is bytes account old extends = extends
 
-heard_extends : (account : AccountValue) (line : Option (List ℕ)) (bytes : List ℕ) → Extends account.book (heard_by_terminal (record { account = account; line = line }) line bytes).account.book
+heard_extends : (account : AccountValue) (connection : Option (List ℕ)) (bytes : List ℕ) → Extends account.book (heard_by_terminal (record { account = account; connection = connection }) connection bytes).account.book
 heard_extends account None bytes = ([], sym (append-nil account.book))
 heard_extends account (Some waiting) bytes =
     let done = served account (decode_apdus (waiting ++ bytes)).apdus in
     rest_extends done.cut _ done.bytes done.account account.book (served_extends account (decode_apdus (waiting ++ bytes)).apdus)
 
 pub grows : (setting : Setting) (met : List Met) (what : Met)
-    → ((bytes : List ℕ) → terminal_behind (terminal_after setting met) bytes ≡ terminal_after setting (Chunk bytes ∷ met))
+    → ((bytes : List ℕ) → next_terminal (terminal_after setting met) bytes ≡ terminal_after setting (Chunk bytes ∷ met))
     → book_after setting (NewLink ∷ met) ≡ book_after setting met → BookGrows setting met what
-grows setting met NewLink behind same = ([], same ∙ sym (append-nil (book_after setting met)))
-grows setting met (Chunk bytes) behind same =
+grows setting met NewLink next_is same = ([], same ∙ sym (append-nil (book_after setting met)))
+grows setting met (Chunk bytes) next_is same =
     let terminal = terminal_after setting met in
-    let extends = heard_extends terminal.account terminal.line bytes in
-    (extends.0, ap (λ (t : TerminalValue). t.account.book) (sym (behind bytes)) ∙ extends.1)
+    let extends = heard_extends terminal.account terminal.connection bytes in
+    (extends.0, ap (λ (t : TerminalValue). t.account.book) (sym (next_is bytes)) ∙ extends.1)

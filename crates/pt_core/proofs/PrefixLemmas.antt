@@ -12,10 +12,10 @@ whole_choice true c n apdu found rest left e = absurd cc
 whole_choice false true n apdu found rest left e = absurd cc
 whole_choice false false n apdu found rest left e = (refl, refl, cc, cc)
 
-partial_choice : (b c : Bool) (n : ℕ) (apdu : ApduValue) (rest : List ℕ) → cond b (DecodedApdu.TooLong n) (cond c DecodedApdu.Incomplete (DecodedApdu.Whole apdu rest)) ≡ DecodedApdu.Incomplete → (b ≡ false) × (c ≡ true)
-partial_choice true c n apdu rest e = absurd cc
-partial_choice false true n apdu rest e = (refl, refl)
-partial_choice false false n apdu rest e = absurd cc
+incomplete_choice : (b c : Bool) (n : ℕ) (apdu : ApduValue) (rest : List ℕ) → cond b (DecodedApdu.TooLong n) (cond c DecodedApdu.Incomplete (DecodedApdu.Whole apdu rest)) ≡ DecodedApdu.Incomplete → (b ≡ false) × (c ≡ true)
+incomplete_choice true c n apdu rest e = absurd cc
+incomplete_choice false true n apdu rest e = (refl, refl)
+incomplete_choice false false n apdu rest e = absurd cc
 
 long_choice : (b c : Bool) (n m : ℕ) (apdu : ApduValue) (rest : List ℕ) → cond b (DecodedApdu.TooLong n) (cond c DecodedApdu.Incomplete (DecodedApdu.Whole apdu rest)) ≡ DecodedApdu.TooLong m → (b ≡ true) × (n ≡ m)
 long_choice true c n m apdu rest e = (refl, cc)
@@ -88,7 +88,7 @@ body_shrinks class instr n bytes apdu rest e =
 
 body_cut : (class instr n : ℕ) (bytes : List ℕ) → decode_apdu_data class instr n bytes ≡ DecodedApdu.Incomplete → length bytes < n
 body_cut class instr n bytes e =
-    let choice = partial_choice (ltb 12000 n) (ltb (length bytes) n) n (record { class = class; instr = instr; body = take n bytes }) (drop n bytes) e in
+    let choice = incomplete_choice (ltb 12000 n) (ltb (length bytes) n) n (record { class = class; instr = instr; body = take n bytes }) (drop n bytes) e in
     ltb-true (length bytes) n choice.1
 
 body_within : (class instr n : ℕ) (bytes more : List ℕ) (apdu : ApduValue) (rest : List ℕ) → decode_apdu_data class instr n bytes ≡ DecodedApdu.Incomplete → decode_apdu_data class instr n (bytes ++ more) ≡ DecodedApdu.Whole apdu rest → length rest < length more
@@ -132,7 +132,7 @@ header_whole class instr n length_bytes bytes (inl short) =
     rw short.1 (rw other refl)
 header_whole class instr n length_bytes bytes (inr (low, high, value, long)) = rw (long, value) refl
 
--- an APDU that bytes begin with is the one at their front
+-- an APDU that bytes begin with is the one that they are decoded to
 pub begins_at_prefix : (bytes : List ℕ) (apdu : ApduValue) (rest : List ℕ) → BeginsWithApdu bytes apdu rest → decode_apdu bytes ≡ DecodedApdu.Whole apdu rest
 begins_at_prefix bytes apdu rest (prefix, spells, parts) =
     let regrouped : bytes ≡ apdu.class ∷ apdu.instr ∷ (spells.length_bytes ++ (apdu.body ++ rest)) = parts ∙ ap (λ (f : List ℕ). f ++ rest) spells.whole ∙ ap (λ (t : List ℕ). apdu.class ∷ apdu.instr ∷ t) (append_assoc spells.length_bytes apdu.body rest) in

@@ -1,4 +1,4 @@
--- How far a terminal has come with bytes on its line.
+-- How far a terminal has come with bytes on its connection.
 use Rattle.std.proofs.Common.{◌≡◌, ℕ, Bool, true, false, cond, Err, List, [], ◌++◌, refl, sym, ap, ◌∙◌, append_assoc, append-nil}
 use Rattle.zvt_apdu.specs.declared.fault.ApduFault.{ApduFault}
 use Rattle.zvt_apdu.specs.declared.fault.ApduFault.TheVariants.{TooLong}
@@ -8,7 +8,7 @@ use Rattle.zvt_apdu.specs.Decode.{DecodedApdu, decode_apdu}
 use Rattle.zvt_apdu.specs.DecodeStream.{DecodedApdus, decode_apdus}
 use Rattle.pt_core.specs.Table.{bytes_of, cuts}
 use Rattle.pt_core.specs.Serving.{AccountValue, Served, account_after, after_bytes, heard, reaction_by}
-use Rattle.pt_core.proofs.SplitLemmas.{Laws, heard_whole, heard_partial, heard_bad, joined, joins}
+use Rattle.pt_core.proofs.SplitLemmas.{Laws, heard_whole, heard_incomplete, heard_bad, joined, joins}
 
 -- from these bytes before: these bytes were answered since, and the others are still to be heard
 pub record Progress (start : AccountValue) (bytes written : List ℕ) (account : AccountValue) (left out : List ℕ) : Type 0 where
@@ -61,7 +61,7 @@ comes_with start bytes written account out cut added all is = record {
   cut_is = ap (λ (s : Served). s.cut) (sym all);
 }
 
--- at a request at which the line is cut
+-- at a request at which the connection is cut
 pub cut_at : Laws → (start : AccountValue) (bytes written : List ℕ) (account : AccountValue) (left out : List ℕ) (apdu : ApduValue) (rest now : List ℕ)
     → Progress start bytes written account left out → decode_apdu left ≡ DecodedApdu.Whole apdu rest → cuts (reaction_by account apdu) ≡ true
     → now ≡ out ++ bytes_of (reaction_by account apdu) → Comes start bytes written (account_after account apdu) now true
@@ -77,11 +77,11 @@ nil_added added account cut = ap (λ (b : List ℕ). let s : Served = record { b
 pub waits_at : Laws → (start : AccountValue) (bytes written : List ℕ) (account : AccountValue) (left out : List ℕ)
     → Progress start bytes written account left out → decode_apdu left ≡ DecodedApdu.Incomplete → Comes start bytes written account out false
 waits_at laws start bytes written account left out so_far prefix =
-    comes_with start bytes written account out false so_far.added (so_far.all ∙ ap (after_bytes so_far.added) (heard_partial laws account left prefix) ∙ nil_added so_far.added account false) so_far.out_is
+    comes_with start bytes written account out false so_far.added (so_far.all ∙ ap (after_bytes so_far.added) (heard_incomplete laws account left prefix) ∙ nil_added so_far.added account false) so_far.out_is
 
 pub waits_rest : Laws → (start : AccountValue) (bytes written : List ℕ) (account : AccountValue) (left out : List ℕ)
     → Progress start bytes written account left out → decode_apdu left ≡ DecodedApdu.Incomplete → left ≡ (decode_apdus bytes).rest
-waits_rest laws start bytes written account left out so_far prefix = sym (so_far.rest ∙ ap (λ (s : DecodedApdus). s.rest) (laws.partial left prefix))
+waits_rest laws start bytes written account left out so_far prefix = sym (so_far.rest ∙ ap (λ (s : DecodedApdus). s.rest) (laws.incomplete left prefix))
 
 -- where no request can follow
 pub bad_at : Laws → (start : AccountValue) (bytes written : List ℕ) (account : AccountValue) (left out : List ℕ) (n : ℕ)
@@ -108,18 +108,18 @@ next_chunk laws start bytes written account waiting chunk more out later now so_
     let first = waiting ++ chunk in
     let join = joins laws account first more in
     let group : waiting ++ (chunk ++ more) ≡ first ++ more = sym (append_assoc waiting chunk more) in
-    let open_line : (heard account first).cut ≡ false = sym comes.cut_is in
+    let open_connection : (heard account first).cut ≡ false = sym comes.cut_is in
     record {
       added = so_far.added ++ (heard account first).bytes;
       all = so_far.all ∙ ap (λ (b : List ℕ). after_bytes so_far.added (heard account b)) group
-          ∙ ap (after_bytes so_far.added) (join.heard_all ∙ join_choice false (heard account first) (λ last. heard last ((decode_apdus first).rest ++ more)) open_line)
+          ∙ ap (after_bytes so_far.added) (join.heard_all ∙ join_choice false (heard account first) (λ last. heard last ((decode_apdus first).rest ++ more)) open_connection)
           ∙ regroup so_far.added (heard account first).bytes (heard (heard account first).account ((decode_apdus first).rest ++ more))
           ∙ ap (λ (a : AccountValue). after_bytes (so_far.added ++ (heard account first).bytes) (heard a ((decode_apdus first).rest ++ more))) (sym comes.account_is);
-      rest = so_far.rest ∙ ap (λ (b : List ℕ). (decode_apdus b).rest) group ∙ join.rest open_line;
+      rest = so_far.rest ∙ ap (λ (b : List ℕ). (decode_apdus b).rest) group ∙ join.rest open_connection;
       out_is = longer_out written so_far.added out (heard account first).bytes now so_far.out_is comes.out_is;
     }
 
--- the line is cut in a chunk
+-- the connection is cut in a chunk
 pub cut_chunk : Laws → (start : AccountValue) (bytes written : List ℕ) (account : AccountValue) (waiting chunk more out : List ℕ) (later : AccountValue) (now : List ℕ)
     → Progress start bytes written account (waiting ++ (chunk ++ more)) out
     → Comes account (waiting ++ chunk) out later now true → Comes start bytes written later now true

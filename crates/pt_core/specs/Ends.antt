@@ -7,10 +7,6 @@ use Rattle.zvt_talk.specs.declared.meaning.Heard.TheVariants as heard
 use Rattle.pt_core.specs.declared.book.BookEntry.{BookEntry}
 use Rattle.pt_core.specs.Book.{last_book_entry}
 
--- these messages are the first of those
-abbrev pub AreFirstOf : List MessageValue → List MessageValue → Type 0
-AreFirstOf first messages = (rest : List MessageValue) × (messages ≡ first ++ rest)
-
 -- the figures of an entry
 abbrev pub entry_figures : BookEntry → Figures
 entry_figures entry = record { number = entry.number; receipt = entry.receipt; amount = entry.amount }
@@ -21,7 +17,7 @@ IsReported None number approved = (number ≡ 0) × (approved ≡ None)
 IsReported (Some entry) number approved = (number ≡ entry.number) × (approved ≡ Some (entry_figures entry))
 
 -- The end of a dialogue is true of the book before its command and of what the command books: approved, it books the
--- entry with these figures; declined or done, it books nothing, and declined no number is told; told, that is the last
+-- entry with these figures; declined or done, it books nothing, and declined no number is reported; reported, that is the last
 -- entry.
 abbrev pub IsTrueEnd : List BookEntry → List BookEntry → Heard → Type 0
 IsTrueEnd book booked (heard.Begun stop) = Unit {0}

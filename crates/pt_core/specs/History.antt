@@ -11,7 +11,7 @@ use Rattle.pt_core.specs.declared.reaction.Reaction.{Reaction}
 use Rattle.pt_core.specs.Table.{reaction_at, bytes_of, entries_of, cuts, is_authorisation}
 use Rattle.pt_core.specs.Serving.{AccountValue, TerminalValue, is_bad}
 
--- what a terminal is set up with: the code that tells an enquiry of no transaction, and the plays
+-- what a terminal is set up with: the code by which an enquiry is answered where there is no transaction, and the plays
 pub record Setting : Type 0 where
   pub none : ℕ
   pub plays : List Play
@@ -34,7 +34,7 @@ count_authorisations (apdu ∷ before) = count_authorisations before + (if is_au
 abbrev pub play_left : List Play → List ApduValue → Play
 play_left plays before = unwrap_or (slice_get plays (count_authorisations before)) play.Approve
 
--- the book that requests leave, its oldest entry first: what each of them books behind those before it
+-- the book that requests leave, its oldest entry first: what each of them books after those before it
 abbrev pub book_of : Setting → List ApduValue → List BookEntry
 book_of setting [] = []
 book_of setting (apdu ∷ before) = book_of setting before
@@ -46,13 +46,13 @@ reaction_after setting before apdu = reaction_at setting.none (play_left setting
 
 -- ---- the requests of one link, the oldest first, with those of earlier links before them
 
--- all that are handled, the newest first: of the link's up to the first at which the line is cut
+-- all that are handled, the newest first: of the link's up to the first at which the connection is cut
 abbrev pub handled : Setting → List ApduValue → List ApduValue → List ApduValue
 handled setting before [] = before
 handled setting before (apdu ∷ apdus) =
     if cuts (reaction_after setting before apdu) then apdu ∷ before else handled setting (apdu ∷ before) apdus
 
--- the line is cut at one of them
+-- the connection is cut at one of them
 abbrev pub is_cut_by : Setting → List ApduValue → List ApduValue → Bool
 is_cut_by setting before [] = false
 is_cut_by setting before (apdu ∷ apdus) =
@@ -113,5 +113,5 @@ terminal_account setting before = record {
 abbrev pub terminal_after : Setting → List Met → TerminalValue
 terminal_after setting met = record {
   account = terminal_account setting (all_handled setting met);
-  line = if has_cut setting met then None else Some (decode_apdus (link_bytes met)).rest;
+  connection = if has_cut setting met then None else Some (decode_apdus (link_bytes met)).rest;
 }

@@ -1,9 +1,9 @@
--- What makes the book of a played terminal honest for its line.
+-- What makes the book of a played terminal honest for its connection.
 use Rattle.std.specs.Prelude.{◌≡◌, ℕ, ◌+◌, ◌<◌, List, [], ◌∷◌, ◌++◌, length, Option, None, Some, true, false}
 use Rattle.zvt_msg.specs.declared.command.Command.{Command}
 use Rattle.zvt_msg.specs.declared.command.Command.TheVariants as command
 use Rattle.pt_core.specs.declared.book.BookEntry.{BookEntry}
-use Rattle.pt_core.specs.Book.{last_payment}
+use Rattle.pt_core.specs.Book.{last_number, last_payment}
 use Rattle.pt_core.specs.History.{Setting, Met, book_after}
 
 -- The command causes the entry: an authorisation of its amount, or a reversal of the last payment with the receipt
@@ -27,7 +27,7 @@ IsCausedBy book (Some command) entry = Causes book command entry
 pub record FollowsEntry (book : List BookEntry) (entry : BookEntry) : Type 0 where
   pub number : entry.number ≡ length book + 1
   pub approved : entry.approved ≡ true
-  pub room : length book < 999999
+  pub room : length book < last_number
 
 -- a request books nothing, or the one entry that it causes
 abbrev pub Books : List BookEntry → Option Command → List BookEntry → Type 0

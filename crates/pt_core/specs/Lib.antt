@@ -1,5 +1,7 @@
 pub mod Book
 pub mod Ends
+pub mod Example
+pub mod Exchange
 pub mod History
 pub mod Honest
 pub mod Serving

@@ -10,16 +10,16 @@ use Rattle.pt_core.specs.declared.play.Play.TheVariants as play
 use Rattle.pt_core.specs.declared.reaction.Reaction.{Reaction}
 use Rattle.pt_core.specs.Table.{reaction_at, bytes_of, entries_of, cuts, is_authorisation}
 
--- the code that tells an enquiry of no transaction, the plays that are left, and the book
+-- the code by which an enquiry is answered where there is no transaction, the plays that are left, and the book
 pub record AccountValue : Type 0 where
   pub none : ℕ
   pub plays : List Play
   pub book : List BookEntry
 
--- what a terminal keeps: its account, and what waits on its line, or none where it cut the line
+-- what a terminal keeps: its account, and what waits on its connection, or none where it cut that
 pub record TerminalValue : Type 0 where
   pub account : AccountValue
-  pub line : Option (List ℕ)
+  pub connection : Option (List ℕ)
 
 -- the next play; further payments are approved
 abbrev pub first_play : List Play → Play
@@ -41,7 +41,7 @@ account_after account apdu = record account {
   book = account.book ++ entries_of (reaction_by account apdu);
 }
 
--- what requests came to: the bytes that were answered, the account, and whether the line was cut
+-- what requests came to: the bytes that were answered, the account, and whether the connection was cut
 pub record Served : Type 0 where
   pub bytes : List ℕ
   pub account : AccountValue
@@ -51,7 +51,7 @@ pub record Served : Type 0 where
 abbrev pub after_bytes : List ℕ → Served → Served
 after_bytes bytes served = record served { bytes = bytes ++ served.bytes }
 
--- requests one after another, up to the first at which the line is cut
+-- requests one after another, up to the first at which the connection is cut
 abbrev pub served : AccountValue → List ApduValue → Served
 served account [] = record { bytes = []; account = account; cut = false }
 served account (apdu ∷ apdus) =
@@ -65,31 +65,31 @@ is_bad (DecodedApdu.Whole apdu rest) = false
 is_bad DecodedApdu.Incomplete = false
 is_bad (DecodedApdu.TooLong n) = true
 
--- behind the requests of a line comes its rest, at which the line is cut where it is bad
+-- after the requests of a connection comes its rest, at which the connection is cut where it is bad
 abbrev pub with_rest : Served → List ℕ → Served
 with_rest done rest = if done.cut then done else record done { cut = is_bad (decode_apdu rest) }
 
--- all the bytes of a line that wait
+-- all the bytes of a connection that wait
 abbrev pub heard : AccountValue → List ℕ → Served
 heard account bytes = with_rest (served account (decode_apdus bytes).apdus) (decode_apdus bytes).rest
 
--- what waits on the line behind them
-abbrev pub line_after : Served → List ℕ → Option (List ℕ)
-line_after done bytes = if done.cut then None else Some (decode_apdus bytes).rest
+-- what waits on the connection after them
+abbrev pub what_waits : Served → List ℕ → Option (List ℕ)
+what_waits done bytes = if done.cut then None else Some (decode_apdus bytes).rest
 
--- what bytes on the line come to; a line that was cut is heard no more
+-- what bytes on the connection come to; one that was cut is heard no more
 abbrev pub heard_by_terminal : TerminalValue → Option (List ℕ) → List ℕ → Served
 heard_by_terminal terminal None bytes = record { bytes = []; account = terminal.account; cut = false }
 heard_by_terminal terminal (Some waiting) bytes = heard terminal.account (waiting ++ bytes)
 
--- the line behind bytes on it
-abbrev pub line_behind : TerminalValue → Option (List ℕ) → List ℕ → Option (List ℕ)
-line_behind terminal None bytes = None
-line_behind terminal (Some waiting) bytes = line_after (heard terminal.account (waiting ++ bytes)) (waiting ++ bytes)
+-- the connection after bytes on it
+abbrev pub connection_after : TerminalValue → Option (List ℕ) → List ℕ → Option (List ℕ)
+connection_after terminal None bytes = None
+connection_after terminal (Some waiting) bytes = what_waits (heard terminal.account (waiting ++ bytes)) (waiting ++ bytes)
 
--- the terminal behind bytes on its line
-abbrev pub terminal_behind : TerminalValue → List ℕ → TerminalValue
-terminal_behind terminal bytes = record {
-  account = (heard_by_terminal terminal terminal.line bytes).account;
-  line = line_behind terminal terminal.line bytes;
+-- the terminal after bytes on its connection
+abbrev pub next_terminal : TerminalValue → List ℕ → TerminalValue
+next_terminal terminal bytes = record {
+  account = (heard_by_terminal terminal terminal.connection bytes).account;
+  connection = connection_after terminal terminal.connection bytes;
 }

@@ -28,10 +28,10 @@ abbrev pub reversal : Option BookEntry → List BookEntry → Reaction
 reversal None book = reaction.Aborted 0xB4
 reversal (Some paid) book = reaction.Approved (next_entry book paid.amount true)
 
--- the last entry is told, or that there is none
+-- the last entry is reported, or that there is none
 abbrev pub enquiry : ℕ → Option BookEntry → Reaction
 enquiry none None = reaction.Aborted none
-enquiry none (Some entry) = reaction.Told entry
+enquiry none (Some entry) = reaction.Reported entry
 
 -- a command
 abbrev pub at_command : ℕ → Play → List BookEntry → Command → Reaction
@@ -76,7 +76,7 @@ messages_of reaction.Acknowledged = MessageValue.Ack ∷ []
 messages_of reaction.Refused = MessageValue.Nack 0x83 ∷ []
 messages_of reaction.Completed = MessageValue.Ack ∷ MessageValue.Completion ∷ []
 messages_of (reaction.Approved entry) = MessageValue.Ack ∷ MessageValue.Status (status_of_entry entry) ∷ MessageValue.Completion ∷ []
-messages_of (reaction.Told entry) = MessageValue.Ack ∷ MessageValue.Status (status_of_entry entry) ∷ MessageValue.Completion ∷ []
+messages_of (reaction.Reported entry) = MessageValue.Ack ∷ MessageValue.Status (status_of_entry entry) ∷ MessageValue.Completion ∷ []
 messages_of (reaction.Aborted code) = MessageValue.Ack ∷ MessageValue.Abort (Some code) ∷ []
 messages_of (reaction.Booked entry) = MessageValue.Ack ∷ []
 messages_of reaction.Dropped = []
@@ -97,31 +97,31 @@ entries_of reaction.Acknowledged = []
 entries_of reaction.Refused = []
 entries_of reaction.Completed = []
 entries_of (reaction.Approved entry) = entry ∷ []
-entries_of (reaction.Told entry) = []
+entries_of (reaction.Reported entry) = []
 entries_of (reaction.Aborted code) = []
 entries_of (reaction.Booked entry) = entry ∷ []
 entries_of reaction.Dropped = []
 
--- an entry that is told fits a status
-abbrev pub told_fits : Reaction → Bool
-told_fits reaction.Silent = true
-told_fits reaction.Acknowledged = true
-told_fits reaction.Refused = true
-told_fits reaction.Completed = true
-told_fits (reaction.Approved entry) = fits_status entry
-told_fits (reaction.Told entry) = fits_status entry
-told_fits (reaction.Aborted code) = true
-told_fits (reaction.Booked entry) = true
-told_fits reaction.Dropped = true
+-- an entry that is reported fits a status
+abbrev pub reported_fits : Reaction → Bool
+reported_fits reaction.Silent = true
+reported_fits reaction.Acknowledged = true
+reported_fits reaction.Refused = true
+reported_fits reaction.Completed = true
+reported_fits (reaction.Approved entry) = fits_status entry
+reported_fits (reaction.Reported entry) = fits_status entry
+reported_fits (reaction.Aborted code) = true
+reported_fits (reaction.Booked entry) = true
+reported_fits reaction.Dropped = true
 
--- the line is cut behind the answer
+-- the connection is cut after the answer
 abbrev pub cuts : Reaction → Bool
 cuts reaction.Silent = false
 cuts reaction.Acknowledged = false
 cuts reaction.Refused = false
 cuts reaction.Completed = false
 cuts (reaction.Approved entry) = false
-cuts (reaction.Told entry) = false
+cuts (reaction.Reported entry) = false
 cuts (reaction.Aborted code) = false
 cuts (reaction.Booked entry) = true
 cuts reaction.Dropped = true

@@ -6,6 +6,6 @@ use gw_base::Bytes;
 pub struct Answer {
     /// What it sends, perhaps nothing.
     pub bytes: Bytes,
-    /// Whether it cuts the line behind that.
+    /// Whether it cuts the connection after that.
     pub cut: bool,
 }

@@ -1,4 +1,4 @@
-//! Bytes on the line of a played terminal, in chunks, and the requests that they complete.
+//! Bytes on the connection of a played terminal, in chunks, and the requests that they complete.
 ghost use Rattle.std.specs.Prelude.{◌≡◌, ◌≤◌, ◌+◌, ◌*◌, ◌++◌, [], length, vec_len, vec_capacity, IfOk, OnErr};
 ghost use Rattle.std.specs.Bool.{OnFalse};
 ghost use Rattle.zvt_apdu.specs.Decode.{DecodedApdu, decode_apdu};
@@ -17,7 +17,7 @@ const CHUNK: usize = 4096;
 const ANSWER: usize = 32;
 
 impl Account<'_> {
-    /// Serves the requests that these bytes complete. True where the line is cut.
+    /// Serves the requests that these bytes complete. True where the connection is cut.
     ///
     /// Memory is taken before the first byte is heard: each byte completes one request at most.
     pub(crate) fn hear(
@@ -70,7 +70,7 @@ impl Account<'_> {
         false
     }
 
-    /// Serves the requests that wait whole. True where the line is cut, at one of them or at what can't begin one.
+    /// Serves the requests that wait whole. True where the connection is cut, at one of them or at what can't begin one.
     fn serve_all(&mut self, reader: &mut ApduReader, out: &mut Vec<u8>) -> bool
         requires answer_room { vec_len out.old + 32 * length (decode_apdus reader.old).apdus ≤ vec_capacity out.old }
         requires book_room { vec_len self.old.entries + length (decode_apdus reader.old).apdus ≤ vec_capacity self.old.entries }

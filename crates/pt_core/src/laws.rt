@@ -1,5 +1,6 @@
 //! Laws of the definitions that the contracts cite. Each function does nothing: its contract is the law.
-ghost use Rattle.std.specs.Prelude.{◌≡◌, ℕ, ◌≤◌, ◌++◌, ◌||◌, ◌∷◌, [], List, length, Some};
+ghost use Rattle.std.specs.Prelude.{◌≡◌, ℕ, ◌≤◌, ◌++◌, ◌||◌, ◌∷◌, [], List, length, drop, Some};
+ghost use Rattle.gw_bytes.specs.Bytes.{IsPrefix};
 ghost use Rattle.zvt_apdu.specs.Grammar.{ApduValue};
 ghost use Rattle.zvt_msg.specs.CommandDecode.{decode_command};
 ghost use Rattle.zvt_msg.specs.declared.command.Command.{Command};
@@ -7,35 +8,45 @@ ghost use Rattle.zvt_talk.specs.declared.meaning.Heard.{Heard};
 ghost use Rattle.zvt_talk.specs.Dialogue.{Dialogue, dialogue_kind_of};
 ghost use Rattle.zvt_talk.specs.Came.{Came, messages};
 ghost use Rattle.zvt_talk.specs.Talk.{end_of};
+ghost use Rattle.pt_core.specs.Book.{last_number};
 ghost use Rattle.pt_core.specs.Table.{entries_of, messages_of};
-ghost use Rattle.pt_core.specs.Ends.{AreFirstOf, IsTrueEnd};
-ghost use Rattle.pt_core.specs.Serving.{heard_by_terminal, terminal_behind};
-ghost use Rattle.pt_core.specs.History.{Setting, Met, NewLink, Chunk, answered, book_after, book_of, has_cut, reaction_after, terminal_after};
+ghost use Rattle.pt_core.specs.Ends.{IsTrueEnd};
+ghost use Rattle.pt_core.specs.Example.{ExampleMet, ExampleBook, ExampleLastNumber, ExampleEnd, ExampleHearing};
+ghost use Rattle.pt_core.specs.Exchange.{Exchange, AreOnOneLink, HearsAnswers, IsHonestForConnection, answered_first, heard_on_link, met_of};
+ghost use Rattle.pt_core.specs.Serving.{heard_by_terminal, next_terminal};
+ghost use Rattle.pt_core.specs.History.{Setting, Met, NewLink, Chunk, answered, book_after, book_of, has_cut, reaction_after, requests, terminal_after};
 ghost use Rattle.pt_core.specs.Honest.{AreEntriesNumbered, Books, BookGrows};
 
 use zvt_apdu::law_decode_apdus;
+use zvt_msg::{law_commands, law_decode_pt_message, law_read_again};
 
 /// What bytes and a new link do to what a terminal keeps is what its history says.
 pub fn law_met()
     ensures fresh { (setting : Setting) → terminal_after setting []
-        ≡ record { account = record { none = setting.none; plays = setting.plays; book = [] }; line = Some [] } }
+        ≡ record { account = record { none = setting.none; plays = setting.plays; book = [] }; connection = Some [] } }
     ensures bytes { (setting : Setting) (met : List Met) (bytes : List ℕ)
-        → terminal_behind (terminal_after setting met) bytes ≡ terminal_after setting (Chunk bytes ∷ met) }
+        → next_terminal (terminal_after setting met) bytes ≡ terminal_after setting (Chunk bytes ∷ met) }
     ensures answer { (setting : Setting) (met : List Met) (bytes : List ℕ)
         → answered setting (Chunk bytes ∷ met) ≡ answered setting met
-        ++ (heard_by_terminal (terminal_after setting met) (terminal_after setting met).line bytes).bytes }
+        ++ (heard_by_terminal (terminal_after setting met) (terminal_after setting met).connection bytes).bytes }
     ensures cut { (setting : Setting) (met : List Met) (bytes : List ℕ)
         → has_cut setting (Chunk bytes ∷ met)
-        ≡ (has_cut setting met || (heard_by_terminal (terminal_after setting met) (terminal_after setting met).line bytes).cut) }
+        ≡ (has_cut setting met || (heard_by_terminal (terminal_after setting met) (terminal_after setting met).connection bytes).cut) }
     ensures link { (setting : Setting) (met : List Met)
-        → record (terminal_after setting met) { line = Some [] } ≡ terminal_after setting (NewLink ∷ met) }
+        → record (terminal_after setting met) { connection = Some [] } ≡ terminal_after setting (NewLink ∷ met) }
+
+    // Bytes in two chunks do the same as at once.
+    ensures chunks { (setting : Setting) (met : List Met) (first second : List ℕ)
+        → terminal_after setting (Chunk second ∷ Chunk first ∷ met) ≡ terminal_after setting (Chunk (first ++ second) ∷ met) }
+    ensures chunks_answer { (setting : Setting) (met : List Met) (first second : List ℕ)
+        → answered setting (Chunk second ∷ Chunk first ∷ met) ≡ answered setting (Chunk (first ++ second) ∷ met) }
 {
     law_decode_apdus();
 }
 
-/// The book is honest for the line, whatever is met: each request, heard whole, books nothing or the one entry that it
-/// causes; a new link books nothing of what an earlier one carried; nothing is taken back; and the numbers rise from 1 to
-/// at most 999,999.
+/// The book is honest for the connection, whatever is met: each request, heard whole, books nothing or the one entry
+/// that it causes; a new link books nothing of what an earlier one carried; nothing is taken back; and the numbers rise
+/// from 1 to at most 999,999.
 pub fn law_book()
     ensures caused { (setting : Setting) (before : List ApduValue) (apdu : ApduValue)
         → Books (book_of setting before) (decode_command apdu) (entries_of (reaction_after setting before apdu)) }
@@ -43,7 +54,7 @@ pub fn law_book()
         → book_after setting (NewLink ∷ met) ≡ book_after setting met }
     ensures grows { (setting : Setting) (met : List Met) (what : Met) → BookGrows setting met what }
     ensures numbers { (setting : Setting) (met : List Met) → AreEntriesNumbered 1 (book_after setting met) }
-    ensures few { (setting : Setting) (met : List Met) → length (book_after setting met) ≤ 999999 }
+    ensures few { (setting : Setting) (met : List Met) → length (book_after setting met) ≤ last_number }
 {
     law_met();
 }
@@ -53,7 +64,40 @@ pub fn law_book()
 /// denies.
 pub fn law_ends()
     ensures { (setting : Setting) (before : List ApduValue) (apdu : ApduValue) (command : Command) (dialogue : Dialogue)
-        (came : List Came) (end : Heard) → decode_command apdu ≡ Some command → dialogue_kind_of command ≡ Some dialogue.kind
-        → AreFirstOf (messages came) (messages_of (reaction_after setting before apdu)) → end_of dialogue came ≡ Some end
+        (came : List Came) (end : Heard) → decode_command apdu ≡ Some command → dialogue_kind_of command ≡ Some dialogue.dialogue_kind
+        → IsPrefix (messages came) (messages_of (reaction_after setting before apdu)) → end_of dialogue came ≡ Some end
         → IsTrueEnd (book_of setting before) (entries_of (reaction_after setting before apdu)) end }
+{}
+
+/// The book with its places is honest for the connection, whatever the gateway links, sends and hears, in whatever chunks,
+/// where each time what it has heard on the link is a prefix of what the terminal had answered on it: each entry is caused
+/// by the sending that completes its command, and has its place right after that; the numbers rise; and each end of a
+/// dialogue is true of the entries that were in the book before the hearing that brings it.
+pub fn law_honest()
+    ensures { (setting : Setting) (exchanges : List Exchange) → HearsAnswers setting exchanges → IsHonestForConnection setting exchanges }
+{
+    law_decode_apdus();
+    law_decode_pt_message();
+    law_read_again();
+    law_commands();
+    zvt_talk::law_ends();
+    law_met();
+    law_book();
+}
+
+/// Where all that was answered on the link had been heard before a command was sent, what is heard after the answers to the
+/// requests before it is what is heard since.
+pub fn law_all_heard()
+    ensures { (setting : Setting) (after before : List Exchange) → AreOnOneLink after → heard_on_link before ≡ answered setting (met_of before)
+        → drop (length (answered_first setting (after ++ before) (requests (met_of before)))) (heard_on_link (after ++ before)) ≡ heard_on_link after }
+{}
+
+/// Examples of the laws, which are computed: what a terminal keeps and answers, what it books and refuses, its last number,
+/// and a payment that is heard in two parts.
+pub fn law_examples()
+    ensures met { ExampleMet }
+    ensures book { ExampleBook }
+    ensures last_number { ExampleLastNumber }
+    ensures end { ExampleEnd }
+    ensures hearing { ExampleHearing }
 {}

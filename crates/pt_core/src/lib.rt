@@ -14,7 +14,7 @@ mod terminal;
 
 pub use answer::Answer;
 pub use book::{Book, BookEntry};
-pub use laws::{law_book, law_ends, law_met};
+pub use laws::{law_all_heard, law_book, law_ends, law_examples, law_honest, law_met};
 pub use play::{Play, Plays};
 pub use terminal::Terminal;
 

@@ -10,9 +10,9 @@ pub enum Play {
     Approve,
     /// Declines it with this code.
     Decline(u8),
-    /// Approves it in its book, and cuts the line before it says so.
+    /// Approves it in its book, and cuts the connection before it says so.
     CutAfterBook,
-    /// Cuts the line, and books nothing.
+    /// Cuts the connection, and books nothing.
     DropAtOnce,
 }
 

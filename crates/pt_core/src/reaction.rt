@@ -2,7 +2,7 @@
 ghost use Rattle.std.specs.Prelude.{◌≡◌, ◌≤◌, ◌++◌, [], IsTrue, option_to_list};
 ghost use Rattle.arrayvec.specs.ArrayVec.{array_vec_len};
 ghost use Rattle.pt_core.specs.Book.{fits_status};
-ghost use Rattle.pt_core.specs.Table.{bytes_of, cuts, entries_of, status_of_entry, told_fits};
+ghost use Rattle.pt_core.specs.Table.{bytes_of, cuts, entries_of, status_of_entry, reported_fits};
 
 use crate::book::BookEntry;
 use arrayvec::ArrayVec;
@@ -23,15 +23,15 @@ pub(crate) enum Reaction {
     Refused,
     /// Acknowledges it, and completes.
     Completed,
-    /// Books the entry, and tells it.
+    /// Books the entry, and reports it.
     Approved(BookEntry),
-    /// Tells the entry, which is booked already.
-    Told(BookEntry),
+    /// Reports the entry, which is booked already.
+    Reported(BookEntry),
     /// Acknowledges it, and aborts with this code.
     Aborted(u8),
-    /// Books the entry, acknowledges, and cuts the line.
+    /// Books the entry, acknowledges, and cuts the connection.
     Booked(BookEntry),
-    /// Cuts the line.
+    /// Cuts the connection.
     Dropped,
 }
 
@@ -46,13 +46,13 @@ impl Reaction {
             | Reaction::Acknowledged
             | Reaction::Refused
             | Reaction::Completed
-            | Reaction::Told(_)
+            | Reaction::Reported(_)
             | Reaction::Aborted(_)
             | Reaction::Dropped => None,
         }
     }
 
-    /// Whether the line is cut behind the answer.
+    /// Whether the connection is cut after the answer.
     pub(crate) fn cuts(&self) -> bool
         ensures { result ≡ cuts self.now }
     {
@@ -61,7 +61,7 @@ impl Reaction {
 
     /// Writes the answer.
     pub(crate) fn write(&self, out: &mut ArrayVec<u8, 512>)
-        requires fits { IsTrue (told_fits self.now) }
+        requires fits { IsTrue (reported_fits self.now) }
         requires empty { out.old.items ≡ [] }
         ensures bytes { out.new.items ≡ bytes_of self.now }
         ensures bound { array_vec_len out.new ≤ 32 }
@@ -74,7 +74,7 @@ impl Reaction {
                 write_pt(&PtMessage::Ack, out);
                 write_pt(&PtMessage::Completion, out);
             }
-            Reaction::Approved(entry) | Reaction::Told(entry) => {
+            Reaction::Approved(entry) | Reaction::Reported(entry) => {
                 write_pt(&PtMessage::Ack, out);
                 write_pt(&PtMessage::Status(status_of_entry(entry)), out);
                 write_pt(&PtMessage::Completion, out);
@@ -87,7 +87,7 @@ impl Reaction {
     }
 }
 
-/// The status that tells an entry.
+/// The status that reports an entry.
 fn status_of_entry(entry: &BookEntry) -> Fields
     ensures { result ≡ status_of_entry entry.now }
 {

@@ -3,8 +3,8 @@ ghost use Rattle.std.specs.Prelude.{◌≡◌, ◌≤◌, ◌+◌, ◌-◌, ◌<
 ghost use Rattle.zvt_apdu.specs.Grammar.{value_of};
 ghost use Rattle.zvt_msg.specs.CommandGrammar.{HasCommandDigits};
 ghost use Rattle.zvt_msg.specs.CommandDecode.{decode_command};
-ghost use Rattle.pt_core.specs.Book.{all_fit, fits_status, is_full, last_book_entry, last_payment, next_entry};
-ghost use Rattle.pt_core.specs.Table.{at_command, at_other, bytes_of, by_command, cuts, enquiry, entries_of, is_authorisation, payment, reversal, told_fits};
+ghost use Rattle.pt_core.specs.Book.{all_fit, fits_status, is_full, last_book_entry, last_number, last_payment, next_entry};
+ghost use Rattle.pt_core.specs.Table.{at_command, at_other, bytes_of, by_command, cuts, enquiry, entries_of, is_authorisation, payment, reversal, reported_fits};
 ghost use Rattle.pt_core.specs.Serving.{account_after, first_play, reaction_by};
 ghost use Rattle.pt_core.specs.inner.Results.{account_value};
 
@@ -13,11 +13,15 @@ use crate::book::BookEntry;
 use crate::play::Play;
 use crate::reaction::Reaction;
 use arrayvec::ArrayVec;
+use gw_bytes::{GREATEST_RECEIPT, GREATEST_TRACE};
 use zvt_apdu::Apdu;
 use zvt_msg::{Command, law_commands, read_command};
 
-/// The last number of an entry.
-const LAST_NUMBER: usize = 999_999;
+/// The last number of an entry: the greatest trace number.
+const LAST_NUMBER: usize = GREATEST_TRACE as usize;
+
+/// How many receipt numbers there are, with 0.
+const RECEIPTS: u32 = GREATEST_RECEIPT as u32 + 1;
 
 /// The code of a payment or a reversal after the last number.
 const FULL: u8 = 0x83;
@@ -26,7 +30,7 @@ const FULL: u8 = 0x83;
 const NO_PAYMENT: u8 = 0xB4;
 
 impl Account<'_> {
-    /// Does what the request asks for, and appends the answer. True where the line is cut behind it.
+    /// Does what the request asks for, and appends the answer. True where the connection is cut after it.
     pub(crate) fn serve(&mut self, apdu: &Apdu<'_>, out: &mut Vec<u8>) -> bool
         requires answer_room { vec_len out.old + 32 ≤ vec_capacity out.old }
         requires book_room { vec_len self.old.entries + 1 ≤ vec_capacity self.old.entries }
@@ -42,6 +46,7 @@ impl Account<'_> {
     {
         law_commands();
         let command = read_command(apdu);
+        // Chosen before the play is used up and the entry is booked, since it goes by both.
         let reaction = self.reaction(apdu.class, &command);
         self.use_play(&command);
         self.book(reaction.entry());
@@ -53,9 +58,9 @@ impl Account<'_> {
     fn reaction(&self, class: u8, command: &Option<Command>) -> Reaction
         requires { IfSome command.now HasCommandDigits }
         ensures reaction { result ≡ by_command self.now.none (first_play (account_value self.now).plays) self.now.entries.items class command.now }
-        ensures told { IsTrue (told_fits result) }
+        ensures reported { IsTrue (reported_fits result) }
         ensures booked { IsTrue (all_fit (entries_of result)) }
-        ensures few { vec_len self.now.entries + length (entries_of result) ≤ 999999 }
+        ensures few { vec_len self.now.entries + length (entries_of result) ≤ last_number }
     {
         match command {
             None if class == 0x80 || class == 0x84 => Reaction::Silent,
@@ -67,9 +72,9 @@ impl Account<'_> {
     fn at_command(&self, command: &Command) -> Reaction
         requires { HasCommandDigits command.now }
         ensures reaction { result ≡ at_command self.now.none (first_play (account_value self.now).plays) self.now.entries.items command.now }
-        ensures told { IsTrue (told_fits result) }
+        ensures reported { IsTrue (reported_fits result) }
         ensures booked { IsTrue (all_fit (entries_of result)) }
-        ensures few { vec_len self.now.entries + length (entries_of result) ≤ 999999 }
+        ensures few { vec_len self.now.entries + length (entries_of result) ≤ last_number }
     {
         match command {
             Command::Register { .. } | Command::EndOfDay { .. } => Reaction::Completed,
@@ -84,9 +89,9 @@ impl Account<'_> {
     fn payment(&self, amount: u64) -> Reaction
         requires { amount < 1000000000000 }
         ensures reaction { result ≡ (if is_full self.now.entries.items then Reaction.Aborted 0x83 else payment (first_play (account_value self.now).plays) self.now.entries.items amount) }
-        ensures told { IsTrue (told_fits result) }
+        ensures reported { IsTrue (reported_fits result) }
         ensures booked { IsTrue (all_fit (entries_of result)) }
-        ensures few { vec_len self.now.entries + length (entries_of result) ≤ 999999 }
+        ensures few { vec_len self.now.entries + length (entries_of result) ≤ last_number }
     {
         if self.entries.len() >= LAST_NUMBER {
             return Reaction::Aborted(FULL);
@@ -101,9 +106,9 @@ impl Account<'_> {
 
     fn reversal(&self, receipt: u16) -> Reaction
         ensures reaction { result ≡ (if is_full self.now.entries.items then Reaction.Aborted 0x83 else reversal (last_payment receipt self.now.entries.items) self.now.entries.items) }
-        ensures told { IsTrue (told_fits result) }
+        ensures reported { IsTrue (reported_fits result) }
         ensures booked { IsTrue (all_fit (entries_of result)) }
-        ensures few { vec_len self.now.entries + length (entries_of result) ≤ 999999 }
+        ensures few { vec_len self.now.entries + length (entries_of result) ≤ last_number }
     {
         if self.entries.len() >= LAST_NUMBER {
             return Reaction::Aborted(FULL);
@@ -116,13 +121,13 @@ impl Account<'_> {
 
     fn enquiry(&self) -> Reaction
         ensures reaction { result ≡ enquiry self.now.none (last_book_entry self.now.entries.items) }
-        ensures told { IsTrue (told_fits result) }
+        ensures reported { IsTrue (reported_fits result) }
         ensures booked { IsTrue (all_fit (entries_of result)) }
-        ensures few { vec_len self.now.entries + length (entries_of result) ≤ 999999 }
+        ensures few { vec_len self.now.entries + length (entries_of result) ≤ last_number }
     {
         match self.entries.last() {
             None => Reaction::Aborted(self.none),
-            Some(entry) => Reaction::Told(*entry),
+            Some(entry) => Reaction::Reported(*entry),
         }
     }
 
@@ -139,7 +144,7 @@ impl Account<'_> {
 
     /// The entry that follows the last one.
     fn next_entry(&self, amount: u64, reversal: bool) -> BookEntry
-        requires few { vec_len self.now.entries < 999999 }
+        requires few { vec_len self.now.entries < last_number }
         requires amount { amount < 1000000000000 }
         ensures entry { result ≡ next_entry self.now.entries.items amount reversal }
         ensures fits { IsTrue (fits_status result) }
@@ -147,7 +152,7 @@ impl Account<'_> {
         let number = self.entries.len() as u32 + 1;
         BookEntry {
             number,
-            receipt: (number % 10_000) as u16,
+            receipt: (number % RECEIPTS) as u16,
             amount,
             reversal,
             approved: true,
@@ -170,7 +175,7 @@ impl Account<'_> {
     fn book(&mut self, entry: Option<BookEntry>)
         requires room { vec_len self.old.entries < vec_capacity self.old.entries }
         requires fits { IfSome entry (λ entry. IsTrue (fits_status entry)) }
-        requires few { IfSome entry (λ entry. vec_len self.old.entries < 999999) }
+        requires few { IfSome entry (λ entry. vec_len self.old.entries < last_number) }
         ensures entries { self.new.entries.items ≡ self.old.entries.items ++ option_to_list entry }
         ensures none { self.new.none ≡ self.old.none }
         ensures plays { self.new.plays ≡ self.old.plays }
@@ -184,7 +189,7 @@ impl Account<'_> {
     }
 }
 
-/// The place of the next play; it stays where none is left.
+/// The index of the next play; it stays the same where none is left.
 fn next_index(used: usize, plays: &Vec<Play>) -> usize
     ensures { drop result plays.now.items ≡ drop 1 (drop used plays.now.items) }
 {
@@ -214,7 +219,7 @@ fn find_payment(entries: &[BookEntry], receipt: u16) -> Option<BookEntry>
 }
 
 fn append_answer(reaction: &Reaction, out: &mut Vec<u8>)
-    requires fits { IsTrue (told_fits reaction.now) }
+    requires fits { IsTrue (reported_fits reaction.now) }
     requires room { vec_len out.old + 32 ≤ vec_capacity out.old }
     ensures bytes { out.new.items ≡ out.old.items ++ bytes_of reaction.now }
     ensures len { vec_len out.new ≤ vec_len out.old + 32 }

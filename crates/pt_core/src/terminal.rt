@@ -1,7 +1,7 @@
 //! A played terminal, which a site feeds with what the gateway sends to it.
 ghost use Rattle.std.specs.Prelude.{◌≡◌, ◌++◌, ◌||◌, ◌∷◌, [], List, Some, IfOk, OnErr};
 ghost use Rattle.gw_base.specs.Setup.{IsPt};
-ghost use Rattle.pt_core.specs.Serving.{heard_by_terminal, terminal_behind};
+ghost use Rattle.pt_core.specs.Serving.{heard_by_terminal, next_terminal};
 ghost use Rattle.pt_core.specs.History.{Setting, Met, NewLink, Chunk, answered, book_after, has_cut, terminal_after};
 
 use crate::account::Account;
@@ -16,8 +16,8 @@ use zvt_apdu::ApduReader;
 
 /// A terminal that answers each whole command at once.
 ///
-/// Contracts see it as its account and what waits on its line; the history of a terminal is all the links and bytes that
-/// it met, the newest first.
+/// Contracts see it as its account and what waits on its connection; the history of a terminal is all the links and bytes
+/// that it met, the newest first.
 #[derive(Debug, Drop)]
 pub struct Terminal {
     none: u8,
@@ -39,7 +39,7 @@ impl Model for Terminal {
 
     ghost view = { λ t. record {
       account = record { none = t.none; plays = drop t.used t.plays; book = t.book };
-      line = if t.is_cut then None else Some t.reader;
+      connection = if t.is_cut then None else Some t.reader;
     } };
 
     ghost invariant = { λ t. decode_apdu t.reader ≡ DecodedApdu.Incomplete };
@@ -68,7 +68,7 @@ impl Terminal {
             → self.new ≡ terminal_after setting (NewLink ∷ met) }
 
         // The same by what is kept alone.
-        ensures link { self.new ≡ record self.old { line = Some [] } }
+        ensures link { self.new ≡ record self.old { connection = Some [] } }
     {
         law_met();
         self.reader.clear();
@@ -89,9 +89,9 @@ impl Terminal {
         ensures err { OnErr result (self.new ≡ self.old) }
 
         // The same by what is kept alone.
-        ensures next { IfOk result (λ answer. self.new ≡ terminal_behind self.old bytes.now) }
-        ensures bytes { IfOk result (λ answer. answer.bytes ≡ (heard_by_terminal self.old self.old.line bytes.now).bytes) }
-        ensures cuts { IfOk result (λ answer. answer.cut ≡ (heard_by_terminal self.old self.old.line bytes.now).cut) }
+        ensures next { IfOk result (λ answer. self.new ≡ next_terminal self.old bytes.now) }
+        ensures bytes { IfOk result (λ answer. answer.bytes ≡ (heard_by_terminal self.old self.old.connection bytes.now).bytes) }
+        ensures cuts { IfOk result (λ answer. answer.cut ≡ (heard_by_terminal self.old self.old.connection bytes.now).cut) }
     {
         law_met();
         self.hear(alloc, bytes)
@@ -99,9 +99,9 @@ impl Terminal {
 
     fn hear(&mut self, alloc: Global, bytes: &[u8]) -> Result<Answer, AllocError>
         ensures err { OnErr result (self.new ≡ self.old) }
-        ensures next { IfOk result (λ answer. self.new ≡ terminal_behind self.old bytes.now) }
-        ensures bytes { IfOk result (λ answer. answer.bytes ≡ (heard_by_terminal self.old self.old.line bytes.now).bytes) }
-        ensures cuts { IfOk result (λ answer. answer.cut ≡ (heard_by_terminal self.old self.old.line bytes.now).cut) }
+        ensures next { IfOk result (λ answer. self.new ≡ next_terminal self.old bytes.now) }
+        ensures bytes { IfOk result (λ answer. answer.bytes ≡ (heard_by_terminal self.old self.old.connection bytes.now).bytes) }
+        ensures cuts { IfOk result (λ answer. answer.cut ≡ (heard_by_terminal self.old self.old.connection bytes.now).cut) }
     {
         let mut out = Vec::new(alloc);
         if self.is_cut {
@@ -110,6 +110,7 @@ impl Terminal {
                 cut: false,
             });
         }
+        // The entries are lent to the account and given back, so that none is copied.
         let mut account = Account {
             none: self.none,
             plays: &self.plays,

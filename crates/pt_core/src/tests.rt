@@ -1,10 +1,11 @@
+//! Tests: what a played terminal answers to a stream of commands, and what its book holds then.
 use crate::{Play, Plays, Terminal};
 use gw_base::{Currency, Ident, Pt, Text};
 use std::alloc::{AllocError, Global};
 use std::process::Abort;
 use std::test::Fail;
 
-/// What is sent, what is answered, and whether the line is cut then. Without bytes to send it is a new link.
+/// What is sent, what is answered, and whether the connection is cut then. Without bytes to send it is a new link.
 type Row = (&'static [u8], &'static [u8], bool);
 
 const PAY: &[u8] = b"\x06\x01\x0a\x04\x00\x00\x00\x00\x10\x99\x49\x09\x78";
@@ -67,7 +68,7 @@ const ROWS: [Row; 24] = [
         b"\x84\x83\x00\x84\x83\x00",
         false,
     ),
-    // Approved, and cut behind the acknowledgement; what follows on the link is not heard.
+    // Approved, and cut after the acknowledgement; what follows on the link is not heard.
     (
         b"\x06\x01\x0a\x04\x00\x00\x00\x00\x05\x00\x49\x09\x78\x06\x99\x00",
         b"\x80\x00\x00",

@@ -1,4 +1,4 @@
--- The reading byte by byte is a reading by Frames.
+-- Decoding byte by byte gives what Frames relates to the stream.
 use Rattle.std.proofs.Common.{◌≡◌, ℕ, lit<, ◌+◌, ◌<◌, ◌≤◌, inl, inr, Bool, true, false, cond, List, [], ◌∷◌, ◌++◌, length, drop, refl, ap, sym, ◌∙◌, subst, arith, append_assoc, length-drop}
 use Rattle.std.proofs.lemmas.Bool.{cases_lt, and_from, lt-ltb, le-leb, eq-eqb}
 use Rattle.std.specs.Prelude.{◌↔◌}
@@ -39,42 +39,42 @@ frame_tested : (bytes : List ℕ) → is_frame bytes ≡ true → IsPayloadLengt
 frame_tested bytes h = grind (arith, nat_tests)
 
 no_frame_tested : (bytes : List ℕ) → is_frame bytes ≡ false → IsPayloadLength (spelled_length bytes) → length bytes ≡ 4 + spelled_length bytes → ⊥
-no_frame_tested bytes h lawful size = grind (arith, nat_tests)
+no_frame_tested bytes h possible size = grind (arith, nat_tests)
 
 still_prefix : (rest : List ℕ) (byte n : ℕ) → BeginsWithLength (rest ++ byte ∷ []) n → IsIncompleteFrame rest → IsPayloadLength n → (length (rest ++ byte ∷ []) ≡ 4 + n → ⊥) → IsIncompleteFrame (rest ++ byte ∷ [])
-still_prefix rest byte n begins unfinished lawful other =
+still_prefix rest byte n begins incomplete possible other =
     let size : length (rest ++ byte ∷ []) ≡ length rest + 1 = length_push rest byte in
     elim (cases_lt (length rest) 4) [
-      | inl short ↦ shorter_is_prefix (rest ++ byte ∷ []) n lawful begins (omega arith)
+      | inl less ↦ shorter_is_prefix (rest ++ byte ∷ []) n possible begins (omega arith)
       | inr fits ↦
           let shorter : IsPayloadLength n × (length rest < 4 + n) =
-          prefix_is_shorter rest n unfinished (begins.0, sym (take-append-le 4 rest (byte ∷ []) fits) ∙ begins.1) in
-          shorter_is_prefix (rest ++ byte ∷ []) n lawful begins (omega arith)
+          prefix_is_shorter rest n incomplete (begins.0, sym (take-append-le 4 rest (byte ∷ []) fits) ∙ begins.1) in
+          shorter_is_prefix (rest ++ byte ∷ []) n possible begins (omega arith)
     ]
 
 -- a prefix of a frame stays one, or its length is bad, with a byte that doesn't complete a frame
 longer_prefix : (rest : List ℕ) (byte : ℕ) → AreBytes rest → byte < 256 → IsIncompleteFrame rest → is_frame (rest ++ byte ∷ []) ≡ false → IsFrameRest (rest ++ byte ∷ [])
-longer_prefix rest byte small one unfinished test =
+longer_prefix rest byte small one incomplete test =
     let bytes : List ℕ = rest ++ byte ∷ [] in
     let n : ℕ = spelled_length bytes in
     let size : length bytes ≡ length rest + 1 = length_push rest byte in
     elim (cases_lt (length bytes) 4) [
-      | inl short ↦ inl (inl short)
-      | inr fits ↦ with_length rest byte n (spells bytes (bytes_more rest byte small one) fits) unfinished (no_frame_tested bytes test)
+      | inl less ↦ inl (inl less)
+      | inr fits ↦ with_length rest byte n (spells bytes (bytes_more rest byte small one) fits) incomplete (no_frame_tested bytes test)
     ]
   where
     with_length : (rest : List ℕ) (byte n : ℕ) → BeginsWithLength (rest ++ byte ∷ []) n → IsIncompleteFrame rest → (IsPayloadLength n → length (rest ++ byte ∷ []) ≡ 4 + n → ⊥) → IsFrameRest (rest ++ byte ∷ [])
-    with_length rest byte n begins unfinished other = elim (cases_lt 0 n) [
-      | inr none ↦ inr (n, begins, λ lawful. omega arith)
+    with_length rest byte n begins incomplete other = elim (cases_lt 0 n) [
+      | inr none ↦ inr (n, begins, λ possible. omega arith)
       | inl some ↦ elim (cases_lt 65536 n) [
-        | inl long ↦ inr (n, begins, λ lawful. omega arith)
-        | inr fits ↦ inl (still_prefix rest byte n begins unfinished (some, fits) (other (some, fits)))
+        | inl long ↦ inr (n, begins, λ possible. omega arith)
+        | inr fits ↦ inl (still_prefix rest byte n begins incomplete (some, fits) (other (some, fits)))
       ]
     ]
 
 longer_rest : (rest : List ℕ) (byte : ℕ) → AreBytes rest → byte < 256 → IsFrameRest rest → is_frame (rest ++ byte ∷ []) ≡ false → IsFrameRest (rest ++ byte ∷ [])
-longer_rest rest byte small one (inl unfinished) test = longer_prefix rest byte small one unfinished test
-longer_rest rest byte small one (inr (n, begins, unlawful)) test = inr (n, lengthened rest (byte ∷ []) n begins, unlawful)
+longer_rest rest byte small one (inl incomplete) test = longer_prefix rest byte small one incomplete test
+longer_rest rest byte small one (inr (n, begins, impossible)) test = inr (n, lengthened rest (byte ∷ []) n begins, impossible)
 
 frame_size : (message : List ℕ) → length (frame message) ≡ 4 + length message
 frame_size message = omega (arith, length-frame message [], ap length (append-nil (frame message)))
@@ -91,12 +91,12 @@ is_framed bytes small test =
 
 -- and the frame of a message passes the test
 pub frame_passes : (message : List ℕ) → IsPayload message → is_frame (frame message) ≡ true
-frame_passes message lawful =
-    let begins : BeginsWithLength (frame message) (length message) = message_begins (frame message) message [] lawful (sym (append-nil (frame message))) in
+frame_passes message possible =
+    let begins : BeginsWithLength (frame message) (length message) = message_begins (frame message) message [] possible (sym (append-nil (frame message))) in
     let same : spelled_length (frame message) ≡ length message = spelled (frame message) (length message) begins in
     let size : length (frame message) ≡ 4 + length message = frame_size message in
-    and_from _ _ (lt-ltb 0 _ (subst (λ n. 0 < n) (sym same) lawful.0))
-    (and_from _ _ (le-leb _ 65536 (subst (λ n. n ≤ 65536) (sym same) lawful.1)) (eq-eqb (length (frame message)) _ (size ∙ ap (λ n. 4 + n) (sym same))))
+    and_from _ _ (lt-ltb 0 _ (subst (λ n. 0 < n) (sym same) possible.0))
+    (and_from _ _ (le-leb _ 65536 (subst (λ n. n ≤ 65536) (sym same) possible.1)) (eq-eqb (length (frame message)) _ (size ∙ ap (λ n. 4 + n) (sym same))))
 
 pub frames_found : (bytes : List ℕ) → AreBytes bytes → is_frame bytes ≡ true ↔ IsFrame bytes
 frames_found bytes small = (
@@ -111,13 +111,13 @@ frames-append messages message = flat_map-append frame messages (message ∷ [])
 abbrev after_test : DecodedFrames → List ℕ → Bool → DecodedFrames
 after_test read bytes test = cond test (record { messages = read.messages ++ drop 4 bytes ∷ []; rest = [] }) (record { messages = read.messages; rest = bytes })
 
-pub record IsRead (seen : List ℕ) (read : DecodedFrames) : Type 0 where
-  pub frames : Frames seen read.messages read.rest
+pub record IsRead (bytes_read : List ℕ) (read : DecodedFrames) : Type 0 where
+  pub frames : Frames bytes_read read.messages read.rest
   pub bytes : AreBytes read.rest
 
-by_test : (seen : List ℕ) (read : DecodedFrames) (byte : ℕ) → IsRead seen read → byte < 256 → (test : Bool) → is_frame (read.rest ++ byte ∷ []) ≡ test
-    → IsRead (seen ++ byte ∷ []) (after_test read (read.rest ++ byte ∷ []) test)
-by_test seen read byte so_far one true h =
+by_test : (bytes_read : List ℕ) (read : DecodedFrames) (byte : ℕ) → IsRead bytes_read read → byte < 256 → (test : Bool) → is_frame (read.rest ++ byte ∷ []) ≡ test
+    → IsRead (bytes_read ++ byte ∷ []) (after_test read (read.rest ++ byte ∷ []) test)
+by_test bytes_read read byte so_far one true h =
     let bytes : List ℕ = read.rest ++ byte ∷ [] in
     let framed : IsPayload (drop 4 bytes) × (bytes ≡ frame (drop 4 bytes)) = is_framed bytes (bytes_more read.rest byte so_far.bytes one) h in
     record {
@@ -129,7 +129,7 @@ by_test seen read byte so_far one true h =
       };
       bytes = tt;
     }
-by_test seen read byte so_far one false h = record {
+by_test bytes_read read byte so_far one false h = record {
   frames = record {
     whole = ap (λ s. s ++ byte ∷ []) so_far.frames.whole ∙ append_assoc (frames read.messages) read.rest (byte ∷ []);
     each = so_far.frames.each;
@@ -138,11 +138,11 @@ by_test seen read byte so_far one false h = record {
   bytes = bytes_more read.rest byte so_far.bytes one;
 }
 
-reads_on : (seen bytes : List ℕ) (read : DecodedFrames) → IsRead seen read → AreBytes bytes → IsRead (seen ++ bytes) (fold with_byte read bytes)
-reads_on seen [] read so_far small = subst (λ s. IsRead s read) (sym (append-nil seen)) so_far
-reads_on seen (byte ∷ bytes) read so_far small =
-    subst (λ s. IsRead s (fold with_byte (with_byte read byte) bytes)) (append_assoc seen (byte ∷ []) bytes)
-    (reads_on (seen ++ byte ∷ []) bytes (with_byte read byte) (by_test seen read byte so_far small.0 (is_frame (read.rest ++ byte ∷ [])) refl) small.1)
+reads_on : (bytes_read bytes : List ℕ) (read : DecodedFrames) → IsRead bytes_read read → AreBytes bytes → IsRead (bytes_read ++ bytes) (fold with_byte read bytes)
+reads_on bytes_read [] read so_far small = subst (λ s. IsRead s read) (sym (append-nil bytes_read)) so_far
+reads_on bytes_read (byte ∷ bytes) read so_far small =
+    subst (λ s. IsRead s (fold with_byte (with_byte read byte) bytes)) (append_assoc bytes_read (byte ∷ []) bytes)
+    (reads_on (bytes_read ++ byte ∷ []) bytes (with_byte read byte) (by_test bytes_read read byte so_far small.0 (is_frame (read.rest ++ byte ∷ [])) refl) small.1)
 
 pub reads_all : (bytes : List ℕ) → AreBytes bytes → Frames bytes (decode_frames bytes).messages (decode_frames bytes).rest
 reads_all bytes small = (reads_on [] bytes (record { messages = []; rest = [] }) (record { frames = record { whole = refl; each = tt; ended = inl (inl (lit< tt)) }; bytes = tt }) small).frames

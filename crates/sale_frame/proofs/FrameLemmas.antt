@@ -6,7 +6,7 @@ use Rattle.std.specs.Prelude.{Option, Some, None, MatchOption, slice_range}
 use Rattle.std.specs.Borrow.{Bor}
 use Rattle.std.proofs.lemmas.Nat.{from_be_bytes-to_be_bytes_4}
 use Rattle.std.specs.Int.{w32, to_be_bytes, from_be_bytes}
-use Rattle.sale_frame.specs.Grammar.{IsPayloadLength, IsPayload, frame, BeginsWithLength, BeginsWithPayload, IsIncompleteFrame, IsBadLength, IsFrameRest}
+use Rattle.sale_frame.specs.Grammar.{IsPayloadLength, IsPayload, frame, BeginsWithLength, BeginsWithPayload, IsIncompleteFrame, BeginsWithBadLength, IsFrameRest}
 
 -- the length is the one that the bytes read as
 pub spelled : (bytes : List ℕ) (n : ℕ) → BeginsWithLength bytes n → from_be_bytes w32 (take 4 bytes) ≡ n
@@ -16,7 +16,7 @@ pub one_length : (bytes : List ℕ) (m n : ℕ) → BeginsWithLength bytes m →
 one_length bytes m n first second = sym (spelled bytes m first) ∙ spelled bytes n second
 
 pub message_begins : (bytes message left : List ℕ) → IsPayload message → bytes ≡ frame message ++ left → BeginsWithLength bytes (length message)
-message_begins bytes message left lawful whole = (omega arith, ap (take 4) whole)
+message_begins bytes message left possible whole = (omega arith, ap (take 4) whole)
 
 pub one_message : (a b x y : List ℕ) → IsPayload a → IsPayload b → frame a ++ x ≡ frame b ++ y → (a ≡ b) × (x ≡ y)
 one_message a b x y p q h =
@@ -39,49 +39,49 @@ length-frame message left = omega (arith, length-append message left)
 
 -- a prefix of a frame that has its length is shorter than the frame
 pub prefix_is_shorter : (bytes : List ℕ) (n : ℕ) → IsIncompleteFrame bytes → BeginsWithLength bytes n → IsPayloadLength n × (length bytes < 4 + n)
-prefix_is_shorter bytes n (inl short) h = absurd (omega (arith, length_fits bytes n h))
-prefix_is_shorter bytes n (inr (message, lawful, more, some, is)) h =
+prefix_is_shorter bytes n (inl less) h = absurd (omega (arith, length_fits bytes n h))
+prefix_is_shorter bytes n (inr (message, possible, more, some, is)) h =
     let fits : 4 ≤ length bytes = length_fits bytes n h in
     let all : BeginsWithLength (bytes ++ more) n = lengthened bytes more n h in
     let same : length message ≡ n = one_length (bytes ++ more) (length message) n (omega arith, ap (take 4) (sym is)) all in
     let sizes : 4 + length message ≡ length bytes + length more = omega (arith, ap length is, length-append bytes more) in
-    (subst IsPayloadLength same lawful, omega arith)
+    (subst IsPayloadLength same possible, omega arith)
 
 -- the other way round: the missing bytes may be any
 pub shorter_is_prefix : (bytes : List ℕ) (n : ℕ) → IsPayloadLength n → BeginsWithLength bytes n → length bytes < 4 + n → IsIncompleteFrame bytes
-shorter_is_prefix bytes n lawful h short =
+shorter_is_prefix bytes n possible h less =
     let fits : 4 ≤ length bytes = length_fits bytes n h in
     let more : List ℕ = replicate (4 + n - length bytes) 0 in
     let message : List ℕ = drop 4 bytes ++ more in
     let size : length message ≡ n = simp (length-append, length-drop, length-replicate) (omega arith) in
     let joined : to_be_bytes w32 n ++ message ≡ bytes ++ more =
     ap (λ prefix. prefix ++ message) (sym h.1) ∙ sym (append_assoc (take 4 bytes) (drop 4 bytes) more) ∙ ap (λ whole. whole ++ more) (take-append-drop 4 bytes) in
-    inr (message, subst IsPayloadLength (sym size) lawful, more, simp length-replicate (omega arith), ap (λ k. to_be_bytes w32 k ++ message) size ∙ joined)
+    inr (message, subst IsPayloadLength (sym size) possible, more, simp length-replicate (omega arith), ap (λ k. to_be_bytes w32 k ++ message) size ∙ joined)
 
 -- no bytes are both less than a frame and the beginning of a message's
-pub unfinished_has_no_message : (bytes message : List ℕ) → IsIncompleteFrame bytes → BeginsWithPayload bytes message → ⊥
-unfinished_has_no_message bytes message unfinished (lawful, left, is) =
-    let shorter = prefix_is_shorter bytes (length message) unfinished (message_begins bytes message left lawful is) in
+pub incomplete_has_no_message : (bytes message : List ℕ) → IsIncompleteFrame bytes → BeginsWithPayload bytes message → ⊥
+incomplete_has_no_message bytes message incomplete (possible, left, is) =
+    let shorter = prefix_is_shorter bytes (length message) incomplete (message_begins bytes message left possible is) in
     let sizes : length bytes ≡ 4 + (length message + length left) = ap length is ∙ length-frame message left in
     absurd (omega arith)
 
 -- nor a bad rest
-pub bad_has_no_message : (bytes message : List ℕ) → IsBadLength bytes → BeginsWithPayload bytes message → ⊥
-bad_has_no_message bytes message (n, begins, unlawful) (lawful, left, is) =
-    unlawful (subst IsPayloadLength (one_length bytes (length message) n (message_begins bytes message left lawful is) begins) lawful)
+pub bad_has_no_message : (bytes message : List ℕ) → BeginsWithBadLength bytes → BeginsWithPayload bytes message → ⊥
+bad_has_no_message bytes message (n, begins, impossible) (possible, left, is) =
+    impossible (subst IsPayloadLength (one_length bytes (length message) n (message_begins bytes message left possible is) begins) possible)
 
-pub bad_is_no_prefix : (bytes : List ℕ) → IsIncompleteFrame bytes → IsBadLength bytes → ⊥
-bad_is_no_prefix bytes unfinished (n, begins, unlawful) = unlawful (prefix_is_shorter bytes n unfinished begins).0
+pub bad_is_no_prefix : (bytes : List ℕ) → IsIncompleteFrame bytes → BeginsWithBadLength bytes → ⊥
+bad_is_no_prefix bytes incomplete (n, begins, impossible) = impossible (prefix_is_shorter bytes n incomplete begins).0
 
 pub rest_has_no_message : (bytes message : List ℕ) → IsFrameRest bytes → BeginsWithPayload bytes message → ⊥
-rest_has_no_message bytes message (inl unfinished) = unfinished_has_no_message bytes message unfinished
+rest_has_no_message bytes message (inl incomplete) = incomplete_has_no_message bytes message incomplete
 rest_has_no_message bytes message (inr bad) = bad_has_no_message bytes message bad
 
 -- a message after the length that says so
 pub payload_after : (waiting message : List ℕ) (n : ℕ) → IsPayloadLength n → BeginsWithLength waiting n → length message ≡ n → message ≡ take n (drop 4 waiting) → BeginsWithPayload waiting message
-payload_after waiting message n lawful begins size is =
+payload_after waiting message n possible begins size is =
     let left : List ℕ = drop n (drop 4 waiting) in (
-      subst IsPayloadLength (sym size) lawful,
+      subst IsPayloadLength (sym size) possible,
       left,
       sym (take-append-drop 4 waiting) ∙ ap (λ head. head ++ drop 4 waiting) begins.1
           ∙ ap (λ tail. to_be_bytes w32 n ++ tail) (sym (take-append-drop n (drop 4 waiting)) ∙ ap (λ m. m ++ left) (sym is))
@@ -95,12 +95,12 @@ less_four n = omega arith
 pub incomplete_payload : (waiting : List ℕ) (n : ℕ) → IsPayloadLength n → BeginsWithLength waiting n → (found : Option (Bor (List ℕ)))
     → MatchOption found ((4 + n < 4) ⊎ (length waiting < 4 + n)) (λ m. (4 ≤ 4 + n) × (4 + n ≤ length waiting) × (m.now ≡ slice_range waiting 4 (4 + n)) × (length m.now + 4 ≡ 4 + n))
     → MatchOption found (IsIncompleteFrame waiting) (λ m. BeginsWithPayload waiting m.now)
-incomplete_payload waiting n lawful begins None (inl none) = absurd (omega arith)
-incomplete_payload waiting n lawful begins None (inr short) = shorter_is_prefix waiting n lawful begins short
-incomplete_payload waiting n lawful begins (Some m) (_, fits, is, size) =
-    payload_after waiting m.now n lawful begins (omega arith) (is ∙ ap (λ k. take k (drop 4 waiting)) (less_four n))
+incomplete_payload waiting n possible begins None (inl none) = absurd (omega arith)
+incomplete_payload waiting n possible begins None (inr less) = shorter_is_prefix waiting n possible begins less
+incomplete_payload waiting n possible begins (Some m) (_, fits, is, size) =
+    payload_after waiting m.now n possible begins (omega arith) (is ∙ ap (λ k. take k (drop 4 waiting)) (less_four n))
 
 -- the bytes after the message
 pub after_payload : (waiting message : List ℕ) → (begins : BeginsWithPayload waiting message) → drop (4 + length message) waiting ≡ begins.1
-after_payload waiting message (lawful, left, is) =
+after_payload waiting message (possible, left, is) =
     ap (drop (4 + length message)) is ∙ sym (drop-drop (length message) 4 (frame message ++ left)) ∙ drop-append_seam message left

@@ -1,4 +1,4 @@
--- Whole streams: one reading each, whatever the chunks.
+-- Each stream is decoded in one way, whatever the chunks.
 use Rattle.std.proofs.Common.{◌≡◌, ℕ, List, [], ◌∷◌, ◌++◌, refl, ap, sym, ◌∙◌, subst, append_assoc}
 use Rattle.std.proofs.lemmas.List.{append-nil}
 use Rattle.std.specs.List.{AllByRecursion}
@@ -10,7 +10,7 @@ use Rattle.sale_frame.specs.declared.fault.FrameFault.TheVariants.{Zero, TooLong
 use Rattle.sale_frame.proofs.FrameLemmas.{one_message, rest_has_no_message, bad_is_no_prefix, bad_has_no_message, lengthened}
 use Rattle.sale_frame.proofs.StepLemmas.{one_fault, fault_is_bad}
 
--- a reading whose first message is taken off
+-- the stream after its first message
 after_first : (bytes first left : List ℕ) (rest : List (List ℕ)) → bytes ≡ frames (first ∷ rest) ++ left → bytes ≡ frame first ++ (frames rest ++ left)
 after_first bytes first left rest is = is ∙ append_assoc (frame first) (frames rest) left
 
@@ -30,23 +30,23 @@ one_reading bytes (m ∷ a) (n ∷ b) x y p q =
 
 -- steps from any waiting bytes on
 pub any_chunks_from : (steps : List FrameStep) (waiting left rest : List ℕ) (messages : List (List ℕ)) → Steps TakesFrame waiting steps left → Frames left messages rest → Frames (waiting ++ fed steps) (given steps ++ messages) rest
-any_chunks_from [] waiting left rest messages run reading =
-    subst (λ s. Frames s messages rest) (run ∙ sym (append-nil waiting)) reading
-any_chunks_from (Fed chunk ∷ steps) waiting left rest messages (between, step, run) reading =
-    let later : Frames (between ++ fed steps) (given steps ++ messages) rest = any_chunks_from steps between left rest messages run reading in
+any_chunks_from [] waiting left rest messages run decoded =
+    subst (λ s. Frames s messages rest) (run ∙ sym (append-nil waiting)) decoded
+any_chunks_from (Fed chunk ∷ steps) waiting left rest messages (between, step, run) decoded =
+    let later : Frames (between ++ fed steps) (given steps ++ messages) rest = any_chunks_from steps between left rest messages run decoded in
     subst (λ s. Frames s (given steps ++ messages) rest) (ap (λ s. s ++ fed steps) step ∙ append_assoc waiting chunk (fed steps)) later
-any_chunks_from (Gave message ∷ steps) waiting left rest messages (between, step, run) reading =
-    let later : Frames (between ++ fed steps) (given steps ++ messages) rest = any_chunks_from steps between left rest messages run reading in
+any_chunks_from (Gave message ∷ steps) waiting left rest messages (between, step, run) decoded =
+    let later : Frames (between ++ fed steps) (given steps ++ messages) rest = any_chunks_from steps between left rest messages run decoded in
     record {
       whole = ap (λ s. s ++ fed steps) step.1 ∙ append_assoc (frame message) between (fed steps) ∙ ap (λ s. frame message ++ s) later.whole
           ∙ sym (append_assoc (frame message) (frames (given steps ++ messages)) rest);
       each = (step.0, later.each);
       ended = later.ended;
     }
-any_chunks_from (Incomplete ∷ steps) waiting left rest messages (between, step, run) reading =
-    subst (λ s. Frames (s ++ fed steps) (given steps ++ messages) rest) step.1 (any_chunks_from steps between left rest messages run reading)
-any_chunks_from (Refused fault ∷ steps) waiting left rest messages (between, step, run) reading =
-    subst (λ s. Frames (s ++ fed steps) (given steps ++ messages) rest) step.1 (any_chunks_from steps between left rest messages run reading)
+any_chunks_from (Incomplete ∷ steps) waiting left rest messages (between, step, run) decoded =
+    subst (λ s. Frames (s ++ fed steps) (given steps ++ messages) rest) step.1 (any_chunks_from steps between left rest messages run decoded)
+any_chunks_from (Refused fault ∷ steps) waiting left rest messages (between, step, run) decoded =
+    subst (λ s. Frames (s ++ fed steps) (given steps ++ messages) rest) step.1 (any_chunks_from steps between left rest messages run decoded)
 
 fault_stays : (waiting chunk : List ℕ) (fault : FrameFault) → IsFrameFault waiting fault → IsFrameFault (waiting ++ chunk) fault
 fault_stays waiting chunk Zero h = lengthened waiting chunk 0 h
@@ -60,5 +60,5 @@ refused waiting left fault (Gave message ∷ steps) bad (between, step, run) =
     absurd (bad_has_no_message waiting message (fault_is_bad waiting fault bad) (step.0, between, step.1))
 refused waiting left fault (Incomplete ∷ steps) bad (between, step, run) =
     absurd (bad_is_no_prefix waiting step.0 (fault_is_bad waiting fault bad))
-refused waiting left fault (Refused told ∷ steps) bad (between, step, run) =
-    (one_fault waiting told fault step.0 bad, refused between left fault steps (subst (λ s. IsFrameFault s fault) (sym step.1) bad) run)
+refused waiting left fault (Refused reported ∷ steps) bad (between, step, run) =
+    (one_fault waiting reported fault step.0 bad, refused between left fault steps (subst (λ s. IsFrameFault s fault) (sym step.1) bad) run)

@@ -18,20 +18,20 @@ is_frame bytes =
 
 -- one byte more: it ends a message, or joins the rest
 abbrev pub with_byte : DecodedFrames → ℕ → DecodedFrames
-with_byte reading byte =
-    let bytes = reading.rest ++ byte ∷ [] in
+with_byte decoded byte =
+    let bytes = decoded.rest ++ byte ∷ [] in
     if is_frame bytes
-    then record { messages = reading.messages ++ drop 4 bytes ∷ []; rest = [] }
-    else record { messages = reading.messages; rest = bytes }
+    then record { messages = decoded.messages ++ drop 4 bytes ∷ []; rest = [] }
+    else record { messages = decoded.messages; rest = bytes }
 
 -- one chunk more, after a rest
 abbrev pub decode_after : List ℕ → List ℕ → DecodedFrames
 decode_after rest chunk = fold with_byte (record { messages = []; rest = rest }) chunk
 
--- the reading of all bytes
+-- all bytes, decoded
 abbrev pub decode_frames : List ℕ → DecodedFrames
 decode_frames bytes = decode_after [] bytes
 
--- a reading with these messages before its own
+-- what was decoded, with these messages before its own
 abbrev pub with_messages : List (List ℕ) → DecodedFrames → DecodedFrames
-with_messages before reading = record { messages = before ++ reading.messages; rest = reading.rest }
+with_messages before decoded = record { messages = before ++ decoded.messages; rest = decoded.rest }

@@ -28,8 +28,8 @@ abbrev pub BeginsWithLength : List ℕ → ℕ → Type 0
 BeginsWithLength bytes n = (n < 2 ^ 32) × (take 4 bytes ≡ to_be_bytes w32 n)
 
 -- a frame begins with the bytes and is longer
-abbrev pub IsFramePrefix : List ℕ → Type 0
-IsFramePrefix bytes = (message : List ℕ) × IsPayload message × (more : List ℕ) × (0 < length more) × (frame message ≡ bytes ++ more)
+abbrev pub IsProperFramePrefix : List ℕ → Type 0
+IsProperFramePrefix bytes = (message : List ℕ) × IsPayload message × (more : List ℕ) × (0 < length more) × (frame message ≡ bytes ++ more)
 
 -- the bytes begin with this message's frame
 abbrev pub BeginsWithPayload : List ℕ → List ℕ → Type 0
@@ -37,15 +37,15 @@ BeginsWithPayload bytes message = IsPayload message × (left : List ℕ) × (byt
 
 -- less than a frame: fewer than four bytes, whatever they are, or a proper prefix of a frame
 abbrev pub IsIncompleteFrame : List ℕ → Type 0
-IsIncompleteFrame bytes = (length bytes < 4) ⊎ IsFramePrefix bytes
+IsIncompleteFrame bytes = (length bytes < 4) ⊎ IsProperFramePrefix bytes
 
 -- no frame begins so: the first four bytes spell a length that no message has
-abbrev pub IsBadLength : List ℕ → Type 0
-IsBadLength bytes = (n : ℕ) × BeginsWithLength bytes n × ¬ (IsPayloadLength n)
+abbrev pub BeginsWithBadLength : List ℕ → Type 0
+BeginsWithBadLength bytes = (n : ℕ) × BeginsWithLength bytes n × ¬ (IsPayloadLength n)
 
 -- what may come after the last whole frame
 abbrev pub IsFrameRest : List ℕ → Type 0
-IsFrameRest bytes = IsIncompleteFrame bytes ⊎ IsBadLength bytes
+IsFrameRest bytes = IsIncompleteFrame bytes ⊎ BeginsWithBadLength bytes
 
 -- The bytes are these messages' frames, and the rest.
 pub record Frames (bytes : List ℕ) (messages : List (List ℕ)) (rest : List ℕ) : Type 0 where

@@ -21,13 +21,13 @@ pub fn frame_found()
         → is_frame bytes ≡ true ↔ IsFrame bytes }
 {}
 
-/// A stream has one reading at most.
+/// A stream is decoded in one way at most.
 pub fn one_reading()
     ensures { (bytes : List ℕ) (a b : List (List ℕ)) (x y : List ℕ) → Frames bytes a x
         → Frames bytes b y → (a ≡ b) × (x ≡ y) }
 {}
 
-/// Each stream of bytes has one: the one that `decode_frames` computes.
+/// Each stream of bytes is decoded in one way: as `decode_frames` computes it.
 pub fn reading()
     ensures { (bytes : List ℕ) → AreBytes bytes
         → Frames bytes (decode_frames bytes).messages (decode_frames bytes).rest }

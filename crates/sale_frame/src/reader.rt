@@ -85,7 +85,7 @@ impl FrameReader {
         })
     }
 
-    /// Takes the next chunk of the stream, of at most 4,096 bytes. Without memory nothing is taken.
+    /// Takes the next chunk of the stream, of at most 4,096 bytes; nothing of it where there is no memory.
     ///
     /// A chunk that has no room after the buffered bytes moves those that wait to the beginning of a
     /// new buffer. That has as much room again as waits, and two chunks at least, so a byte is

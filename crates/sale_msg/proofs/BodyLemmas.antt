@@ -32,7 +32,7 @@ use Rattle.sale_msg.specs.declared.table.Presence.TheVariants.{Required, Optiona
 use Rattle.sale_msg.proofs.HeaderLemmas.{header_again, header_facts, ident_fact, parted, text_fact}
 use Rattle.sale_values.proofs.MoneyLemmas.{money_again}
 use Rattle.sale_msg.proofs.MoneyLemmas.{money_is_amount, read_is_amount}
-use Rattle.sale_msg.proofs.PathLemmas.{value_at-within}
+use Rattle.sale_msg.proofs.PathLemmas.{value_at_within}
 use Rattle.sale_msg.proofs.RowLemmas.{required_as, optional_as}
 
 -- ---- ServiceID
@@ -189,13 +189,13 @@ pub abort_part_met : (body part : Tree) → AreMet abort_rows body → tree_at (
     → AreMet status_reference_rows part
 abort_part_met body part m e = (
   required_as _ _ _ _ _ body part m.1.1.1.0
-      (value_at-within (codes "AbortRequest.MessageReference.ServiceID") (codes "AbortRequest.MessageReference") (codes "ServiceID") body part refl e),
+      (value_at_within (codes "AbortRequest.MessageReference.ServiceID") (codes "AbortRequest.MessageReference") (codes "ServiceID") body part refl e),
   (
     optional_as _ _ _ _ _ body part m.1.1.1.1.0
-        (value_at-within (codes "AbortRequest.MessageReference.SaleID") (codes "AbortRequest.MessageReference") (codes "SaleID") body part refl e),
+        (value_at_within (codes "AbortRequest.MessageReference.SaleID") (codes "AbortRequest.MessageReference") (codes "SaleID") body part refl e),
     (
       optional_as _ _ _ _ _ body part m.1.1.1.1.1.0
-          (value_at-within (codes "AbortRequest.MessageReference.POIID") (codes "AbortRequest.MessageReference") (codes "POIID") body part refl e),
+          (value_at_within (codes "AbortRequest.MessageReference.POIID") (codes "AbortRequest.MessageReference") (codes "POIID") body part refl e),
       tt,
     ),
   ),
@@ -311,18 +311,18 @@ print_asks header qualifier = refl
 
 -- ---- Display
 
-item_has_text : (text : List ℕ) → text_at (codes "Text") (object (text_member (codes "Text") text no_members)) ≡ Some text
+element_has_text : (text : List ℕ) → text_at (codes "Text") (object (text_member (codes "Text") text no_members)) ≡ Some text
 unfolding tree_at
-item_has_text text = refl
+element_has_text text = refl
 
 texts_have : (texts : List (List ℕ)) → All HasTextMember (items_list (text_items texts))
 texts_have [] = All-nil HasTextMember
 texts_have (text ∷ texts) =
-    All-cons HasTextMember (object (text_member (codes "Text") text no_members)) (items_list (text_items texts)) (ap is_some (item_has_text text)) (texts_have texts)
+    All-cons HasTextMember (object (text_member (codes "Text") text no_members)) (items_list (text_items texts)) (ap is_some (element_has_text text)) (texts_have texts)
 
 texts_are : (texts : List (List ℕ)) → texts_of (items_list (text_items texts)) ≡ texts
 texts_are [] = refl
-texts_are (text ∷ texts) = rw (item_has_text text) (ap (λ (l : List (List ℕ)). text ∷ l) (texts_are texts))
+texts_are (text ∷ texts) = rw (element_has_text text) (ap (λ (l : List (List ℕ)). text ∷ l) (texts_are texts))
 
 -- what the members of an output are
 pub record OutputFacts (output : Output) : Type 0 where
@@ -384,10 +384,10 @@ pub record Counted (count : ℕ) : Type 0 where
 listed_count : (tree : Tree) → IsOutputList tree → Counted (length (listed tree))
 listed_count tree h = by (array_of tree) h
   where
-    by : (o : Option (List Tree)) → MatchOption o (IsJsonObject tree) (λ items. (1 ≤ length items) × (length items ≤ 16) × All IsJsonObject items)
+    by : (o : Option (List Tree)) → MatchOption o (IsJsonObject tree) (λ elements. (1 ≤ length elements) × (length elements ≤ 16) × All IsJsonObject elements)
         → Counted (length (unwrap_or o (tree ∷ [])))
     by None k = record { low = omega arith; high = omega arith }
-    by (Some items) k = record { low = k.0; high = k.1 }
+    by (Some elements) k = record { low = k.0; high = k.1 }
 
 parts_count : (found : Option Tree) → MatchOption found ⊥ IsOutputList → Counted (length (outputs_in found))
 parts_count None h = absurd h
@@ -474,7 +474,7 @@ request_again tree header request p =
       body_object header request,
       record {
         request_of = record {
-          stands = refl;
+          under = refl;
           header_is = header_again header request (header_facts p.0 header r.request_of.header_is);
           kind = r.request_of.kind;
         };

@@ -8,40 +8,40 @@ use Rattle.json_text.specs.Tree.{Tree, array_of, numeral_of}
 use Rattle.sale_msg.specs.Form.{HasTextMember, IsAmountNumber, IsJsonObject, IsOutputList, IsTextList}
 
 -- a number is an amount where its minor units are found
-by_minor : (numeral : List ℕ) (minor : Option ℕ) (b : Bool)
-    → MatchOption minor ((m : ℕ) → ¬ SpellsAmount numeral m) (SpellsAmount numeral)
-    → b ≡ is_some minor → IsTrue b ↔ ((m : ℕ) × SpellsAmount numeral m)
+by_minor : (numeral : List ℕ) (units : Option ℕ) (b : Bool)
+    → MatchOption units ((m : ℕ) → ¬ SpellsAmount numeral m) (SpellsAmount numeral)
+    → b ≡ is_some units → IsTrue b ↔ ((m : ℕ) × SpellsAmount numeral m)
 by_minor numeral None b none e = (λ t. absurd (true≢false (sym t ∙ e)), λ h. absurd (none h.0 h.1))
 by_minor numeral (Some m) b is e = (λ t. (m, is), λ h. e)
 
-pub amount_form : (tree : Tree) (numeral : List ℕ) (minor : Option ℕ) (b : Bool)
+pub amount_form : (tree : Tree) (numeral : List ℕ) (units : Option ℕ) (b : Bool)
     → Some numeral ≡ numeral_of tree
-    → MatchOption minor ((m : ℕ) → ¬ SpellsAmount numeral m) (SpellsAmount numeral)
-    → b ≡ is_some minor → IsTrue b ↔ IsAmountNumber tree
-amount_form tree numeral minor b e h f =
+    → MatchOption units ((m : ℕ) → ¬ SpellsAmount numeral m) (SpellsAmount numeral)
+    → b ≡ is_some units → IsTrue b ↔ IsAmountNumber tree
+amount_form tree numeral units b e h f =
     let P : Option (List ℕ) → Type 0 = λ found. IsTrue b ↔ MatchOption found ⊥ (λ text. (m : ℕ) × SpellsAmount text m) in
-    subst P e (by_minor numeral minor b h f)
+    subst P e (by_minor numeral units b h f)
 
--- what holds of each item's tree holds of each tree of the items
+-- what holds of each element's tree holds of each tree of the elements
 pub each_back : {A : Type 0} (P : Tree → Type 0) (f : A → Tree) (xs : List A) → All P (map f xs) → All (λ x. P (f x)) xs
 each_back P f [] h = All-nil (λ x. P (f x))
 each_back P f (x ∷ xs) h =
     All-cons (λ y. P (f y)) x xs (All-head P (f x) (map f xs) h) (each_back P f xs (All-tail P (f x) (map f xs) h))
 
-pub text_list_form : {A : Type 0} (f : A → Tree) (tree : Tree) (items : List A) (b : Bool) → Some (map f items) ≡ array_of tree
-    → IsTrue b ↔ All (λ item. HasTextMember (f item)) items → IsTrue b ↔ IsTextList tree
-text_list_form f tree items b e h =
+pub text_list_form : {A : Type 0} (f : A → Tree) (tree : Tree) (elements : List A) (b : Bool) → Some (map f elements) ≡ array_of tree
+    → IsTrue b ↔ All (λ element. HasTextMember (f element)) elements → IsTrue b ↔ IsTextList tree
+text_list_form f tree elements b e h =
     let P : Option (List Tree) → Type 0 = λ found. IsTrue b ↔ MatchOption found ⊥ (All HasTextMember) in
-    subst P e (λ t. All-map HasTextMember f items (h.0 t), λ all. h.1 (each_back HasTextMember f items all))
+    subst P e (λ t. All-map HasTextMember f elements (h.0 t), λ all. h.1 (each_back HasTextMember f elements all))
 
-pub output_list_form : {A : Type 0} (f : A → Tree) (tree : Tree) (items : List A) (b : Bool) → Some (map f items) ≡ array_of tree
-    → IsTrue b ↔ ((1 ≤ length items) × (length items ≤ 16) × All (λ item. IsJsonObject (f item)) items) → IsTrue b ↔ IsOutputList tree
-output_list_form f tree items b e h =
+pub output_list_form : {A : Type 0} (f : A → Tree) (tree : Tree) (elements : List A) (b : Bool) → Some (map f elements) ≡ array_of tree
+    → IsTrue b ↔ ((1 ≤ length elements) × (length elements ≤ 16) × All (λ element. IsJsonObject (f element)) elements) → IsTrue b ↔ IsOutputList tree
+output_list_form f tree elements b e h =
     let P : Option (List Tree) → Type 0 =
     λ found. IsTrue b ↔ MatchOption found (IsJsonObject tree) (λ l. (1 ≤ length l) × (length l ≤ 16) × All IsJsonObject l) in
     subst P e (
-      λ t. (omega (arith, (h.0 t).0, length-map items f), omega (arith, (h.0 t).1, length-map items f), All-map IsJsonObject f items (h.0 t).2),
-      λ all. h.1 (omega (arith, all.0, length-map items f), omega (arith, all.1, length-map items f), each_back IsJsonObject f items all.2),
+      λ t. (omega (arith, (h.0 t).0, length-map elements f), omega (arith, (h.0 t).1, length-map elements f), All-map IsJsonObject f elements (h.0 t).2),
+      λ all. h.1 (omega (arith, all.0, length-map elements f), omega (arith, all.1, length-map elements f), each_back IsJsonObject f elements all.2),
     )
 
 -- a number that is an amount has minor units

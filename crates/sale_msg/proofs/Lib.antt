@@ -1,3 +1,4 @@
+-- The files of lemmas.
 pub mod BodyLemmas
 pub mod FormLemmas
 pub mod HeaderLemmas

@@ -106,8 +106,8 @@ zipped_push R (w ∷ xs) (z ∷ ys) x y h r = (h.0, zipped_push R xs ys x y h.1 
 pub zipped_more : {A X B : Type 0} (R : X → B → Type 0) (f : A → X) (xs : List A) (ys : List B) (i : ℕ) (x : A) (y : B) → i < length xs
     → x ≡ get_or xs i x → AllZip R (map f (take i xs)) ys → R (f x) y → AllZip R (map f (take (i + 1) xs)) (ys ++ y ∷ [])
 zipped_more {A} {X} {B} R f xs ys i x y inside e h r =
-    let item : get_or xs i x ≡ x = sym e in
+    let element : get_or xs i x ≡ x = sym e in
     let taken : map f (take (i + 1) xs) ≡ map f (take i xs) ++ f x ∷ [] =
-    ap (map f) (take_more xs i x inside) ∙ map-append f (take i xs) (get_or xs i x ∷ []) ∙ ap (λ z. map f (take i xs) ++ f z ∷ []) item in
+    ap (map f) (take_more xs i x inside) ∙ map-append f (take i xs) (get_or xs i x ∷ []) ∙ ap (λ z. map f (take i xs) ++ f z ∷ []) element in
     let P : List X → Type 0 = λ l. AllZip R l (ys ++ y ∷ []) in
     subst P (sym taken) (zipped_push R (map f (take i xs)) ys (f x) y h r)

@@ -13,18 +13,18 @@ found None = refl
 found (Some tree) = refl
 
 -- a path without a point is a name
-value_at-name : (path : List ℕ) (tree : Tree) → position_or_len is_point path ≡ length path → tree_at path tree ≡ get_of path tree
+value_at_name : (path : List ℕ) (tree : Tree) → position_or_len is_point path ≡ length path → tree_at path tree ≡ get_of path tree
 unfolding tree_at
-value_at-name path tree none =
+value_at_name path tree none =
     let no_point : All (λ byte. is_point byte ≡ false) path =
     λ k d inside. fails_before_first is_point path k d (subst (λ (n : ℕ). k < n) (sym none) inside) in
     ap (λ names. tree_under names tree) (slice_split_none is_point path no_point) ∙ found (get_of path tree)
 
 -- a path with a point goes on after it
-value_at-first : (path : List ℕ) (tree : Tree) → position_or_len is_point path < length path
+value_at_first : (path : List ℕ) (tree : Tree) → position_or_len is_point path < length path
     → tree_at path tree ≡ option_and_then (tree_at (after_first is_point path)) (get_of (before_first is_point path) tree)
 unfolding tree_at
-value_at-first path tree some = ap (λ names. tree_under names tree) (slice_split_first is_point path 0 some)
+value_at_first path tree some = ap (λ names. tree_under names tree) (slice_split_first is_point path 0 some)
 
 -- what `split_once` says of a path
 
@@ -34,37 +34,37 @@ rest_shorter path name rest h =
     let whole : path ≡ name.now ++ (46 ∷ rest.now) = parts.0 in
     omega (arith, ap length whole, length-append name.now (46 ∷ rest.now))
 
-pub value_at-none : (path : List ℕ) (tree : Tree) → IsSplitOnceResult 46 path None → tree_at path tree ≡ get_of path tree
-value_at-none path tree h = value_at-name path tree (split_once_first 46 path None h (lit< tt))
+pub value_at_none : (path : List ℕ) (tree : Tree) → IsSplitOnceResult 46 path None → tree_at path tree ≡ get_of path tree
+value_at_none path tree h = value_at_name path tree (split_once_first 46 path None h (lit< tt))
 
-pub value_at-some : (path : List ℕ) (tree : Tree) (name rest : Bor (List ℕ)) → IsSplitOnceResult 46 path (Some (name, rest))
+pub value_at_some : (path : List ℕ) (tree : Tree) (name rest : Bor (List ℕ)) → IsSplitOnceResult 46 path (Some (name, rest))
     → tree_at path tree ≡ option_and_then (tree_at rest.now) (get_of name.now tree)
-value_at-some path tree name rest h =
+value_at_some path tree name rest h =
     let parts = split_once_first 46 path (Some (name, rest)) h (lit< tt) in
-    value_at-first path tree parts.0
-    ∙ ap (λ behind. option_and_then (tree_at behind) (get_of (before_first is_point path) tree)) (sym parts.2)
+    value_at_first path tree parts.0
+    ∙ ap (λ after. option_and_then (tree_at after) (get_of (before_first is_point path) tree)) (sym parts.2)
     ∙ ap (λ prefix. option_and_then (tree_at rest.now) (get_of prefix tree)) (sym parts.1)
 
 -- ---- members of members
 
-within : (prefix behind : List (List ℕ)) (tree : Tree)
-    → tree_under (prefix ++ behind) tree ≡ option_and_then (tree_under behind) (tree_under prefix tree)
-within [] behind tree = refl
-within (name ∷ prefix) behind tree = by (get_of name tree) (λ x. within prefix behind x)
+within : (prefix after : List (List ℕ)) (tree : Tree)
+    → tree_under (prefix ++ after) tree ≡ option_and_then (tree_under after) (tree_under prefix tree)
+within [] after tree = refl
+within (name ∷ prefix) after tree = by (get_of name tree) (λ x. within prefix after x)
   where
     by : (o : Option Tree)
-        → ((x : Tree) → tree_under (prefix ++ behind) x ≡ option_and_then (tree_under behind) (tree_under prefix x))
-        → option_and_then (tree_under (prefix ++ behind)) o
-        ≡ option_and_then (tree_under behind) (option_and_then (tree_under prefix) o)
+        → ((x : Tree) → tree_under (prefix ++ after) x ≡ option_and_then (tree_under after) (tree_under prefix x))
+        → option_and_then (tree_under (prefix ++ after)) o
+        ≡ option_and_then (tree_under after) (option_and_then (tree_under prefix) o)
     by None more = refl
     by (Some x) more = more x
 
 -- a path whose names are those of two others goes on from the first one's value
-pub value_at-within : (path prefix behind : List ℕ) (tree part : Tree)
-    → slice_split is_point path ≡ slice_split is_point prefix ++ slice_split is_point behind
-    → tree_at prefix tree ≡ Some part → tree_at path tree ≡ tree_at behind part
+pub value_at_within : (path prefix after : List ℕ) (tree part : Tree)
+    → slice_split is_point path ≡ slice_split is_point prefix ++ slice_split is_point after
+    → tree_at prefix tree ≡ Some part → tree_at path tree ≡ tree_at after part
 unfolding tree_at
-value_at-within path prefix behind tree part names e =
+value_at_within path prefix after tree part names e =
     ap (λ ns. tree_under ns tree) names
-    ∙ within (slice_split is_point prefix) (slice_split is_point behind) tree
-    ∙ ap (option_and_then (tree_under (slice_split is_point behind))) e
+    ∙ within (slice_split is_point prefix) (slice_split is_point after) tree
+    ∙ ap (option_and_then (tree_under (slice_split is_point after))) e

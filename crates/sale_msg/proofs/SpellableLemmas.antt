@@ -266,7 +266,7 @@ pub request_spellable : (tree : Tree) (header : Header) (request : SaleRequest) 
 request_spellable tree header request h p =
     let r = p.1 in
     let whole : IsPart tree = record { depth = 0; spellable = h } in
-    let part = part_of (codes "SaleToPOIRequest") tree p.0 whole r.request_of.stands in
+    let part = part_of (codes "SaleToPOIRequest") tree p.0 whole r.request_of.under in
     let texts = header_texts p.0 header part r.request_of.header_is.values in
     only_at 0 (codes "SaleToPOIRequest") (body_object header request) (omega arith) (ascii_utf8 (codes "SaleToPOIRequest") refl)
     (body_members_have header request texts (body_spellable p.0 request part r.asks))

@@ -80,25 +80,25 @@ optional_utf8 path tree (Some text) h e = text_utf8 path tree text h e
 
 -- ---- lists
 
-items_parts : (d : ℕ) (xs : Items) → AreSpellable d xs → All IsPart (items_list xs)
-items_parts d no_items h = All-nil IsPart
-items_parts d (item x rest) h = All-cons IsPart x (items_list rest) (record { depth = d; spellable = h.0 }) (items_parts d rest h.1)
+elements_parts : (d : ℕ) (xs : Items) → AreSpellable d xs → All IsPart (items_list xs)
+elements_parts d no_items h = All-nil IsPart
+elements_parts d (item x rest) h = All-cons IsPart x (items_list rest) (record { depth = d; spellable = h.0 }) (elements_parts d rest h.1)
 
-array_parts : (d : ℕ) (tree : Tree) (items : List Tree) → IsSpellableAt d tree → array_of tree ≡ Some items → All IsPart items
-array_parts d null items h e = no_some items None refl e
-array_parts d (boolean b) items h e = no_some items None refl e
-array_parts d (number text) items h e = no_some items None refl e
-array_parts d (string text) items h e = no_some items None refl e
-array_parts d (array xs) items h e =
-    let P : List Tree → Type 0 = λ l. All IsPart l in subst P (same_some (items_list xs) items e) (items_parts (suc d) xs h.1)
-array_parts d (object ms) items h e = no_some items None refl e
+array_parts : (d : ℕ) (tree : Tree) (elements : List Tree) → IsSpellableAt d tree → array_of tree ≡ Some elements → All IsPart elements
+array_parts d null elements h e = no_some elements None refl e
+array_parts d (boolean b) elements h e = no_some elements None refl e
+array_parts d (number text) elements h e = no_some elements None refl e
+array_parts d (string text) elements h e = no_some elements None refl e
+array_parts d (array xs) elements h e =
+    let P : List Tree → Type 0 = λ l. All IsPart l in subst P (same_some (items_list xs) elements e) (elements_parts (suc d) xs h.1)
+array_parts d (object ms) elements h e = no_some elements None refl e
 
 listed_parts : (tree : Tree) → IsPart tree → All IsPart (listed tree)
 listed_parts tree h = by (array_of tree) refl
   where
     by : (o : Option (List Tree)) → array_of tree ≡ o → All IsPart (unwrap_or o (tree ∷ []))
     by None e = All-cons IsPart tree [] h (All-nil IsPart)
-    by (Some items) e = array_parts h.depth tree items h.spellable e
+    by (Some elements) e = array_parts h.depth tree elements h.spellable e
 
 -- each output of a spelled body is spelled
 pub outputs_parts : (path : List ℕ) (body : Tree) → IsPart body → All IsPart (outputs_in (tree_at path body))
@@ -113,7 +113,7 @@ abbrev pub AllUtf8 : List (List ℕ) → Type 0
 AllUtf8 [] = Unit {0}
 AllUtf8 (text ∷ texts) = IsUtf8 text × AllUtf8 texts
 
-texts_utf8 : (items : List Tree) → All IsPart items → AllUtf8 (texts_of items)
+texts_utf8 : (elements : List Tree) → All IsPart elements → AllUtf8 (texts_of elements)
 texts_utf8 [] h = tt
 texts_utf8 (x ∷ xs) h = by (text_at (codes "Text") x) refl (texts_utf8 xs (All-tail IsPart x xs h))
   where
@@ -132,7 +132,7 @@ row_utf8 path tree texts h e = subst TextsUtf8 e (by (tree_at path tree) refl)
   where
     list : (v : Tree) → IsPart v → (o : Option (List Tree)) → array_of v ≡ o → TextsUtf8 (option_map texts_of o)
     list v part None f = tt
-    list v part (Some items) f = texts_utf8 items (array_parts part.depth v items part.spellable f)
+    list v part (Some elements) f = texts_utf8 elements (array_parts part.depth v elements part.spellable f)
 
     by : (o : Option Tree) → tree_at path tree ≡ o → TextsUtf8 (option_map texts_of (option_and_then array_of o))
     by None f = tt

@@ -229,15 +229,15 @@ asks_one body _ _ e h k = absurd cc
 
 -- ---- messages
 
-pub record SamePlace (e d : Envelope) (b c : Tree) : Type 0 where
+pub record SameEnvelope (e d : Envelope) (b c : Tree) : Type 0 where
   pub envelope : e ≡ d
   pub body : b ≡ c
 
-stands_one : (e d : Envelope) (message b c : Tree) → IsUnderEnvelope e message b → IsUnderEnvelope d message c → SamePlace e d b c
-stands_one envelopes.Request envelopes.Request message b c h k = record { envelope = refl; body = some_one _ b c h k }
-stands_one envelopes.Request envelopes.Response message b c h k = absurd (none_some _ b k.0 h)
-stands_one envelopes.Response envelopes.Request message b c h k = absurd (none_some _ c h.0 k)
-stands_one envelopes.Response envelopes.Response message b c h k = record { envelope = refl; body = some_one _ b c h.1 k.1 }
+one_under_envelope : (e d : Envelope) (message b c : Tree) → IsUnderEnvelope e message b → IsUnderEnvelope d message c → SameEnvelope e d b c
+one_under_envelope envelopes.Request envelopes.Request message b c h k = record { envelope = refl; body = some_one _ b c h k }
+one_under_envelope envelopes.Request envelopes.Response message b c h k = absurd (none_some _ b k.0 h)
+one_under_envelope envelopes.Response envelopes.Request message b c h k = absurd (none_some _ c h.0 k)
+one_under_envelope envelopes.Response envelopes.Response message b c h k = record { envelope = refl; body = some_one _ b c h.1 k.1 }
 
 lacks_none : (e : Envelope) (message b : Tree) → LacksEnvelope message → IsUnderEnvelope e message b → ⊥
 lacks_none envelopes.Request message b h k = none_some _ b h.request k
@@ -250,14 +250,14 @@ pub record SameRequest (b c : Tree) (g h : Header) : Type 0 where
 
 request_of_one : (message b c : Tree) (g h : Header) → IsRequestOf message b g → IsRequestOf message c h → SameRequest b c g h
 request_of_one message b c g h r s =
-    let e = (stands_one envelopes.Request envelopes.Request message b c r.stands s.stands).body in
+    let e = (one_under_envelope envelopes.Request envelopes.Request message b c r.under s.under).body in
     let P : Tree → Type 0 = λ t. HeaderHolds t g in
     record { body = e; header = header_one c g h (subst P e r.header_is.values) s.header_is.values }
 
 -- no request is silent
 request_is_headed : (message b c : Tree) (g h : Header) (e : Envelope) → IsRequestOf message b g → IsSilent message e c h → ⊥
 request_is_headed message b c g h e r s =
-    let p = stands_one envelopes.Request e message b c r.stands s.stands in
+    let p = one_under_envelope envelopes.Request e message b c r.under s.under in
     let P : Tree → Type 0 = λ t. HeaderHolds t g in
     let q : g ≡ h = header_one c g h (subst P p.body r.header_is.values) s.header_is.values in
     by s.silent p.envelope (sym r.kind ∙ ap (λ (x : Header). x.kind) q)
@@ -287,7 +287,7 @@ message_one message incoming.Silent incoming.Silent p q = refl
 header_no_both : (message b c : Tree) (e d : Envelope) (path : List ℕ) (flaw : Flaw) (h : Header)
     → HasNoHeader message path e b flaw → IsUnderEnvelope d message c → HasHeader d c h → ⊥
 header_no_both message b c e d path flaw h p s k =
-    let q = stands_one e d message b c p.stands s in
+    let q = one_under_envelope e d message b c p.under s in
     let P : Tree → Type 0 = λ t. IsFirstFlaw (header_rows d) t flaw in
     let Q : Envelope → Type 0 = λ x. IsFirstFlaw (header_rows x) b flaw in
     rows_no_both (header_rows d) c flaw k.members (subst P q.body (subst Q q.envelope p.first))
@@ -295,7 +295,7 @@ header_no_both message b c e d path flaw h p s k =
 header_path_one : (message b c : Tree) (e d : Envelope) (p q : List ℕ) (f g : Flaw)
     → HasNoHeader message p e b f → HasNoHeader message q d c g → p ≡ q
 header_path_one message b c e d p q f g h k =
-    let s = stands_one e d message b c h.stands k.stands in
+    let s = one_under_envelope e d message b c h.under k.under in
     let P : Tree → Type 0 = λ t. IsFirstFlaw (header_rows d) t f in
     let Q : Envelope → Type 0 = λ x. IsFirstFlaw (header_rows x) b f in
     let same_flaw = rows_one (header_rows d) c f g (subst P s.body (subst Q s.envelope h.first)) k.first in
@@ -305,14 +305,14 @@ header_path_one message b c e d p q f g h k =
 pub header_path_unique : (message : Tree) (d e : Envelope) (b c : Tree) (g h : Header) → IsHeaded message d b g → IsHeaded message e c h
     → (b ≡ c) × (g ≡ h)
 header_path_unique message d e b c g h p q =
-    let same_body = (stands_one d e message b c p.0 q.0).body in
+    let same_body = (one_under_envelope d e message b c p.0 q.0).body in
     let P : Tree → Type 0 = λ t. HeaderHolds t g in
     (same_body, header_one c g h (subst P same_body p.1.values) q.1.values)
 
 pub no_header_one : (message : Tree) (p q : List ℕ) → LacksHeader message p → LacksHeader message q → p ≡ q
 no_header_one message p q (inl h) (inl k) = h.1 ∙ sym k.1
-no_header_one message p q (inl h) (inr k) = absurd (lacks_none k.0 message k.1 h.0 k.3.stands)
-no_header_one message p q (inr h) (inl k) = absurd (lacks_none h.0 message h.1 k.0 h.3.stands)
+no_header_one message p q (inl h) (inr k) = absurd (lacks_none k.0 message k.1 h.0 k.3.under)
+no_header_one message p q (inr h) (inl k) = absurd (lacks_none h.0 message h.1 k.0 h.3.under)
 no_header_one message p q (inr h) (inr k) = header_path_one message h.1 k.1 h.0 k.0 p q h.2 k.2 h.3 k.3
 
 pub no_header_headed : (message : Tree) (p : List ℕ) (d : Envelope) (c : Tree) (h : Header) → LacksHeader message p
@@ -321,7 +321,7 @@ no_header_headed message p d c h (inl n) s k = lacks_none d message c n.0 s
 no_header_headed message p d c h (inr n) s k = header_no_both message n.1 c n.0 d p n.2 h n.3 s k
 
 no_header_request : (message : Tree) (p : List ℕ) (c : Tree) (h : Header) → LacksHeader message p → IsRequestOf message c h → ⊥
-no_header_request message p c h n r = no_header_headed message p envelopes.Request c h n r.stands r.header_is
+no_header_request message p c h n r = no_header_headed message p envelopes.Request c h n r.under r.header_is
 
 -- two flaws of a request are one, of one header
 pub record SameFlaw (g h : Header) (f k : Flaw) : Type 0 where
@@ -403,7 +403,7 @@ request_no_fault message b g r (faults.Unserved a) h k =
     k.2 (category_of r) (h.category ∙ ap (λ (x : Header). x.category) e.header)
 
 silent_no_fault : (message b : Tree) (e : Envelope) (g : Header) (f : SaleFault) → IsSilent message e b g → IsSaleFault message f → ⊥
-silent_no_fault message b e g (faults.NoHeader p) h k = no_header_headed message p e b g k h.stands h.header_is
+silent_no_fault message b e g (faults.NoHeader p) h k = no_header_headed message p e b g k h.under h.header_is
 silent_no_fault message b e g (faults.Missing a p) h k = request_is_headed message k.0 b a g e k.2.request_of h
 silent_no_fault message b e g (faults.Wrong a p) h k = request_is_headed message k.0 b a g e k.2.request_of h
 silent_no_fault message b e g (faults.Unserved a) h k = request_is_headed message k.0 b a g e k.1 h

@@ -39,23 +39,6 @@ message_spelled header body name =
     regroup (codes "{\"SaleToPOIRequest\":{\"MessageHeader\":") (canonical (object header)) (codes ",") (canonical_string name) (codes ":") (canonical (object body)) (codes "}}")
     ∙ ap (λ l. codes "{\"SaleToPOIRequest\":{\"MessageHeader\":" ++ l) (closing (canonical (object header)) (canonical_string name) (canonical (object body)))
 
-abbrev pub header_prefix : List ℕ → List ℕ → List ℕ → Option (List ℕ) → Option (List ℕ) → List ℕ → List ℕ → List ℕ
-header_prefix class category kind service device sale poi =
-    ((((((codes "{\"ProtocolVersion\":\"3.0\",\"MessageClass\":" ++ canonical_string class) ++ (codes ",\"MessageCategory\":" ++ canonical_string category))
-    ++ (codes ",\"MessageType\":" ++ canonical_string kind)) ++ optional_part (codes ",\"ServiceID\":") service)
-    ++ optional_part (codes ",\"DeviceID\":") device) ++ (codes ",\"SaleID\":" ++ canonical_string sale)) ++ (codes ",\"POIID\":" ++ canonical_string poi)
-
-pub header_spelled : (class category kind : List ℕ) (service device : Option (List ℕ)) (sale poi : List ℕ)
-    → header_prefix class category kind service device sale poi ++ codes "}"
-    ≡ canonical (object (text_member (codes "ProtocolVersion") (codes "3.0")
-    (text_member (codes "MessageClass") class (text_member (codes "MessageCategory") category (text_member (codes "MessageType") kind
-    (optional_member (codes "ServiceID") service (optional_member (codes "DeviceID") device
-    (text_member (codes "SaleID") sale (text_member (codes "POIID") poi no_members)))))))))
-header_spelled class category kind None None sale poi = simp append_assoc
-header_spelled class category kind None (Some d) sale poi = simp append_assoc
-header_spelled class category kind (Some s) None sale poi = simp append_assoc
-header_spelled class category kind (Some s) (Some d) sale poi = simp append_assoc
-
 abbrev pub referring_prefix : List ℕ → Option (List ℕ) → Option (List ℕ) → List ℕ
 referring_prefix service sale poi =
     ((codes "{\"MessageReference\":{\"ServiceID\":" ++ canonical_string service) ++ optional_part (codes ",\"SaleID\":") sale)
@@ -133,6 +116,6 @@ pub payment_some : (transaction stamp currency : List ℕ) (amount : ℕ) (kind 
 payment_some transaction stamp currency amount kind text e =
     payment_kind transaction stamp currency amount text ∙ ap (payment_whole transaction stamp currency amount) (sym e)
 
-pub display_spelled : (items : Items) → (codes "{\"DisplayOutput\":[" ++ canonical_first items) ++ codes "}"
-    ≡ canonical (object (member (codes "DisplayOutput") (array items) no_members))
-display_spelled items = simp append_assoc
+pub display_spelled : (elements : Items) → (codes "{\"DisplayOutput\":[" ++ canonical_first elements) ++ codes "}"
+    ≡ canonical (object (member (codes "DisplayOutput") (array elements) no_members))
+display_spelled elements = simp append_assoc

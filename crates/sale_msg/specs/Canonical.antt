@@ -18,6 +18,7 @@ abbrev pub payment_data : Option (List ℕ) → Members
 payment_data None = no_members
 payment_data (Some kind) = object_member (codes "PaymentData") (text_member (codes "PaymentType") kind no_members) no_members
 
+-- what a Payment asks: the till's transaction, the amount, and the type where there is one
 abbrev pub payment_members : PaymentAsk → Members
 payment_members ask =
     object_member (codes "SaleData")
@@ -33,8 +34,9 @@ payment_members ask =
 -- the amount of a Reversal, where it has one
 abbrev pub reversed_amount : Option ℕ → Members
 reversed_amount None = no_members
-reversed_amount (Some minor) = number_member (codes "ReversedAmount") (money_text minor) no_members
+reversed_amount (Some units) = number_member (codes "ReversedAmount") (money_text units) no_members
 
+-- what a Reversal asks: the gateway's transaction, the one reason of this profile, and the amount where there is one
 abbrev pub reversal_members : ReversalAsk → Members
 reversal_members ask =
     object_member (codes "OriginalPOITransaction")

@@ -26,16 +26,16 @@ IsJsonObject tree = IsSome (members_of tree)
 
 -- a number whose text is an amount
 abbrev pub IsAmountNumber : Tree → Type 0
-IsAmountNumber tree = MatchOption (numeral_of tree) ⊥ (λ numeral. (minor : ℕ) × SpellsAmount numeral minor)
+IsAmountNumber tree = MatchOption (numeral_of tree) ⊥ (λ numeral. (units : ℕ) × SpellsAmount numeral units)
 
 -- a list of 1 to 16 objects; a single object is taken as a list of one
 abbrev pub IsOutputList : Tree → Type 0
 IsOutputList tree = MatchOption (array_of tree) (IsJsonObject tree)
-    (λ items. (1 ≤ length items) × (length items ≤ 16) × All IsJsonObject items)
+    (λ elements. (1 ≤ length elements) × (length elements ≤ 16) × All IsJsonObject elements)
 
 -- an object with a text as its `Text`
 abbrev pub HasTextMember : Tree → Type 0
-HasTextMember item = IsSome (text_at (codes "Text") item)
+HasTextMember element = IsSome (text_at (codes "Text") element)
 
 -- a list of objects, each of which has a text
 abbrev pub IsTextList : Tree → Type 0

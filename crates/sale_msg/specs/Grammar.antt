@@ -85,7 +85,7 @@ IsReferenceAt path body (Some reference) = (object : Tree) × (tree_at path body
 
 -- the texts of a list of objects
 abbrev pub texts_of : List Tree → List (List ℕ)
-texts_of items = filter_map (text_at (codes "Text")) items
+texts_of elements = filter_map (text_at (codes "Text")) elements
 
 -- one output
 pub record IsOutput (object : Tree) (output : Output) : Type 0 where
@@ -94,7 +94,7 @@ pub record IsOutput (object : Tree) (output : Output) : Type 0 where
   pub required : unwrap_or (flag_at (codes "ResponseRequiredFlag") object) true ≡ output.required
   pub texts : option_map texts_of (option_and_then array_of (tree_at (codes "OutputContent.OutputText") object)) ≡ output.texts
 
--- the items of a list; a value that is no list is taken as a list of one
+-- the elements of a list; a value that is no list is taken as a list of one
 abbrev pub listed : Tree → List Tree
 listed tree = unwrap_or (array_of tree) (tree ∷ [])
 
@@ -142,7 +142,7 @@ IsBodyFlaw category body flaw =
 
 -- the message is under `SaleToPOIRequest` with this body object, header and type
 pub record IsRequestOf (message body : Tree) (header : Header) : Type 0 where
-  pub stands : IsUnderEnvelope envelopes.Request message body
+  pub under : IsUnderEnvelope envelopes.Request message body
   pub header_is : HasHeader envelopes.Request body header
   pub kind : header.kind ≡ kinds.Request
 
@@ -155,7 +155,7 @@ pub record IsRequest (message body : Tree) (header : Header) (request : SaleRequ
 
 -- the message is a response, or a notification
 pub record IsSilent (message : Tree) (envelope : Envelope) (body : Tree) (header : Header) : Type 0 where
-  pub stands : IsUnderEnvelope envelope message body
+  pub under : IsUnderEnvelope envelope message body
   pub header_is : HasHeader envelope body header
   pub silent : (envelope ≡ envelopes.Response) ⊎ (header.kind ≡ kinds.Notification)
 
@@ -176,7 +176,7 @@ fault_of header (flaws.Wrong path) = faults.Wrong header path
 
 -- the header has its first flaw at this path
 pub record HasNoHeader (message : Tree) (path : List ℕ) (envelope : Envelope) (body : Tree) (flaw : Flaw) : Type 0 where
-  pub stands : IsUnderEnvelope envelope message body
+  pub under : IsUnderEnvelope envelope message body
   pub first : IsFirstFlaw (header_rows envelope) body flaw
   pub path_is : path ≡ path_of flaw
 

@@ -1,3 +1,4 @@
+-- The files of definitions that contracts cite.
 pub mod Canonical
 pub mod Category
 pub mod Flaw

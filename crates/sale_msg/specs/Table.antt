@@ -1,5 +1,5 @@
--- The tables of members: of the header, and of the body of each category. A table's order is the order in which
--- faults are looked for.
+-- The tables of members: of the header, and of the body of each category.
+-- A table's order is the order in which faults are looked for.
 use Rattle.std.specs.Prelude.{ℕ, List, [], ◌∷◌, ◌++◌, codes}
 use Prim.Native.String.{String}
 use Rattle.sale_msg.specs.declared.category.Category.{Category}

@@ -8,13 +8,13 @@ ghost use Rattle.sale_msg.specs.Category.{category_of};
 ghost use Rattle.sale_msg.specs.Path.{text_at};
 ghost use Rattle.sale_msg.specs.Table.{abort_rows, payment_rows, print_rows, reconciliation_rows, reversal_rows, status_reference_rows};
 
-use crate::Category;
 use crate::members::{
     amount, amount_or_none, currency, ident, ident_or_none, period, text_or_none,
 };
 use crate::outputs::outputs;
 use crate::path::find;
 use crate::tabled_objects::parts;
+use crate::{Category, paths};
 use gw_base::Ident;
 use json_text::Json;
 use sale_values::{PaymentAsk, Period, Reference, ReversalAsk, SaleRequest};
@@ -26,21 +26,12 @@ pub(crate) fn payment(alloc: Global, body: &Json) -> Result<PaymentAsk, AllocErr
     requires { AreMet payment_rows (value_of body.now) }
     ensures { IfOk result (IsPayment (value_of body.now)) }
 {
-    let kind = text_or_none(alloc, body, "PaymentRequest.PaymentData.PaymentType")?;
+    let kind = text_or_none(alloc, body, paths::PAYMENT_TYPE)?;
     Ok(PaymentAsk {
-        transaction: ident(
-            body,
-            "PaymentRequest.SaleData.SaleTransactionID.TransactionID",
-        ),
-        stamp: ident(body, "PaymentRequest.SaleData.SaleTransactionID.TimeStamp"),
-        currency: currency(
-            body,
-            "PaymentRequest.PaymentTransaction.AmountsReq.Currency",
-        ),
-        amount: amount(
-            body,
-            "PaymentRequest.PaymentTransaction.AmountsReq.RequestedAmount",
-        ),
+        transaction: ident(body, paths::PAYMENT_SALE_ID),
+        stamp: ident(body, paths::PAYMENT_SALE_STAMP),
+        currency: currency(body, paths::PAYMENT_CURRENCY),
+        amount: amount(body, paths::PAYMENT_AMOUNT),
         kind,
     })
 }
@@ -52,11 +43,8 @@ pub(crate) fn reversal(body: &Json) -> ReversalAsk
     ensures { IsReversal (value_of body.now) result }
 {
     ReversalAsk {
-        transaction: ident(
-            body,
-            "ReversalRequest.OriginalPOITransaction.POITransactionID.TransactionID",
-        ),
-        amount: amount_or_none(body, "ReversalRequest.ReversedAmount"),
+        transaction: ident(body, paths::REVERSAL_POI_ID),
+        amount: amount_or_none(body, paths::REVERSAL_AMOUNT),
     }
 }
 
@@ -67,9 +55,9 @@ pub(crate) fn reference(object: &Json) -> Reference
     ensures { IsReference (value_of object.now) result }
 {
     Reference {
-        service: ident(object, "ServiceID"),
-        sale: ident_or_none(object, "SaleID"),
-        poi: ident_or_none(object, "POIID"),
+        service: ident(object, paths::SERVICE),
+        sale: ident_or_none(object, paths::SALE),
+        poi: ident_or_none(object, paths::POI),
     }
 }
 
@@ -79,7 +67,7 @@ pub(crate) fn reconciliation(body: &Json) -> Period
     requires { AreMet reconciliation_rows (value_of body.now) }
     ensures { text_at (codes "ReconciliationRequest.ReconciliationType") (value_of body.now) ≡ Some (period_name result) }
 {
-    period(body, "ReconciliationRequest.ReconciliationType")
+    period(body, paths::RECONCILIATION_TYPE)
 }
 
 /// The qualifier of a Print.
@@ -88,7 +76,7 @@ pub(crate) fn qualifier(body: &Json) -> Ident<40>
     requires { AreMet print_rows (value_of body.now) }
     ensures { text_at (codes "PrintRequest.PrintOutput.DocumentQualifier") (value_of body.now) ≡ Some result }
 {
-    ident(body, "PrintRequest.PrintOutput.DocumentQualifier")
+    ident(body, paths::PRINT_QUALIFIER)
 }
 
 /// The reference of an Abort.
@@ -96,7 +84,7 @@ pub(crate) fn abort(body: &Json) -> Reference
     requires { AreMet abort_rows (value_of body.now) }
     ensures { IsReferenceAt (codes "AbortRequest.MessageReference") (value_of body.now) (Some result) }
 {
-    match find(body, "AbortRequest.MessageReference") {
+    match find(body, paths::ABORT_REFERENCE) {
         None => unreachable!(),
         Some(object) => reference(object),
     }
@@ -107,7 +95,7 @@ pub(crate) fn status(body: &Json) -> Option<Reference>
     requires { HasBody Category.TransactionStatus (value_of body.now) }
     ensures { IsReferenceAt (codes "TransactionStatusRequest.MessageReference") (value_of body.now) result }
 {
-    match find(body, "TransactionStatusRequest.MessageReference") {
+    match find(body, paths::STATUS_REFERENCE) {
         None => None,
         Some(object) => Some(reference(object)),
     }

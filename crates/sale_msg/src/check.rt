@@ -7,12 +7,12 @@ ghost use Rattle.sale_msg.specs.Grammar.{HasBody, IsBodyFlaw};
 ghost use Rattle.sale_msg.specs.Path.{text_at};
 ghost use Rattle.sale_msg.specs.inner.RowValue.{row_value, is_path};
 
-use crate::Category;
 use crate::flaw::Flaw;
 use crate::form::has_form;
 use crate::path::find;
 use crate::table::{MemberRow, Presence, body_table, part_table};
 use crate::tabled_objects::parts;
+use crate::{Category, paths};
 use gw_base::Ident;
 use json_text::Json;
 
@@ -83,8 +83,8 @@ fn may_be_absent(presence: Presence, tree: &Json) -> bool
         Presence::Required => false,
         Presence::Optional => true,
         Presence::ByHeader => {
-            is_text(tree, "MessageHeader.MessageClass", b"Device")
-                || is_text(tree, "MessageHeader.MessageType", b"Notification")
+            is_text(tree, paths::HEADER_CLASS, b"Device")
+                || is_text(tree, paths::HEADER_TYPE, b"Notification")
         }
     }
 }

@@ -6,8 +6,10 @@ ghost use Rattle.sale_values.specs.Names.{kind_name};
 ghost use Rattle.sale_msg.specs.Form.{HasForm, HasTextMember, IsAmountNumber, IsJsonObject, IsCapital, IsLetter, IsOutputList, IsTextList, TextHasForm};
 
 use crate::path::find;
+use crate::paths;
 use crate::table::Form;
 use gw_base::minor_of;
+use gw_bytes::MOST_OUTPUTS;
 use json_text::Json;
 use sale_values::{Class, Kind, Period};
 
@@ -84,14 +86,14 @@ fn is_output_list(value: &Json) -> bool
 {
     match value.as_list() {
         None => value.is_object(),
-        Some(items) => (1..=16).contains(&items.len()) && are_objects(items),
+        Some(elements) => (1..=MOST_OUTPUTS).contains(&elements.len()) && are_objects(elements),
     }
 }
 
-fn are_objects(items: &[Json]) -> bool
-    ensures { IsTrue result ↔ All (λ item. IsJsonObject (value_of item)) items.now }
+fn are_objects(elements: &[Json]) -> bool
+    ensures { IsTrue result ↔ All (λ element. IsJsonObject (value_of element)) elements.now }
 {
-    items.iter().all(|item| item.is_object())
+    elements.iter().all(|element| element.is_object())
 }
 
 fn is_text_list(value: &Json) -> bool
@@ -99,21 +101,21 @@ fn is_text_list(value: &Json) -> bool
 {
     match value.as_list() {
         None => false,
-        Some(items) => have_texts(items),
+        Some(elements) => have_texts(elements),
     }
 }
 
-fn have_texts(items: &[Json]) -> bool
-    ensures { IsTrue result ↔ All (λ item. HasTextMember (value_of item)) items.now }
+fn have_texts(elements: &[Json]) -> bool
+    ensures { IsTrue result ↔ All (λ element. HasTextMember (value_of element)) elements.now }
 {
-    items.iter().all(|item| has_text(item))
+    elements.iter().all(|element| has_text(element))
 }
 
 /// Whether it is an object with a text as its `Text`.
-fn has_text(item: &Json) -> bool
-    ensures { IsTrue result ↔ HasTextMember (value_of item.now) }
+fn has_text(element: &Json) -> bool
+    ensures { IsTrue result ↔ HasTextMember (value_of element.now) }
 {
-    match find(item, "Text") {
+    match find(element, paths::TEXT) {
         None => false,
         Some(text) => text.as_str().is_some(),
     }

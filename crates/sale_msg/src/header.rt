@@ -8,6 +8,7 @@ ghost use Rattle.sale_msg.specs.Table.{header_rows};
 
 use crate::check::{check, reported_path};
 use crate::members::{class, ident, ident_or_none, kind, letters};
+use crate::paths;
 use crate::table::{Envelope, header_table};
 use json_text::Json;
 use sale_values::{Header, SaleFault};
@@ -26,12 +27,12 @@ pub fn read_header(tree: &Json) -> Result<Headed<'_>, SaleFault>
     ensures err { IfErr result (IsHeadless (value_of tree.now)) }
 {
     // A till may send both. It is asked something then, and a reply is due: so the request counts.
-    match tree.get(b"SaleToPOIRequest") {
+    match tree.get(paths::REQUEST.as_bytes()) {
         Some(body) => header_under(Envelope::Request, body),
-        None => match tree.get(b"SaleToPOIResponse") {
+        None => match tree.get(paths::RESPONSE.as_bytes()) {
             Some(body) => header_under(Envelope::Response, body),
             None => Err(SaleFault::NoHeader {
-                path: reported_path("SaleToPOIRequest"),
+                path: reported_path(paths::REQUEST),
             }),
         },
     }
@@ -60,12 +61,12 @@ fn header_of(body: &Json) -> Header
     ensures { HeaderHolds (value_of body.now) result }
 {
     Header {
-        class: class(body, "MessageHeader.MessageClass"),
-        category: letters(body, "MessageHeader.MessageCategory"),
-        kind: kind(body, "MessageHeader.MessageType"),
-        service: ident_or_none(body, "MessageHeader.ServiceID"),
-        device: ident_or_none(body, "MessageHeader.DeviceID"),
-        sale: ident(body, "MessageHeader.SaleID"),
-        poi: ident(body, "MessageHeader.POIID"),
+        class: class(body, paths::HEADER_CLASS),
+        category: letters(body, paths::HEADER_CATEGORY),
+        kind: kind(body, paths::HEADER_TYPE),
+        service: ident_or_none(body, paths::HEADER_SERVICE),
+        device: ident_or_none(body, paths::HEADER_DEVICE),
+        sale: ident(body, paths::HEADER_SALE),
+        poi: ident(body, paths::HEADER_POI),
     }
 }

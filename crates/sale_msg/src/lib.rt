@@ -24,6 +24,7 @@ mod laws;
 mod members;
 mod outputs;
 mod path;
+mod paths;
 mod reader;
 mod table;
 mod tabled_objects;

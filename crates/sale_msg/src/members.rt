@@ -76,7 +76,7 @@ pub(crate) fn text_or_none(
     }
 }
 
-/// An owned copy.
+/// A copy: a request outlives the tree that it is read from.
 pub(crate) fn copied(alloc: Global, text: &Chars) -> Result<Text, AllocError>
     ensures { IfOk result (λ copy. copy ≡ text.now) }
 {
@@ -129,7 +129,7 @@ pub(crate) fn amount(tree: &Json, path: &str) -> u64
             None => unreachable!(),
             Some(numeral) => match minor_of(numeral.as_bytes()) {
                 None => unreachable!(),
-                Some(minor) => minor,
+                Some(units) => units,
             },
         },
     }

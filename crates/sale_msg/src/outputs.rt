@@ -11,6 +11,7 @@ ghost use Rattle.sale_msg.specs.Table.{output_rows};
 
 use crate::members::{chars_at, copied, flag_or_true, ident};
 use crate::path::find;
+use crate::paths;
 use json_text::Json;
 use sale_values::{Output, Outputs, Texts};
 use std::alloc::{AllocError, Global};
@@ -34,9 +35,9 @@ fn output(alloc: Global, part: &Json) -> Result<Output, AllocError>
 {
     let texts = texts_or_none(alloc, part)?;
     Ok(Output {
-        device: ident(part, "Device"),
-        qualify: ident(part, "InfoQualify"),
-        required: flag_or_true(part, "ResponseRequiredFlag"),
+        device: ident(part, paths::OUTPUT_DEVICE),
+        qualify: ident(part, paths::OUTPUT_QUALIFY),
+        required: flag_or_true(part, paths::OUTPUT_FLAG),
         texts,
     })
 }
@@ -46,22 +47,22 @@ fn texts_or_none(alloc: Global, part: &Json) -> Result<Option<Texts>, AllocError
     ensures { IfOk result (λ texts. option_map texts_of
         (option_and_then array_of (tree_at (codes "OutputContent.OutputText") (value_of part.now))) ≡ texts) }
 {
-    match find(part, "OutputContent.OutputText") {
+    match find(part, paths::OUTPUT_TEXTS) {
         None => Ok(None),
         Some(list) => match list.as_list() {
             None => Ok(None),
-            Some(items) => Ok(Some(texts(alloc, items)?)),
+            Some(elements) => Ok(Some(texts(alloc, elements)?)),
         },
     }
 }
 
 /// The texts of these objects.
-fn texts(alloc: Global, items: &[Json]) -> Result<Texts, AllocError>
-    ensures { IfOk result (λ texts. texts ≡ texts_of (map value_of items.now)) }
+fn texts(alloc: Global, elements: &[Json]) -> Result<Texts, AllocError>
+    ensures { IfOk result (λ texts. texts ≡ texts_of (map value_of elements.now)) }
 {
     let mut texts = Vec::new(alloc);
-    for item in items {
-        if let Some(text) = chars_at(item, "Text") {
+    for element in elements {
+        if let Some(text) = chars_at(element, paths::TEXT) {
             texts.push(copied(alloc, text)?)?;
         }
     }

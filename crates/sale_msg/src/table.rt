@@ -3,7 +3,7 @@ ghost use Rattle.std.specs.Prelude.{◌≡◌};
 ghost use Rattle.sale_msg.specs.Table.{header_rows, rows_of, part_rows};
 ghost use Rattle.sale_msg.specs.inner.RowValue.{IsTableOf};
 
-use crate::Category;
+use crate::{Category, paths};
 
 /// Whether a member may be absent.
 #[derive(Clone, Copy, PartialEq, Eq, Debug)]
@@ -60,15 +60,15 @@ pub(crate) struct MemberRow {
 
 /// Rows of members whose path in a fault is their own.
 macro_rules! rows {
-    ($($path:literal $presence:ident $form:expr,)*) => {
-        [$(MemberRow { at: $path, path: $path, presence: Presence::$presence, form: $form }),*]
+    ($($path:ident $presence:ident $form:expr,)*) => {
+        [$(MemberRow { at: paths::$path, path: paths::$path, presence: Presence::$presence, form: $form }),*]
     };
 }
 
 /// Rows of the members of an object within the body: a fault has their whole path.
 macro_rules! part_rows {
-    ($($at:literal $path:literal $presence:ident $form:expr,)*) => {
-        [$(MemberRow { at: $at, path: $path, presence: Presence::$presence, form: $form }),*]
+    ($($at:ident $path:ident $presence:ident $form:expr,)*) => {
+        [$(MemberRow { at: paths::$at, path: paths::$path, presence: Presence::$presence, form: $form }),*]
     };
 }
 
@@ -76,15 +76,15 @@ macro_rules! part_rows {
 macro_rules! header {
     ($kind:expr) => {
         rows! {
-            "MessageHeader" Required Form::Object,
-            "MessageHeader.ProtocolVersion" Optional Form::Version,
-            "MessageHeader.MessageClass" Required Form::Class,
-            "MessageHeader.MessageCategory" Required Form::Letters,
-            "MessageHeader.MessageType" Required $kind,
-            "MessageHeader.ServiceID" ByHeader Form::Ident(10),
-            "MessageHeader.DeviceID" Optional Form::Ident(10),
-            "MessageHeader.SaleID" Required Form::Ident(40),
-            "MessageHeader.POIID" Required Form::Ident(40),
+            HEADER Required Form::Object,
+            HEADER_VERSION Optional Form::Version,
+            HEADER_CLASS Required Form::Class,
+            HEADER_CATEGORY Required Form::Letters,
+            HEADER_TYPE Required $kind,
+            HEADER_SERVICE ByHeader Form::Ident(10),
+            HEADER_DEVICE Optional Form::Ident(10),
+            HEADER_SALE Required Form::Ident(40),
+            HEADER_POI Required Form::Ident(40),
         }
     };
 }
@@ -93,92 +93,94 @@ const REQUEST_HEADER: [MemberRow; 9] = header!(Form::RequestKind);
 
 const RESPONSE_HEADER: [MemberRow; 9] = header!(Form::Kind);
 
+// A header may lack its ServiceID in a message of class `Device`; every body but those of Display and Print asks for it
+// again, since its request is kept by it.
 const LOGIN: [MemberRow; 2] = rows! {
-    "MessageHeader.ServiceID" Required Form::Ident(10),
-    "LoginRequest" Required Form::Object,
+    HEADER_SERVICE Required Form::Ident(10),
+    LOGIN Required Form::Object,
 };
 
 const LOGOUT: [MemberRow; 2] = rows! {
-    "MessageHeader.ServiceID" Required Form::Ident(10),
-    "LogoutRequest" Required Form::Object,
+    HEADER_SERVICE Required Form::Ident(10),
+    LOGOUT Required Form::Object,
 };
 
 const DIAGNOSIS: [MemberRow; 2] = rows! {
-    "MessageHeader.ServiceID" Required Form::Ident(10),
-    "DiagnosisRequest" Required Form::Object,
+    HEADER_SERVICE Required Form::Ident(10),
+    DIAGNOSIS Required Form::Object,
 };
 
 const PAYMENT: [MemberRow; 12] = rows! {
-    "MessageHeader.ServiceID" Required Form::Ident(10),
-    "PaymentRequest" Required Form::Object,
-    "PaymentRequest.SaleData" Required Form::Object,
-    "PaymentRequest.SaleData.SaleTransactionID" Required Form::Object,
-    "PaymentRequest.SaleData.SaleTransactionID.TransactionID" Required Form::Ident(80),
-    "PaymentRequest.SaleData.SaleTransactionID.TimeStamp" Required Form::Ident(35),
-    "PaymentRequest.PaymentTransaction" Required Form::Object,
-    "PaymentRequest.PaymentTransaction.AmountsReq" Required Form::Object,
-    "PaymentRequest.PaymentTransaction.AmountsReq.Currency" Required Form::Currency,
-    "PaymentRequest.PaymentTransaction.AmountsReq.RequestedAmount" Required Form::Amount,
-    "PaymentRequest.PaymentData" Optional Form::Object,
-    "PaymentRequest.PaymentData.PaymentType" Optional Form::Text,
+    HEADER_SERVICE Required Form::Ident(10),
+    PAYMENT Required Form::Object,
+    PAYMENT_SALE_DATA Required Form::Object,
+    PAYMENT_SALE Required Form::Object,
+    PAYMENT_SALE_ID Required Form::Ident(80),
+    PAYMENT_SALE_STAMP Required Form::Ident(35),
+    PAYMENT_TRANSACTION Required Form::Object,
+    PAYMENT_AMOUNTS Required Form::Object,
+    PAYMENT_CURRENCY Required Form::Currency,
+    PAYMENT_AMOUNT Required Form::Amount,
+    PAYMENT_DATA Optional Form::Object,
+    PAYMENT_TYPE Optional Form::Text,
 };
 
 const REVERSAL: [MemberRow; 7] = rows! {
-    "MessageHeader.ServiceID" Required Form::Ident(10),
-    "ReversalRequest" Required Form::Object,
-    "ReversalRequest.OriginalPOITransaction" Required Form::Object,
-    "ReversalRequest.OriginalPOITransaction.POITransactionID" Required Form::Object,
-    "ReversalRequest.OriginalPOITransaction.POITransactionID.TransactionID" Required Form::Ident(80),
-    "ReversalRequest.ReversalReason" Required Form::Text,
-    "ReversalRequest.ReversedAmount" Optional Form::Amount,
+    HEADER_SERVICE Required Form::Ident(10),
+    REVERSAL Required Form::Object,
+    REVERSAL_ORIGINAL Required Form::Object,
+    REVERSAL_POI Required Form::Object,
+    REVERSAL_POI_ID Required Form::Ident(80),
+    REVERSAL_REASON Required Form::Text,
+    REVERSAL_AMOUNT Optional Form::Amount,
 };
 
 const ABORT: [MemberRow; 7] = rows! {
-    "MessageHeader.ServiceID" Required Form::Ident(10),
-    "AbortRequest" Required Form::Object,
-    "AbortRequest.MessageReference" Required Form::Object,
-    "AbortRequest.MessageReference.ServiceID" Required Form::Ident(10),
-    "AbortRequest.MessageReference.SaleID" Optional Form::Ident(40),
-    "AbortRequest.MessageReference.POIID" Optional Form::Ident(40),
-    "AbortRequest.AbortReason" Optional Form::Text,
+    HEADER_SERVICE Required Form::Ident(10),
+    ABORT Required Form::Object,
+    ABORT_REFERENCE Required Form::Object,
+    ABORT_SERVICE Required Form::Ident(10),
+    ABORT_SALE Optional Form::Ident(40),
+    ABORT_POI Optional Form::Ident(40),
+    ABORT_REASON Optional Form::Text,
 };
 
 const STATUS: [MemberRow; 3] = rows! {
-    "MessageHeader.ServiceID" Required Form::Ident(10),
-    "TransactionStatusRequest" Required Form::Object,
-    "TransactionStatusRequest.MessageReference" Optional Form::Object,
+    HEADER_SERVICE Required Form::Ident(10),
+    STATUS Required Form::Object,
+    STATUS_REFERENCE Optional Form::Object,
 };
 
 const STATUS_REFERENCE: [MemberRow; 3] = part_rows! {
-    "ServiceID" "TransactionStatusRequest.MessageReference.ServiceID" Required Form::Ident(10),
-    "SaleID" "TransactionStatusRequest.MessageReference.SaleID" Optional Form::Ident(40),
-    "POIID" "TransactionStatusRequest.MessageReference.POIID" Optional Form::Ident(40),
+    SERVICE STATUS_SERVICE Required Form::Ident(10),
+    SALE STATUS_SALE Optional Form::Ident(40),
+    POI STATUS_POI Optional Form::Ident(40),
 };
 
 const RECONCILIATION: [MemberRow; 3] = rows! {
-    "MessageHeader.ServiceID" Required Form::Ident(10),
-    "ReconciliationRequest" Required Form::Object,
-    "ReconciliationRequest.ReconciliationType" Required Form::Period,
+    HEADER_SERVICE Required Form::Ident(10),
+    RECONCILIATION Required Form::Object,
+    RECONCILIATION_TYPE Required Form::Period,
 };
 
 const DISPLAY: [MemberRow; 2] = rows! {
-    "DisplayRequest" Required Form::Object,
-    "DisplayRequest.DisplayOutput" Required Form::Outputs,
+    DISPLAY Required Form::Object,
+    DISPLAY_OUTPUT Required Form::Outputs,
 };
 
 const OUTPUT: [MemberRow; 6] = part_rows! {
-    "Device" "DisplayRequest.DisplayOutput.Device" Required Form::Ident(40),
-    "InfoQualify" "DisplayRequest.DisplayOutput.InfoQualify" Required Form::Ident(40),
-    "ResponseRequiredFlag" "DisplayRequest.DisplayOutput.ResponseRequiredFlag" Optional Form::Flag,
-    "OutputContent" "DisplayRequest.DisplayOutput.OutputContent" Required Form::Object,
-    "OutputContent.OutputFormat" "DisplayRequest.DisplayOutput.OutputContent.OutputFormat" Required Form::Text,
-    "OutputContent.OutputText" "DisplayRequest.DisplayOutput.OutputContent.OutputText" Optional Form::Texts,
+    OUTPUT_DEVICE DISPLAY_DEVICE Required Form::Ident(40),
+    OUTPUT_QUALIFY DISPLAY_QUALIFY Required Form::Ident(40),
+    OUTPUT_FLAG DISPLAY_FLAG Optional Form::Flag,
+    OUTPUT_CONTENT DISPLAY_CONTENT Required Form::Object,
+    OUTPUT_FORMAT DISPLAY_FORMAT Required Form::Text,
+    OUTPUT_TEXTS DISPLAY_TEXTS Optional Form::Texts,
 };
 
 const PRINT: [MemberRow; 3] = rows! {
-    "PrintRequest" Required Form::Object,
-    "PrintRequest.PrintOutput" Required Form::Object,
-    "PrintRequest.PrintOutput.DocumentQualifier" Required Form::Ident(40),
+    PRINT Required Form::Object,
+    PRINT_OUTPUT Required Form::Object,
+    PRINT_QUALIFIER Required Form::Ident(40),
 };
 
 /// The table of the header.

@@ -3,13 +3,17 @@ ghost use Rattle.std.specs.Prelude.{◌≡◌, ◌++◌, codes, OnOk, OnErr};
 ghost use Rattle.json_text.specs.Canonical.{canonical, canonical_first, canonical_string};
 ghost use Rattle.json_text.specs.Tree.{boolean, object};
 ghost use Rattle.sale_msg.specs.inner.OptionalParts.{money_part, optional_part, texts_part};
-ghost use Rattle.sale_values.specs.CanonicalHeader.{header_members};
 ghost use Rattle.sale_values.specs.Money.{money_text};
+ghost use Rattle.sale_values.specs.Parts.{part_text, parts_text};
 ghost use Rattle.sale_msg.specs.Canonical.{body_members, body_name, output_items, display_output_tree, payment_members, referring_members, request_tree, reversal_members, text_items};
 
+use crate::paths;
 use gw_base::{Ident, Text};
 use json_text::write_text;
-use sale_values::{Header, Output, PaymentAsk, Reference, ReversalAsk, SaleRequest, Texts, money};
+use sale_values::{
+    Header, Output, Part, PaymentAsk, Reference, ReversalAsk, SaleRequest, Texts, header_parts,
+    money,
+};
 use std::alloc::{AllocError, Global};
 
 /// Appends the one written spelling of a request: no white space, the members of the tables in their order, none for
@@ -43,47 +47,51 @@ fn write_message(
     ensures { OnOk result (out.new.items ≡ out.old.items ++ canonical (request_tree header.now request.now)) }
 {
     out.extend_from_slice(b"{\"SaleToPOIRequest\":{\"MessageHeader\":")?;
-    write_header(header, out)?;
+    write_parts(&header_parts(header), out)?;
     out.extend_from_slice(b",")?;
-    write_text(name_of_body(request), out)?;
+    write_text(name_of_body(request).as_bytes(), out)?;
     out.extend_from_slice(b":")?;
     write_body(request, out)?;
     out.extend_from_slice(b"}}")
 }
 
 /// The name of a request's body.
-fn name_of_body(request: &SaleRequest) -> &'static [u8]
+fn name_of_body(request: &SaleRequest) -> &'static str
     ensures { result.now ≡ body_name request.now }
 {
     match request {
-        SaleRequest::Login => b"LoginRequest",
-        SaleRequest::Logout => b"LogoutRequest",
-        SaleRequest::Payment(_) => b"PaymentRequest",
-        SaleRequest::Reversal(_) => b"ReversalRequest",
-        SaleRequest::Abort(_) => b"AbortRequest",
-        SaleRequest::Status(_) => b"TransactionStatusRequest",
-        SaleRequest::Reconciliation(_) => b"ReconciliationRequest",
-        SaleRequest::Display(_) => b"DisplayRequest",
-        SaleRequest::Print(_) => b"PrintRequest",
-        SaleRequest::Diagnosis => b"DiagnosisRequest",
+        SaleRequest::Login => paths::LOGIN,
+        SaleRequest::Logout => paths::LOGOUT,
+        SaleRequest::Payment(_) => paths::PAYMENT,
+        SaleRequest::Reversal(_) => paths::REVERSAL,
+        SaleRequest::Abort(_) => paths::ABORT,
+        SaleRequest::Status(_) => paths::STATUS,
+        SaleRequest::Reconciliation(_) => paths::RECONCILIATION,
+        SaleRequest::Display(_) => paths::DISPLAY,
+        SaleRequest::Print(_) => paths::PRINT,
+        SaleRequest::Diagnosis => paths::DIAGNOSIS,
     }
 }
 
-fn write_header(header: &Header, out: &mut Vec<u8>) -> Result<(), AllocError>
-    ensures { OnOk result (out.new.items ≡ out.old.items ++ canonical (object (header_members header.now))) }
+/// The parts of a message, one after the other.
+fn write_parts(parts: &[Part<'_>], out: &mut Vec<u8>) -> Result<(), AllocError>
+    ensures { OnOk result (out.new.items ≡ out.old.items ++ parts_text parts.now) }
 {
-    write_named(
-        b"{\"ProtocolVersion\":\"3.0\",\"MessageClass\":",
-        header.class.name().as_bytes(),
-        out,
-    )?;
-    write_named(b",\"MessageCategory\":", header.category.as_bytes(), out)?;
-    write_named(b",\"MessageType\":", header.kind.name().as_bytes(), out)?;
-    write_optional(b",\"ServiceID\":", &header.service, out)?;
-    write_optional(b",\"DeviceID\":", &header.device, out)?;
-    write_named(b",\"SaleID\":", header.sale.as_bytes(), out)?;
-    write_named(b",\"POIID\":", header.poi.as_bytes(), out)?;
-    out.extend_from_slice(b"}")
+    for part in parts {
+        write_part(*part, out)?;
+    }
+    Ok(())
+}
+
+fn write_part(part: Part<'_>, out: &mut Vec<u8>) -> Result<(), AllocError>
+    ensures { OnOk result (out.new.items ≡ out.old.items ++ part_text part.entry) }
+{
+    match part {
+        Part::Raw(bytes) => out.extend_from_slice(bytes),
+        Part::Text(text) => write_text(text, out),
+        Part::Optional(prefix, Some(text)) => write_named(prefix, text, out),
+        Part::Optional(_, None) => Ok(()),
+    }
 }
 
 /// A text, after the bytes that come before it.
@@ -255,25 +263,25 @@ fn write_texts(texts: &[Text], out: &mut Vec<u8>) -> Result<(), AllocError>
     out.extend_from_slice(b"]")
 }
 
-fn write_money(minor: u64, out: &mut Vec<u8>) -> Result<(), AllocError>
-    ensures { OnOk result (out.new.items ≡ out.old.items ++ money_text minor) }
+fn write_money(units: u64, out: &mut Vec<u8>) -> Result<(), AllocError>
+    ensures { OnOk result (out.new.items ≡ out.old.items ++ money_text units) }
 {
-    out.extend_from_slice(money(minor).as_slice())
+    out.extend_from_slice(money(units).as_slice())
 }
 
 /// Money after the bytes that come before it, or nothing where there is none.
 fn write_optional_money(
     prefix: &[u8],
-    minor: Option<u64>,
+    units: Option<u64>,
     out: &mut Vec<u8>,
 ) -> Result<(), AllocError>
-    ensures { OnOk result (out.new.items ≡ out.old.items ++ money_part prefix.now minor) }
+    ensures { OnOk result (out.new.items ≡ out.old.items ++ money_part prefix.now units) }
 {
-    match minor {
+    match units {
         None => Ok(()),
-        Some(minor) => {
+        Some(units) => {
             out.extend_from_slice(prefix)?;
-            write_money(minor, out)
+            write_money(units, out)
         }
     }
 }

@@ -142,15 +142,15 @@ poi_data_size stamps number receipt mark slot = within 800 (same_size (poi_data_
     (both (first_text_size (known (codes "TransactionID")) (transaction_size number receipt mark.slot slot))
     (both (next_text_size (known (codes "TimeStamp")) (sized (stamp_of mark.moment) 20 (omega (arith, stamps mark.moment)))) (known (125 ∷ 125 ∷ [])))))))) (lit≤ tt)
 
-pub payment_result_size : (c : Currency) (minor : ℕ) → minor < 2 ^ 64 → IsAtMost (canonical (payment_result c minor)) 400
-payment_result_size c minor fits = within 400 (same_size (payment_result_parts c minor)
+pub payment_result_size : (c : Currency) (units : ℕ) → units < 2 ^ 64 → IsAtMost (canonical (payment_result c units)) 400
+payment_result_size c units fits = within 400 (same_size (payment_result_parts c units)
     (both (known (123 ∷ [])) (both (first_name_size (known (codes "AmountsResp"))) (both (known (123 ∷ []))
     (both (first_text_size (known (codes "Currency")) (sized (currency_letters c) 3 (code_size c)))
-    (both (next_number_size (known (codes "AuthorizedAmount")) (money_size minor fits)) (known (125 ∷ 125 ∷ [])))))))) (lit≤ tt)
+    (both (next_number_size (known (codes "AuthorizedAmount")) (money_size units fits)) (known (125 ∷ 125 ∷ [])))))))) (lit≤ tt)
 
 total_size : (type : List ℕ) (sum : ℕ × ℕ) → length type ≤ 20 → IsTotalWithinLimits sum → IsAtMost (canonical (total type sum)) 600
-total_size type sum short is = within 600 (same_size (total_parts type sum)
-    (both (known (123 ∷ [])) (both (first_text_size (known (codes "TransactionType")) (sized type 20 short))
+total_size type sum fits is = within 600 (same_size (total_parts type sum)
+    (both (known (123 ∷ [])) (both (first_text_size (known (codes "TransactionType")) (sized type 20 fits))
     (both (next_number_size (known (codes "TransactionCount")) (decimal_size sum.0 (omega (arith, is.0))))
     (both (next_number_size (known (codes "TransactionAmount")) (money_size sum.1 is.1)) (known (125 ∷ []))))))) (lit≤ tt)
 
@@ -167,11 +167,11 @@ success_size = result_tree_size result.Success None None tt
 
 result_body_approved : StampSizes → (transaction stamp : List ℕ) (mark : PoiMark) (outcome : ReplyResult) (paid : Money) → IsIdent 80 transaction → IsIdent 35 stamp → mark.slot < 2 ^ 32 → paid.minor < 2 ^ 64
     → IsAtMost (canonical (approved_body transaction stamp mark outcome paid)) 6000
-result_body_approved stamps transaction stamp mark outcome paid t s slot minor = within 6000 (same_size (approved_parts transaction stamp mark outcome paid)
+result_body_approved stamps transaction stamp mark outcome paid t s slot units = within 6000 (same_size (approved_parts transaction stamp mark outcome paid)
     (both (known (123 ∷ [])) (both (first_name_size (known (codes "Response"))) (both (result_tree_size outcome None None tt)
     (both (next_name_size (known (codes "SaleData"))) (both (sale_data_size transaction stamp t s)
     (both (next_name_size (known (codes "POIData"))) (both (poi_data_size stamps mark.number mark.receipt mark slot)
-    (both (next_name_size (known (codes "PaymentResult"))) (both (payment_result_size paid.currency paid.minor minor) (known (125 ∷ [])))))))))))) (lit≤ tt)
+    (both (next_name_size (known (codes "PaymentResult"))) (both (payment_result_size paid.currency paid.minor units) (known (125 ∷ [])))))))))))) (lit≤ tt)
 
 pub result_body_size : StampSizes → (told : Told) → IsToldWithinLimits told → IsAtMost (canonical (result_body told)) 6000
 result_body_size stamps (PaymentApproved transaction stamp mark requested paid) is =

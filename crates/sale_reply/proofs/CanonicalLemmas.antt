@@ -2,7 +2,7 @@
 use Rattle.std.proofs.Common.{◌≡◌, ℕ, List, [], ◌∷◌, ◌++◌, Option, Some, None, refl, append_assoc, codes, ℤ, length, ◌≤◌, arith}
 use Rattle.std.specs.Prelude.{decimal, option_map}
 use Rattle.std.specs.Borrow.{Bor}
-use Rattle.sale_reply.proofs.PartLemmas.{canonical_outputs-is, canonical_lines-is}
+use Rattle.sale_reply.proofs.PartLemmas.{canonical_outputs_is, canonical_lines_is}
 use Rattle.json_text.specs.Tree.{Tree}
 use Rattle.json_text.specs.Canonical.{canonical, canonical_string}
 use Rattle.gw_base.specs.declared.condition.Condition.{Condition}
@@ -25,7 +25,7 @@ use Rattle.sale_reply.specs.Names.{result_name, status_name, paid_result}
 use Rattle.sale_values.specs.Money.{money_text}
 use Rattle.sale_reply.specs.Texts.{transaction_text, intermediate_text, detail_text}
 use Rattle.sale_reply.specs.inner.Parts.{first_name, next_name, first_text, next_text, next_optional, next_number, message_prefix, content_prefix, canonical_outputs, canonical_lines}
-use Rattle.sale_reply.specs.Reply.{header_tree, message_tree, result_tree, verdict_tree, success_tree, failure_tree, plain_body, sale_data, poi_data, approved_data, declined_data, payment_result, total, totals, approved_body, result_body, repeated_message, status_body, diagnosis_body, output_result_tree, print_body, text_tree, content, display_request_body, display_body, print_request_body, event_header, event_body, event_tree, tree_of}
+use Rattle.sale_reply.specs.Reply.{header_tree, message_tree, result_tree, verdict_tree, success_tree, failure_tree, plain_body, sale_data, poi_data, approved_data, declined_data, payment_result, total, totals, approved_body, result_body, repeated_message, status_body, diagnosis_body, output_result_tree, print_body, text_tree, content, display_request_body, display_body, print_request_body, event_body, tree_of}
 use Rattle.sale_reply.specs.declared.reply.SaleReply.{SaleReply}
 use Rattle.sale_reply.specs.declared.reply.SaleReply.TheVariants as reply
 
@@ -92,12 +92,12 @@ pub poi_data_parts : (number receipt : ℕ) (mark : PoiMark) →
 unfolding poi_data first_name first_text next_text
 poi_data_parts number receipt mark = simp append_assoc
 
-pub payment_result_parts : (currency : Currency) (minor : ℕ) →
+pub payment_result_parts : (currency : Currency) (units : ℕ) →
     prefix ++ (first_name (codes "AmountsResp") ++ (prefix ++ (first_text (codes "Currency") (currency_letters currency)
-    ++ (next_number (codes "AuthorizedAmount") (money_text minor) ++ 125 ∷ 125 ∷ []))))
-    ≡ canonical (payment_result currency minor)
+    ++ (next_number (codes "AuthorizedAmount") (money_text units) ++ 125 ∷ 125 ∷ []))))
+    ≡ canonical (payment_result currency units)
 unfolding payment_result first_name first_text next_number
-payment_result_parts currency minor = simp append_assoc
+payment_result_parts currency units = simp append_assoc
 
 pub approved_parts : (transaction stamp : List ℕ) (mark : PoiMark) (outcome : ReplyResult) (paid : Money) →
     prefix ++ (first_name (codes "Response") ++ (canonical (result_tree outcome None None)
@@ -197,17 +197,6 @@ pub show_parts : (code : ℕ) →
 unfolding display_request_body content text_tree content_prefix next_name first_name first_text next_text
 show_parts code = simp append_assoc
 
-pub event_header_parts : (sale poi : List ℕ) →
-    prefix ++ (first_text (codes "ProtocolVersion") (codes "3.0")
-    ++ (next_text (codes "MessageClass") (codes "Event")
-    ++ (next_text (codes "MessageCategory") (codes "Event")
-    ++ (next_text (codes "MessageType") (codes "Notification")
-    ++ (next_text (codes "SaleID") sale
-    ++ (next_text (codes "POIID") poi ++ end))))))
-    ≡ canonical (event_header sale poi)
-unfolding event_header first_text next_text
-event_header_parts sale poi = refl
-
 pub event_body_parts : (moment : ℤ) (detail : Detail) →
     prefix ++ (first_text (codes "TimeStamp") (stamp_of moment)
     ++ (next_text (codes "EventToNotify") (codes "Reject")
@@ -215,14 +204,6 @@ pub event_body_parts : (moment : ℤ) (detail : Detail) →
     ≡ canonical (event_body moment detail)
 unfolding event_body first_text next_text
 event_body_parts moment detail = refl
-
-pub event_parts : (sale poi : List ℕ) (moment : ℤ) (detail : Detail) →
-    prefix ++ (first_name (codes "SaleToPOIRequest") ++ (prefix ++ (first_name (codes "MessageHeader")
-    ++ (canonical (event_header sale poi) ++ (next_name (codes "EventNotification")
-    ++ (canonical (event_body moment detail) ++ 125 ∷ 125 ∷ []))))))
-    ≡ canonical (event_tree sale poi moment detail)
-unfolding event_tree first_name next_name
-event_parts sale poi moment detail = simp append_assoc
 
 pub prefix_parts : (envelope : List ℕ) (header : Header) (suffix : List ℕ) →
     prefix ++ (first_name envelope ++ (prefix ++ (first_name (codes "MessageHeader")
@@ -254,7 +235,7 @@ pub display_parts : (outputs : List Shown) →
     prefix ++ (first_name (codes "OutputResult") ++ (91 ∷ [] ++ (canonical_outputs outputs ++ 93 ∷ 125 ∷ [])))
     ≡ canonical (display_body outputs)
 unfolding display_body first_name
-display_parts outputs = rw (← canonical_outputs-is outputs) (simp append_assoc)
+display_parts outputs = rw (← canonical_outputs_is outputs) (simp append_assoc)
 
 pub paper_parts : (lines : List (Bor (List ℕ))) →
     prefix ++ (first_name (codes "PrintOutput") ++ (prefix ++ (first_text (codes "DocumentQualifier") (codes "Document")
@@ -262,11 +243,11 @@ pub paper_parts : (lines : List (Bor (List ℕ))) →
     ++ (content_prefix ++ (canonical_lines lines ++ 93 ∷ 125 ∷ 125 ∷ 125 ∷ [])))))))
     ≡ canonical (print_request_body lines)
 unfolding print_request_body content content_prefix next_name first_name first_text next_text
-paper_parts lines = rw (← canonical_lines-is lines) (simp append_assoc)
+paper_parts lines = rw (← canonical_lines_is lines) (simp append_assoc)
 
 -- no message is empty
 pub reply_nonempty : (r : SaleReply) → 1 ≤ length (canonical (tree_of r))
-unfolding message_tree event_tree
+unfolding message_tree
 reply_nonempty (reply.Plain header verdict) = omega arith
 reply_nonempty (reply.Told header told) = omega arith
 reply_nonempty (reply.Status header repeated told) = omega arith

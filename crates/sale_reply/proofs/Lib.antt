@@ -1,3 +1,4 @@
+-- The files of lemmas.
 pub mod BodySizeLemmas
 pub mod CanonicalLemmas
 pub mod LimitLemmas

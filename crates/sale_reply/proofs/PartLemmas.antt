@@ -35,45 +35,45 @@ pub nothing : {old : List ℕ} → Appends old old []
 nothing {old} = record { grows = λ room. sym (append-nil old) }
 
 -- where there is no text, there is no member
-pub next_optional-none : (name : List ℕ) (text : Option (List ℕ)) → ((x : List ℕ) → text ≡ Some x → ⊥) → next_optional name text ≡ []
+pub next_optional_none : (name : List ℕ) (text : Option (List ℕ)) → ((x : List ℕ) → text ≡ Some x → ⊥) → next_optional name text ≡ []
 unfolding next_optional
-next_optional-none name None none = refl
-next_optional-none name (Some text) none = absurd (none text refl)
+next_optional_none name None none = refl
+next_optional_none name (Some text) none = absurd (none text refl)
 
 -- what is written of a byte of a terminal's line: its character
 abbrev pub shown_byte : ℕ → List ℕ
 shown_byte byte = flat_map canonical_byte (encode_utf8 (char_of byte))
 
-shown_bytes-is : (line : List ℕ) → flat_map canonical_byte (encode_utf8_all (map char_of line)) ≡ flat_map shown_byte line
-shown_bytes-is [] = refl
-shown_bytes-is (byte ∷ line) =
+shown_bytes_is : (line : List ℕ) → flat_map canonical_byte (encode_utf8_all (map char_of line)) ≡ flat_map shown_byte line
+shown_bytes_is [] = refl
+shown_bytes_is (byte ∷ line) =
     flat_map-append canonical_byte (encode_utf8 (char_of byte)) (encode_utf8_all (map char_of line))
-    ∙ ap (λ rest. shown_byte byte ++ rest) (shown_bytes-is line)
+    ∙ ap (λ rest. shown_byte byte ++ rest) (shown_bytes_is line)
 
 -- a line is written byte by byte
-pub line-is : (line : List ℕ) → 34 ∷ (flat_map shown_byte line ++ 34 ∷ []) ≡ canonical_string (line_text line)
+pub line_is : (line : List ℕ) → 34 ∷ (flat_map shown_byte line ++ 34 ∷ []) ≡ canonical_string (line_text line)
 unfolding line_text
-line-is line = ap (λ bytes. 34 ∷ (bytes ++ 34 ∷ [])) (sym (shown_bytes-is line))
+line_is line = ap (λ bytes. 34 ∷ (bytes ++ 34 ∷ [])) (sym (shown_bytes_is line))
 
--- the items after the first
-more_items-is : {A : Type 0} (f : A → Tree) (xs : List A) → flat_map (λ x. 44 ∷ canonical (f x)) xs ++ 93 ∷ [] ≡ canonical_more (items_onto (map f xs) no_items)
-more_items-is f [] = refl
-more_items-is f (x ∷ xs) =
+-- the elements after the first
+more_elements_is : {A : Type 0} (f : A → Tree) (xs : List A) → flat_map (λ x. 44 ∷ canonical (f x)) xs ++ 93 ∷ [] ≡ canonical_more (items_onto (map f xs) no_items)
+more_elements_is f [] = refl
+more_elements_is f (x ∷ xs) =
     append_assoc (44 ∷ canonical (f x)) (flat_map (λ y. 44 ∷ canonical (f y)) xs) (93 ∷ [])
-    ∙ ap (λ rest. 44 ∷ (canonical (f x) ++ rest)) (more_items-is f xs)
+    ∙ ap (λ rest. 44 ∷ (canonical (f x) ++ rest)) (more_elements_is f xs)
 
 -- the results of outputs, in a list
-pub canonical_outputs-is : (outputs : List Shown) → canonical_outputs outputs ++ 93 ∷ [] ≡ canonical_first (items_onto (map output_result_tree outputs) no_items)
+pub canonical_outputs_is : (outputs : List Shown) → canonical_outputs outputs ++ 93 ∷ [] ≡ canonical_first (items_onto (map output_result_tree outputs) no_items)
 unfolding canonical_outputs more_outputs
-canonical_outputs-is [] = refl
-canonical_outputs-is (shown ∷ outputs) =
+canonical_outputs_is [] = refl
+canonical_outputs_is (shown ∷ outputs) =
     append_assoc (canonical (output_result_tree shown)) (more_outputs outputs) (93 ∷ [])
-    ∙ ap (λ rest. canonical (output_result_tree shown) ++ rest) (more_items-is output_result_tree outputs)
+    ∙ ap (λ rest. canonical (output_result_tree shown) ++ rest) (more_elements_is output_result_tree outputs)
 
 -- lines, in a list
-pub canonical_lines-is : (lines : List (Bor (List ℕ))) → canonical_lines lines ++ 93 ∷ [] ≡ canonical_first (items_onto (line_trees lines) no_items)
+pub canonical_lines_is : (lines : List (Bor (List ℕ))) → canonical_lines lines ++ 93 ∷ [] ≡ canonical_first (items_onto (line_trees lines) no_items)
 unfolding canonical_lines more_lines
-canonical_lines-is [] = refl
-canonical_lines-is (line ∷ lines) =
+canonical_lines_is [] = refl
+canonical_lines_is (line ∷ lines) =
     append_assoc (canonical (text_tree (line_text line.now))) (more_lines lines) (93 ∷ [])
-    ∙ ap (λ rest. canonical (text_tree (line_text line.now)) ++ rest) (more_items-is (λ (l : Bor (List ℕ)). text_tree (line_text l.now)) lines)
+    ∙ ap (λ rest. canonical (text_tree (line_text line.now)) ++ rest) (more_elements_is (λ (l : Bor (List ℕ)). text_tree (line_text l.now)) lines)

@@ -14,11 +14,10 @@ use Rattle.sale_reply.specs.declared.reply.Detail.TheVariants.{Json, Header, Bod
 use Rattle.json_text.specs.FaultText.{kind_text}
 use Rattle.sale_reply.specs.Texts.{line_text, intermediate_text, detail_text}
 use Rattle.sale_reply.specs.Limits.{IsDetailWithinLimits}
-use Rattle.gw_base.specs.Ident.{IsIdent}
 use Rattle.sale_reply.specs.inner.Parts.{content_prefix, more_lines, canonical_lines}
-use Rattle.sale_reply.specs.Reply.{text_tree, display_request_body, print_request_body, event_header, event_body, event_tree}
-use Rattle.sale_reply.proofs.PartLemmas.{shown_byte, line-is}
-use Rattle.sale_reply.proofs.CanonicalLemmas.{text_parts, show_parts, paper_parts, content_prefix_parts, event_header_parts, event_body_parts, event_parts}
+use Rattle.sale_reply.specs.Reply.{text_tree, display_request_body, print_request_body, event_body}
+use Rattle.sale_reply.proofs.PartLemmas.{shown_byte, line_is}
+use Rattle.sale_reply.proofs.CanonicalLemmas.{text_parts, show_parts, paper_parts, content_prefix_parts, event_body_parts}
 use Rattle.sale_reply.proofs.SizeLemmas.{IsAtMost, within, same_size, sized, both, known, first_name_size, next_name_size, first_text_size, next_text_size, decimal_size}
 use Rattle.sale_reply.proofs.BodySizeLemmas.{StampSizes, ident_size, fault_size}
 
@@ -70,7 +69,7 @@ shown_bytes_size (byte ∷ line) =
 line_size : (line : List ℕ) → length (canonical (text_tree (line_text line))) ≤ 2 * length line + 31
 line_size line =
     let text : IsAtMost (canonical_string (line_text line)) (2 * length line + 2) =
-    same_size (line-is line) (sized (34 ∷ (flat_map shown_byte line ++ 34 ∷ [])) (2 * length line + 2)
+    same_size (line_is line) (sized (34 ∷ (flat_map shown_byte line ++ 34 ∷ [])) (2 * length line + 2)
     (omega (arith, length-append (flat_map shown_byte line) (34 ∷ []), shown_bytes_size line))) in
     let parts = same_size (text_parts (line_text line)) (both (known (123 ∷ [])) (both (first_name_size (known (codes "Text"))) (both text (known (125 ∷ []))))) in
     omega (arith, parts.holds)
@@ -92,12 +91,12 @@ more_lines_size (line ∷ lines) =
 
 lines_size : (lines : List (Bor (List ℕ))) → length lines ≤ 400 → bytes_of lines ≤ 12000 → IsAtMost (canonical_lines lines) 37000
 unfolding canonical_lines
-lines_size [] few short = record { holds = lit≤ tt }
-lines_size (line ∷ lines) few short = record {
+lines_size [] few fits = record { holds = lit≤ tt }
+lines_size (line ∷ lines) few fits = record {
   holds = omega (
     arith,
     few,
-    short,
+    fits,
     line_size line.now,
     more_lines_size lines,
     sum_by-cons (λ (l : Bor (List ℕ)). length l.now) line lines,
@@ -111,12 +110,12 @@ content_prefix_size = within 300 (same_size content_prefix_parts
     (both (next_name_size (known (codes "OutputText"))) (known (91 ∷ [])))))) (lit≤ tt)
 
 pub paper_size : (lines : List (Bor (List ℕ))) → length lines ≤ 400 → bytes_of lines ≤ 12000 → IsAtMost (canonical (print_request_body lines)) 39000
-paper_size lines few short = within 39000 (same_size (paper_parts lines)
+paper_size lines few fits = within 39000 (same_size (paper_parts lines)
     (both (known (123 ∷ [])) (both (first_name_size (known (codes "PrintOutput"))) (both (known (123 ∷ []))
     (both (first_text_size (known (codes "DocumentQualifier")) (known (codes "Document")))
     (both (next_text_size (known (codes "ResponseMode")) (known (codes "NotRequired")))
     (both (next_name_size (known (codes "OutputContent"))) (both content_prefix_size
-    (both (lines_size lines few short) (known (93 ∷ 125 ∷ 125 ∷ 125 ∷ []))))))))))) (lit≤ tt)
+    (both (lines_size lines few fits) (known (93 ∷ 125 ∷ 125 ∷ 125 ∷ []))))))))))) (lit≤ tt)
 
 status_text_size : (code : ℕ) → length (intermediate_text code) ≤ 13
 unfolding intermediate_text
@@ -140,23 +139,8 @@ detail_size (Header path) is = within 110 (both (known (codes "header ")) (ident
 detail_size (Body path) is = within 110 (both (known (codes "body ")) (ident_size path is)) (lit≤ tt)
 detail_size Abort is = within 110 (known (codes "abort")) (lit≤ tt)
 
-event_header_size : (sale poi : List ℕ) → IsIdent 40 sale → IsIdent 40 poi → IsAtMost (canonical (event_header sale poi)) 2000
-event_header_size sale poi s p = within 2000 (same_size (event_header_parts sale poi)
-    (both (known (123 ∷ [])) (both (first_text_size (known (codes "ProtocolVersion")) (known (codes "3.0")))
-    (both (next_text_size (known (codes "MessageClass")) (known (codes "Event")))
-    (both (next_text_size (known (codes "MessageCategory")) (known (codes "Event")))
-    (both (next_text_size (known (codes "MessageType")) (known (codes "Notification")))
-    (both (next_text_size (known (codes "SaleID")) (ident_size sale s))
-    (both (next_text_size (known (codes "POIID")) (ident_size poi p)) (known (125 ∷ [])))))))))) (lit≤ tt)
-
-event_body_size : StampSizes → (moment : ℤ) (detail : Detail) → IsDetailWithinLimits detail → IsAtMost (canonical (event_body moment detail)) 2000
+pub event_body_size : StampSizes → (moment : ℤ) (detail : Detail) → IsDetailWithinLimits detail → IsAtMost (canonical (event_body moment detail)) 2000
 event_body_size stamps moment detail is = within 2000 (same_size (event_body_parts moment detail)
     (both (known (123 ∷ [])) (both (first_text_size (known (codes "TimeStamp")) (sized (stamp_of moment) 20 (omega (arith, stamps moment))))
     (both (next_text_size (known (codes "EventToNotify")) (known (codes "Reject")))
     (both (next_text_size (known (codes "EventDetails")) (detail_size detail is)) (known (125 ∷ []))))))) (lit≤ tt)
-
-pub event_size : StampSizes → (sale poi : List ℕ) (moment : ℤ) (detail : Detail) → IsIdent 40 sale → IsIdent 40 poi → IsDetailWithinLimits detail → IsAtMost (canonical (event_tree sale poi moment detail)) 6000
-event_size stamps sale poi moment detail s p is = within 6000 (same_size (event_parts sale poi moment detail)
-    (both (known (123 ∷ [])) (both (first_name_size (known (codes "SaleToPOIRequest"))) (both (known (123 ∷ []))
-    (both (first_name_size (known (codes "MessageHeader"))) (both (event_header_size sale poi s p)
-    (both (next_name_size (known (codes "EventNotification"))) (both (event_body_size stamps moment detail is) (known (125 ∷ 125 ∷ [])))))))))) (lit≤ tt)

@@ -89,11 +89,11 @@ pub digits_size : (count n : ℕ) → length (digits count n) ≡ count
 digits_size zero n = refl
 digits_size (suc count) n = omega (arith, length-append (digits count (n / 10)) ((0x30 + n % 10) ∷ []), digits_size count (n / 10))
 
-pub money_size : (minor : ℕ) → minor < 2 ^ 64 → IsAtMost (money_text minor) 23
+pub money_size : (units : ℕ) → units < 2 ^ 64 → IsAtMost (money_text units) 23
 unfolding money_text
-money_size minor fits =
-    both (decimal_size (minor / 100) (omega (arith, fits)))
-    (both (known (0x2E ∷ [])) (sized (digits 2 (minor % 100)) 2 (omega (arith, digits_size 2 (minor % 100)))))
+money_size units fits =
+    both (decimal_size (units / 100) (omega (arith, fits)))
+    (both (known (0x2E ∷ [])) (sized (digits 2 (units % 100)) 2 (omega (arith, digits_size 2 (units % 100)))))
 
 pub transaction_size : (number receipt slot : ℕ) → slot < 2 ^ 32 → IsAtMost (transaction_text number receipt slot) 32
 unfolding transaction_text

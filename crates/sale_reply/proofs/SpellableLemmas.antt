@@ -41,7 +41,8 @@ use Rattle.sale_reply.specs.Limits.{IsDetailWithinLimits, IsHeaderWithinLimits, 
 use Rattle.sale_reply.specs.Names.{paid_result, result_name, result_of, status_name}
 use Rattle.sale_reply.specs.Reply.{approved_body, approved_data, content, declined_data, diagnosis_body, display_body, event_tree, event_body, event_header, failure_tree, header_tree, identified, line_trees, message_tree, output_result_tree, print_request_body, payment_result, plain_body, poi_data, print_body, repeated_message, result_tree, sale_data, display_request_body, status_body, success_tree, text_tree, result_body, total, totals, tree_of, verdict_tree}
 use Rattle.sale_reply.specs.Texts.{detail_text, line_text, intermediate_text, transaction_text}
-use Rattle.sale_reply.proofs.TextLemmas.{code_utf8, condition_utf8, detail_utf8, line_utf8, optional_ident_utf8, printable_utf8, request_new, response_new, result_utf8, status_text_utf8, status_utf8, transaction_utf8}
+use Rattle.sale_reply.proofs.LimitLemmas.{event_header_within}
+use Rattle.sale_reply.proofs.TextLemmas.{code_utf8, condition_utf8, detail_utf8, line_utf8, notification_new, optional_ident_utf8, printable_utf8, request_new, response_new, result_utf8, status_text_utf8, status_utf8, transaction_utf8}
 
 -- a stamp is printable
 abbrev pub StampsPrintable : Type 0
@@ -104,13 +105,13 @@ poi_texts stamps d number receipt mark room is =
     (identified_texts (suc d) (transaction_text number receipt mark.slot) (stamp_of mark.moment) (omega arith)
     (transaction_utf8 number receipt mark.slot is) (printable_utf8 (stamp_of mark.moment) (stamps mark.moment)))
 
-payment_texts : (d : ℕ) (currency : Currency) (minor : ℕ) → d < 30 → minor < 2 ^ 64 → IsSpellableAt d (payment_result currency minor)
+payment_texts : (d : ℕ) (currency : Currency) (units : ℕ) → d < 30 → units < 2 ^ 64 → IsSpellableAt d (payment_result currency units)
 unfolding payment_result
-payment_texts d currency minor room small =
-    let members = text_member (codes "Currency") (currency_letters currency) (number_member (codes "AuthorizedAmount") (money_text minor) no_members) in
+payment_texts d currency units room small =
+    let members = text_member (codes "Currency") (currency_letters currency) (number_member (codes "AuthorizedAmount") (money_text units) no_members) in
     only_at d (codes "AmountsResp") (object members) (omega arith) (ascii_utf8 (codes "AmountsResp") refl)
     (object_at (suc d) members (omega arith) refl
-    (ascii_utf8 (codes "Currency") refl, code_utf8 currency, (ascii_utf8 (codes "AuthorizedAmount") refl, money_number minor small, tt)))
+    (ascii_utf8 (codes "Currency") refl, code_utf8 currency, (ascii_utf8 (codes "AuthorizedAmount") refl, money_number units small, tt)))
 
 total_texts : (d : ℕ) (type : List ℕ) (sum : ℕ × ℕ) → d < 32 → IsUtf8 type → IsTotalWithinLimits sum → IsSpellableAt d (total type sum)
 unfolding total
@@ -441,33 +442,6 @@ status_texts header body is b =
 
 -- ---- events
 
-event_header_texts : (sale poi : List ℕ) → IsIdent 40 sale → IsIdent 40 poi → IsSpellableAt 2 (event_header sale poi)
-unfolding event_header
-event_header_texts sale poi s p =
-    object_at 2 (text_member (codes "ProtocolVersion") (codes "3.0") (text_member (codes "MessageClass") (codes "Event")
-    (text_member (codes "MessageCategory") (codes "Event") (text_member (codes "MessageType") (codes "Notification")
-    (text_member (codes "SaleID") sale (text_member (codes "POIID") poi no_members)))))) (omega arith) refl (
-      ascii_utf8 (codes "ProtocolVersion") refl,
-      ascii_utf8 (codes "3.0") refl,
-      (
-        ascii_utf8 (codes "MessageClass") refl,
-        ascii_utf8 (codes "Event") refl,
-        (
-          ascii_utf8 (codes "MessageCategory") refl,
-          ascii_utf8 (codes "Event") refl,
-          (
-            ascii_utf8 (codes "MessageType") refl,
-            ascii_utf8 (codes "Notification") refl,
-            (
-              ascii_utf8 (codes "SaleID") refl,
-              ident_utf8 40 sale s,
-              (ascii_utf8 (codes "POIID") refl, ident_utf8 40 poi p, tt),
-            ),
-          ),
-        ),
-      ),
-    )
-
 event_body_texts : StampsPrintable → (moment : ℤ) (detail : Detail) → IsDetailWithinLimits detail → IsSpellableAt 2 (event_body moment detail)
 unfolding event_body
 event_body_texts stamps moment detail is =
@@ -484,15 +458,10 @@ event_body_texts stamps moment detail is =
 
 event_texts : StampsPrintable → (sale poi : List ℕ) (moment : ℤ) (detail : Detail) → IsIdent 40 sale → IsIdent 40 poi → IsDetailWithinLimits detail
     → IsSpellable (event_tree sale poi moment detail)
-unfolding event_tree
 event_texts stamps sale poi moment detail s p is =
-    let members = member (codes "MessageHeader") (event_header sale poi) (member (codes "EventNotification") (event_body moment detail) no_members) in
-    only_at 0 (codes "SaleToPOIRequest") (object members) (omega arith) (ascii_utf8 (codes "SaleToPOIRequest") refl)
-    (object_at 1 members (omega arith) refl (
-      ascii_utf8 (codes "MessageHeader") refl,
-      event_header_texts sale poi s p,
-      (ascii_utf8 (codes "EventNotification") refl, event_body_texts stamps moment detail is, tt),
-    ))
+    message_texts (codes "SaleToPOIRequest") (event_header sale poi) (codes "Notification") (event_body moment detail)
+    (ascii_utf8 (codes "SaleToPOIRequest") refl) (ascii_utf8 (codes "Notification") refl) (notification_new (codes "Event"))
+    (event_header_within sale poi s p) (event_body_texts stamps moment detail is)
 
 -- ---- every reply
 

@@ -195,3 +195,6 @@ response_new category = other_end category 0x52 (codes "esponse") (λ e. omega a
 
 pub request_new : (category : List ℕ) → codes "MessageHeader" ≢ category ++ codes "Request"
 request_new category = other_end category 0x52 (codes "equest") (λ e. omega arith)
+
+pub notification_new : (category : List ℕ) → codes "MessageHeader" ≢ category ++ codes "Notification"
+notification_new category = other_end category 0x4E (codes "otification") (λ e. omega arith)

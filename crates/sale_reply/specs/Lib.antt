@@ -1,3 +1,4 @@
+-- The files of definitions that contracts cite.
 pub mod Limits
 pub mod Names
 pub mod Reply

@@ -12,7 +12,7 @@ use Rattle.sale_reply.specs.declared.reply.Told.TheVariants.{PaymentApproved, Pa
 use Rattle.sale_reply.specs.declared.reply.SaleReply.{SaleReply}
 use Rattle.sale_reply.specs.declared.reply.SaleReply.TheVariants as reply
 
--- its texts are identifiers of their lengths
+-- a header's texts are identifiers of their lengths
 pub record IsHeaderWithinLimits (header : Header) : Type 0 where
   pub category : IsIdent 40 header.category
   pub service : IfSome header.service (λ id. IsIdent 10 id)
@@ -20,6 +20,7 @@ pub record IsHeaderWithinLimits (header : Header) : Type 0 where
   pub sale : IsIdent 40 header.sale
   pub poi : IsIdent 40 header.poi
 
+-- its path, where it has one, is an identifier of at most 100 bytes
 abbrev pub IsVerdictWithinLimits : Verdict → Type 0
 IsVerdictWithinLimits verdict = IfSome verdict.path (λ path. IsIdent 100 path)
 
@@ -31,6 +32,7 @@ IsMarkWithinLimits mark = mark.slot < 2 ^ 32
 abbrev pub IsTotalWithinLimits : ℕ × ℕ → Type 0
 IsTotalWithinLimits total = (total.0 < 2 ^ 32) × (total.1 < 2 ^ 64)
 
+-- a result body's texts are identifiers of their lengths, and its numbers fit their bits
 abbrev pub IsToldWithinLimits : Told → Type 0
 IsToldWithinLimits (PaymentApproved transaction stamp mark requested paid) =
     IsIdent 80 transaction × IsIdent 35 stamp × IsMarkWithinLimits mark × (paid.minor < 2 ^ 64)
@@ -39,11 +41,13 @@ IsToldWithinLimits (ReversalApproved mark reversed) = IsMarkWithinLimits mark ×
 IsToldWithinLimits (ReversalDeclined mark condition) = IsMarkWithinLimits mark
 IsToldWithinLimits (Reconciled period currency debit reversed) = IsTotalWithinLimits debit × IsTotalWithinLimits reversed
 
+-- an output's texts are identifiers of at most 40 bytes, and its verdict is within the limits
 pub record IsShownWithinLimits (shown : Shown) : Type 0 where
   pub device : IsIdent 40 shown.device
   pub qualify : IsIdent 40 shown.qualify
   pub verdict : IsVerdictWithinLimits shown.verdict
 
+-- an offset is a number of 64 bits, a path an identifier of at most 100 bytes
 abbrev pub IsDetailWithinLimits : Detail → Type 0
 IsDetailWithinLimits (detail.Json fault) = fault.at < 2 ^ 64
 IsDetailWithinLimits (detail.Header path) = IsIdent 100 path

@@ -10,6 +10,8 @@ use Rattle.gw_base.specs.Condition.{name_of}
 use Rattle.gw_base.specs.Currency.{currency_letters}
 use Rattle.gw_base.specs.Moment.{stamp_of}
 use Rattle.sale_values.specs.declared.header.Header.{Header}
+use Rattle.sale_values.specs.declared.names.Class.TheVariants as classes
+use Rattle.sale_values.specs.declared.names.Kind.TheVariants as kinds
 use Rattle.sale_values.specs.Names.{period_name}
 use Rattle.sale_reply.specs.declared.reply.PoiMark.{PoiMark}
 use Rattle.sale_reply.specs.declared.reply.Verdict.{Verdict}
@@ -57,9 +59,11 @@ result_tree outcome condition path = object
 abbrev pub verdict_tree : Verdict → Tree
 verdict_tree verdict = result_tree (result_of verdict.condition) verdict.condition verdict.path
 
+-- a success, with nothing to explain
 abbrev pub success_tree : Tree
 success_tree = result_tree result.Success None None
 
+-- a failure, and why
 abbrev pub failure_tree : Condition → Tree
 failure_tree condition = result_tree result.Failure (Some condition) None
 
@@ -91,9 +95,9 @@ declined_data mark = poi_data 0 0 mark
 
 -- what was paid
 unfoldable pub payment_result : Currency → ℕ → Tree
-payment_result currency minor = only (codes "AmountsResp") (object
+payment_result currency units = only (codes "AmountsResp") (object
     (text_member (codes "Currency") (currency_letters currency)
-    (number_member (codes "AuthorizedAmount") (money_text minor) no_members)))
+    (number_member (codes "AuthorizedAmount") (money_text units) no_members)))
 
 -- how many of this type, and their sum
 unfoldable pub total : List ℕ → ℕ × ℕ → Tree
@@ -204,14 +208,16 @@ print_request_body lines = only (codes "PrintOutput") (object
     (member (codes "OutputContent") (content (items_onto (line_trees lines) no_items)) no_members))))
 
 -- the header of an event
-unfoldable pub event_header : List ℕ → List ℕ → Tree
-event_header sale poi = object
-    (text_member (codes "ProtocolVersion") (codes "3.0")
-    (text_member (codes "MessageClass") (codes "Event")
-    (text_member (codes "MessageCategory") (codes "Event")
-    (text_member (codes "MessageType") (codes "Notification")
-    (text_member (codes "SaleID") sale
-    (text_member (codes "POIID") poi no_members))))))
+abbrev pub event_header : List ℕ → List ℕ → Header
+event_header sale poi = record {
+  class = classes.Event;
+  category = codes "Event";
+  kind = kinds.Notification;
+  service = None;
+  device = None;
+  sale = sale;
+  poi = poi;
+}
 
 -- what happened, and when
 unfoldable pub event_body : ℤ → Detail → Tree
@@ -221,10 +227,9 @@ event_body moment detail = object
     (text_member (codes "EventDetails") (detail_text detail) no_members)))
 
 -- the event that a message was rejected
-unfoldable pub event_tree : List ℕ → List ℕ → ℤ → Detail → Tree
-event_tree sale poi moment detail = only (codes "SaleToPOIRequest") (object
-    (member (codes "MessageHeader") (event_header sale poi)
-    (member (codes "EventNotification") (event_body moment detail) no_members)))
+abbrev pub event_tree : List ℕ → List ℕ → ℤ → Detail → Tree
+event_tree sale poi moment detail =
+    message_tree (codes "SaleToPOIRequest") (event_header sale poi) (codes "Notification") (event_body moment detail)
 
 -- the tree of a message to a till
 abbrev pub tree_of : SaleReply → Tree

@@ -2,7 +2,7 @@
 ghost use Rattle.std.specs.Prelude.{◌≡◌, codes, option_map};
 ghost use Rattle.json_text.specs.Canonical.{canonical};
 ghost use Rattle.gw_base.specs.Condition.{name_of};
-ghost use Rattle.sale_reply.specs.Names.{result_name, status_name, result_of, paid_result};
+ghost use Rattle.sale_reply.specs.Names.{result_of, paid_result};
 ghost use Rattle.sale_reply.specs.inner.Parts.{next_optional};
 ghost use Rattle.sale_reply.specs.inner.Appends.{Appends};
 ghost use Rattle.sale_reply.specs.Reply.{result_tree, verdict_tree, success_tree, sale_data, poi_data, payment_result, total, totals, approved_body, result_body, plain_body, diagnosis_body, print_body, event_body};
@@ -13,27 +13,6 @@ use crate::text::{details, transaction};
 use gw_base::{Condition, Currency, Ident, Money, stamp};
 use itoa::Buffer;
 use sale_values::{Period, money};
-
-fn result_name(outcome: ReplyResult) -> &'static str
-    ensures { result.now ≡ result_name outcome }
-{
-    match outcome {
-        ReplyResult::Success => "Success",
-        ReplyResult::Partial => "Partial",
-        ReplyResult::Failure => "Failure",
-    }
-}
-
-fn status_name(status: GlobalStatus) -> &'static str
-    ensures { result.now ≡ status_name status }
-{
-    match status {
-        GlobalStatus::Ready => "OK",
-        GlobalStatus::Busy => "Busy",
-        GlobalStatus::Maintenance => "Maintenance",
-        GlobalStatus::Unreachable => "Unreachable",
-    }
-}
 
 fn result_of(condition: Option<Condition>) -> ReplyResult
     ensures { result ≡ result_of condition }
@@ -64,7 +43,7 @@ fn write_result(
     ensures { Appends out.old out.new (canonical (result_tree outcome condition path.now)) }
 {
     out.raw(b"{");
-    out.first_text(b"Result", result_name(outcome).as_bytes());
+    out.first_text(b"Result", outcome.name().as_bytes());
     write_condition(condition, out);
     out.next_id(b"AdditionalResponse", path);
     out.raw(b"}");
@@ -290,7 +269,7 @@ pub(crate) fn write_diagnosis(status: GlobalStatus, out: &mut Out)
     write_success(out);
     out.next_name(b"POIStatus");
     out.raw(b"{");
-    out.first_text(b"GlobalStatus", status_name(status).as_bytes());
+    out.first_text(b"GlobalStatus", status.name().as_bytes());
     out.raw(b"}}");
 }
 

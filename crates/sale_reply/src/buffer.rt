@@ -3,17 +3,20 @@ ghost use Rattle.std.specs.Prelude.{◌≡◌, ◌<◌, ◌≤◌, [], ◌∷◌
 ghost use Rattle.sale_reply.specs.Texts.{line_text};
 ghost use Rattle.json_text.specs.Canonical.{canonical_string, canonical_byte};
 ghost use Rattle.sale_frame.specs.Grammar.{frame};
+ghost use Rattle.sale_values.specs.Parts.{part_text, parts_text};
 ghost use Rattle.sale_reply.specs.inner.Parts.{first_name, next_name, first_text, next_text, next_optional, next_number};
 ghost use Rattle.sale_reply.specs.inner.Appends.{Appends};
 
 use gw_base::{Ident, char_of_437};
+use gw_bytes::{FRAME_LENGTH_SIZE, LONGEST_PAYLOAD};
 use json_text::escaped;
 use sale_frame::frame_length;
+use sale_values::Part;
 use std::alloc::{AllocError, Global};
 use std::marker::Model;
 
 /// A frame's length and the longest message: a message that fits a frame always fits the buffer.
-const ROOM: usize = 65_540;
+const ROOM: usize = FRAME_LENGTH_SIZE + LONGEST_PAYLOAD as usize;
 
 /// A message to a till in its frame: four bytes of length, most significant first, and at most 65,536 bytes of JSON
 /// text. A contract sees the bytes.
@@ -57,7 +60,7 @@ impl Out {
         ensures { self.new ≡ 0 ∷ 0 ∷ 0 ∷ 0 ∷ [] }
     {
         self.bytes.clear();
-        self.raw(&[0; 4]);
+        self.raw(&[0; FRAME_LENGTH_SIZE]);
     }
 
     /// Writes the message's length into the first four bytes.
@@ -66,7 +69,7 @@ impl Out {
         requires fits { length self.old ≤ 65540 }
         ensures { self.new ≡ frame (drop 4 self.old) }
     {
-        let [first, second, third, fourth] = frame_length(self.bytes.len() - 4);
+        let [first, second, third, fourth] = frame_length(self.bytes.len() - FRAME_LENGTH_SIZE);
         self.bytes[0] = first;
         self.bytes[1] = second;
         self.bytes[2] = third;
@@ -89,6 +92,29 @@ impl Out {
         ensures { Appends self.old self.new (canonical_byte byte) }
     {
         self.raw(escaped(byte).as_slice());
+    }
+
+    /// Appends the parts of a message.
+    pub(crate) fn parts(&mut self, parts: &[Part<'_>])
+        ensures { Appends self.old self.new (parts_text parts.now) }
+    {
+        for part in parts {
+            self.part(*part);
+        }
+    }
+
+    fn part(&mut self, part: Part<'_>)
+        ensures { Appends self.old self.new (part_text part.entry) }
+    {
+        match part {
+            Part::Raw(bytes) => self.raw(bytes),
+            Part::Text(text) => self.string(text),
+            Part::Optional(prefix, Some(text)) => {
+                self.raw(prefix);
+                self.string(text);
+            }
+            Part::Optional(_, None) => {}
+        }
     }
 
     /// Appends a string between its quotation marks.

@@ -7,13 +7,15 @@ ghost use Rattle.sale_reply.specs.declared.reply.SaleReply.{SaleReply};
 ghost use Rattle.sale_reply.specs.Limits.{IsDetailWithinLimits, IsHeaderWithinLimits, IsShownWithinLimits, IsToldWithinLimits, IsPrintRequest, IsTotalWithinLimits, IsWithinLimits};
 ghost use Rattle.sale_reply.specs.Reply.{tree_of};
 
-use crate::reply::{Detail, SaleReply, Shown, Told};
+use crate::reply::{Detail, MOST_LINES, SaleReply, Shown, Told};
 use gw_base::{Ident, law_stamp};
+use gw_bytes::LONGEST_APDU_DATA;
 use json_text::spellable_trees_have_texts;
 use sale_values::Header;
 
-/// The most bytes that the lines of a print request have together: those of one APDU of a terminal.
-const MOST_LINES: usize = 12_000;
+/// The most bytes that the lines of a print request have together. This is no limit of its own: they are the lines of one
+/// APDU of a terminal, which has no more data than this.
+const MOST_LINE_BYTES: usize = LONGEST_APDU_DATA as usize;
 
 /// Whether the message's parts lie within the limits of this profile. Only a print request can have too much, since
 /// the types of all others see to it.
@@ -88,10 +90,10 @@ pub fn is_within_limits(reply: &SaleReply<'_>) -> bool
 fn are_within_limits(lines: &[&[u8]]) -> bool
     ensures { IsTrue result ↔ (length lines.now ≤ 400) × (sum_by (λ line. length line.now) lines.now ≤ 12000) }
 {
-    if lines.len() > 400 {
+    if lines.len() > MOST_LINES {
         return false;
     }
-    let mut room = MOST_LINES;
+    let mut room = MOST_LINE_BYTES;
     for line in lines {
         if line.len() > room {
             return false;

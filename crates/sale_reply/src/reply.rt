@@ -4,11 +4,15 @@ ghost use Rattle.gw_base.specs.Ident.{IsIdent};
 
 use arrayvec::ArrayVec;
 use gw_base::{Condition, Currency, Ident, Money};
+use gw_bytes::MOST_OUTPUTS;
 use json_text::JsonFault;
 use sale_values::{Header, Period};
 
+/// The most lines of a print request: as many as a reader of a terminal's block gives.
+pub(crate) const MOST_LINES: usize = 400;
+
 /// A name that is known.
-fn name(text: &[u8]) -> Ident<40>
+pub(crate) fn name(text: &[u8]) -> Ident<40>
     requires { IsIdent 40 text.now }
     ensures { result ≡ text.now }
 {
@@ -79,6 +83,42 @@ pub enum ReplyResult {
     Failure,
 }
 
+impl ReplyResult {
+    ghost use Rattle.std.specs.Prelude.{◌≢◌, MatchOption};
+    ghost use Rattle.sale_reply.specs.declared.reply.ReplyResult.{ReplyResult};
+    ghost use Rattle.sale_reply.specs.Names.{result_name};
+
+    /// The results, in the order of their declaration.
+    pub const ALL: [ReplyResult; 3] = [
+        ReplyResult::Success,
+        ReplyResult::Partial,
+        ReplyResult::Failure,
+    ];
+
+    /// The text of a response object's `Result`.
+    pub fn name(self) -> &'static str
+        ensures { result.now ≡ result_name self }
+    {
+        match self {
+            ReplyResult::Success => "Success",
+            ReplyResult::Partial => "Partial",
+            ReplyResult::Failure => "Failure",
+        }
+    }
+
+    /// The result of this name; `None` where there is none.
+    pub fn from_name(name: &[u8]) -> Option<ReplyResult>
+        ensures { MatchOption result ((r : ReplyResult) → result_name r ≢ name.now) (λ r. result_name r ≡ name.now) }
+    {
+        for outcome in ReplyResult::ALL {
+            if outcome.name().as_bytes() == name {
+                return Some(outcome);
+            }
+        }
+        None
+    }
+}
+
 /// The result of one output of a display.
 #[derive(Clone, Copy, Debug, PartialEq, Eq)]
 pub struct Shown {
@@ -109,6 +149,22 @@ pub enum GlobalStatus {
     Busy,
     Maintenance,
     Unreachable,
+}
+
+impl GlobalStatus {
+    ghost use Rattle.sale_reply.specs.Names.{status_name};
+
+    /// The text of `GlobalStatus` in the reply to a Diagnosis.
+    pub(crate) fn name(self) -> &'static str
+        ensures { result.now ≡ status_name self }
+    {
+        match self {
+            GlobalStatus::Ready => "OK",
+            GlobalStatus::Busy => "Busy",
+            GlobalStatus::Maintenance => "Maintenance",
+            GlobalStatus::Unreachable => "Unreachable",
+        }
+    }
 }
 
 /// Why a message was rejected.
@@ -146,7 +202,7 @@ pub enum SaleReply<'a> {
     },
     Display {
         header: Header,
-        outputs: ArrayVec<Shown, 16>,
+        outputs: ArrayVec<Shown, MOST_OUTPUTS>,
     },
     Print {
         header: Header,
@@ -161,7 +217,7 @@ pub enum SaleReply<'a> {
     /// Prints what the terminal sent, each line in the bytes of a terminal's text.
     PrintRequest {
         header: Header,
-        lines: ArrayVec<&'a [u8], 400>,
+        lines: ArrayVec<&'a [u8], MOST_LINES>,
     },
     /// The event that a message was rejected.
     Reject {

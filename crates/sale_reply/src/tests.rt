@@ -248,20 +248,20 @@ fn device_requests_and_events(rt: HostRuntime) -> Result<(), Fail> {
         lines,
     };
     is_written_as(&rt, &mut out, &paper, PAPER);
-    let rejected = SaleReply::Reject {
+    let reject = SaleReply::Reject {
         sale: Ident::of(b"0").ok_or("printable")?,
         poi: Ident::of(b"GATEWAY").ok_or("printable")?,
         moment: 0,
         detail: Detail::Header(Ident::of(b"SaleToPOIRequest").ok_or("printable")?),
     };
-    is_written_as(&rt, &mut out, &rejected, REJECT);
+    is_written_as(&rt, &mut out, &reject, REJECT);
     Ok(())
 }
 
 #[test]
 fn details_of_rejects(rt: HostRuntime) -> Result<(), Fail> {
     let mut out = Out::new(rt.alloc())?;
-    let fault = |kind, at| Detail::Json(JsonFault { at, kind });
+    let fault = |kind, offset| Detail::Json(JsonFault { at: offset, kind });
     let rows = [
         (fault(FaultKind::Repeated, 9), "json Repeated 9"),
         (fault(FaultKind::NotJson, 7), "json NotJson 7"),

@@ -41,8 +41,8 @@ fn fill_digits(value: u64, cells: &mut [u8])
     ensures { cells.new ≡ digits (length cells.old) value }
 {
     let mut rest = value;
-    for at in (0..cells.len()).rev() {
-        cells[at] = b'0' + (rest % 10) as u8;
+    for index in (0..cells.len()).rev() {
+        cells[index] = b'0' + (rest % 10) as u8;
         rest /= 10;
     }
 }
@@ -93,6 +93,7 @@ fn path_details(prefix: &[u8], path: &Ident<100>) -> ArrayVec<u8, 128>
     requires { length prefix.now ≤ 8 }
     ensures { result.items ≡ prefix.now ++ path.now }
 {
+    // A prefix and a path: 107 bytes at most.
     let mut text = ArrayVec::new();
     text.try_extend_from_slice(prefix).unwrap();
     text.try_extend_from_slice(path.as_bytes()).unwrap();
@@ -100,8 +101,8 @@ fn path_details(prefix: &[u8], path: &Ident<100>) -> ArrayVec<u8, 128>
 }
 
 /// The name of a message's body: the category, and what the message is.
-pub(crate) fn body_name(category: &Ident<40>, suffix: &[u8]) -> ArrayVec<u8, 48>
-    requires { length suffix.now ≤ 8 }
+pub(crate) fn body_name(category: &Ident<40>, suffix: &[u8]) -> ArrayVec<u8, 52>
+    requires { length suffix.now ≤ 12 }
     ensures { result.items ≡ category.now ++ suffix.now }
 {
     let mut name = ArrayVec::new();

@@ -11,10 +11,10 @@ use crate::body::{
 };
 use crate::buffer::Out;
 use crate::device::{write_display, write_display_request, write_print_request};
-use crate::reply::{Detail, SaleReply, Told};
+use crate::reply::{Detail, SaleReply, Told, name};
 use crate::text::body_name;
 use gw_base::Ident;
-use sale_values::Header;
+use sale_values::{Class, Header, Kind, header_parts};
 
 /// Puts the message into the buffer, in its frame, and drops what was there. It takes no memory.
 ///
@@ -104,8 +104,9 @@ fn open_request(header: &Header, out: &mut Out)
     open_message(b"SaleToPOIRequest", header, b"Request", out);
 }
 
+/// A message up to its body.
 fn open_message(envelope: &[u8], header: &Header, suffix: &[u8], out: &mut Out)
-    requires { length suffix.now ≤ 8 }
+    requires { length suffix.now ≤ 12 }
     ensures { Appends out.old out.new (message_prefix envelope.now header.now suffix.now) }
 {
     out.raw(b"{");
@@ -117,19 +118,11 @@ fn open_message(envelope: &[u8], header: &Header, suffix: &[u8], out: &mut Out)
 }
 
 /// A message header.
+#[tactic(auto, unfolding(crate::specs::Reply::header_tree))]
 fn write_header(header: &Header, out: &mut Out)
     ensures { Appends out.old out.new (canonical (header_tree header.now)) }
 {
-    out.raw(b"{");
-    out.first_text(b"ProtocolVersion", b"3.0");
-    out.next_text(b"MessageClass", header.class.name().as_bytes());
-    out.next_text(b"MessageCategory", header.category.as_bytes());
-    out.next_text(b"MessageType", header.kind.name().as_bytes());
-    out.next_id(b"ServiceID", &header.service);
-    out.next_id(b"DeviceID", &header.device);
-    out.next_text(b"SaleID", header.sale.as_bytes());
-    out.next_text(b"POIID", header.poi.as_bytes());
-    out.raw(b"}");
+    out.parts(&header_parts(header));
 }
 
 /// The body that repeats the reply to a finished request.
@@ -150,28 +143,31 @@ fn write_status(repeated: &Header, told: &Told, out: &mut Out)
     out.raw(b"}}}");
 }
 
+/// The event that a message was rejected.
 fn write_reject(sale: &Ident<40>, poi: &Ident<40>, moment: i64, detail: &Detail, out: &mut Out)
     ensures { Appends out.old out.new (canonical (event_tree sale.now poi.now moment detail.now)) }
 {
-    out.raw(b"{");
-    out.first_name(b"SaleToPOIRequest");
-    out.raw(b"{");
-    out.first_name(b"MessageHeader");
-    write_event_header(sale, poi, out);
-    out.next_name(b"EventNotification");
+    open_message(
+        b"SaleToPOIRequest",
+        &event_header(sale, poi),
+        b"Notification",
+        out,
+    );
     write_event(moment, detail, out);
     out.raw(b"}}");
 }
 
-fn write_event_header(sale: &Ident<40>, poi: &Ident<40>, out: &mut Out)
-    ensures { Appends out.old out.new (canonical (event_header sale.now poi.now)) }
+/// The header of an event.
+fn event_header(sale: &Ident<40>, poi: &Ident<40>) -> Header
+    ensures { result ≡ event_header sale.now poi.now }
 {
-    out.raw(b"{");
-    out.first_text(b"ProtocolVersion", b"3.0");
-    out.next_text(b"MessageClass", b"Event");
-    out.next_text(b"MessageCategory", b"Event");
-    out.next_text(b"MessageType", b"Notification");
-    out.next_text(b"SaleID", sale.as_bytes());
-    out.next_text(b"POIID", poi.as_bytes());
-    out.raw(b"}");
+    Header {
+        class: Class::Event,
+        category: name(b"Event"),
+        kind: Kind::Notification,
+        service: None,
+        device: None,
+        sale: *sale,
+        poi: *poi,
+    }
 }

@@ -1,5 +1,6 @@
 //! Messages as a till sends them.
 use gw_base::Ident;
+use gw_bytes::LONGEST_CHUNK;
 use json_text::read;
 use sale_frame::{FrameFault, FrameReader, frame_length};
 use sale_msg::{
@@ -77,12 +78,12 @@ fn amounts(rt: HostRuntime) -> Result<(), Fail> {
         ("10000000000", None),
         ("\"10\"", None),
     ];
-    for (amount, minor) in rows {
+    for (amount, units) in rows {
         let body = payment(alloc, amount)?;
         let text = request(alloc, "Payment", body.as_str())?;
         let read = amount_of(alloc, text.as_str());
-        assert_eq!(rt; read, minor, "of {amount}");
-        if minor.is_none() {
+        assert_eq!(rt; read, units, "of {amount}");
+        if units.is_none() {
             assert_eq!(rt;
                 fault(alloc, text.as_str())?.as_str(),
                 "Wrong PaymentRequest.PaymentTransaction.AmountsReq.RequestedAmount"
@@ -186,9 +187,13 @@ fn headers(rt: HostRuntime) -> Result<(), Fail> {
             "NoHeader MessageHeader.ServiceID",
         ),
     ];
-    for (envelope, header, told) in rows {
+    for (envelope, header, reported) in rows {
         let text = headed(alloc, envelope, header)?;
-        assert_eq!(rt; fault(alloc, text.as_str())?.as_str(), told, "of {header}");
+        assert_eq!(rt;
+            fault(alloc, text.as_str())?.as_str(),
+            reported,
+            "of {header}"
+        );
     }
     let both = "{\"SaleToPOIResponse\":1,\"SaleToPOIRequest\":2}";
     assert_eq!(rt; fault(alloc, both)?.as_str(), "NoHeader MessageHeader");
@@ -301,11 +306,11 @@ fn bodies(rt: HostRuntime) -> Result<(), Fail> {
             "Missing PrintRequest.PrintOutput.DocumentQualifier",
         ),
     ];
-    for (category, body, told) in rows {
+    for (category, body, reported) in rows {
         let text = request(alloc, category, body)?;
         assert_eq!(rt;
             fault(alloc, text.as_str())?.as_str(),
-            told,
+            reported,
             "of {category} {body}"
         );
     }
@@ -374,7 +379,7 @@ fn references_and_periods(rt: HostRuntime) -> Result<(), Fail> {
 
 /// Whether the reader, fed the frame of this text in two chunks, the first of this length, gives nothing before the
 /// second and then the text.
-fn given_whole(alloc: Global, text: &[u8], cut: usize) -> Result<bool, AllocError> {
+fn given_whole(alloc: Global, text: &[u8], first: usize) -> Result<bool, AllocError> {
     if text.is_empty() || text.len() > 4000 {
         return Ok(false);
     }
@@ -382,8 +387,8 @@ fn given_whole(alloc: Global, text: &[u8], cut: usize) -> Result<bool, AllocErro
     frame.extend_from_slice(&frame_length(text.len()))?;
     frame.extend_from_slice(text)?;
     let mut reader = FrameReader::new(alloc)?;
-    let (prefix, rest) = frame.split_at(cut.min(frame.len()));
-    if prefix.len() > 4096 || rest.len() > 4096 {
+    let (prefix, rest) = frame.split_at(first.min(frame.len()));
+    if prefix.len() > LONGEST_CHUNK || rest.len() > LONGEST_CHUNK {
         return Ok(false);
     }
     reader.feed(alloc, prefix)?;
@@ -401,8 +406,11 @@ fn frames(rt: HostRuntime) -> Result<(), Fail> {
     let alloc = rt.alloc();
     let body = payment(alloc, "10.99")?;
     let text = request(alloc, "Payment", body.as_str())?;
-    for cut in 0..text.len() + 4 {
-        assert!(rt; given_whole(alloc, text.as_bytes(), cut)?, "cut at {cut}");
+    for first in 0..text.len() + 4 {
+        assert!(rt;
+            given_whole(alloc, text.as_bytes(), first)?,
+            "first chunk of {first} bytes"
+        );
     }
     let mut reader = FrameReader::new(alloc)?;
     reader.feed(alloc, &[0, 0, 0, 2, b'{', b'}'])?;
@@ -418,7 +426,7 @@ fn frames(rt: HostRuntime) -> Result<(), Fail> {
     for (bytes, fault) in rows {
         let mut reader = FrameReader::new(alloc)?;
         reader.feed(alloc, &bytes)?;
-        assert!(rt; matches!(reader.next(), Err(told) if told == fault));
+        assert!(rt; matches!(reader.next(), Err(reported) if reported == fault));
     }
     Ok(())
 }

@@ -13,7 +13,7 @@ use Rattle.sale_msg.specs.Path.{tree_at}
 use Rattle.sale_msg.specs.Table.{header_rows}
 use Rattle.sale_msg.specs.Grammar.{IsHeaded, HasHeader, HeaderHolds}
 use Rattle.sale_msg.specs.declared.table.Envelope.TheVariants as envelopes
-use Rattle.sale_reply.specs.Limits.{IsHeaderWithinLimits as HasIdents}
+use Rattle.sale_reply.specs.Limits.{IsHeaderWithinLimits}
 use Rattle.sale_reply.specs.Reply.{header_tree, message_tree, response_tree}
 use Rattle.sale_seen.specs.ReplyMembers.{response_of}
 use Rattle.sale_seen.specs.Expected.{IsReadable}
@@ -54,11 +54,11 @@ may_lack class kind (inr e) = inr (ap (λ k. Some (kind_name k)) e)
 abbrev Letters : List ℕ → Type 0
 Letters category = (1 ≤ length category) × (length category ≤ 40) × All IsLetter category
 
-letters : (header : Header) → HasIdents header → IsReadable header → Letters header.category
+letters : (header : Header) → IsHeaderWithinLimits header → IsReadable header → Letters header.category
 letters header h r = (h.category.0, h.category.1, r.category)
 
 met_parts : (class : ClassType) (category : List ℕ) (kind : KindType) (service device : Option (List ℕ)) (sale poi : List ℕ) (body : Tree)
-    → Letters category → HasIdents (parted class category kind service device sale poi)
+    → Letters category → IsHeaderWithinLimits (parted class category kind service device sale poi)
     → (service ≡ None → (class ≡ classes.Device) ⊎ (kind ≡ kinds.Notification))
     → AreMet (header_rows envelopes.Response) (object_of_reply (parted class category kind service device sale poi) body)
 unfolding tree_at IsMet header_tree
@@ -71,7 +71,7 @@ met_parts class category kind (Some s) None sale poi body l h r =
 met_parts class category kind (Some s) (Some d) sale poi body l h r =
     (refl, ((codes "0", refl), ((class, refl), (l, ((kind, refl), (h.service, (h.device, (h.sale, (h.poi, tt)))))))))
 
-header_again : (header : Header) (body : Tree) → HasIdents header → IsReadable header
+header_again : (header : Header) (body : Tree) → IsHeaderWithinLimits header → IsReadable header
     → HasHeader envelopes.Response (object_of_reply header body) header
 header_again header body h r = record {
   members = met_parts header.class header.category header.kind header.service header.device header.sale header.poi body (letters header h r) h r.service;
@@ -79,7 +79,7 @@ header_again header body h r = record {
 }
 
 -- a written reply has its header
-pub headed : (header : Header) (body : Tree) → HasIdents header → IsReadable header
+pub headed : (header : Header) (body : Tree) → IsHeaderWithinLimits header → IsReadable header
     → IsHeaded (response_tree header body) envelopes.Response (object_of_reply header body) header
 unfolding message_tree
 headed header body h r = ((refl, refl), header_again header body h r)

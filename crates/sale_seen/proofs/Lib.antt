@@ -1,3 +1,4 @@
+-- The files of lemmas.
 pub mod BodyLemmas
 pub mod HeaderLemmas
 pub mod IdentLemmas
@@ -5,4 +6,5 @@ pub mod MoneyLemmas
 pub mod NameLemmas
 pub mod PathLemmas
 pub mod ReplyLemmas
+pub mod TransactionLemmas
 pub mod UniqueLemmas

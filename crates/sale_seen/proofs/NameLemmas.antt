@@ -31,9 +31,9 @@ differ a b e same = true≢false (sym ((bytes_eq-Decides a b).1 same) ∙ e)
 pub not_header : (category : List ℕ) → codes "MessageHeader" ≢ category ++ codes "Response"
 not_header category e =
     let count : length category ≡ 5 = omega (arith, ap length e, length-append category (codes "Response")) in
-    let behind : drop 5 (codes "MessageHeader") ≡ codes "Response" =
+    let suffix : drop 5 (codes "MessageHeader") ≡ codes "Response" =
     ap (drop 5) e ∙ ap (λ n. drop n (category ++ codes "Response")) (sym count) ∙ drop-append_seam category (codes "Response") in
-    differ (drop 5 (codes "MessageHeader")) (codes "Response") refl behind
+    differ (drop 5 (codes "MessageHeader")) (codes "Response") refl suffix
 
 -- what comes after a common prefix is equal
 pub same_suffix : (prefix a b : List ℕ) → prefix ++ a ≡ prefix ++ b → a ≡ b

@@ -28,10 +28,10 @@ pub path_leads : (category : List ℕ) (holder : Tree) → All IsLetter category
 unfolding tree_at
 path_leads category holder letters =
     let name = category ++ codes "Response" in
-    let behind = codes "Response.Result" in
-    let whole : result_path category ≡ name ++ (0x2E ∷ behind) = sym (append_assoc category (codes "Response") (0x2E ∷ behind)) in
+    let suffix = codes "Response.Result" in
+    let whole : result_path category ≡ name ++ (0x2E ∷ suffix) = sym (append_assoc category (codes "Response") (0x2E ∷ suffix)) in
     let no_point = All-append IsName category (codes "Response") (All-weaker IsLetter IsName letter_in_name category letters)
     (name_by_test (codes "Response") refl) in
-    let split = slice_split_at is_point name 0x2E behind no_point refl in
+    let split = slice_split_at is_point name 0x2E suffix no_point refl in
     ap (λ path. tree_under (slice_split is_point path) holder) whole
     ∙ ap (λ names. tree_under names holder) split

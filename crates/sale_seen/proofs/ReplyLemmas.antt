@@ -6,7 +6,7 @@ use Rattle.json_text.specs.Tree.{Tree}
 use Rattle.sale_values.specs.declared.header.Header.{Header}
 use Rattle.sale_msg.specs.Path.{tree_at}
 use Rattle.sale_msg.specs.declared.table.Envelope.TheVariants as envelopes
-use Rattle.sale_reply.specs.Limits.{IsHeaderWithinLimits as HasIdents, IsToldWithinLimits, IsWithinLimits}
+use Rattle.sale_reply.specs.Limits.{IsHeaderWithinLimits, IsToldWithinLimits, IsWithinLimits}
 use Rattle.sale_reply.specs.Names.{result_of}
 use Rattle.sale_reply.specs.Reply.{diagnosis_body, display_body, plain_body, print_body, response_tree, status_body, result_body, tree_of, verdict_tree}
 use Rattle.sale_reply.specs.declared.reply.ReplyResult.{ReplyResult}
@@ -16,15 +16,15 @@ use Rattle.sale_reply.specs.declared.reply.SaleReply.TheVariants as reply
 use Rattle.sale_reply.specs.declared.reply.Shown.{Shown}
 use Rattle.sale_reply.specs.declared.reply.Told.{Told}
 use Rattle.sale_seen.specs.Fault.{LacksResult, result_path}
-use Rattle.sale_seen.specs.ReplyMembers.{amount_in, outcome_in, repeated_in, transaction_in}
+use Rattle.sale_seen.specs.ReplyMembers.{OutcomeValue, amount_in, outcome_in, outcome_of, repeated_in, transaction_in}
 use Rattle.sale_seen.specs.Grammar.{ReadsReply, ReadReply}
 use Rattle.sale_seen.specs.Expected.{IsReadable, Suits, expected_condition, display_header_of, expected_outcome, expected_plain, expected_result, expected_reply}
-use Rattle.sale_seen.proofs.BodyLemmas.{HasOutcome, HasResult, IsAlone, alone, diagnosis_alone, diagnosis_shows, finds_minor, finds_transaction, minor_fits, plain_alone, plain_shows, print_alone, print_shows, status_repeats, status_shows, body_outcome, body_shows, transaction_fits}
+use Rattle.sale_seen.proofs.BodyLemmas.{HasOutcome, HasResult, IsAlone, alone_amount, alone_transaction, diagnosis_alone, diagnosis_shows, finds_minor, finds_transaction, minor_fits, plain_alone, plain_shows, print_alone, print_shows, status_repeats, status_shows, body_outcome, body_shows, transaction_fits}
 use Rattle.sale_seen.proofs.HeaderLemmas.{bodied, headed, object_of_reply}
 use Rattle.sale_seen.proofs.NameLemmas.{not_eq}
 
 -- a reply that has a result alone
-plain_reply : (header : Header) (body : Tree) (condition : Option Condition) → HasIdents header → IsReadable header
+plain_reply : (header : Header) (body : Tree) (condition : Option Condition) → IsHeaderWithinLimits header → IsReadable header
     → HasResult body (result_of condition) condition → IsAlone body → ReadsReply (response_tree header body) (expected_plain header condition)
 plain_reply header body condition h r shows own = (
   envelopes.Response,
@@ -38,16 +38,16 @@ plain_reply header body condition h r shows own = (
     result = shows.result;
     condition = shows.condition;
     transaction = finds_transaction (option_and_then transaction_in (outcome_in header.category body)) None
-        (alone transaction_in header.category body own.repeated own.transaction) tt;
+        (alone_transaction header.category body own) tt;
     minor = finds_minor (option_and_then amount_in (outcome_in header.category body)) None
-        (alone amount_in header.category body own.repeated own.amount) tt;
+        (alone_amount header.category body own) tt;
   },
 )
 
 -- a reply with an outcome, in its own body or in the one that it repeats
-outcome_reply : (header : Header) (body within : Tree) (result : ReplyResult) (condition : Option Condition) (told : Told)
-    → HasIdents header → IsReadable header → HasResult body result condition → outcome_in header.category body ≡ Some within
-    → HasOutcome within told → IsToldWithinLimits told → ReadsReply (response_tree header body) (expected_outcome header result condition told)
+outcome_reply : (header : Header) (body : Tree) (within : OutcomeValue) (result : ReplyResult) (condition : Option Condition) (told : Told)
+    → IsHeaderWithinLimits header → IsReadable header → HasResult body result condition → outcome_in header.category body ≡ Some within
+    → HasOutcome within told → IsToldWithinLimits told → ReadsReply (response_tree header body) (expected_outcome header result condition within.category told)
 outcome_reply header body within result condition told h r shows place has fits = (
   envelopes.Response,
   object_of_reply header body,
@@ -60,18 +60,18 @@ outcome_reply header body within result condition told h r shows place has fits 
     result = shows.result;
     condition = shows.condition;
     transaction = finds_transaction (option_and_then transaction_in (outcome_in header.category body)) _
-        (ap (option_and_then transaction_in) place ∙ has.transaction) (transaction_fits told fits);
+        (ap (option_and_then transaction_in) place ∙ has.transaction) (transaction_fits within.category told fits);
     minor = finds_minor (option_and_then amount_in (outcome_in header.category body)) _
-        (ap (option_and_then amount_in) place ∙ has.amount) (minor_fits told fits);
+        (ap (option_and_then amount_in) place ∙ has.amount) (minor_fits within.category told fits);
   },
 )
 
 -- the outcome is in the own body
-own_outcome : (category : List ℕ) (body : Tree) → category ≢ codes "TransactionStatus" → outcome_in category body ≡ Some body
+own_outcome : (category : List ℕ) (body : Tree) → category ≢ codes "TransactionStatus" → outcome_in category body ≡ Some (outcome_of category body)
 own_outcome category body other = rw (not_eq category (codes "TransactionStatus") other) refl
 
 -- the outcome is in the body that a status repeats
-repeated_outcome : (category : List ℕ) (body within : Tree) → category ≡ codes "TransactionStatus" → repeated_in body ≡ Some within
+repeated_outcome : (category : List ℕ) (body : Tree) (within : OutcomeValue) → category ≡ codes "TransactionStatus" → repeated_in body ≡ Some within
     → outcome_in category body ≡ Some within
 repeated_outcome category body within same place =
     let test : bytes_eq category (codes "TransactionStatus") ≡ true = ap (λ c. bytes_eq c (codes "TransactionStatus")) same in
@@ -88,18 +88,19 @@ reply_again (reply.Plain header verdict) seen w s e =
     let body = plain_body (verdict_tree verdict) in
     one_reply (response_tree header body) (expected_plain header verdict.condition) seen e
     (plain_reply header body verdict.condition w.0 s
-    (plain_shows (result_of verdict.condition) verdict.condition verdict.path) (plain_alone (verdict_tree verdict)))
+    (plain_shows verdict.condition verdict.path) (plain_alone (verdict_tree verdict)))
 reply_again (reply.Told header told) seen w s e =
     let body = result_body told in
-    one_reply (response_tree header body) (expected_outcome header (expected_result told) (expected_condition told) told) seen e
-    (outcome_reply header body body (expected_result told) (expected_condition told) told w.0 s.0 (body_shows told)
-    (own_outcome header.category body s.1) (body_outcome told) w.1)
+    one_reply (response_tree header body) (expected_outcome header (expected_result told) (expected_condition told) header.category told) seen e
+    (outcome_reply header body (outcome_of header.category body) (expected_result told) (expected_condition told) told w.0 s.0 (body_shows told)
+    (own_outcome header.category body s.1) (body_outcome header.category told) w.1)
 reply_again (reply.Status header repeated told) seen w s e =
     let within = result_body told in
     let body = status_body repeated within in
-    one_reply (response_tree header body) (expected_outcome header results.Success None told) seen e
-    (outcome_reply header body within results.Success None told w.0 s.0 (status_shows repeated within)
-    (repeated_outcome header.category body within s.1 (status_repeats repeated within)) (body_outcome told) w.2)
+    let outcome = outcome_of repeated.category within in
+    one_reply (response_tree header body) (expected_outcome header results.Success None repeated.category told) seen e
+    (outcome_reply header body outcome results.Success None told w.0 s.0 (status_shows repeated within)
+    (repeated_outcome header.category body outcome s.1 (status_repeats repeated within)) (body_outcome repeated.category told) w.2)
 reply_again (reply.Diagnosis header status) seen w s e =
     let body = diagnosis_body status in
     one_reply (response_tree header body) (expected_plain header None) seen e
@@ -119,7 +120,7 @@ no_result : (outputs : List Shown) → option_and_then (tree_at (codes "Response
 unfolding tree_at display_body
 no_result outputs = refl
 
-lacks_result : (header : Header) (outputs : List Shown) → HasIdents header → IsReadable header
+lacks_result : (header : Header) (outputs : List Shown) → IsHeaderWithinLimits header → IsReadable header
     → LacksResult (response_tree header (display_body outputs)) header (result_path header.category)
 lacks_result header outputs h r =
     let body = display_body outputs in (

@@ -17,7 +17,7 @@ use Rattle.sale_reply.specs.Names.{result_name}
 use Rattle.sale_reply.specs.declared.reply.ReplyResult.{ReplyResult}
 use Rattle.sale_reply.specs.declared.reply.ReplyResult.TheVariants as results
 use Rattle.sale_seen.specs.Fault.{HasOtherResult, IsReplyFault, LacksResult, result_in, result_path}
-use Rattle.sale_seen.specs.ReplyMembers.{amount_in, outcome_in, response_of, transaction_in}
+use Rattle.sale_seen.specs.ReplyMembers.{amount_in, condition_in, outcome_in, response_of, transaction_in}
 use Rattle.sale_seen.specs.Grammar.{FindsMember, ReadsReply, ReadsReplyIn, ReadReply, NamesCondition, IsAmountMember, NamesResult, IsTransactionText, read_reply_value}
 use Rattle.sale_seen.specs.declared.reply.ReplySeen.{ReplySeen}
 use Rattle.sale_seen.proofs.NameLemmas.{differ}
@@ -29,11 +29,11 @@ some_one o x y e f = let g : Some x ≡ Some y = sym e ∙ f in cc
 none_some : {A : Type 0} (o : Option A) (x : A) → o ≡ None → o ≡ Some x → ⊥
 none_some {A} o x e f = let nothing : Option A = None in let g : nothing ≡ Some x = sym e ∙ f in absurd cc
 
-finds_one : {A : Type 0} (Tells : A → Type 0) → ((x y : A) → Tells x → Tells y → x ≡ y) → (a b : Option A) → FindsMember Tells a → FindsMember Tells b → a ≡ b
-finds_one Tells one None None h k = refl
-finds_one Tells one None (Some y) h k = absurd (h y k)
-finds_one Tells one (Some x) None h k = absurd (k x h)
-finds_one Tells one (Some x) (Some y) h k = ap (λ v. Some v) (one x y h k)
+finds_one : {A : Type 0} (Holds : A → Type 0) → ((x y : A) → Holds x → Holds y → x ≡ y) → (a b : Option A) → FindsMember Holds a → FindsMember Holds b → a ≡ b
+finds_one Holds one None None h k = refl
+finds_one Holds one None (Some y) h k = absurd (h y k)
+finds_one Holds one (Some x) None h k = absurd (k x h)
+finds_one Holds one (Some x) (Some y) h k = ap (λ v. Some v) (one x y h k)
 
 -- ---- names
 
@@ -65,27 +65,29 @@ result_named_one : (message : Tree) (envelope : Envelope) (holder : Tree) (heade
     → ReadsReplyIn message envelope holder header body s → (e : Envelope) → ReadsReplyIn message e holder header body t → s ≡ t
 result_named_one message envelope holder header body s t h e k =
     let outcome = outcome_in header.category body in
-    let condition_text = text_at (codes "Response.ErrorCondition") body in
+    let condition_text = condition_in s.result body in
     let transaction_text = option_and_then transaction_in outcome in
     let numeral = option_and_then amount_in outcome in
     let category : s.category ≡ t.category = h.category ∙ sym k.category in
     let result = result_one s.result t.result (some_one (text_at (codes "Response.Result") body) (result_name s.result) (result_name t.result) h.result k.result) in
+    let HasCondition : ReplyResult → Type 0 = λ outcome. FindsMember (NamesCondition (condition_in outcome body)) t.condition in
     let condition = finds_one (NamesCondition condition_text)
-    (λ a b p q. condition_one a b (some_one condition_text (name_of a) (name_of b) p q)) s.condition t.condition h.condition k.condition in
+    (λ a b p q. condition_one a b (some_one condition_text (name_of a) (name_of b) p q)) s.condition t.condition h.condition
+    (subst HasCondition (sym result) k.condition) in
     let transaction = finds_one (IsTransactionText transaction_text)
     (λ a b p q. some_one transaction_text a b p.0 q.0) s.transaction t.transaction h.transaction k.transaction in
-    let minor = finds_one (IsAmountMember numeral)
+    let units = finds_one (IsAmountMember numeral)
     (λ a b p q. money_one a b p.1 q.1 (some_one numeral (money_text a) (money_text b) p.0 q.0)) s.minor t.minor h.minor k.minor in
-    λ i. record { category = category i; result = result i; condition = condition i; transaction = transaction i; minor = minor i }
+    λ i. record { category = category i; result = result i; condition = condition i; transaction = transaction i; minor = units i }
 
 reply_in_one : (message : Tree) (e d : Envelope) (o p : Tree) (g h : Header) (b c : Tree) (s t : ReadReply)
     → ReadsReplyIn message e o g b s → ReadsReplyIn message d p h c t → s ≡ t
 reply_in_one message e d o p g h b c s t x y =
-    let place = header_path_unique message e d o p g h x.headed y.headed in
+    let headed = header_path_unique message e d o p g h x.headed y.headed in
     let P : Tree → Type 0 = λ tree. ReadsReplyIn message e tree g b s in
     let Q : Header → Type 0 = λ header. ReadsReplyIn message e p header b s in
     let R : Tree → Type 0 = λ body. ReadsReplyIn message e p h body s in
-    let there = subst Q place.1 (subst P place.0 x) in
+    let there = subst Q headed.1 (subst P headed.0 x) in
     let same = some_one (response_of h.category p) b c there.body_is y.body_is in
     result_named_one message e p h c s t (subst R same there) d y
 
@@ -179,22 +181,22 @@ reply_fault_one message (faults.Unserved g) g' x y = absurd x
 -- ---- a result that is right is the only one
 
 abbrev pub IsReaderResult : Tree → Result ReplySeen SaleFault → Type 0
-IsReaderResult message answer = MatchResult answer (λ seen. ReadsReply message (read_reply_value seen)) (IsReplyFault message)
+IsReaderResult message result = MatchResult result (λ seen. ReadsReply message (read_reply_value seen)) (IsReplyFault message)
 
-pub result_ok : (message : Tree) (answer : Result ReplySeen SaleFault) → IsReaderResult message answer → IfOk answer (λ seen. ReadsReply message (read_reply_value seen))
+pub result_ok : (message : Tree) (result : Result ReplySeen SaleFault) → IsReaderResult message result → IfOk result (λ seen. ReadsReply message (read_reply_value seen))
 result_ok message (Ok own) h = h
 result_ok message (Err fault) h = tt
 
-pub result_every : (message : Tree) (answer : Result ReplySeen SaleFault) → IsReaderResult message answer
-    → (seen : ReadReply) → ReadsReply message seen → IsOkAnd answer (λ own. read_reply_value own ≡ seen)
+pub result_every : (message : Tree) (result : Result ReplySeen SaleFault) → IsReaderResult message result
+    → (seen : ReadReply) → ReadsReply message seen → IsOkAnd result (λ own. read_reply_value own ≡ seen)
 result_every message (Ok own) h = λ seen k. reply_one message (read_reply_value own) seen h k
 result_every message (Err fault) h = λ seen k. absurd (not_both message seen fault k h)
 
-only_fault : (message : Tree) (answer : Result ReplySeen SaleFault) → IsReaderResult message answer
-    → (fault : SaleFault) → IsReplyFault message fault → answer ≡ Err fault
+only_fault : (message : Tree) (result : Result ReplySeen SaleFault) → IsReaderResult message result
+    → (fault : SaleFault) → IsReplyFault message fault → result ≡ Err fault
 only_fault message (Ok own) h fault k = absurd (not_both message (read_reply_value own) fault h k)
 only_fault message (Err own) h fault k = ap (λ (f : SaleFault). Err f) (reply_fault_one message own fault h k)
 
-pub result_fault : (message : Tree) (answer : Result ReplySeen SaleFault) → IsReaderResult message answer
-    → (fault : SaleFault) → (answer ≡ Err fault) ↔ IsReplyFault message fault
-result_fault message answer h fault = (λ e. subst (IsReaderResult message) e h, only_fault message answer h fault)
+pub result_fault : (message : Tree) (result : Result ReplySeen SaleFault) → IsReaderResult message result
+    → (fault : SaleFault) → (result ≡ Err fault) ↔ IsReplyFault message fault
+result_fault message result h fault = (λ e. subst (IsReaderResult message) e h, only_fault message result h fault)

@@ -15,6 +15,7 @@ use Rattle.sale_reply.specs.declared.reply.Told.TheVariants.{PaymentApproved, Pa
 use Rattle.sale_reply.specs.declared.reply.SaleReply.{SaleReply}
 use Rattle.sale_reply.specs.declared.reply.SaleReply.TheVariants as reply
 use Rattle.sale_seen.specs.Grammar.{ReadReply}
+use Rattle.sale_seen.specs.ReplyMembers.{by_category}
 
 -- the result of an outcome
 abbrev pub expected_result : Told → ReplyResult
@@ -41,20 +42,36 @@ abbrev pub declined_text : PoiMark → List ℕ
 declined_text mark = transaction_text 0 0 mark.slot
 
 -- the text that identifies an outcome
-abbrev pub expected_transaction : Told → Option (List ℕ)
-expected_transaction (PaymentApproved transaction stamp mark requested paid) = Some (approved_text mark)
-expected_transaction (PaymentDeclined transaction stamp mark condition) = Some (declined_text mark)
-expected_transaction (ReversalApproved mark reversed) = Some (approved_text mark)
-expected_transaction (ReversalDeclined mark condition) = Some (declined_text mark)
-expected_transaction (Reconciled period currency debit reversed) = None
+abbrev pub text_of_outcome : Told → Option (List ℕ)
+text_of_outcome (PaymentApproved transaction stamp mark requested paid) = Some (approved_text mark)
+text_of_outcome (PaymentDeclined transaction stamp mark condition) = Some (declined_text mark)
+text_of_outcome (ReversalApproved mark reversed) = Some (approved_text mark)
+text_of_outcome (ReversalDeclined mark condition) = Some (declined_text mark)
+text_of_outcome (Reconciled period currency debit reversed) = None
 
--- the minor units that were paid or reversed
-abbrev pub expected_amount : Told → Option ℕ
-expected_amount (PaymentApproved transaction stamp mark requested paid) = Some paid.minor
-expected_amount (PaymentDeclined transaction stamp mark condition) = None
-expected_amount (ReversalApproved mark reversed) = Some reversed.minor
-expected_amount (ReversalDeclined mark condition) = None
-expected_amount (Reconciled period currency debit reversed) = None
+-- the text that identifies the outcome of a payment or a reversal
+abbrev pub expected_transaction : List ℕ → Told → Option (List ℕ)
+expected_transaction category told = by_category category (text_of_outcome told) (text_of_outcome told)
+
+-- the minor units that were paid
+abbrev pub paid_minor : Told → Option ℕ
+paid_minor (PaymentApproved transaction stamp mark requested paid) = Some paid.minor
+paid_minor (PaymentDeclined transaction stamp mark condition) = None
+paid_minor (ReversalApproved mark reversed) = None
+paid_minor (ReversalDeclined mark condition) = None
+paid_minor (Reconciled period currency debit reversed) = None
+
+-- the minor units that were reversed
+abbrev pub reversed_minor : Told → Option ℕ
+reversed_minor (PaymentApproved transaction stamp mark requested paid) = None
+reversed_minor (PaymentDeclined transaction stamp mark condition) = None
+reversed_minor (ReversalApproved mark reversed) = Some reversed.minor
+reversed_minor (ReversalDeclined mark condition) = None
+reversed_minor (Reconciled period currency debit reversed) = None
+
+-- the minor units that were paid in a payment, or reversed in a reversal
+abbrev pub expected_amount : List ℕ → Told → Option ℕ
+expected_amount category told = by_category category (paid_minor told) (reversed_minor told)
 
 -- a result without an outcome
 abbrev pub expected_plain : Header → Option Condition → ReadReply
@@ -66,21 +83,21 @@ expected_plain header condition = record {
   minor = None;
 }
 
--- an outcome, with the result and the condition of its reply
-abbrev pub expected_outcome : Header → ReplyResult → Option Condition → Told → ReadReply
-expected_outcome header result condition told = record {
+-- an outcome of this category, with the result and the condition of its reply
+abbrev pub expected_outcome : Header → ReplyResult → Option Condition → List ℕ → Told → ReadReply
+expected_outcome header result condition category told = record {
   category = header.category;
   result = result;
   condition = condition;
-  transaction = expected_transaction told;
-  minor = expected_amount told;
+  transaction = expected_transaction category told;
+  minor = expected_amount category told;
 }
 
 -- what is read of a reply; nothing of a Display, which has a result for each output, and of what is no reply
 abbrev pub expected_reply : SaleReply → Option ReadReply
 expected_reply (reply.Plain header verdict) = Some (expected_plain header verdict.condition)
-expected_reply (reply.Told header told) = Some (expected_outcome header (expected_result told) (expected_condition told) told)
-expected_reply (reply.Status header repeated told) = Some (expected_outcome header Success None told)
+expected_reply (reply.Told header told) = Some (expected_outcome header (expected_result told) (expected_condition told) header.category told)
+expected_reply (reply.Status header repeated told) = Some (expected_outcome header Success None repeated.category told)
 expected_reply (reply.Diagnosis header status) = Some (expected_plain header None)
 expected_reply (reply.Display header outputs) = None
 expected_reply (reply.Print header qualifier verdict) = Some (expected_plain header verdict.condition)

@@ -2,7 +2,6 @@
 use Rattle.std.specs.Prelude.{◌≡◌, ℕ, ◌^◌, ◌<◌, List, codes, Option, Some, None, option_map}
 use Rattle.std.specs.Option.{option_and_then}
 use Rattle.gw_base.specs.Condition.{name_of}
-use Rattle.gw_base.specs.Ident.{IsIdent}
 use Rattle.gw_base.specs.declared.condition.Condition.{Condition}
 use Rattle.json_text.specs.Tree.{Tree}
 use Rattle.sale_values.specs.Money.{money_text}
@@ -12,7 +11,8 @@ use Rattle.sale_msg.specs.Path.{text_at}
 use Rattle.sale_msg.specs.declared.table.Envelope.{Envelope}
 use Rattle.sale_reply.specs.Names.{result_name}
 use Rattle.sale_reply.specs.declared.reply.ReplyResult.{ReplyResult}
-use Rattle.sale_seen.specs.ReplyMembers.{amount_in, outcome_in, response_of, transaction_in}
+use Rattle.sale_seen.specs.ReplyMembers.{amount_in, condition_in, outcome_in, response_of, transaction_in}
+use Rattle.sale_seen.specs.Transaction.{IsTransactionIdentifier}
 use Rattle.sale_seen.specs.declared.reply.ReplySeen.{ReplySeen}
 
 -- what is read of a reply
@@ -33,10 +33,10 @@ read_reply_value seen = record {
   minor = seen.minor;
 }
 
--- the value that the member has; none exactly where it has none
+-- the value that holds of the member; none exactly where no value does
 abbrev pub FindsMember : {A : Type 0} → (A → Type 0) → Option A → Type 0
-FindsMember {A} Tells None = (x : A) → ¬ Tells x
-FindsMember Tells (Some x) = Tells x
+FindsMember {A} Holds None = (x : A) → ¬ Holds x
+FindsMember Holds (Some x) = Holds x
 
 -- the text is the name of the result
 abbrev pub NamesResult : Option (List ℕ) → ReplyResult → Type 0
@@ -46,13 +46,13 @@ NamesResult text outcome = text ≡ Some (result_name outcome)
 abbrev pub NamesCondition : Option (List ℕ) → Condition → Type 0
 NamesCondition text condition = text ≡ Some (name_of condition)
 
--- the text is this one, of 1 to 80 printable bytes
+-- the text is this one, of the form in which a transaction is written
 abbrev pub IsTransactionText : Option (List ℕ) → List ℕ → Type 0
-IsTransactionText text transaction = (text ≡ Some transaction) × IsIdent 80 transaction
+IsTransactionText text transaction = (text ≡ Some transaction) × IsTransactionIdentifier transaction
 
 -- the number is how so many minor units are written, and they have 64 bits
 abbrev pub IsAmountMember : Option (List ℕ) → ℕ → Type 0
-IsAmountMember numeral minor = (numeral ≡ Some (money_text minor)) × (minor < 2 ^ 64)
+IsAmountMember numeral units = (numeral ≡ Some (money_text units)) × (units < 2 ^ 64)
 
 -- the message has this header beside this body, of which this is read
 pub record ReadsReplyIn (message : Tree) (envelope : Envelope) (holder : Tree) (header : Header) (body : Tree) (seen : ReadReply) : Type 0 where
@@ -60,7 +60,7 @@ pub record ReadsReplyIn (message : Tree) (envelope : Envelope) (holder : Tree) (
   pub body_is : response_of header.category holder ≡ Some body
   pub category : seen.category ≡ header.category
   pub result : NamesResult (text_at (codes "Response.Result") body) seen.result
-  pub condition : FindsMember (NamesCondition (text_at (codes "Response.ErrorCondition") body)) seen.condition
+  pub condition : FindsMember (NamesCondition (condition_in seen.result body)) seen.condition
   pub transaction : FindsMember (IsTransactionText (option_and_then transaction_in (outcome_in header.category body))) seen.transaction
   pub minor : FindsMember (IsAmountMember (option_and_then amount_in (outcome_in header.category body))) seen.minor
 

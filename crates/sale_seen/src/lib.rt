@@ -12,12 +12,14 @@
 #![tactic(auto)]
 
 mod amount;
+mod digits;
 mod laws;
 mod reader;
 mod reply;
 mod reply_members;
 #[cfg(test)]
 mod tests;
+mod transaction;
 
 pub use laws::{law_display, law_path, law_reply_read};
 pub use reader::read_reply;

@@ -1,5 +1,5 @@
 //! Replies, read from trees.
-ghost use Rattle.std.specs.Prelude.{◌≡◌, ◌≢◌, ◌↔◌, ℕ, ◌≤◌, List, length, Err, IfOk, MatchResult, option_map, option_copied, IsOkAnd, SomeIff, codes};
+ghost use Rattle.std.specs.Prelude.{◌≡◌, ◌≢◌, ◌↔◌, ℕ, ◌≤◌, List, length, Err, IfOk, MatchResult, option_map, IsOkAnd, codes};
 ghost use Rattle.std.specs.Option.{option_and_then};
 ghost use Rattle.gw_base.specs.Ident.{IsIdent};
 ghost use Rattle.json_text.specs.Tree.{Tree, string_of};
@@ -9,12 +9,14 @@ ghost use Rattle.sale_msg.specs.Grammar.{IsHeaded, LacksHeader};
 ghost use Rattle.sale_msg.specs.Path.{text_at};
 ghost use Rattle.sale_msg.specs.declared.table.Envelope.{Envelope};
 ghost use Rattle.sale_seen.specs.Fault.{HasOtherResult, IsReplyFault, LacksResult, result_path};
-ghost use Rattle.sale_seen.specs.ReplyMembers.{amount_in, response_of, transaction_in};
+ghost use Rattle.sale_seen.specs.ReplyMembers.{amount_in, condition_in, response_of, transaction_in};
+ghost use Rattle.sale_seen.specs.inner.OutcomeRead.{outcome_value};
 ghost use Rattle.sale_seen.specs.Grammar.{FindsMember, ReadsReply, ReadReply, NamesCondition, IsAmountMember, NamesResult, IsTransactionText, read_reply_value};
 
 use crate::ReplySeen;
 use crate::amount::minor_of;
-use crate::reply_members::{amount, outcome, response, text};
+use crate::reply_members::{Outcome, amount, find_outcome, response, text, transaction_text};
+use crate::transaction::is_transaction;
 use arrayvec::ArrayVec;
 use gw_base::{Condition, Ident};
 use json_text::Json;
@@ -55,13 +57,13 @@ fn read_body(header: &Header, object: &Json) -> Result<ReplySeen, SaleFault>
             Some(value) => match result_of(value) {
                 None => Err(wrong(header)),
                 Some(result) => {
-                    let within = outcome(header.category.as_bytes(), body);
+                    let within = find_outcome(header.category.as_bytes(), body);
                     Ok(ReplySeen {
                         category: header.category,
                         result,
-                        condition: condition(body),
+                        condition: condition(result, body),
                         transaction: transaction(within),
-                        minor: minor(within),
+                        minor: units(within),
                     })
                 }
             },
@@ -124,60 +126,61 @@ fn result_of(value: &Json) -> Option<ReplyResult>
 {
     match value.as_str() {
         None => None,
-        Some(text) => match text.as_str() {
-            "Success" => Some(ReplyResult::Success),
-            "Partial" => Some(ReplyResult::Partial),
-            "Failure" => Some(ReplyResult::Failure),
-            _ => None,
+        Some(text) => ReplyResult::from_name(text.as_bytes()),
+    }
+}
+
+/// The condition of a failure's `ErrorCondition`.
+fn condition(outcome: ReplyResult, body: &Json) -> Option<Condition>
+    ensures { FindsMember (NamesCondition (condition_in outcome (value_of body.now))) result }
+{
+    match outcome {
+        ReplyResult::Success => None,
+        ReplyResult::Partial => None,
+        ReplyResult::Failure => match text(body, "Response.ErrorCondition") {
+            None => None,
+            Some(name) => Condition::from_name(name),
         },
     }
 }
 
-/// The condition of a body's `ErrorCondition`.
-fn condition(body: &Json) -> Option<Condition>
-    ensures { FindsMember (NamesCondition (text_at (codes "Response.ErrorCondition") (value_of body.now))) result }
-{
-    match text(body, "Response.ErrorCondition") {
-        None => None,
-        Some(name) => Condition::from_name(name),
-    }
-}
-
-/// The text that identifies the transaction of an outcome, where it is 1 to 80 printable bytes.
-fn transaction(outcome: Option<&Json>) -> Option<ArrayVec<u8, 80>>
-    ensures { FindsMember (IsTransactionText (option_and_then transaction_in (option_map (λ v. value_of v.now) outcome.entry)))
+/// The text that identifies the transaction of an outcome, where it has the form in which it is written.
+fn transaction(outcome: Option<Outcome<'_>>) -> Option<ArrayVec<u8, 80>>
+    ensures { FindsMember (IsTransactionText (option_and_then transaction_in (option_map outcome_value outcome.entry)))
         (option_map (λ text. text.items) result) }
 {
     match outcome {
         None => None,
-        Some(body) => match text(body, "POIData.POITransactionID.TransactionID") {
+        Some(outcome) => match transaction_text(&outcome) {
             None => None,
-            Some(text) => identifier(text),
+            Some(text) => {
+                if is_transaction(text) {
+                    Some(copied(text))
+                } else {
+                    None
+                }
+            }
         },
     }
 }
 
-/// The text, where it is 1 to 80 printable bytes.
-fn identifier(text: &[u8]) -> Option<ArrayVec<u8, 80>>
-    ensures { SomeIff (option_map (λ text. text.items) result) (IsIdent 80 text.now) text.now }
+/// A copy: what is read outlives the tree.
+fn copied(text: &[u8]) -> ArrayVec<u8, 80>
+    requires { length text.now ≤ 80 }
+    ensures { result.items ≡ text.now }
 {
-    match Ident::<80>::of(text) {
-        None => None,
-        Some(id) => {
-            let mut own = ArrayVec::new();
-            own.try_extend_from_slice(id.as_bytes()).unwrap();
-            Some(own)
-        }
-    }
+    let mut copy = ArrayVec::new();
+    copy.try_extend_from_slice(text).unwrap();
+    copy
 }
 
 /// The amount of an outcome in minor units, where it is written with two digits after the point and has 64 bits.
-fn minor(outcome: Option<&Json>) -> Option<u64>
-    ensures { FindsMember (IsAmountMember (option_and_then amount_in (option_map (λ v. value_of v.now) outcome.entry))) result }
+fn units(outcome: Option<Outcome<'_>>) -> Option<u64>
+    ensures { FindsMember (IsAmountMember (option_and_then amount_in (option_map outcome_value outcome.entry))) result }
 {
     match outcome {
         None => None,
-        Some(body) => match amount(body) {
+        Some(outcome) => match amount(&outcome) {
             None => None,
             Some(numeral) => minor_of(numeral),
         },

@@ -3,7 +3,7 @@ use arrayvec::ArrayVec;
 use gw_base::{Condition, Ident};
 use sale_reply::ReplyResult;
 
-/// The relation of a reply's tree and what a till reads of it.
+/// What a till reads of a reply.
 #[derive(Drop)]
 pub struct ReplySeen {
     /// The `MessageCategory` of the reply's own header.

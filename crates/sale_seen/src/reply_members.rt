@@ -1,9 +1,11 @@
 //! The members of a reply: where each value is found.
 ghost use Rattle.std.specs.Prelude.{◌≡◌, ◌++◌, codes, option_map, option_copied, bytes_eq};
-ghost use Rattle.json_text.specs.Tree.{member_of};
+ghost use Rattle.std.specs.Option.{option_and_then};
+ghost use Rattle.json_text.specs.Tree.{member_of, numeral_of};
 ghost use Rattle.json_text.specs.ValueOf.{value_of, members_value};
-ghost use Rattle.sale_msg.specs.Path.{text_at};
-ghost use Rattle.sale_seen.specs.ReplyMembers.{amount_in, outcome_in, repeated_in, response_of};
+ghost use Rattle.sale_msg.specs.Path.{text_at, tree_at};
+ghost use Rattle.sale_seen.specs.ReplyMembers.{amount_in, outcome_in, repeated_in, response_of, transaction_in};
+ghost use Rattle.sale_seen.specs.inner.OutcomeRead.{outcome_value};
 
 use json_text::{Chars, Json};
 use sale_msg::find;
@@ -39,20 +41,27 @@ fn is_response(name: &[u8], category: &[u8]) -> bool
     }
 }
 
-/// The body that has the outcome: for a status the one that it repeats.
-pub(crate) fn outcome<'a>(category: &[u8], body: &'a Json) -> Option<&'a Json>
-    ensures { option_map (λ v. value_of v.now) result ≡ outcome_in category.now (value_of body.now) }
+/// The body that has an outcome, and its category, which says where.
+#[derive(Clone, Copy)]
+pub(crate) struct Outcome<'a> {
+    pub category: &'a [u8],
+    pub body: &'a Json,
+}
+
+/// The outcome of a reply: its own body, but for a status the one that it repeats.
+pub(crate) fn find_outcome<'a>(category: &'a [u8], body: &'a Json) -> Option<Outcome<'a>>
+    ensures { option_map outcome_value result ≡ outcome_in category.now (value_of body.now) }
 {
     if category == b"TransactionStatus".as_slice() {
         repeated(body)
     } else {
-        Some(body)
+        Some(Outcome { category, body })
     }
 }
 
 /// The body that a status repeats.
-fn repeated(status: &Json) -> Option<&Json>
-    ensures { option_map (λ v. value_of v.now) result ≡ repeated_in (value_of status.now) }
+fn repeated(status: &Json) -> Option<Outcome<'_>>
+    ensures { option_map outcome_value result ≡ repeated_in (value_of status.now) }
 {
     match text(
         status,
@@ -65,10 +74,60 @@ fn repeated(status: &Json) -> Option<&Json>
                 "RepeatedMessageResponse.RepeatedResponseMessageBody",
             ) {
                 None => None,
-                Some(object) => response(object, category),
+                Some(object) => match response(object, category) {
+                    None => None,
+                    Some(body) => Some(Outcome { category, body }),
+                },
             }
         }
     }
+}
+
+/// The text that identifies the transaction of a payment or a reversal.
+pub(crate) fn transaction_text<'a>(outcome: &Outcome<'a>) -> Option<&'a [u8]>
+    ensures { option_copied result ≡ transaction_in (outcome_value outcome.now) }
+{
+    if outcome.category == b"Payment".as_slice() {
+        poi_transaction(outcome.body)
+    } else if outcome.category == b"Reversal".as_slice() {
+        poi_transaction(outcome.body)
+    } else {
+        None
+    }
+}
+
+/// The `TransactionID` of a body's `POITransactionID`.
+fn poi_transaction(body: &Json) -> Option<&[u8]>
+    ensures { option_copied result ≡ text_at (codes "POIData.POITransactionID.TransactionID") (value_of body.now) }
+{
+    text(body, "POIData.POITransactionID.TransactionID")
+}
+
+/// The number that is the amount: what was paid, or what was reversed.
+pub(crate) fn amount<'a>(outcome: &Outcome<'a>) -> Option<&'a [u8]>
+    ensures { option_copied result ≡ amount_in (outcome_value outcome.now) }
+{
+    if outcome.category == b"Payment".as_slice() {
+        paid_amount(outcome.body)
+    } else if outcome.category == b"Reversal".as_slice() {
+        reversed_amount(outcome.body)
+    } else {
+        None
+    }
+}
+
+/// The number of a body's `AuthorizedAmount`.
+fn paid_amount(body: &Json) -> Option<&[u8]>
+    ensures { option_copied result ≡ option_and_then numeral_of (tree_at (codes "PaymentResult.AmountsResp.AuthorizedAmount") (value_of body.now)) }
+{
+    numeral(body, "PaymentResult.AmountsResp.AuthorizedAmount")
+}
+
+/// The number of a body's `ReversedAmount`.
+fn reversed_amount(body: &Json) -> Option<&[u8]>
+    ensures { option_copied result ≡ option_and_then numeral_of (tree_at (codes "ReversedAmount") (value_of body.now)) }
+{
+    numeral(body, "ReversedAmount")
 }
 
 /// The text at the path.
@@ -84,15 +143,11 @@ pub(crate) fn text<'a>(tree: &'a Json, path: &str) -> Option<&'a [u8]>
     }
 }
 
-/// The number that is the amount.
-pub(crate) fn amount(outcome: &Json) -> Option<&[u8]>
-    ensures { option_copied result ≡ amount_in (value_of outcome.now) }
+/// The text of the number at the path.
+fn numeral<'a>(tree: &'a Json, path: &str) -> Option<&'a [u8]>
+    ensures { option_copied result ≡ option_and_then numeral_of (tree_at path.now (value_of tree.now)) }
 {
-    let found = match find(outcome, "PaymentResult.AmountsResp.AuthorizedAmount") {
-        Some(paid) => Some(paid),
-        None => find(outcome, "ReversedAmount"),
-    };
-    match found {
+    match find(tree, path) {
         None => None,
         Some(value) => match value.as_number() {
             None => None,

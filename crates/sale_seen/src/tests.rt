@@ -1,6 +1,7 @@
 //! Replies as a till receives them.
 
 use crate::amount::minor_of;
+use crate::transaction::is_transaction;
 use crate::{ReplySeen, read_reply};
 use gw_base::Ident;
 use json_text::read;
@@ -10,7 +11,7 @@ use std::alloc::{AllocError, Global};
 use std::test::Fail;
 
 /// What is read of the text, in words; an absent value is `-`.
-fn told(alloc: Global, text: &str) -> Result<String, AllocError> {
+fn words_of(alloc: Global, text: &str) -> Result<String, AllocError> {
     match read(alloc, text.as_bytes()) {
         Err(_) => String::from_str(alloc, "no tree"),
         Ok(tree) => match read_reply(&tree) {
@@ -38,8 +39,8 @@ fn in_words(alloc: Global, seen: &ReplySeen) -> Result<String, AllocError> {
     match (transaction, seen.minor) {
         (None, _) => String::from_str(alloc, "no text"),
         (Some(text), None) => format!(in alloc; "{category} {result} {condition} {text} -"),
-        (Some(text), Some(minor)) => {
-            format!(in alloc; "{category} {result} {condition} {text} {minor}")
+        (Some(text), Some(units)) => {
+            format!(in alloc; "{category} {result} {condition} {text} {units}")
         }
     }
 }
@@ -90,6 +91,12 @@ const REPEATED_DECLINE: &str =
 const OWN_OUTCOME: &str =
     r#"{"Response":{"Result":"Success"},"POIData":{"POITransactionID":{"TransactionID":"000123-0017-0"}},"ReversedAmount":10.99}"#;
 
+const REVERSED_BESIDE_PAID: &str =
+    r#"{"Response":{"Result":"Success","ErrorCondition":"Refusal"},"POIData":{"POITransactionID":{"TransactionID":"000124-0018-2"}},"PaymentResult":{"AmountsResp":{"AuthorizedAmount":5.00}},"ReversedAmount":10.99}"#;
+
+const FIVE_DIGITS: &str =
+    r#"{"Response":{"Result":"Success"},"POIData":{"POITransactionID":{"TransactionID":"00123-0017-0"}},"ReversedAmount":10.99}"#;
+
 const UNNAMED: &str =
     r#"{"Response":{"Result":"Failure","ErrorCondition":"Unknown"},"POIData":{"POITransactionID":{"TransactionID":"ä"}},"PaymentResult":{"AmountsResp":{"AuthorizedAmount":10.9}},"ReversedAmount":1.00}"#;
 
@@ -109,6 +116,18 @@ fn replies(rt: HostRuntime) -> Result<(), Fail> {
             UNREVERSED,
             "Reversal Failure NotAllowed 000000-0000-2 -",
         ),
+        (
+            "Reversal",
+            REVERSED_BESIDE_PAID,
+            "Reversal Success - 000124-0018-2 1099",
+        ),
+        (
+            "Payment",
+            REVERSED_BESIDE_PAID,
+            "Payment Success - 000124-0018-2 500",
+        ),
+        ("Login", REVERSED_BESIDE_PAID, "Login Success - - -"),
+        ("Payment", FIVE_DIGITS, "Payment Success - - -"),
         (
             "TransactionStatus",
             REPEATED,
@@ -143,7 +162,7 @@ fn replies(rt: HostRuntime) -> Result<(), Fail> {
     ];
     for (category, body, words) in rows {
         let text = reply(rt.alloc(), category, body)?;
-        assert_eq!(rt; told(rt.alloc(), text.as_str())?.as_str(), words);
+        assert_eq!(rt; words_of(rt.alloc(), text.as_str())?.as_str(), words);
     }
     Ok(())
 }
@@ -164,7 +183,7 @@ fn faults(rt: HostRuntime) -> Result<(), Fail> {
     ];
     for (body, words) in rows {
         let text = reply(rt.alloc(), "Display", body)?;
-        assert_eq!(rt; told(rt.alloc(), text.as_str())?.as_str(), words);
+        assert_eq!(rt; words_of(rt.alloc(), text.as_str())?.as_str(), words);
     }
     let headless = [
         (r#"{"SaleToPOIReply":{}}"#, "NoHeader SaleToPOIRequest"),
@@ -174,9 +193,30 @@ fn faults(rt: HostRuntime) -> Result<(), Fail> {
         ),
     ];
     for (text, words) in headless {
-        assert_eq!(rt; told(rt.alloc(), text)?.as_str(), words);
+        assert_eq!(rt; words_of(rt.alloc(), text)?.as_str(), words);
     }
     Ok(())
+}
+
+#[test]
+fn transactions(rt: HostRuntime) {
+    let rows: [(&[u8], bool); 12] = [
+        (b"000123-0017-0", true),
+        (b"000000-0000-4294967295", true),
+        (b"000000-0000-4294967296", false),
+        (b"00123-0017-0", false),
+        (b"0000123-0017-0", false),
+        (b"000123-017-0", false),
+        (b"000123-0017-00", false),
+        (b"000123-0017-", false),
+        (b"000123-0017", false),
+        (b"00012a-0017-0", false),
+        (b"000123 0017-0", false),
+        (b"", false),
+    ];
+    for (text, is) in rows {
+        assert_eq!(rt; is_transaction(text), is);
+    }
 }
 
 #[test]
@@ -197,8 +237,8 @@ fn money(rt: HostRuntime) -> Result<(), Fail> {
         (b"-1.00", None),
         (b"", None),
     ];
-    for (text, minor) in rows {
-        assert_eq!(rt; minor_of(text), minor);
+    for (text, units) in rows {
+        assert_eq!(rt; minor_of(text), units);
     }
     Ok(())
 }

@@ -1,3 +1,4 @@
+-- The files of lemmas.
 pub mod HeaderLemmas
 pub mod MoneyLemmas
 pub mod ObjectLemmas

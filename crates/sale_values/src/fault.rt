@@ -5,6 +5,8 @@ use std::error::Error;
 use std::fmt;
 
 /// Why a message is refused, with the path of the member in question: names divided by points.
+///
+/// A path has its bytes in place: a fault takes no memory, so it can be reported where memory is refused.
 #[derive(Clone, Copy, PartialEq, Eq, Debug)]
 pub enum SaleFault {
     /// No header was read.

@@ -19,7 +19,7 @@ ghost use Rattle.sale_values.specs.declared.names.Period.{Period};
 /// Money of 64 bits is written as a number, no two sums alike, and an amount so that it is read again.
 pub fn law_money()
     ensures number { (n : ℕ) → n < 2 ^ 64 → IsNumberText (money_text n) }
-    ensures minor { (n : ℕ) → IsAmount n → minor_units (money_text n) ≡ Some n }
+    ensures amount { (n : ℕ) → IsAmount n → minor_units (money_text n) ≡ Some n }
     ensures one { (m n : ℕ) → m < 2 ^ 64 → n < 2 ^ 64 → money_text m ≡ money_text n → m ≡ n }
 {}
 

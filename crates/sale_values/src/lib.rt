@@ -7,6 +7,7 @@ mod laws;
 mod money_text;
 mod names;
 mod outputs;
+mod part;
 mod request;
 
 pub use fault::SaleFault;
@@ -15,6 +16,7 @@ pub use laws::{law_header, law_money, law_texts};
 pub use money_text::money;
 pub use names::{Class, Kind, Period, law_names};
 pub use outputs::{Outputs, Texts};
+pub use part::{Part, header_parts};
 pub use request::{Incoming, Output, PaymentAsk, Reference, ReversalAsk, SaleRequest};
 
 #[cfg(test)]

@@ -31,6 +31,9 @@ pub enum Period {
 }
 
 impl Class {
+    /// The classes, in the order of their declaration.
+    pub const ALL: [Class; 3] = [Class::Service, Class::Device, Class::Event];
+
     /// The text of a header's `MessageClass`.
     pub fn name(self) -> &'static str
         ensures { result.now ≡ class_name self }
@@ -46,20 +49,19 @@ impl Class {
     pub fn from_name(name: &[u8]) -> Option<Class>
         ensures { MatchOption result ((c : Class) → class_name c ≢ name.now) (λ c. class_name c ≡ name.now) }
     {
-        if name == b"Service".as_slice() {
-            return Some(Class::Service);
-        }
-        if name == b"Device".as_slice() {
-            return Some(Class::Device);
-        }
-        if name == b"Event".as_slice() {
-            return Some(Class::Event);
+        for class in Class::ALL {
+            if class.name().as_bytes() == name {
+                return Some(class);
+            }
         }
         None
     }
 }
 
 impl Kind {
+    /// The message types, in the order of their declaration.
+    pub const ALL: [Kind; 3] = [Kind::Request, Kind::Response, Kind::Notification];
+
     /// The text of a header's `MessageType`.
     pub fn name(self) -> &'static str
         ensures { result.now ≡ kind_name self }
@@ -75,20 +77,24 @@ impl Kind {
     pub fn from_name(name: &[u8]) -> Option<Kind>
         ensures { MatchOption result ((k : Kind) → kind_name k ≢ name.now) (λ k. kind_name k ≡ name.now) }
     {
-        if name == b"Request".as_slice() {
-            return Some(Kind::Request);
-        }
-        if name == b"Response".as_slice() {
-            return Some(Kind::Response);
-        }
-        if name == b"Notification".as_slice() {
-            return Some(Kind::Notification);
+        for kind in Kind::ALL {
+            if kind.name().as_bytes() == name {
+                return Some(kind);
+            }
         }
         None
     }
 }
 
 impl Period {
+    /// The types of reconciliation, in the order of their declaration.
+    pub const ALL: [Period; 4] = [
+        Period::SaleReconciliation,
+        Period::AcquirerSynchronisation,
+        Period::AcquirerReconciliation,
+        Period::PreviousReconciliation,
+    ];
+
     /// The text of a message's `ReconciliationType`.
     pub fn name(self) -> &'static str
         ensures { result.now ≡ period_name self }
@@ -105,17 +111,10 @@ impl Period {
     pub fn from_name(name: &[u8]) -> Option<Period>
         ensures { MatchOption result ((p : Period) → period_name p ≢ name.now) (λ p. period_name p ≡ name.now) }
     {
-        if name == b"SaleReconciliation".as_slice() {
-            return Some(Period::SaleReconciliation);
-        }
-        if name == b"AcquirerSynchronisation".as_slice() {
-            return Some(Period::AcquirerSynchronisation);
-        }
-        if name == b"AcquirerReconciliation".as_slice() {
-            return Some(Period::AcquirerReconciliation);
-        }
-        if name == b"PreviousReconciliation".as_slice() {
-            return Some(Period::PreviousReconciliation);
+        for period in Period::ALL {
+            if period.name().as_bytes() == name {
+                return Some(period);
+            }
         }
         None
     }

@@ -8,6 +8,7 @@ ghost use Rattle.zvt_msg.specs.Message.{value_of};
 ghost use Rattle.zvt_msg.specs.MessageCanonical.{HasPtMessageForm, canonical_pt_message};
 
 use arrayvec::ArrayVec;
+use gw_bytes::{GREATEST_AMOUNT, GREATEST_RECEIPT, GREATEST_TRACE};
 use std::fmt::Display;
 use std::io;
 use zvt_apdu::Apdu;
@@ -164,7 +165,7 @@ fn print_messages(rt: &impl Print) -> io::Result<()> {
     print_message(rt, &PtMessage::Line(b"Hallo"), "line text=Hallo")?;
     print_block(rt)?;
     print_status(rt, 0x00, 1_099, 123, 17)?;
-    print_status(rt, 0x6C, 999_999_999_999, 999_999, 9_999)?;
+    print_status(rt, 0x6C, GREATEST_AMOUNT, GREATEST_TRACE, GREATEST_RECEIPT)?;
     print_message(rt, &PtMessage::Completion, "completion")?;
     print_message(rt, &PtMessage::Abort(Some(0x6C)), "abort code=6c")?;
     print_message(rt, &PtMessage::Abort(None), "abort")
@@ -173,7 +174,7 @@ fn print_messages(rt: &impl Print) -> io::Result<()> {
 fn main(rt: HostRuntime) -> io::Result<()> {
     print_register(&rt, 0xBA, 978)?;
     print_authorise(&rt, 1_099, 978)?;
-    print_authorise(&rt, 999_999_999_999, 826)?;
+    print_authorise(&rt, GREATEST_AMOUNT, 826)?;
     print_others(&rt)?;
     print_show(&rt, b"Hallo", 1)?;
     print_show(&rt, b"Hallo", 8)?;

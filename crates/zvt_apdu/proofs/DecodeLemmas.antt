@@ -33,9 +33,9 @@ too_long_prefix bytes n (class, instr, length_bytes, more, is_length, above, par
 
 -- ---- from the function to the grammar
 
--- a header that is cut, with what makes it an APDU without data, or one that is whole
-abbrev IsShortHeader : List ℕ → Type 0
-IsShortHeader bytes = (decode_apdu bytes ≡ DecodedApdu.Incomplete) × IsProperApduPrefix bytes
+-- a header that is truncated, with what makes it an APDU without data, or one that is whole
+abbrev IsTruncatedHeader : List ℕ → Type 0
+IsTruncatedHeader bytes = (decode_apdu bytes ≡ DecodedApdu.Incomplete) × IsProperApduPrefix bytes
 
 record Headed (bytes : List ℕ) : Type 0 where
   class : ℕ
@@ -46,9 +46,9 @@ record Headed (bytes : List ℕ) : Type 0 where
   is_length : SpellsApduLength length_bytes n
   parts : bytes ≡ class ∷ instr ∷ (length_bytes ++ more)
 
--- data that is cut can be made whole
+-- truncated data can be made whole
 completes : (class instr n : ℕ) (length_bytes more : List ℕ) → SpellsApduLength length_bytes n → n ≤ 12000 → length more < n → IsProperApduPrefix (class ∷ instr ∷ (length_bytes ++ more))
-completes class instr n length_bytes more is_length within cut =
+completes class instr n length_bytes more is_length within truncated =
     let missing : List ℕ = replicate (n - length more) 0 in
     let body : List ℕ = more ++ missing in
     let size : length body ≡ n = omega (arith, length-append more missing, length-replicate {A = ℕ} (n - length more) 0) in
@@ -66,8 +66,8 @@ abbrev bare : ℕ → ℕ → ApduValue
 bare class instr = record { class = class; instr = instr; body = [] }
 
 -- the bytes that are left of an APDU with no data
-cut_bare : (bytes more : List ℕ) (class instr : ℕ) → more ≢ [] → bytes ++ more ≡ class ∷ instr ∷ 0 ∷ [] → IsProperApduPrefix bytes
-cut_bare bytes more class instr some parts =
+truncated_bare : (bytes more : List ℕ) (class instr : ℕ) → more ≢ [] → bytes ++ more ≡ class ∷ instr ∷ 0 ∷ [] → IsProperApduPrefix bytes
+truncated_bare bytes more class instr some parts =
     let spells : SpellsApdu (bytes ++ more) (bare class instr) = record {
       length_bytes = 0 ∷ [];
       is_length = inl (omega arith, refl);
@@ -77,8 +77,8 @@ cut_bare bytes more class instr some parts =
     (more, bare class instr, some, spells)
 
 -- the first three bytes of a long header, and all but its last byte
-cut_long : (class instr : ℕ) → IsProperApduPrefix (class ∷ instr ∷ 255 ∷ [])
-cut_long class instr =
+truncated_long : (class instr : ℕ) → IsProperApduPrefix (class ∷ instr ∷ 255 ∷ [])
+truncated_long class instr =
     let spells : SpellsApdu (class ∷ instr ∷ 255 ∷ 0 ∷ 0 ∷ []) (bare class instr) = record {
       length_bytes = long_length 0 0;
       is_length = inr (0, 0, refl, refl);
@@ -87,8 +87,8 @@ cut_long class instr =
     } in
     (0 ∷ 0 ∷ [], bare class instr, (λ e. absurd cc), spells)
 
-cut_longer : (class instr low : ℕ) → low < 256 → IsProperApduPrefix (class ∷ instr ∷ 255 ∷ low ∷ [])
-cut_longer class instr low small =
+truncated_longer : (class instr low : ℕ) → low < 256 → IsProperApduPrefix (class ∷ instr ∷ 255 ∷ low ∷ [])
+truncated_longer class instr low small =
     let body : List ℕ = replicate low 0 in
     let size : length body ≡ low = length-replicate {A = ℕ} low 0 in
     let spells : SpellsApdu (class ∷ instr ∷ 255 ∷ low ∷ 0 ∷ body) (record { class = class; instr = instr; body = body }) = record {
@@ -99,9 +99,9 @@ cut_longer class instr low small =
     } in
     (0 ∷ body, record { class = class; instr = instr; body = body }, (λ e. absurd cc), spells)
 
-long_header : (class instr : ℕ) (bytes : List ℕ) → AreBytes bytes → IsShortHeader (class ∷ instr ∷ 255 ∷ bytes) ⊎ Headed (class ∷ instr ∷ 255 ∷ bytes)
-long_header class instr [] bounds = inl (refl, cut_long class instr)
-long_header class instr (low ∷ []) bounds = inl (refl, cut_longer class instr low bounds.0)
+long_header : (class instr : ℕ) (bytes : List ℕ) → AreBytes bytes → IsTruncatedHeader (class ∷ instr ∷ 255 ∷ bytes) ⊎ Headed (class ∷ instr ∷ 255 ∷ bytes)
+long_header class instr [] bounds = inl (refl, truncated_long class instr)
+long_header class instr (low ∷ []) bounds = inl (refl, truncated_longer class instr low bounds.0)
 long_header class instr (low ∷ high ∷ bytes) bounds = inr (record {
   class = class;
   instr = instr;
@@ -112,13 +112,13 @@ long_header class instr (low ∷ high ∷ bytes) bounds = inr (record {
   parts = refl;
 })
 
-header : (bytes : List ℕ) → AreBytes bytes → IsShortHeader bytes ⊎ Headed bytes
-header [] bounds = inl (refl, cut_bare [] (0 ∷ 0 ∷ 0 ∷ []) 0 0 (λ e. absurd cc) refl)
-header (class ∷ []) bounds = inl (refl, cut_bare (class ∷ []) (0 ∷ 0 ∷ []) class 0 (λ e. absurd cc) refl)
-header (class ∷ instr ∷ []) bounds = inl (refl, cut_bare (class ∷ instr ∷ []) (0 ∷ []) class instr (λ e. absurd cc) refl)
+header : (bytes : List ℕ) → AreBytes bytes → IsTruncatedHeader bytes ⊎ Headed bytes
+header [] bounds = inl (refl, truncated_bare [] (0 ∷ 0 ∷ 0 ∷ []) 0 0 (λ e. absurd cc) refl)
+header (class ∷ []) bounds = inl (refl, truncated_bare (class ∷ []) (0 ∷ 0 ∷ []) class 0 (λ e. absurd cc) refl)
+header (class ∷ instr ∷ []) bounds = inl (refl, truncated_bare (class ∷ instr ∷ []) (0 ∷ []) class instr (λ e. absurd cc) refl)
 header (class ∷ instr ∷ n ∷ bytes) bounds =
     elim (cases_eq n 255) [
-      | inl e ↦ subst (λ (k : ℕ). IsShortHeader (class ∷ instr ∷ k ∷ bytes) ⊎ Headed (class ∷ instr ∷ k ∷ bytes)) (sym e) (long_header class instr bytes bounds.1.1.1)
+      | inl e ↦ subst (λ (k : ℕ). IsTruncatedHeader (class ∷ instr ∷ k ∷ bytes) ⊎ Headed (class ∷ instr ∷ k ∷ bytes)) (sym e) (long_header class instr bytes bounds.1.1.1)
       | inr ne ↦ inr (record {
         class = class;
         instr = instr;
@@ -141,15 +141,15 @@ long_choice true c n m a rest e = (refl, cc)
 long_choice false true n m a rest e = absurd cc
 long_choice false false n m a rest e = absurd cc
 
-partial_choice : (b c : Bool) (n : ℕ) (a : ApduValue) (rest : List ℕ) → cond b (DecodedApdu.TooLong n) (cond c DecodedApdu.Incomplete (DecodedApdu.Whole a rest)) ≡ DecodedApdu.Incomplete → (b ≡ false) × (c ≡ true)
-partial_choice true c n a rest e = absurd cc
-partial_choice false true n a rest e = (refl, refl)
-partial_choice false false n a rest e = absurd cc
+incomplete_choice : (b c : Bool) (n : ℕ) (a : ApduValue) (rest : List ℕ) → cond b (DecodedApdu.TooLong n) (cond c DecodedApdu.Incomplete (DecodedApdu.Whole a rest)) ≡ DecodedApdu.Incomplete → (b ≡ false) × (c ≡ true)
+incomplete_choice true c n a rest e = absurd cc
+incomplete_choice false true n a rest e = (refl, refl)
+incomplete_choice false false n a rest e = absurd cc
 
 pub whole_begins : (bytes : List ℕ) (apdu : ApduValue) (rest : List ℕ) → AreBytes bytes → decode_apdu bytes ≡ DecodedApdu.Whole apdu rest → BeginsWithApdu bytes apdu rest
 whole_begins bytes apdu rest bounds e =
     elim (header bytes bounds) [
-      | inl cut ↦ absurd (cc (cut.0, e))
+      | inl truncated ↦ absurd (cc (truncated.0, e))
       | inr h ↦
           let at_body : decode_apdu_data h.class h.instr h.n h.more ≡ DecodedApdu.Whole apdu rest = sym (ap decode_apdu h.parts ∙ prefix_of_header h.class h.instr h.n h.length_bytes h.more h.is_length) ∙ e in
           let found : ApduValue = record { class = h.class; instr = h.instr; body = take h.n h.more } in
@@ -171,7 +171,7 @@ whole_begins bytes apdu rest bounds e =
 pub prefix_too_long : (bytes : List ℕ) (n : ℕ) → AreBytes bytes → decode_apdu bytes ≡ DecodedApdu.TooLong n → BeginsTooLongApdu bytes n
 prefix_too_long bytes n bounds e =
     elim (header bytes bounds) [
-      | inl cut ↦ absurd (cc (cut.0, e))
+      | inl truncated ↦ absurd (cc (truncated.0, e))
       | inr h ↦
           let at_body : decode_apdu_data h.class h.instr h.n h.more ≡ DecodedApdu.TooLong n = sym (ap decode_apdu h.parts ∙ prefix_of_header h.class h.instr h.n h.length_bytes h.more h.is_length) ∙ e in
           let choice = long_choice (ltb 12000 h.n) (ltb (length h.more) h.n) h.n n (record { class = h.class; instr = h.instr; body = take h.n h.more }) (drop h.n h.more) at_body in
@@ -179,16 +179,16 @@ prefix_too_long bytes n bounds e =
           subst (λ (k : ℕ). BeginsTooLongApdu bytes k) choice.1 (h.class, h.instr, h.length_bytes, h.more, h.is_length, above, h.parts)
     ]
 
-pub prefix_partial : (bytes : List ℕ) → AreBytes bytes → decode_apdu bytes ≡ DecodedApdu.Incomplete → IsProperApduPrefix bytes
-prefix_partial bytes bounds e =
+pub prefix_incomplete : (bytes : List ℕ) → AreBytes bytes → decode_apdu bytes ≡ DecodedApdu.Incomplete → IsProperApduPrefix bytes
+prefix_incomplete bytes bounds e =
     elim (header bytes bounds) [
-      | inl cut ↦ cut.1
+      | inl truncated ↦ truncated.1
       | inr h ↦
           let at_body : decode_apdu_data h.class h.instr h.n h.more ≡ DecodedApdu.Incomplete = sym (ap decode_apdu h.parts ∙ prefix_of_header h.class h.instr h.n h.length_bytes h.more h.is_length) ∙ e in
-          let choice = partial_choice (ltb 12000 h.n) (ltb (length h.more) h.n) h.n (record { class = h.class; instr = h.instr; body = take h.n h.more }) (drop h.n h.more) at_body in
+          let choice = incomplete_choice (ltb 12000 h.n) (ltb (length h.more) h.n) h.n (record { class = h.class; instr = h.instr; body = take h.n h.more }) (drop h.n h.more) at_body in
           let within : h.n ≤ 12000 = ltb-false _ _ choice.0 in
-          let cut : length h.more < h.n = ltb-true _ _ choice.1 in
-          subst IsProperApduPrefix (sym h.parts) (completes h.class h.instr h.n h.length_bytes h.more h.is_length within cut)
+          let truncated : length h.more < h.n = ltb-true _ _ choice.1 in
+          subst IsProperApduPrefix (sym h.parts) (completes h.class h.instr h.n h.length_bytes h.more h.is_length within truncated)
     ]
 
 -- ---- from the grammar back: a proper prefix is none of the other two
@@ -205,20 +205,20 @@ nil_of_append [] ys e = e
 nil_of_append (x ∷ xs) ys e = absurd cc
 
 -- what bytes begin with that are less than an APDU, given what they begin with when more follows them
-partial_by : (bytes more : List ℕ) (apdu : ApduValue) (prefix : DecodedApdu) → AreBytes bytes → more ≢ [] → decode_apdu (bytes ++ more) ≡ DecodedApdu.Whole apdu [] → decode_apdu bytes ≡ prefix → prefix ≡ DecodedApdu.Incomplete
-partial_by bytes more apdu DecodedApdu.Incomplete bounds some longer e = refl
-partial_by bytes more apdu (DecodedApdu.Whole found rest) bounds some longer e =
+incomplete_by : (bytes more : List ℕ) (apdu : ApduValue) (prefix : DecodedApdu) → AreBytes bytes → more ≢ [] → decode_apdu (bytes ++ more) ≡ DecodedApdu.Whole apdu [] → decode_apdu bytes ≡ prefix → prefix ≡ DecodedApdu.Incomplete
+incomplete_by bytes more apdu DecodedApdu.Incomplete bounds some longer e = refl
+incomplete_by bytes more apdu (DecodedApdu.Whole found rest) bounds some longer e =
     let again = begins_whole (bytes ++ more) found (rest ++ more) (begins_longer bytes more found rest (whole_begins bytes found rest bounds e)) in
     let none : rest ++ more ≡ [] = cc (again, longer) in
     absurd (some (nil_of_append rest more none))
-partial_by bytes more apdu (DecodedApdu.TooLong n) bounds some longer e =
+incomplete_by bytes more apdu (DecodedApdu.TooLong n) bounds some longer e =
     let again = too_long_prefix (bytes ++ more) n (too_long_longer bytes more n (prefix_too_long bytes n bounds e)) in
     absurd (cc (again, longer))
 
 pub proper_prefix : (bytes : List ℕ) → AreBytes bytes → IsProperApduPrefix bytes → decode_apdu bytes ≡ DecodedApdu.Incomplete
 proper_prefix bytes bounds (more, apdu, some, spells) =
     let longer : decode_apdu (bytes ++ more) ≡ DecodedApdu.Whole apdu [] = begins_whole (bytes ++ more) apdu [] (bytes ++ more, spells, sym (append-nil (bytes ++ more))) in
-    partial_by bytes more apdu (decode_apdu bytes) bounds some longer refl
+    incomplete_by bytes more apdu (decode_apdu bytes) bounds some longer refl
 
 -- ---- what is written
 

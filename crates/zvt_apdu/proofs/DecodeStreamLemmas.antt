@@ -7,7 +7,7 @@ use Rattle.zvt_apdu.specs.Decode.{DecodedApdu, decode_apdu_data, decode_long_apd
 use Rattle.zvt_apdu.specs.Stream.{SpellsApdus}
 use Rattle.zvt_apdu.specs.DecodeStream.{with_first_apdu, decode_apdus_from, decode_apdus_within, decode_apdus}
 use Rattle.gw_bytes.proofs.ByteLemmas.{bytes_rest}
-use Rattle.zvt_apdu.proofs.DecodeLemmas.{whole_choice, begins_whole, whole_begins, prefix_partial, prefix_too_long}
+use Rattle.zvt_apdu.proofs.DecodeLemmas.{whole_choice, begins_whole, whole_begins, prefix_incomplete, prefix_too_long}
 
 -- ---- an APDU takes at least its header
 
@@ -66,8 +66,8 @@ split_whole bytes apdu rest e =
     let shorter = prefix_shrinks bytes apdu rest e in
     from_is (length bytes) bytes (omega arith) ∙ ap (decode_apdus_from (decode_apdus_within (length bytes)) bytes) e ∙ ap (with_first_apdu apdu) (within_enough (length bytes) (length rest) rest (omega arith) (omega arith))
 
-pub split_partial : (bytes : List ℕ) → decode_apdu bytes ≡ DecodedApdu.Incomplete → decode_apdus bytes ≡ record { apdus = []; rest = bytes }
-split_partial bytes e = from_is (length bytes) bytes (omega arith) ∙ ap (decode_apdus_from (decode_apdus_within (length bytes)) bytes) e
+pub split_incomplete : (bytes : List ℕ) → decode_apdu bytes ≡ DecodedApdu.Incomplete → decode_apdus bytes ≡ record { apdus = []; rest = bytes }
+split_incomplete bytes e = from_is (length bytes) bytes (omega arith) ∙ ap (decode_apdus_from (decode_apdus_within (length bytes)) bytes) e
 
 pub split_too_long : (bytes : List ℕ) (n : ℕ) → decode_apdu bytes ≡ DecodedApdu.TooLong n → decode_apdus bytes ≡ record { apdus = []; rest = bytes }
 split_too_long bytes n e = from_is (length bytes) bytes (omega arith) ∙ ap (decode_apdus_from (decode_apdus_within (length bytes)) bytes) e
@@ -80,7 +80,7 @@ at_prefix bytes (DecodedApdu.Whole apdu rest) bounds e others =
     let after = others rest (prefix_shrinks bytes apdu rest e) (bytes_rest begins.0 rest (subst AreBytes begins.2 bounds)) in
     rw (split_whole bytes apdu rest e) (record { splits = (rest, begins, after.splits); ends = after.ends })
 at_prefix bytes DecodedApdu.Incomplete bounds e others =
-    rw (split_partial bytes e) (record { splits = refl; ends = inl (prefix_partial bytes bounds e) })
+    rw (split_incomplete bytes e) (record { splits = refl; ends = inl (prefix_incomplete bytes bounds e) })
 at_prefix bytes (DecodedApdu.TooLong k) bounds e others =
     rw (split_too_long bytes k e) (record { splits = refl; ends = inr (k, prefix_too_long bytes k bounds e) })
 

@@ -96,7 +96,7 @@ impl ApduReader {
 /// Drops the first `count` bytes, and moves the others to the beginning. Nothing moves where none is dropped.
 fn drop_prefix(bytes: &mut Vec<u8>, count: usize)
     requires { count ≤ vec_len bytes.old }
-    ensures items { bytes.new.items ≡ drop count bytes.old.items }
+    ensures rest { bytes.new.items ≡ drop count bytes.old.items }
     ensures capacity { vec_capacity bytes.new ≡ vec_capacity bytes.old }
 {
     if count > 0 {

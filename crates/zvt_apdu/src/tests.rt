@@ -54,7 +54,7 @@ fn compare_chunk(
 }
 
 #[test]
-fn every_cut_into_three_chunks_gives_the_same(rt: HostRuntime) -> Result<(), Fail> {
+fn every_split_into_three_chunks_gives_the_same(rt: HostRuntime) -> Result<(), Fail> {
     let mut stream = Vec::from_slice(rt.alloc(), BEFORE)?;
     for _ in 0..300 {
         stream.push(0x41)?;
@@ -84,7 +84,7 @@ fn every_cut_into_three_chunks_gives_the_same(rt: HostRuntime) -> Result<(), Fai
                 &TEN,
                 &mut given,
             )?;
-            assert_eq!(rt; given, 10, "cut at {first} and {second}");
+            assert_eq!(rt; given, 10, "split at {first} and {second}");
         }
     }
     Ok(())

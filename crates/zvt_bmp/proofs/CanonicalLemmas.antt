@@ -28,12 +28,12 @@ known result amount trace receipt currency so_far = record {
 fixed_value : (value more : List ℕ) (size : ℕ) → length value ≡ size → decode_field_value (Fixed size) (value ++ more) ≡ Ok (value, more)
 fixed_value value more size is = value_found (Fixed size) (value ++ more) value more (value, ([], (refl, is), refl), refl)
 
-result_again : (whole : ℕ) (code : Option ℕ) (more : List ℕ) → reading whole no_fields_yet (canonical_result_field code ++ more) ≡ reading whole (known code None None None None false) more
+result_again : (whole : ℕ) (result_code : Option ℕ) (more : List ℕ) → reading whole no_fields_yet (canonical_result_field result_code ++ more) ≡ reading whole (known result_code None None None None false) more
 unfolding decode_status_field
 result_again whole None more = refl
-result_again whole (Some code) more = goes_on whole no_fields_yet (0x27 ∷ code ∷ more) (known (Some code) None None None None false) more (step (whole - length (0x27 ∷ code ∷ more))) where
-  step : (at : ℕ) → decode_status_field no_fields_yet at (0x27 ∷ code ∷ more) ≡ Ok (Some (known (Some code) None None None None false, more))
-  step at = ap (after_field_value no_fields_yet at 0x27) (fixed_value (code ∷ []) more 1 refl)
+result_again whole (Some result_code) more = goes_on whole no_fields_yet (0x27 ∷ result_code ∷ more) (known (Some result_code) None None None None false) more (step (whole - length (0x27 ∷ result_code ∷ more))) where
+  step : (offset : ℕ) → decode_status_field no_fields_yet offset (0x27 ∷ result_code ∷ more) ≡ Ok (Some (known (Some result_code) None None None None false, more))
+  step offset = ap (after_field_value no_fields_yet offset 0x27) (fixed_value (result_code ∷ []) more 1 refl)
 
 -- the digits of a number, written in so many bytes
 record Spelt (size : ℕ) (value : ℕ) : Type 0 where
@@ -61,10 +61,10 @@ amount_again again count whole result (Some n) more fits =
     let s = spelt again count 6 n fits in
     goes_on whole so_far (0x04 ∷ (bcd_of 6 n ++ more)) (known result (Some n) None None None false) more
     (at_amount (whole - length (0x04 ∷ (bcd_of 6 n ++ more))) result (bcd_of 6 n) n more s.count s.digits s.number) where
-      at_amount : (at : ℕ) (result : Option ℕ) (value : List ℕ) (n : ℕ) (more : List ℕ) → length value ≡ 6 → is_bcd value ≡ true → bcd_value value ≡ n → decode_status_field (known result None None None None false) at (0x04 ∷ (value ++ more)) ≡ Ok (Some (known result (Some n) None None None false, more))
-      at_amount at result value n more size test is =
-          ap (after_field_value (known result None None None None false) at 0x04) (fixed_value value more 6 size)
-          ∙ ap (after_put_field at more) (digits_put (is_bcd value) (bcd_value value) n (λ m. known result (Some m) None None None false) test is)
+      at_amount : (offset : ℕ) (result : Option ℕ) (value : List ℕ) (n : ℕ) (more : List ℕ) → length value ≡ 6 → is_bcd value ≡ true → bcd_value value ≡ n → decode_status_field (known result None None None None false) offset (0x04 ∷ (value ++ more)) ≡ Ok (Some (known result (Some n) None None None false, more))
+      at_amount offset result value n more size test is =
+          ap (after_field_value (known result None None None None false) offset 0x04) (fixed_value value more 6 size)
+          ∙ ap (after_put_field offset more) (digits_put (is_bcd value) (bcd_value value) n (λ m. known result (Some m) None None None false) test is)
 
 trace_again : ReadAgain → Count → (whole : ℕ) (result amount trace : Option ℕ) (more : List ℕ) → IfSome trace (λ n. n < 100 ^ 3) → reading whole (known result amount None None None false) (canonical_digits_field 0x0B 3 trace ++ more) ≡ reading whole (known result amount trace None None false) more
 unfolding decode_status_field
@@ -73,10 +73,10 @@ trace_again again count whole result amount (Some n) more fits =
     let s = spelt again count 3 n fits in
     goes_on whole (known result amount None None None false) (0x0B ∷ (bcd_of 3 n ++ more)) (known result amount (Some n) None None false) more
     (at_trace (whole - length (0x0B ∷ (bcd_of 3 n ++ more))) (bcd_of 3 n) s.count s.digits s.number) where
-      at_trace : (at : ℕ) (value : List ℕ) → length value ≡ 3 → is_bcd value ≡ true → bcd_value value ≡ n → decode_status_field (known result amount None None None false) at (0x0B ∷ (value ++ more)) ≡ Ok (Some (known result amount (Some n) None None false, more))
-      at_trace at value size test is =
-          ap (after_field_value (known result amount None None None false) at 0x0B) (fixed_value value more 3 size)
-          ∙ ap (after_put_field at more) (digits_put (is_bcd value) (bcd_value value) n (λ m. known result amount (Some m) None None false) test is)
+      at_trace : (offset : ℕ) (value : List ℕ) → length value ≡ 3 → is_bcd value ≡ true → bcd_value value ≡ n → decode_status_field (known result amount None None None false) offset (0x0B ∷ (value ++ more)) ≡ Ok (Some (known result amount (Some n) None None false, more))
+      at_trace offset value size test is =
+          ap (after_field_value (known result amount None None None false) offset 0x0B) (fixed_value value more 3 size)
+          ∙ ap (after_put_field offset more) (digits_put (is_bcd value) (bcd_value value) n (λ m. known result amount (Some m) None None false) test is)
 
 receipt_put : (b : Bool) (n value : ℕ) (f : Option ℕ → FieldsSoFar) → b ≡ true → n ≡ value → f (cond b (Some n) None) ≡ f (Some value)
 receipt_put b n value f test is = rw (test, is) refl
@@ -88,9 +88,9 @@ receipt_again again count whole result amount trace (Some n) more fits =
     let s = spelt again count 2 n fits in
     goes_on whole (known result amount trace None None false) (0x87 ∷ (bcd_of 2 n ++ more)) (known result amount trace (Some n) None true) more
     (at_receipt (whole - length (0x87 ∷ (bcd_of 2 n ++ more))) (bcd_of 2 n) s.count s.digits s.number) where
-      at_receipt : (at : ℕ) (value : List ℕ) → length value ≡ 2 → is_bcd value ≡ true → bcd_value value ≡ n → decode_status_field (known result amount trace None None false) at (0x87 ∷ (value ++ more)) ≡ Ok (Some (known result amount trace (Some n) None true, more))
-      at_receipt at value size test is =
-          ap (after_field_value (known result amount trace None None false) at 0x87) (fixed_value value more 2 size)
+      at_receipt : (offset : ℕ) (value : List ℕ) → length value ≡ 2 → is_bcd value ≡ true → bcd_value value ≡ n → decode_status_field (known result amount trace None None false) offset (0x87 ∷ (value ++ more)) ≡ Ok (Some (known result amount trace (Some n) None true, more))
+      at_receipt offset value size test is =
+          ap (after_field_value (known result amount trace None None false) offset 0x87) (fixed_value value more 2 size)
           ∙ ap (λ (s : FieldsSoFar). Ok (Some (s, more))) (receipt_put (is_bcd value) (bcd_value value) n (λ r. known result amount trace r None true) test is)
 
 currency_again : (whole : ℕ) (result amount trace receipt : Option ℕ) (so_far : Bool) (currency : Option (List ℕ)) → IfSome currency (λ c. length c ≡ 2) → reading whole (known result amount trace receipt None so_far) (canonical_currency_field currency ++ []) ≡ reading whole (known result amount trace receipt currency so_far) []
@@ -98,8 +98,8 @@ unfolding decode_status_field
 currency_again whole result amount trace receipt so_far None size = refl
 currency_again whole result amount trace receipt so_far (Some currency) size =
     goes_on whole (known result amount trace receipt None so_far) (0x49 ∷ (currency ++ [])) (known result amount trace receipt (Some currency) so_far) [] (at_currency (whole - length (0x49 ∷ (currency ++ [])))) where
-      at_currency : (at : ℕ) → decode_status_field (known result amount trace receipt None so_far) at (0x49 ∷ (currency ++ [])) ≡ Ok (Some (known result amount trace receipt (Some currency) so_far, []))
-      at_currency at = ap (after_field_value (known result amount trace receipt None so_far) at 0x49) (fixed_value currency [] 2 size)
+      at_currency : (offset : ℕ) → decode_status_field (known result amount trace receipt None so_far) offset (0x49 ∷ (currency ++ [])) ≡ Ok (Some (known result amount trace receipt (Some currency) so_far, []))
+      at_currency offset = ap (after_field_value (known result amount trace receipt None so_far) offset 0x49) (fixed_value currency [] 2 size)
 
 end_again : (whole : ℕ) (so_far : FieldsSoFar) → reading whole so_far [] ≡ Ok (with_tail so_far (whole - 0))
 end_again whole so_far = empty_within 0 whole so_far

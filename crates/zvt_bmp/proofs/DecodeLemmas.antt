@@ -15,8 +15,8 @@ use Rattle.zvt_bmp.specs.Grammar.{Field, BeginsWithField, BeginsWithFields, IsFi
 use Rattle.zvt_bmp.specs.Decode.{decode_field_value, may_not_repeat, put_field, after_put_field, after_field_value, after_field_number, decode_status_field, with_tail, decode_status_from, decode_status_within, no_fields_yet, decode_status}
 use Rattle.gw_base.specs.Bcd.{is_bcd}
 use Rattle.gw_base.proofs.BcdLemmas.{bcd_passes, passes_bcd}
-use Rattle.zvt_bmp.proofs.ValueLemmas.{value_found, value_read, value_wrong, wrong_value, value_cut, cut_value, value_shorter}
-use Rattle.zvt_bmp.proofs.PutLemmas.{seen_of, seen_has, put_seen, put_none}
+use Rattle.zvt_bmp.proofs.ValueLemmas.{value_found, value_read, value_wrong, wrong_value, value_truncated, truncated_value, value_shorter}
+use Rattle.zvt_bmp.proofs.PutLemmas.{seen_of, seen_has, put_field_of, put_none}
 
 -- ---- from the grammar to the function, one field
 
@@ -25,23 +25,23 @@ not_true true h = absurd (h refl)
 not_true false h = refl
 
 -- a field that may come there is looked at
-looked_at : (before : List Field) (at number : ℕ) (form : LengthForm) (body : List ℕ) → length_form_of number ≡ Some form → (RepeatsField before number → ⊥) → decode_status_field (seen_of before) at (number ∷ body) ≡ after_field_value (seen_of before) at number (decode_field_value form body)
+looked_at : (before : List Field) (offset number : ℕ) (form : LengthForm) (body : List ℕ) → length_form_of number ≡ Some form → (RepeatsField before number → ⊥) → decode_status_field (seen_of before) offset (number ∷ body) ≡ after_field_value (seen_of before) offset number (decode_field_value form body)
 unfolding decode_status_field
-looked_at before at number form body known once =
+looked_at before offset number form body known once =
     let new : may_not_repeat (seen_of before) number ≡ false = seen_has before number ∙ not_true (is_single number && has_field number before) once in
-    ap (after_field_number (seen_of before) at number body) known
-    ∙ ap (λ (b : Bool). cond b (Err (Twice number)) (after_field_value (seen_of before) at number (decode_field_value form body))) new
+    ap (after_field_number (seen_of before) offset number body) known
+    ∙ ap (λ (b : Bool). cond b (Err (Twice number)) (after_field_value (seen_of before) offset number (decode_field_value form body))) new
 
-pub field_goes : (before : List Field) (at : ℕ) (bytes : List ℕ) (field : Field) (rest : List ℕ) → BeginsWithField bytes field rest → IsWellFormedAfter before field → decode_status_field (seen_of before) at bytes ≡ Ok (Some (seen_of (before ++ field ∷ []), rest))
-field_goes before at bytes field rest (form, body, known, parts, value) lawful =
-    ap (decode_status_field (seen_of before) at) parts ∙ looked_at before at field.number form body known lawful.once
-    ∙ ap (after_field_value (seen_of before) at field.number) (value_found form body field.value rest value)
-    ∙ ap (after_put_field at rest) (put_seen before field lawful)
+pub field_goes : (before : List Field) (offset : ℕ) (bytes : List ℕ) (field : Field) (rest : List ℕ) → BeginsWithField bytes field rest → IsWellFormedAfter before field → decode_status_field (seen_of before) offset bytes ≡ Ok (Some (seen_of (before ++ field ∷ []), rest))
+field_goes before offset bytes field rest (form, body, known, parts, value) well_formed =
+    ap (decode_status_field (seen_of before) offset) parts ∙ looked_at before offset field.number form body known well_formed.once
+    ∙ ap (after_field_value (seen_of before) offset field.number) (value_found form body field.value rest value)
+    ∙ ap (after_put_field offset rest) (put_field_of before field well_formed)
 
-tail_ends : (so_far : FieldsSoFar) (at : ℕ) (bytes : List ℕ) → IsFieldTail bytes → decode_status_field so_far at bytes ≡ Ok None
+tail_ends : (so_far : FieldsSoFar) (offset : ℕ) (bytes : List ℕ) → IsFieldTail bytes → decode_status_field so_far offset bytes ≡ Ok None
 unfolding decode_status_field
-tail_ends so_far at [] tail = refl
-tail_ends so_far at (number ∷ body) tail = ap (after_field_number so_far at number body) tail
+tail_ends so_far offset [] tail = refl
+tail_ends so_far offset (number ∷ body) tail = ap (after_field_number so_far offset number body) tail
 
 -- a number that comes once at most is in the table
 data Single : ℕ → Type 0 where
@@ -63,33 +63,33 @@ single_known number single =
       ]
     ]
 
-repeated : (before : List Field) (at number : ℕ) (body : List ℕ) → RepeatsField before number → Single number → decode_status_field (seen_of before) at (number ∷ body) ≡ Err (Twice number)
+repeated : (before : List Field) (offset number : ℕ) (body : List ℕ) → RepeatsField before number → Single number → decode_status_field (seen_of before) offset (number ∷ body) ≡ Err (Twice number)
 unfolding decode_status_field
-repeated before at number body repeats (One form known) =
-    ap (after_field_number (seen_of before) at number body) known
-    ∙ ap (λ (b : Bool). cond b (Err (Twice number)) (after_field_value (seen_of before) at number (decode_field_value form body))) (seen_has before number ∙ repeats)
+repeated before offset number body repeats (One form known) =
+    ap (after_field_number (seen_of before) offset number body) known
+    ∙ ap (λ (b : Bool). cond b (Err (Twice number)) (after_field_value (seen_of before) offset number (decode_field_value form body))) (seen_has before number ∙ repeats)
 
-pub field_fails : (before : List Field) (bytes : List ℕ) (at : ℕ) (fault : FieldFault) → FieldsEndAt before bytes at (Err fault) → decode_status_field (seen_of before) at bytes ≡ Err fault
-field_fails before bytes at (Twice number) (more, parts, repeats) =
-    ap (decode_status_field (seen_of before) at) parts ∙ repeated before at number more repeats (single_known number (and_parts (is_single number) (has_field number before) repeats).0)
-field_fails before bytes at (BadLength place) (is, form, body, begins, wrong) =
-    ap (decode_status_field (seen_of before) at) begins.parts ∙ looked_at before at begins.number form body begins.known begins.once
-    ∙ ap (after_field_value (seen_of before) at begins.number) (wrong_value form body wrong) ∙ ap (λ (p : ℕ). Err (BadLength p)) (sym is)
-field_fails before bytes at (Short place) (is, form, body, begins, cut) =
-    ap (decode_status_field (seen_of before) at) begins.parts ∙ looked_at before at begins.number form body begins.known begins.once
-    ∙ ap (after_field_value (seen_of before) at begins.number) (cut_value form body cut) ∙ ap (λ (p : ℕ). Err (Short p)) (sym is)
-field_fails before bytes at (NotDigits place) (is, field, more, (form, body, known, parts, value), once, in_digits, not) =
-    ap (decode_status_field (seen_of before) at) parts ∙ looked_at before at field.number form body known once
-    ∙ ap (after_field_value (seen_of before) at field.number) (value_found form body field.value more value)
-    ∙ ap (after_put_field at more) (put_none (seen_of before) field.number field.value in_digits not)
+pub field_fails : (before : List Field) (bytes : List ℕ) (offset : ℕ) (fault : FieldFault) → FieldsEndAt before bytes offset (Err fault) → decode_status_field (seen_of before) offset bytes ≡ Err fault
+field_fails before bytes offset (Twice number) (more, parts, repeats) =
+    ap (decode_status_field (seen_of before) offset) parts ∙ repeated before offset number more repeats (single_known number (and_parts (is_single number) (has_field number before) repeats).0)
+field_fails before bytes offset (BadLength reported) (is, form, body, begins, wrong) =
+    ap (decode_status_field (seen_of before) offset) begins.parts ∙ looked_at before offset begins.number form body begins.known begins.once
+    ∙ ap (after_field_value (seen_of before) offset begins.number) (wrong_value form body wrong) ∙ ap (λ (p : ℕ). Err (BadLength p)) (sym is)
+field_fails before bytes offset (Short reported) (is, form, body, begins, truncated) =
+    ap (decode_status_field (seen_of before) offset) begins.parts ∙ looked_at before offset begins.number form body begins.known begins.once
+    ∙ ap (after_field_value (seen_of before) offset begins.number) (truncated_value form body truncated) ∙ ap (λ (p : ℕ). Err (Short p)) (sym is)
+field_fails before bytes offset (NotDigits reported) (is, field, more, (form, body, known, parts, value), once, in_digits, not) =
+    ap (decode_status_field (seen_of before) offset) parts ∙ looked_at before offset field.number form body known once
+    ∙ ap (after_field_value (seen_of before) offset field.number) (value_found form body field.value more value)
+    ∙ ap (after_put_field offset more) (put_none (seen_of before) field.number field.value in_digits not)
     ∙ ap (λ (p : ℕ). Err (NotDigits p)) (sym is)
 
 -- ---- each of them is one of three
 
 pub data Prefix : List Field → List ℕ → ℕ → Type 0 where
-  Ends : {before : List Field} {bytes : List ℕ} {at : ℕ} → IsFieldTail bytes → Prefix before bytes at
-  Goes : {before : List Field} {bytes : List ℕ} {at : ℕ} (field : Field) (rest : List ℕ) → BeginsWithField bytes field rest → IsWellFormedAfter before field → Prefix before bytes at
-  Fails : {before : List Field} {bytes : List ℕ} {at : ℕ} (fault : FieldFault) → FieldsEndAt before bytes at (Err fault) → Prefix before bytes at
+  Ends : {before : List Field} {bytes : List ℕ} {offset : ℕ} → IsFieldTail bytes → Prefix before bytes offset
+  Goes : {before : List Field} {bytes : List ℕ} {offset : ℕ} (field : Field) (rest : List ℕ) → BeginsWithField bytes field rest → IsWellFormedAfter before field → Prefix before bytes offset
+  Fails : {before : List Field} {bytes : List ℕ} {offset : ℕ} (fault : FieldFault) → FieldsEndAt before bytes offset (Err fault) → Prefix before bytes offset
 
 -- whether it is an amount or a trace number
 is_in_digits : (number : ℕ) → HasDigitsField number ⊎ (HasDigitsField number → ⊥)
@@ -99,31 +99,31 @@ is_in_digits number =
       | inr a ↦ elim (cases_eq number 0x0B) [ inl e ↦ inl (inr e) | inr b ↦ inr (λ d. elim d [ inl e ↦ a e | inr e ↦ b e ]) ]
     ]
 
-with_value : (before : List Field) (bytes : List ℕ) (at : ℕ) (field : Field) (rest : List ℕ) (digits : Bool) → BeginsWithField bytes field rest → (RepeatsField before field.number → ⊥) → is_bcd field.value ≡ digits → Prefix before bytes at
-with_value before bytes at field rest true begins once passed = Goes field rest begins (record { once = once; digits = λ _. passes_bcd field.value passed })
-with_value before bytes at field rest false begins once passed =
+with_value : (before : List Field) (bytes : List ℕ) (offset : ℕ) (field : Field) (rest : List ℕ) (digits : Bool) → BeginsWithField bytes field rest → (RepeatsField before field.number → ⊥) → is_bcd field.value ≡ digits → Prefix before bytes offset
+with_value before bytes offset field rest true begins once passed = Goes field rest begins (record { once = once; digits = λ _. passes_bcd field.value passed })
+with_value before bytes offset field rest false begins once passed =
     elim (is_in_digits field.number) [
-      | inl in_digits ↦ Fails (NotDigits at) (refl, field, rest, begins, once, in_digits, λ is. let yes_ = bcd_passes field.value is in cc (yes_, passed))
+      | inl in_digits ↦ Fails (NotDigits offset) (refl, field, rest, begins, once, in_digits, λ is. let yes_ = bcd_passes field.value is in cc (yes_, passed))
       | inr other ↦ Goes field rest begins (record { once = once; digits = λ in_digits. absurd (other in_digits) })
     ]
 
-by_value : (before : List Field) (at number : ℕ) (form : LengthForm) (body : List ℕ) (value : Result (List ℕ × List ℕ) LengthFault) → length_form_of number ≡ Some form → (RepeatsField before number → ⊥) → decode_field_value form body ≡ value → Prefix before (number ∷ body) at
-by_value before at number form body (Err Wrong) known once is =
-    Fails (BadLength at) (refl, form, body, record { number = number; known = known; once = once; parts = refl }, value_wrong form body is)
-by_value before at number form body (Err Truncated) known once is =
-    Fails (Short at) (refl, form, body, record { number = number; known = known; once = once; parts = refl }, value_cut form body is)
-by_value before at number form body (Ok (value, rest)) known once is =
-    with_value before (number ∷ body) at (record { number = number; value = value }) rest (is_bcd value) (form, body, known, refl, value_read form body value rest is) once refl
+by_value : (before : List Field) (offset number : ℕ) (form : LengthForm) (body : List ℕ) (value : Result (List ℕ × List ℕ) LengthFault) → length_form_of number ≡ Some form → (RepeatsField before number → ⊥) → decode_field_value form body ≡ value → Prefix before (number ∷ body) offset
+by_value before offset number form body (Err Wrong) known once is =
+    Fails (BadLength offset) (refl, form, body, record { number = number; known = known; once = once; parts = refl }, value_wrong form body is)
+by_value before offset number form body (Err Truncated) known once is =
+    Fails (Short offset) (refl, form, body, record { number = number; known = known; once = once; parts = refl }, value_truncated form body is)
+by_value before offset number form body (Ok (value, rest)) known once is =
+    with_value before (number ∷ body) offset (record { number = number; value = value }) rest (is_bcd value) (form, body, known, refl, value_read form body value rest is) once refl
 
-by_form : (before : List Field) (at number : ℕ) (body : List ℕ) (form : Option LengthForm) (again : Bool) → length_form_of number ≡ form → (is_single number && has_field number before) ≡ again → Prefix before (number ∷ body) at
-by_form before at number body None again known repeats = Ends known
-by_form before at number body (Some form) true known repeats = Fails (Twice number) (body, refl, repeats)
-by_form before at number body (Some form) false known repeats =
-    by_value before at number form body (decode_field_value form body) known (λ again. cc (again, repeats)) refl
+by_form : (before : List Field) (offset number : ℕ) (body : List ℕ) (form : Option LengthForm) (again : Bool) → length_form_of number ≡ form → (is_single number && has_field number before) ≡ again → Prefix before (number ∷ body) offset
+by_form before offset number body None again known repeats = Ends known
+by_form before offset number body (Some form) true known repeats = Fails (Twice number) (body, refl, repeats)
+by_form before offset number body (Some form) false known repeats =
+    by_value before offset number form body (decode_field_value form body) known (λ again. cc (again, repeats)) refl
 
-pub prefix_of : (before : List Field) (bytes : List ℕ) (at : ℕ) → Prefix before bytes at
-prefix_of before [] at = Ends tt
-prefix_of before (number ∷ body) at = by_form before at number body (length_form_of number) (is_single number && has_field number before) refl refl
+pub prefix_of : (before : List Field) (bytes : List ℕ) (offset : ℕ) → Prefix before bytes offset
+prefix_of before [] offset = Ends tt
+prefix_of before (number ∷ body) offset = by_form before offset number body (length_form_of number) (is_single number && has_field number before) refl refl
 
 -- ---- all fields
 
@@ -133,37 +133,37 @@ begins_shrinks bytes field rest (form, body, known, parts, value) =
     omega (arith, ap length parts)
 
 -- reading on after well-formed fields gives what the rest gives
-pub record On (before : List Field) (bytes : List ℕ) (whole : ℕ) (told : Result Fields FieldFault) : Type 0 where
+pub record On (before : List Field) (bytes : List ℕ) (whole : ℕ) (reported : Result Fields FieldFault) : Type 0 where
   pub fields : List Field
   pub rest : List ℕ
   pub splits : BeginsWithFields bytes fields rest
-  pub lawful : AreWellFormedFields before fields
-  pub stops : FieldsEndAt (before ++ fields) rest (whole - length rest) told
+  pub well_formed : AreWellFormedFields before fields
+  pub stops : FieldsEndAt (before ++ fields) rest (whole - length rest) reported
 
-On-first : (before : List Field) (bytes : List ℕ) (whole : ℕ) (told : Result Fields FieldFault) (field : Field) (more : List ℕ) → BeginsWithField bytes field more → IsWellFormedAfter before field → On (before ++ field ∷ []) more whole told → On before bytes whole told
-On-first before bytes whole told field more begins lawful on = record {
+On-first : (before : List Field) (bytes : List ℕ) (whole : ℕ) (reported : Result Fields FieldFault) (field : Field) (more : List ℕ) → BeginsWithField bytes field more → IsWellFormedAfter before field → On (before ++ field ∷ []) more whole reported → On before bytes whole reported
+On-first before bytes whole reported field more begins well_formed on = record {
   fields = field ∷ on.fields;
   rest = on.rest;
   splits = (more, begins, on.splits);
-  lawful = (lawful, on.lawful);
-  stops = subst (λ (fs : List Field). FieldsEndAt fs on.rest (whole - length on.rest) told) (append_assoc before (field ∷ []) on.fields) on.stops;
+  well_formed = (well_formed, on.well_formed);
+  stops = subst (λ (fs : List Field). FieldsEndAt fs on.rest (whole - length on.rest) reported) (append_assoc before (field ∷ []) on.fields) on.stops;
 }
 
-On-last : (before : List Field) (bytes : List ℕ) (whole : ℕ) (told : Result Fields FieldFault) → FieldsEndAt before bytes (whole - length bytes) told → On before bytes whole told
-On-last before bytes whole told stops = record {
+On-last : (before : List Field) (bytes : List ℕ) (whole : ℕ) (reported : Result Fields FieldFault) → FieldsEndAt before bytes (whole - length bytes) reported → On before bytes whole reported
+On-last before bytes whole reported stops = record {
   fields = [];
   rest = bytes;
   splits = refl;
-  lawful = tt;
-  stops = subst (λ (fs : List Field). FieldsEndAt fs bytes (whole - length bytes) told) (sym (append-nil before)) stops;
+  well_formed = tt;
+  stops = subst (λ (fs : List Field). FieldsEndAt fs bytes (whole - length bytes) reported) (sym (append-nil before)) stops;
 }
 
 on_at : (n whole : ℕ) (before : List Field) (bytes : List ℕ) → ((fields : List Field) (rest : List ℕ) → length rest < length bytes → On fields rest whole (decode_status_within n whole (seen_of fields) rest)) → Prefix before bytes (whole - length bytes) → On before bytes whole (decode_status_from (decode_status_within n whole) (seen_of before) (whole - length bytes) (decode_status_field (seen_of before) (whole - length bytes) bytes))
 on_at n whole before bytes others (Prefix.Ends tail) =
     rw (tail_ends (seen_of before) (whole - length bytes) bytes tail) (On-last before bytes whole _ (tail, refl))
-on_at n whole before bytes others (Prefix.Goes field rest begins lawful) =
-    rw (field_goes before (whole - length bytes) bytes field rest begins lawful)
-    (On-first before bytes whole _ field rest begins lawful (others (before ++ field ∷ []) rest (begins_shrinks bytes field rest begins)))
+on_at n whole before bytes others (Prefix.Goes field rest begins well_formed) =
+    rw (field_goes before (whole - length bytes) bytes field rest begins well_formed)
+    (On-first before bytes whole _ field rest begins well_formed (others (before ++ field ∷ []) rest (begins_shrinks bytes field rest begins)))
 on_at n whole before bytes others (Prefix.Fails fault stops) =
     rw (field_fails before bytes (whole - length bytes) fault stops) (On-last before bytes whole (Err fault) stops)
 
@@ -174,38 +174,38 @@ read_on zero whole before (b ∷ bytes) few = absurd (omega arith)
 read_on (suc n) whole before bytes few =
     on_at n whole before bytes (λ fields rest shorter. read_on n whole fields rest (omega arith)) (prefix_of before bytes (whole - length bytes))
 
-pub fields_tell : (bytes : List ℕ) → SpellsStatusOrFault bytes (decode_status bytes)
+pub fields_report : (bytes : List ℕ) → SpellsStatusOrFault bytes (decode_status bytes)
 unfolding decode_status
-fields_tell bytes =
+fields_report bytes =
     let on = read_on (length bytes) (length bytes) [] bytes (omega arith) in
-    (on.fields, on.rest, on.splits, on.lawful, on.stops)
+    (on.fields, on.rest, on.splits, on.well_formed, on.stops)
 
 -- ---- and nothing else is computed
 
-stops_read : (n whole : ℕ) (before : List Field) (bytes : List ℕ) (told : Result Fields FieldFault) → length bytes ≤ n → FieldsEndAt before bytes (whole - length bytes) told → decode_status_within n whole (seen_of before) bytes ≡ told
+stops_read : (n whole : ℕ) (before : List Field) (bytes : List ℕ) (reported : Result Fields FieldFault) → length bytes ≤ n → FieldsEndAt before bytes (whole - length bytes) reported → decode_status_within n whole (seen_of before) bytes ≡ reported
 unfolding decode_status_within
 stops_read zero whole before [] (Ok fields) few (tail, is) = ap (λ (f : Fields). Ok f) (sym is)
 stops_read zero whole before [] (Err fault) few stops = let fails = field_fails before [] (whole - 0) fault stops in let ends = tail_ends (seen_of before) (whole - 0) [] tt in absurd (cc (fails, ends))
-stops_read zero whole before (b ∷ bytes) told few stops = absurd (omega arith)
+stops_read zero whole before (b ∷ bytes) reported few stops = absurd (omega arith)
 stops_read (suc n) whole before bytes (Ok fields) few (tail, is) =
     ap (decode_status_from (decode_status_within n whole) (seen_of before) (whole - length bytes)) (tail_ends (seen_of before) (whole - length bytes) bytes tail) ∙ ap (λ (f : Fields). Ok f) (sym is)
 stops_read (suc n) whole before bytes (Err fault) few stops =
     ap (decode_status_from (decode_status_within n whole) (seen_of before) (whole - length bytes)) (field_fails before bytes (whole - length bytes) fault stops)
 
-told_read : (n whole : ℕ) (fields : List Field) (before : List Field) (bytes rest : List ℕ) (told : Result Fields FieldFault) → length bytes ≤ n → BeginsWithFields bytes fields rest → AreWellFormedFields before fields → FieldsEndAt (before ++ fields) rest (whole - length rest) told → decode_status_within n whole (seen_of before) bytes ≡ told
+reported_read : (n whole : ℕ) (fields : List Field) (before : List Field) (bytes rest : List ℕ) (reported : Result Fields FieldFault) → length bytes ≤ n → BeginsWithFields bytes fields rest → AreWellFormedFields before fields → FieldsEndAt (before ++ fields) rest (whole - length rest) reported → decode_status_within n whole (seen_of before) bytes ≡ reported
 unfolding decode_status_within
-told_read n whole [] before bytes rest told few same lawful stops =
-    stops_read n whole before bytes told few (subst (λ (b : List ℕ). FieldsEndAt before b (whole - length b) told) (sym same) (subst (λ (fs : List Field). FieldsEndAt fs rest (whole - length rest) told) (append-nil before) stops))
-told_read zero whole (field ∷ fields) before bytes rest told few (more, begins, splits) lawful stops = absurd (let shorter = begins_shrinks bytes field more begins in omega arith)
-told_read (suc n) whole (field ∷ fields) before bytes rest told few (more, begins, splits) (here, lawful) stops =
+reported_read n whole [] before bytes rest reported few same well_formed stops =
+    stops_read n whole before bytes reported few (subst (λ (b : List ℕ). FieldsEndAt before b (whole - length b) reported) (sym same) (subst (λ (fs : List Field). FieldsEndAt fs rest (whole - length rest) reported) (append-nil before) stops))
+reported_read zero whole (field ∷ fields) before bytes rest reported few (more, begins, splits) well_formed stops = absurd (let shorter = begins_shrinks bytes field more begins in omega arith)
+reported_read (suc n) whole (field ∷ fields) before bytes rest reported few (more, begins, splits) (here, well_formed) stops =
     let shorter = begins_shrinks bytes field more begins in
     ap (decode_status_from (decode_status_within n whole) (seen_of before) (whole - length bytes)) (field_goes before (whole - length bytes) bytes field more begins here)
-    ∙ told_read n whole fields (before ++ field ∷ []) more rest told (omega arith) splits lawful (subst (λ (fs : List Field). FieldsEndAt fs rest (whole - length rest) told) (sym (append_assoc before (field ∷ []) fields)) stops)
+    ∙ reported_read n whole fields (before ++ field ∷ []) more rest reported (omega arith) splits well_formed (subst (λ (fs : List Field). FieldsEndAt fs rest (whole - length rest) reported) (sym (append_assoc before (field ∷ []) fields)) stops)
 
-pub only_told : (bytes : List ℕ) (told : Result Fields FieldFault) → SpellsStatusOrFault bytes told → decode_status bytes ≡ told
+pub only_reported : (bytes : List ℕ) (reported : Result Fields FieldFault) → SpellsStatusOrFault bytes reported → decode_status bytes ≡ reported
 unfolding decode_status
-only_told bytes told (fields, rest, splits, lawful, stops) =
-    told_read (length bytes) (length bytes) fields [] bytes rest told (omega arith) splits lawful stops
+only_reported bytes reported (fields, rest, splits, well_formed, stops) =
+    reported_read (length bytes) (length bytes) fields [] bytes rest reported (omega arith) splits well_formed stops
 
 -- ---- the loop of the code
 
@@ -216,29 +216,29 @@ goes_is : (x y : FieldsSoFar × List ℕ) → goes x ≡ goes y → x ≡ y
 goes_is x y e = cc
 
 -- what follows a field is shorter, whatever is known
-put_shorter : (at : ℕ) (rest : List ℕ) (o : Option FieldsSoFar) (so_far : FieldsSoFar) (left : List ℕ) → after_put_field at rest o ≡ Ok (Some (so_far, left)) → rest ≡ left
-put_shorter at rest None so_far left e = absurd cc
-put_shorter at rest (Some now) so_far left e = ap (λ (p : FieldsSoFar × List ℕ). p.1) (goes_is (now, rest) (so_far, left) e)
+put_shorter : (offset : ℕ) (rest : List ℕ) (o : Option FieldsSoFar) (so_far : FieldsSoFar) (left : List ℕ) → after_put_field offset rest o ≡ Ok (Some (so_far, left)) → rest ≡ left
+put_shorter offset rest None so_far left e = absurd cc
+put_shorter offset rest (Some now) so_far left e = ap (λ (p : FieldsSoFar × List ℕ). p.1) (goes_is (now, rest) (so_far, left) e)
 
-value_rest : (so_far : FieldsSoFar) (at number : ℕ) (form : LengthForm) (body : List ℕ) (value : Result (List ℕ × List ℕ) LengthFault) (now : FieldsSoFar) (left : List ℕ) → decode_field_value form body ≡ value → after_field_value so_far at number value ≡ Ok (Some (now, left)) → length left ≤ length body
-value_rest so_far at number form body (Err Wrong) now left is e = absurd cc
-value_rest so_far at number form body (Err Truncated) now left is e = absurd cc
-value_rest so_far at number form body (Ok (value, rest)) now left is e =
-    let same = put_shorter at rest (put_field so_far number value) now left e in
+value_rest : (so_far : FieldsSoFar) (offset number : ℕ) (form : LengthForm) (body : List ℕ) (value : Result (List ℕ × List ℕ) LengthFault) (now : FieldsSoFar) (left : List ℕ) → decode_field_value form body ≡ value → after_field_value so_far offset number value ≡ Ok (Some (now, left)) → length left ≤ length body
+value_rest so_far offset number form body (Err Wrong) now left is e = absurd cc
+value_rest so_far offset number form body (Err Truncated) now left is e = absurd cc
+value_rest so_far offset number form body (Ok (value, rest)) now left is e =
+    let same = put_shorter offset rest (put_field so_far number value) now left e in
     omega (arith, value_shorter form body value rest is, ap length same)
 
-once_rest : (again : Bool) (so_far : FieldsSoFar) (at number : ℕ) (form : LengthForm) (body : List ℕ) (now : FieldsSoFar) (left : List ℕ) → cond again (Err (Twice number)) (after_field_value so_far at number (decode_field_value form body)) ≡ Ok (Some (now, left)) → length left ≤ length body
-once_rest true so_far at number form body now left e = absurd cc
-once_rest false so_far at number form body now left e = value_rest so_far at number form body (decode_field_value form body) now left refl e
+once_rest : (again : Bool) (so_far : FieldsSoFar) (offset number : ℕ) (form : LengthForm) (body : List ℕ) (now : FieldsSoFar) (left : List ℕ) → cond again (Err (Twice number)) (after_field_value so_far offset number (decode_field_value form body)) ≡ Ok (Some (now, left)) → length left ≤ length body
+once_rest true so_far offset number form body now left e = absurd cc
+once_rest false so_far offset number form body now left e = value_rest so_far offset number form body (decode_field_value form body) now left refl e
 
-form_rest : (so_far : FieldsSoFar) (at number : ℕ) (body : List ℕ) (form : Option LengthForm) (now : FieldsSoFar) (left : List ℕ) → after_field_number so_far at number body form ≡ Ok (Some (now, left)) → length left ≤ length body
-form_rest so_far at number body None now left e = absurd cc
-form_rest so_far at number body (Some form) now left e = once_rest (may_not_repeat so_far number) so_far at number form body now left e
+form_rest : (so_far : FieldsSoFar) (offset number : ℕ) (body : List ℕ) (form : Option LengthForm) (now : FieldsSoFar) (left : List ℕ) → after_field_number so_far offset number body form ≡ Ok (Some (now, left)) → length left ≤ length body
+form_rest so_far offset number body None now left e = absurd cc
+form_rest so_far offset number body (Some form) now left e = once_rest (may_not_repeat so_far number) so_far offset number form body now left e
 
-field_shrinks : (so_far : FieldsSoFar) (at : ℕ) (bytes : List ℕ) (now : FieldsSoFar) (left : List ℕ) → decode_status_field so_far at bytes ≡ Ok (Some (now, left)) → length left < length bytes
+field_shrinks : (so_far : FieldsSoFar) (offset : ℕ) (bytes : List ℕ) (now : FieldsSoFar) (left : List ℕ) → decode_status_field so_far offset bytes ≡ Ok (Some (now, left)) → length left < length bytes
 unfolding decode_status_field
-field_shrinks so_far at [] now left e = absurd cc
-field_shrinks so_far at (number ∷ body) now left e = omega (arith, form_rest so_far at number body (length_form_of number) now left e)
+field_shrinks so_far offset [] now left e = absurd cc
+field_shrinks so_far offset (number ∷ body) now left e = omega (arith, form_rest so_far offset number body (length_form_of number) now left e)
 
 from_same : (n m whole : ℕ) (so_far : FieldsSoFar) (bytes : List ℕ) (found : Result (Option (FieldsSoFar × List ℕ)) FieldFault) → ((now : FieldsSoFar) (left : List ℕ) → length left < length bytes → decode_status_within n whole now left ≡ decode_status_within m whole now left) → decode_status_field so_far (whole - length bytes) bytes ≡ found → decode_status_from (decode_status_within n whole) so_far (whole - length bytes) found ≡ decode_status_from (decode_status_within m whole) so_far (whole - length bytes) found
 from_same n m whole so_far bytes (Err fault) same e = refl

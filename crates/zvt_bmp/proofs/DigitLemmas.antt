@@ -9,12 +9,12 @@ use Rattle.gw_base.specs.Bcd.{IsBcdByte, IsBcd, IsFirstNotBcd, bcd_value, is_bcd
 use Rattle.gw_base.specs.declared.bcd.NotDigits.{NotDigits}
 use Rattle.gw_base.proofs.BcdLemmas.{bcd_passes, passes_bcd}
 
-failed_by : (bytes : List ℕ) (at : ℕ) (passed : Bool) → IsFirstNotBcd bytes at → is_bcd bytes ≡ passed → passed ≡ false
-failed_by bytes at false first e = refl
-failed_by bytes at true first e = absurd (first.here (All-get_or IsBcdByte bytes at 0 first.inside (passes_bcd bytes e)))
+failed_by : (bytes : List ℕ) (offset : ℕ) (passed : Bool) → IsFirstNotBcd bytes offset → is_bcd bytes ≡ passed → passed ≡ false
+failed_by bytes offset false first e = refl
+failed_by bytes offset true first e = absurd (first.here (All-get_or IsBcdByte bytes offset 0 first.inside (passes_bcd bytes e)))
 
-pub first_fails : (bytes : List ℕ) (at : ℕ) → IsFirstNotBcd bytes at → is_bcd bytes ≡ false
-first_fails bytes at first = failed_by bytes at (is_bcd bytes) first refl
+pub first_fails : (bytes : List ℕ) (offset : ℕ) → IsFirstNotBcd bytes offset → is_bcd bytes ≡ false
+first_fails bytes offset first = failed_by bytes offset (is_bcd bytes) first refl
 
 -- digits in so many bytes spell a number below a power of a hundred
 pub bcd_bound : (bytes : List ℕ) → IsBcd bytes → bcd_value bytes < 100 ^ length bytes

@@ -33,15 +33,15 @@ pub passes_digit : (b : ℕ) → is_length_digit b ≡ true → IsLengthDigit b
 passes_digit b passed = let parts = and_parts (leb 240 b) (leb b 249) passed in (leb-true _ _ parts.0, leb-true _ _ parts.1)
 
 -- which it is
-pub data Kind : ℕ → Type 0 where
-  Digit : {b : ℕ} → is_length_digit b ≡ true → IsLengthDigit b → Kind b
-  Other : {b : ℕ} → is_length_digit b ≡ false → (IsLengthDigit b → ⊥) → Kind b
+pub data IsDigitOrOther : ℕ → Type 0 where
+  Digit : {b : ℕ} → is_length_digit b ≡ true → IsLengthDigit b → IsDigitOrOther b
+  Other : {b : ℕ} → is_length_digit b ≡ false → (IsLengthDigit b → ⊥) → IsDigitOrOther b
 
-kind_by : (b : ℕ) (passed : Bool) → is_length_digit b ≡ passed → Kind b
+kind_by : (b : ℕ) (passed : Bool) → is_length_digit b ≡ passed → IsDigitOrOther b
 kind_by b true e = Digit e (passes_digit b e)
 kind_by b false e = Other e (λ is. let passed = and_from _ _ (le-leb 240 b is.0) (le-leb b 249 is.1) in cc (passed, e))
 
-pub kind_of : (b : ℕ) → Kind b
+pub kind_of : (b : ℕ) → IsDigitOrOther b
 kind_of b = kind_by b (is_length_digit b) refl
 
 -- ---- from the grammar to the function
@@ -118,20 +118,20 @@ lllvar_read (hundreds ∷ bytes) n rest e =
       | Digit test is ↦ lllvar_by hundreds bytes n rest (decode_llvar bytes) test is refl (rw test at e)
     ]
 
-abbrev told : {A : Type 0} → A → Option A
-told x = Some x
+abbrev some_of : {A : Type 0} → A → Option A
+some_of x = Some x
 
-told_is : {A : Type 0} (x y : A) → told x ≡ told y → x ≡ y
-told_is x y e = cc
+some_of_is : {A : Type 0} (x y : A) → some_of x ≡ some_of y → x ≡ y
+some_of_is x y e = cc
 
-told_length : (m n : ℕ) (xs ys : List ℕ) → told {A = ℕ × List ℕ} (m, xs) ≡ told {A = ℕ × List ℕ} (n, ys) → (m ≡ n) × (xs ≡ ys)
-told_length m n xs ys e =
-    let pair = told_is {A = ℕ × List ℕ} (m, xs) (n, ys) e in
+same_length : (m n : ℕ) (xs ys : List ℕ) → some_of {A = ℕ × List ℕ} (m, xs) ≡ some_of {A = ℕ × List ℕ} (n, ys) → (m ≡ n) × (xs ≡ ys)
+same_length m n xs ys e =
+    let pair = some_of_is {A = ℕ × List ℕ} (m, xs) (n, ys) e in
     (ap (λ (p : ℕ × List ℕ). p.0) pair, ap (λ (p : ℕ × List ℕ). p.1) pair)
 
 -- the first byte of a TLV length: below 80, 81, 82 or another
 pub data First : ℕ → Type 0 where
-  Short : {b : ℕ} → b < 128 → First b
+  OneByte : {b : ℕ} → b < 128 → First b
   One : {b : ℕ} → b ≡ 129 → First b
   Two : {b : ℕ} → b ≡ 130 → First b
   Bad : {b : ℕ} → (b ≡ 128) ⊎ (130 < b) → First b
@@ -139,7 +139,7 @@ pub data First : ℕ → Type 0 where
 pub first_of : (b : ℕ) → First b
 first_of b =
     elim (cases_lt b 128) [
-      | inl small ↦ Short small
+      | inl small ↦ OneByte small
       | inr large ↦ elim (cases_eq b 129) [
         | inl e ↦ One e
         | inr ne ↦ elim (cases_eq b 130) [
@@ -160,20 +160,20 @@ bad_length b bytes (inr above) =
 one_read : (bytes : List ℕ) (n : ℕ) (rest : List ℕ) → decode_one_byte_length bytes ≡ Some (n, rest) → Measured Tlv (129 ∷ bytes) n rest
 one_read [] n rest e = absurd cc
 one_read (b ∷ bytes) n rest e =
-    let both = told_length b n bytes rest e in
+    let both = same_length b n bytes rest e in
     record { prefix = 129 ∷ b ∷ []; is_length = (refl, sym both.0); parts = ap (λ (t : List ℕ). 129 ∷ b ∷ t) both.1 }
 
 two_read : (bytes : List ℕ) (n : ℕ) (rest : List ℕ) → decode_two_byte_length bytes ≡ Some (n, rest) → Measured Tlv (130 ∷ bytes) n rest
 two_read [] n rest e = absurd cc
 two_read (high ∷ []) n rest e = absurd cc
 two_read (high ∷ low ∷ bytes) n rest e =
-    let both = told_length (low + 256 * high) n bytes rest e in
+    let both = same_length (low + 256 * high) n bytes rest e in
     record { prefix = 130 ∷ high ∷ low ∷ []; is_length = (refl, sym both.0); parts = ap (λ (t : List ℕ). 130 ∷ high ∷ low ∷ t) both.1 }
 
 tlv_by : (b : ℕ) (bytes : List ℕ) (n : ℕ) (rest : List ℕ) → First b → decode_tlv_length (b ∷ bytes) ≡ Some (n, rest) → Measured Tlv (b ∷ bytes) n rest
-tlv_by b bytes n rest (Short small) e =
+tlv_by b bytes n rest (OneByte small) e =
     let test : ltb b 128 ≡ true = lt-ltb _ _ small in
-    let both = told_length b n bytes rest (rw test at e) in
+    let both = same_length b n bytes rest (rw test at e) in
     record { prefix = b ∷ []; is_length = (small, sym both.0); parts = ap (λ (t : List ℕ). b ∷ t) both.1 }
 tlv_by b bytes n rest (One is) e = subst (λ (f : ℕ). Measured Tlv (f ∷ bytes) n rest) (sym is) (one_read bytes n rest (rw is at e))
 tlv_by b bytes n rest (Two is) e = subst (λ (f : ℕ). Measured Tlv (f ∷ bytes) n rest) (sym is) (two_read bytes n rest (rw is at e))
@@ -183,9 +183,9 @@ tlv_read : (bytes : List ℕ) (n : ℕ) (rest : List ℕ) → decode_tlv_length 
 tlv_read [] n rest e = absurd cc
 tlv_read (b ∷ bytes) n rest e = tlv_by b bytes n rest (first_of b) e
 
-tlv_told : (bytes : List ℕ) (n : ℕ) (rest : List ℕ) (length : Option (ℕ × List ℕ)) → decode_tlv_length bytes ≡ length → tlv_length_or_fault bytes length ≡ Ok (n, rest) → Measured Tlv bytes n rest
-tlv_told bytes n rest None is e = absurd cc
-tlv_told bytes n rest (Some (m, left)) is e =
+tlv_same : (bytes : List ℕ) (n : ℕ) (rest : List ℕ) (length : Option (ℕ × List ℕ)) → decode_tlv_length bytes ≡ length → tlv_length_or_fault bytes length ≡ Ok (n, rest) → Measured Tlv bytes n rest
+tlv_same bytes n rest None is e = absurd cc
+tlv_same bytes n rest (Some (m, left)) is e =
     let both = found_length m n left rest e in
     subst (λ (k : ℕ). Measured Tlv bytes k rest) both.0 (subst (λ (r : List ℕ). Measured Tlv bytes m r) both.1 (tlv_read bytes m left is))
 
@@ -195,14 +195,14 @@ length_read (Fixed size) bytes n rest e =
     record { prefix = []; is_length = (refl, sym both.0); parts = both.1 }
 length_read Llvar bytes n rest e = llvar_read bytes n rest e
 length_read Lllvar bytes n rest e = lllvar_read bytes n rest e
-length_read Tlv bytes n rest e = tlv_told bytes n rest (decode_tlv_length bytes) refl e
+length_read Tlv bytes n rest e = tlv_same bytes n rest (decode_tlv_length bytes) refl e
 
 -- ---- a wrong byte
 
 llvar_wrong : (bytes : List ℕ) → decode_llvar bytes ≡ Err Wrong → HasWrongDigit 2 bytes
 llvar_wrong [] e = absurd cc
 llvar_wrong (tens ∷ []) e =
-    elim (kind_of tens) [ Digit test is ↦ let cut = rw test at e in absurd (cc cut) | Other test not ↦ inl not ]
+    elim (kind_of tens) [ Digit test is ↦ let truncated = rw test at e in absurd (cc truncated) | Other test not ↦ inl not ]
 llvar_wrong (tens ∷ units ∷ bytes) e =
     elim (kind_of tens) [
       | Other test not ↦ inl not
@@ -231,7 +231,7 @@ tlv_wrong (b ∷ bytes) None e =
           let other : eqb b 128 ≡ false = ne_eqb _ _ ne in
           elim (cases_lt 130 b) [
             | inl above ↦ (b, bytes, inr above, refl)
-            | inr below ↦ let test : ltb 130 b ≡ false = le-ltb _ _ below in let cut = rw (other, test) at e in absurd (cc cut)
+            | inr below ↦ let test : ltb 130 b ≡ false = le-ltb _ _ below in let truncated = rw (other, test) at e in absurd (cc truncated)
           ]
     ]
 

@@ -160,21 +160,21 @@ same_known a b c d e a' b' c' d' e' f f' p q r s t u =
     ∙ ap (λ (x : Option (List ℕ)). known a' b' x d e f) r ∙ ap (λ (x : Option (List ℕ)). known a' b' c' x e f) s
     ∙ ap (λ (x : Option (List ℕ)). known a' b' c' d' x f) t ∙ ap (λ (x : Bool). known a' b' c' d' e' x) u
 
-abbrev some_seen : FieldsSoFar → Option FieldsSoFar
-some_seen so_far = Some so_far
+abbrev some_fields : FieldsSoFar → Option FieldsSoFar
+some_fields so_far = Some so_far
 
 -- the values that are known after a field
 now_known : (before : List Field) (field : Field) (a b c d e : Option (List ℕ)) (f : Bool)
     → first_field_value 0x27 (before ++ field ∷ []) ≡ a → first_field_value 0x04 (before ++ field ∷ []) ≡ b → first_field_value 0x0B (before ++ field ∷ []) ≡ c
     → first_field_value 0x87 (before ++ field ∷ []) ≡ d → first_field_value 0x49 (before ++ field ∷ []) ≡ e → has_field 0x87 (before ++ field ∷ []) ≡ f
-    → some_seen (known a b c d e f) ≡ Some (seen_of (before ++ field ∷ []))
-now_known before field a b c d e f p q r s t u = ap some_seen (sym (same_known _ _ _ _ _ a b c d e _ f p q r s t u))
+    → some_fields (known a b c d e f) ≡ Some (seen_of (before ++ field ∷ []))
+now_known before field a b c d e f p q r s t u = ap some_fields (sym (same_known _ _ _ _ _ a b c d e _ f p q r s t u))
 
 -- what is put, at a number that is known
 put_at : (so_far : FieldsSoFar) (number : ℕ) (n : ℕ) (value : List ℕ) → number ≡ n → put_field so_far number value ≡ put_field so_far n value
 put_at so_far number n value e = ap (λ (k : ℕ). put_field so_far k value) e
 
-put_in_digits : (b : Bool) (x : FieldsSoFar) → b ≡ true → cond b (some_seen x) None ≡ Some x
+put_in_digits : (b : Bool) (x : FieldsSoFar) → b ≡ true → cond b (some_fields x) None ≡ Some x
 put_in_digits b x e = rw e refl
 
 receipt_of : (value : List ℕ) (o : Option (List ℕ)) (b : Bool) → o ≡ None → cond b (Some (bcd_value value)) (option_and_then digits_of o) ≡ cond b (Some (bcd_value value)) None
@@ -183,11 +183,11 @@ receipt_of value o b e = ap (λ (p : Option (List ℕ)). cond b (Some (bcd_value
 put_other : (so_far : FieldsSoFar) (number : ℕ) (value : List ℕ) → eqb number 0x27 ≡ false → eqb number 0x04 ≡ false → eqb number 0x0B ≡ false → eqb number 0x87 ≡ false → eqb number 0x49 ≡ false → put_field so_far number value ≡ Some so_far
 put_other so_far number value a b c d f = rw (a, b, c, d, f) refl
 
-pub put_seen : (before : List Field) (field : Field) → IsWellFormedAfter before field → put_field (seen_of before) field.number field.value ≡ Some (seen_of (before ++ field ∷ []))
-put_seen before field lawful =
+pub put_field_of : (before : List Field) (field : Field) → IsWellFormedAfter before field → put_field (seen_of before) field.number field.value ≡ Some (seen_of (before ++ field ∷ []))
+put_field_of before field well_formed =
     elim (which field.number) [
       | Result_ e ↦
-          let none = none_before 0x27 before refl (subst (λ (n : ℕ). RepeatsField before n → ⊥) e lawful.once) in
+          let none = none_before 0x27 before refl (subst (λ (n : ℕ). RepeatsField before n → ⊥) e well_formed.once) in
           let result = new_first 0x27 before field none (at_number field 0x27 0x27 true e refl) in
           let amount = same_first 0x04 before field (at_number field 0x27 0x04 false e refl) in
           let trace = same_first 0x0B before field (at_number field 0x27 0x0B false e refl) in
@@ -196,31 +196,31 @@ put_seen before field lawful =
           let so_far = same_has 0x87 before field (at_number field 0x27 0x87 false e refl) in
           put_at (seen_of before) field.number 0x27 field.value e ∙ now_known before field _ _ _ _ _ _ result amount trace receipt currency so_far
       | Amount_ e ↦
-          let none = none_before 0x04 before refl (subst (λ (n : ℕ). RepeatsField before n → ⊥) e lawful.once) in
+          let none = none_before 0x04 before refl (subst (λ (n : ℕ). RepeatsField before n → ⊥) e well_formed.once) in
           let result = same_first 0x27 before field (at_number field 0x04 0x27 false e refl) in
           let amount = new_first 0x04 before field none (at_number field 0x04 0x04 true e refl) in
           let trace = same_first 0x0B before field (at_number field 0x04 0x0B false e refl) in
           let receipt = same_first 0x87 before field (at_number field 0x04 0x87 false e refl) in
           let currency = same_first 0x49 before field (at_number field 0x04 0x49 false e refl) in
           let so_far = same_has 0x87 before field (at_number field 0x04 0x87 false e refl) in
-          let digits = bcd_passes field.value (lawful.digits (inl e)) in
+          let digits = bcd_passes field.value (well_formed.digits (inl e)) in
           put_at (seen_of before) field.number 0x04 field.value e
           ∙ put_in_digits (is_bcd field.value) (known (first_field_value 0x27 before) (Some field.value) (first_field_value 0x0B before) (first_field_value 0x87 before) (first_field_value 0x49 before) (has_field 0x87 before)) digits
           ∙ now_known before field _ _ _ _ _ _ result amount trace receipt currency so_far
       | Trace_ e ↦
-          let none = none_before 0x0B before refl (subst (λ (n : ℕ). RepeatsField before n → ⊥) e lawful.once) in
+          let none = none_before 0x0B before refl (subst (λ (n : ℕ). RepeatsField before n → ⊥) e well_formed.once) in
           let result = same_first 0x27 before field (at_number field 0x0B 0x27 false e refl) in
           let amount = same_first 0x04 before field (at_number field 0x0B 0x04 false e refl) in
           let trace = new_first 0x0B before field none (at_number field 0x0B 0x0B true e refl) in
           let receipt = same_first 0x87 before field (at_number field 0x0B 0x87 false e refl) in
           let currency = same_first 0x49 before field (at_number field 0x0B 0x49 false e refl) in
           let so_far = same_has 0x87 before field (at_number field 0x0B 0x87 false e refl) in
-          let digits = bcd_passes field.value (lawful.digits (inr e)) in
+          let digits = bcd_passes field.value (well_formed.digits (inr e)) in
           put_at (seen_of before) field.number 0x0B field.value e
           ∙ put_in_digits (is_bcd field.value) (known (first_field_value 0x27 before) (first_field_value 0x04 before) (Some field.value) (first_field_value 0x87 before) (first_field_value 0x49 before) (has_field 0x87 before)) digits
           ∙ now_known before field _ _ _ _ _ _ result amount trace receipt currency so_far
       | Receipt_ e ↦
-          let none = none_before 0x87 before refl (subst (λ (n : ℕ). RepeatsField before n → ⊥) e lawful.once) in
+          let none = none_before 0x87 before refl (subst (λ (n : ℕ). RepeatsField before n → ⊥) e well_formed.once) in
           let result = same_first 0x27 before field (at_number field 0x87 0x27 false e refl) in
           let amount = same_first 0x04 before field (at_number field 0x87 0x04 false e refl) in
           let trace = same_first 0x0B before field (at_number field 0x87 0x0B false e refl) in
@@ -229,7 +229,7 @@ put_seen before field lawful =
           let so_far = new_has 0x87 before field (at_number field 0x87 0x87 true e refl) in
           let receipts = receipt_of field.value (first_field_value 0x87 before) (is_bcd field.value) none in
           put_at (seen_of before) field.number 0x87 field.value e
-          ∙ ap (λ (r : Option ℕ). some_seen (record (seen_of before) { receipt = true; fields = record (status_of_fields before 0) { receipt = r } })) receipts
+          ∙ ap (λ (r : Option ℕ). some_fields (record (seen_of before) { receipt = true; fields = record (status_of_fields before 0) { receipt = r } })) receipts
           ∙ now_known before field _ _ _ _ _ _ result amount trace receipt currency so_far
       | Currency_ e ↦
           let result = same_first 0x27 before field (at_number field 0x49 0x27 false e refl) in

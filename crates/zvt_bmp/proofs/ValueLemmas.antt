@@ -14,10 +14,10 @@ use Rattle.zvt_bmp.proofs.LengthLemmas.{found_is, Digit, Other, kind_of, First, 
 
 -- ---- found and read
 
-abbrev pub told_value : List ℕ → List ℕ → Result (List ℕ × List ℕ) LengthFault
-told_value value rest = Ok (value, rest)
+abbrev pub same_value : List ℕ → List ℕ → Result (List ℕ × List ℕ) LengthFault
+same_value value rest = Ok (value, rest)
 
-pub found_value : (u v xs ys : List ℕ) → told_value u xs ≡ told_value v ys → (u ≡ v) × (xs ≡ ys)
+pub found_value : (u v xs ys : List ℕ) → same_value u xs ≡ same_value v ys → (u ≡ v) × (xs ≡ ys)
 found_value u v xs ys e =
     let pair = found_is {A = List ℕ × List ℕ} (u, xs) (v, ys) e in
     (ap (λ (p : List ℕ × List ℕ). p.0) pair, ap (λ (p : List ℕ × List ℕ). p.1) pair)
@@ -36,7 +36,7 @@ value_by form bytes value rest (Err fault) is e = absurd cc
 value_by form bytes value rest (Ok (n, body)) is e =
     let l = length_read form bytes n body is in
     elim (cases_lt (length body) n) [
-      | inl cut ↦ let test : ltb (length body) n ≡ true = lt-ltb _ _ cut in let none = rw test at e in absurd (cc none)
+      | inl truncated ↦ let test : ltb (length body) n ≡ true = lt-ltb _ _ truncated in let none = rw test at e in absurd (cc none)
       | inr there ↦
           let test : ltb (length body) n ≡ false = le-ltb _ _ there in
           let both = found_value (take n body) value (drop n body) rest (rw test at e) in
@@ -58,7 +58,7 @@ wrong_by form bytes (Err Wrong) is e = length_wrong form bytes is
 wrong_by form bytes (Err Truncated) is e = absurd cc
 wrong_by form bytes (Ok (n, body)) is e =
     elim (cases_lt (length body) n) [
-      | inl cut ↦ let test : ltb (length body) n ≡ true = lt-ltb _ _ cut in let other = rw test at e in absurd (cc other)
+      | inl truncated ↦ let test : ltb (length body) n ≡ true = lt-ltb _ _ truncated in let other = rw test at e in absurd (cc other)
       | inr there ↦ let test : ltb (length body) n ≡ false = le-ltb _ _ there in let none = rw test at e in absurd (cc none)
     ]
 
@@ -80,21 +80,21 @@ unfolding zeros
 zeros_are n = length-replicate {A = ℕ} n 0
 
 -- what is there of a length, and what makes it and its value whole
-cut_by : (form : LengthForm) (bytes more prefix value : List ℕ) → more ≢ [] → SpellsFieldLength form prefix (length value) → bytes ++ more ≡ prefix ++ value → IsTruncatedFieldValue form bytes
-cut_by form bytes more prefix value some is_length whole = (more, value, some, (prefix, is_length, whole))
+truncated_by : (form : LengthForm) (bytes more prefix value : List ℕ) → more ≢ [] → SpellsFieldLength form prefix (length value) → bytes ++ more ≡ prefix ++ value → IsTruncatedFieldValue form bytes
+truncated_by form bytes more prefix value some is_length whole = (more, value, some, (prefix, is_length, whole))
 
-llvar_cut : (bytes : List ℕ) → decode_llvar bytes ≡ Err Truncated → IsTruncatedFieldValue Llvar bytes
-llvar_cut [] e = cut_by Llvar [] (240 ∷ 240 ∷ []) (240 ∷ 240 ∷ []) [] (λ e. absurd cc) (0, 0, omega arith, omega arith, refl, refl) refl
-llvar_cut (tens ∷ []) e =
+llvar_truncated : (bytes : List ℕ) → decode_llvar bytes ≡ Err Truncated → IsTruncatedFieldValue Llvar bytes
+llvar_truncated [] e = truncated_by Llvar [] (240 ∷ 240 ∷ []) (240 ∷ 240 ∷ []) [] (λ e. absurd cc) (0, 0, omega arith, omega arith, refl, refl) refl
+llvar_truncated (tens ∷ []) e =
     elim (kind_of tens) [
       | Other test not ↦ let wrong = rw test at e in absurd (cc wrong)
       | Digit test is ↦
           let value = zeros (10 * (tens - 240)) in
           let size = zeros_are (10 * (tens - 240)) in
           let prefix : tens ∷ 240 ∷ [] ≡ (240 + (tens - 240)) ∷ (240 + 0) ∷ [] = ap (λ (t : ℕ). t ∷ 240 ∷ []) (omega arith) in
-          cut_by Llvar (tens ∷ []) (240 ∷ value) (tens ∷ 240 ∷ []) value (λ e. absurd cc) (tens - 240, 0, omega arith, omega arith, omega (arith, size), prefix) refl
+          truncated_by Llvar (tens ∷ []) (240 ∷ value) (tens ∷ 240 ∷ []) value (λ e. absurd cc) (tens - 240, 0, omega arith, omega arith, omega (arith, size), prefix) refl
     ]
-llvar_cut (tens ∷ units ∷ bytes) e =
+llvar_truncated (tens ∷ units ∷ bytes) e =
     elim (kind_of tens) [
       | Other test not ↦ let wrong = rw test at e in absurd (cc wrong)
       | Digit first is ↦ elim (kind_of units) [ Digit second has ↦ let there = rw (first, second) at e in absurd (cc there) | Other test not ↦ let wrong = rw (first, test) at e in absurd (cc wrong) ]
@@ -105,7 +105,7 @@ lllvar_more hundreds [] is e =
     let value = zeros (100 * (hundreds - 240)) in
     let size = zeros_are (100 * (hundreds - 240)) in
     let prefix : hundreds ∷ 240 ∷ 240 ∷ [] ≡ (240 + (hundreds - 240)) ∷ (240 + 0) ∷ (240 + 0) ∷ [] = ap (λ (h : ℕ). h ∷ 240 ∷ 240 ∷ []) (omega arith) in
-    cut_by Lllvar (hundreds ∷ []) (240 ∷ 240 ∷ value) (hundreds ∷ 240 ∷ 240 ∷ []) value (λ e. absurd cc) (hundreds - 240, 0, 0, omega arith, omega arith, omega arith, omega (arith, size), prefix) refl
+    truncated_by Lllvar (hundreds ∷ []) (240 ∷ 240 ∷ value) (hundreds ∷ 240 ∷ 240 ∷ []) value (λ e. absurd cc) (hundreds - 240, 0, 0, omega arith, omega arith, omega arith, omega (arith, size), prefix) refl
 lllvar_more hundreds (tens ∷ []) is e =
     elim (kind_of tens) [
       | Other test not ↦ let wrong = rw test at e in absurd (cc wrong)
@@ -114,7 +114,7 @@ lllvar_more hundreds (tens ∷ []) is e =
           let size = zeros_are (100 * (hundreds - 240) + 10 * (tens - 240)) in
           let prefix : hundreds ∷ tens ∷ 240 ∷ [] ≡ (240 + (hundreds - 240)) ∷ (240 + (tens - 240)) ∷ (240 + 0) ∷ [] =
           ap (λ (h : ℕ). h ∷ tens ∷ 240 ∷ []) (omega arith) ∙ ap (λ (t : ℕ). (240 + (hundreds - 240)) ∷ t ∷ 240 ∷ []) (omega arith) in
-          cut_by Lllvar (hundreds ∷ tens ∷ []) (240 ∷ value) (hundreds ∷ tens ∷ 240 ∷ []) value (λ e. absurd cc) (hundreds - 240, tens - 240, 0, omega arith, omega arith, omega arith, omega (arith, size), prefix) refl
+          truncated_by Lllvar (hundreds ∷ tens ∷ []) (240 ∷ value) (hundreds ∷ tens ∷ 240 ∷ []) value (λ e. absurd cc) (hundreds - 240, tens - 240, 0, omega arith, omega arith, omega arith, omega (arith, size), prefix) refl
     ]
 lllvar_more hundreds (tens ∷ units ∷ bytes) is e =
     elim (kind_of tens) [
@@ -126,9 +126,9 @@ lllvar_by : (hundreds : ℕ) (bytes : List ℕ) (tail : Result (ℕ × List ℕ)
 lllvar_by hundreds bytes (Ok low) is tail e = absurd cc
 lllvar_by hundreds bytes (Err fault) is tail e = lllvar_more hundreds bytes is (cc (tail, e))
 
-lllvar_cut : (bytes : List ℕ) → decode_lllvar bytes ≡ Err Truncated → IsTruncatedFieldValue Lllvar bytes
-lllvar_cut [] e = cut_by Lllvar [] (240 ∷ 240 ∷ 240 ∷ []) (240 ∷ 240 ∷ 240 ∷ []) [] (λ e. absurd cc) (0, 0, 0, omega arith, omega arith, omega arith, refl, refl) refl
-lllvar_cut (hundreds ∷ bytes) e =
+lllvar_truncated : (bytes : List ℕ) → decode_lllvar bytes ≡ Err Truncated → IsTruncatedFieldValue Lllvar bytes
+lllvar_truncated [] e = truncated_by Lllvar [] (240 ∷ 240 ∷ 240 ∷ []) (240 ∷ 240 ∷ 240 ∷ []) [] (λ e. absurd cc) (0, 0, 0, omega arith, omega arith, omega arith, refl, refl) refl
+lllvar_truncated (hundreds ∷ bytes) e =
     elim (kind_of hundreds) [
       | Other test not ↦ let wrong = rw test at e in absurd (cc wrong)
       | Digit test is ↦ lllvar_by hundreds bytes (decode_llvar bytes) is refl (rw test at e)
@@ -136,19 +136,19 @@ lllvar_cut (hundreds ∷ bytes) e =
 
 -- no TLV length is there, and no wrong byte
 tlv_more : (b : ℕ) (bytes : List ℕ) → First b → decode_tlv_length (b ∷ bytes) ≡ None → tlv_length_fault (b ∷ bytes) ≡ Truncated → IsTruncatedFieldValue Tlv (b ∷ bytes)
-tlv_more b bytes (First.Short small) none cut = let test : ltb b 128 ≡ true = lt-ltb _ _ small in let there = rw test at none in absurd (cc there)
-tlv_more b [] (First.One is) none cut = cut_by Tlv (b ∷ []) (0 ∷ []) (b ∷ 0 ∷ []) [] (λ e. absurd cc) (is, refl) refl
-tlv_more b (n ∷ bytes) (First.One is) none cut = let there = rw is at none in absurd (cc there)
-tlv_more b [] (First.Two is) none cut = cut_by Tlv (b ∷ []) (0 ∷ 0 ∷ []) (b ∷ 0 ∷ 0 ∷ []) [] (λ e. absurd cc) (is, refl) refl
-tlv_more b (high ∷ []) (First.Two is) none cut =
+tlv_more b bytes (First.OneByte small) none truncated = let test : ltb b 128 ≡ true = lt-ltb _ _ small in let there = rw test at none in absurd (cc there)
+tlv_more b [] (First.One is) none truncated = truncated_by Tlv (b ∷ []) (0 ∷ []) (b ∷ 0 ∷ []) [] (λ e. absurd cc) (is, refl) refl
+tlv_more b (n ∷ bytes) (First.One is) none truncated = let there = rw is at none in absurd (cc there)
+tlv_more b [] (First.Two is) none truncated = truncated_by Tlv (b ∷ []) (0 ∷ 0 ∷ []) (b ∷ 0 ∷ 0 ∷ []) [] (λ e. absurd cc) (is, refl) refl
+tlv_more b (high ∷ []) (First.Two is) none truncated =
     let size = zeros_are (256 * high) in
-    cut_by Tlv (b ∷ high ∷ []) (0 ∷ zeros (256 * high)) (b ∷ high ∷ 0 ∷ []) (zeros (256 * high)) (λ e. absurd cc) (is, omega (arith, size)) refl
-tlv_more b (high ∷ low ∷ bytes) (First.Two is) none cut = let there = rw is at none in absurd (cc there)
-tlv_more b bytes (First.Bad (inl is)) none cut = let wrong = rw is at cut in absurd (cc wrong)
-tlv_more b bytes (First.Bad (inr above)) none cut =
+    truncated_by Tlv (b ∷ high ∷ []) (0 ∷ zeros (256 * high)) (b ∷ high ∷ 0 ∷ []) (zeros (256 * high)) (λ e. absurd cc) (is, omega (arith, size)) refl
+tlv_more b (high ∷ low ∷ bytes) (First.Two is) none truncated = let there = rw is at none in absurd (cc there)
+tlv_more b bytes (First.Bad (inl is)) none truncated = let wrong = rw is at truncated in absurd (cc wrong)
+tlv_more b bytes (First.Bad (inr above)) none truncated =
     let other : eqb b 128 ≡ false = ne_eqb _ _ (λ e. omega arith) in
     let test : ltb 130 b ≡ true = lt-ltb _ _ above in
-    let wrong = rw (other, test) at cut in absurd (cc wrong)
+    let wrong = rw (other, test) at truncated in absurd (cc wrong)
 
 abbrev failed : LengthFault → Result (ℕ × List ℕ) LengthFault
 failed fault = Err fault
@@ -156,37 +156,37 @@ failed fault = Err fault
 error_is : (a b : LengthFault) → failed a ≡ failed b → a ≡ b
 error_is a b e = cc
 
-tlv_cut : (bytes : List ℕ) (there : Option (ℕ × List ℕ)) → decode_tlv_length bytes ≡ there → tlv_length_or_fault bytes there ≡ Err Truncated → IsTruncatedFieldValue Tlv bytes
-tlv_cut bytes (Some length) is e = absurd cc
-tlv_cut [] None is e = cut_by Tlv [] (0 ∷ []) (0 ∷ []) [] (λ e. absurd cc) (omega arith, refl) refl
-tlv_cut (b ∷ bytes) None is e = tlv_more b bytes (first_of b) is (error_is (tlv_length_fault (b ∷ bytes)) Truncated e)
+tlv_truncated : (bytes : List ℕ) (there : Option (ℕ × List ℕ)) → decode_tlv_length bytes ≡ there → tlv_length_or_fault bytes there ≡ Err Truncated → IsTruncatedFieldValue Tlv bytes
+tlv_truncated bytes (Some length) is e = absurd cc
+tlv_truncated [] None is e = truncated_by Tlv [] (0 ∷ []) (0 ∷ []) [] (λ e. absurd cc) (omega arith, refl) refl
+tlv_truncated (b ∷ bytes) None is e = tlv_more b bytes (first_of b) is (error_is (tlv_length_fault (b ∷ bytes)) Truncated e)
 
-length_cut : (form : LengthForm) (bytes : List ℕ) → decode_field_length form bytes ≡ Err Truncated → IsTruncatedFieldValue form bytes
-length_cut (Fixed size) bytes e = absurd cc
-length_cut Llvar bytes e = llvar_cut bytes e
-length_cut Lllvar bytes e = lllvar_cut bytes e
-length_cut Tlv bytes e = tlv_cut bytes (decode_tlv_length bytes) refl e
+length_truncated : (form : LengthForm) (bytes : List ℕ) → decode_field_length form bytes ≡ Err Truncated → IsTruncatedFieldValue form bytes
+length_truncated (Fixed size) bytes e = absurd cc
+length_truncated Llvar bytes e = llvar_truncated bytes e
+length_truncated Lllvar bytes e = lllvar_truncated bytes e
+length_truncated Tlv bytes e = tlv_truncated bytes (decode_tlv_length bytes) refl e
 
-body_cut : (form : LengthForm) (prefix body : List ℕ) (n : ℕ) → SpellsFieldLength form prefix n → length body < n → IsTruncatedFieldValue form (prefix ++ body)
-body_cut form prefix body n is_length cut =
+body_truncated : (form : LengthForm) (prefix body : List ℕ) (n : ℕ) → SpellsFieldLength form prefix n → length body < n → IsTruncatedFieldValue form (prefix ++ body)
+body_truncated form prefix body n is_length truncated =
     let missing = zeros (n - length body) in
     let count = zeros_are (n - length body) in
     let size : n ≡ length (body ++ missing) = omega (arith, length-append body missing, count) in
-    cut_by form (prefix ++ body) missing prefix (body ++ missing) (λ none. omega (arith, ap length none, count)) (subst (SpellsFieldLength form prefix) size is_length) (append_assoc prefix body missing)
+    truncated_by form (prefix ++ body) missing prefix (body ++ missing) (λ none. omega (arith, ap length none, count)) (subst (SpellsFieldLength form prefix) size is_length) (append_assoc prefix body missing)
 
-cut_there : (form : LengthForm) (bytes : List ℕ) (length_there : Result (ℕ × List ℕ) LengthFault) → decode_field_length form bytes ≡ length_there → decode_after_field_length length_there ≡ Err Truncated → IsTruncatedFieldValue form bytes
-cut_there form bytes (Err Wrong) is e = absurd cc
-cut_there form bytes (Err Truncated) is e = length_cut form bytes is
-cut_there form bytes (Ok (n, body)) is e =
+truncated_there : (form : LengthForm) (bytes : List ℕ) (length_there : Result (ℕ × List ℕ) LengthFault) → decode_field_length form bytes ≡ length_there → decode_after_field_length length_there ≡ Err Truncated → IsTruncatedFieldValue form bytes
+truncated_there form bytes (Err Wrong) is e = absurd cc
+truncated_there form bytes (Err Truncated) is e = length_truncated form bytes is
+truncated_there form bytes (Ok (n, body)) is e =
     let l = length_read form bytes n body is in
     elim (cases_lt (length body) n) [
-      | inl cut ↦ subst (IsTruncatedFieldValue form) (sym l.parts) (body_cut form l.prefix body n l.is_length cut)
+      | inl truncated ↦ subst (IsTruncatedFieldValue form) (sym l.parts) (body_truncated form l.prefix body n l.is_length truncated)
       | inr there ↦ let test : ltb (length body) n ≡ false = le-ltb _ _ there in let none = rw test at e in absurd (cc none)
     ]
 
-pub value_cut : (form : LengthForm) (bytes : List ℕ) → decode_field_value form bytes ≡ Err Truncated → IsTruncatedFieldValue form bytes
+pub value_truncated : (form : LengthForm) (bytes : List ℕ) → decode_field_value form bytes ≡ Err Truncated → IsTruncatedFieldValue form bytes
 unfolding decode_field_value
-value_cut form bytes e = cut_there form bytes (decode_field_length form bytes) refl e
+value_truncated form bytes e = truncated_there form bytes (decode_field_length form bytes) refl e
 
 -- ---- and nothing else is truncated
 
@@ -194,19 +194,19 @@ nil_of_append : (xs ys : List ℕ) → xs ++ ys ≡ [] → ys ≡ []
 nil_of_append [] ys e = e
 nil_of_append (x ∷ xs) ys e = absurd cc
 
-cut_at : (form : LengthForm) (bytes more whole : List ℕ) (there : Result (List ℕ × List ℕ) LengthFault) → more ≢ [] → decode_field_value form (bytes ++ more) ≡ Ok (whole, []) → decode_field_value form bytes ≡ there → there ≡ Err Truncated
-cut_at form bytes more whole (Err Truncated) some longer is = refl
-cut_at form bytes more whole (Err Wrong) some longer is =
+truncated_at : (form : LengthForm) (bytes more whole : List ℕ) (there : Result (List ℕ × List ℕ) LengthFault) → more ≢ [] → decode_field_value form (bytes ++ more) ≡ Ok (whole, []) → decode_field_value form bytes ≡ there → there ≡ Err Truncated
+truncated_at form bytes more whole (Err Truncated) some longer is = refl
+truncated_at form bytes more whole (Err Wrong) some longer is =
     let wrong = wrong_value form (bytes ++ more) (wrong_longer form bytes more (value_wrong form bytes is)) in absurd (cc (wrong, longer))
-cut_at form bytes more whole (Ok (value, rest)) some longer is =
+truncated_at form bytes more whole (Ok (value, rest)) some longer is =
     let begins = value_read form bytes value rest is in
     let again = value_found form (bytes ++ more) value (rest ++ more) (begins.0, begins.1, ap (λ (b : List ℕ). b ++ more) begins.2 ∙ append_assoc begins.0 rest more) in
     absurd (some (nil_of_append rest more (found_value value whole (rest ++ more) [] (sym again ∙ longer)).1))
 
-pub cut_value : (form : LengthForm) (bytes : List ℕ) → IsTruncatedFieldValue form bytes → decode_field_value form bytes ≡ Err Truncated
-cut_value form bytes (more, value, some, spells) =
+pub truncated_value : (form : LengthForm) (bytes : List ℕ) → IsTruncatedFieldValue form bytes → decode_field_value form bytes ≡ Err Truncated
+truncated_value form bytes (more, value, some, spells) =
     let whole = value_found form (bytes ++ more) value [] (bytes ++ more, spells, sym (append-nil (bytes ++ more))) in
-    cut_at form bytes more value (decode_field_value form bytes) some whole refl
+    truncated_at form bytes more value (decode_field_value form bytes) some whole refl
 
 -- what follows a value is not longer
 pub value_shorter : (form : LengthForm) (bytes value rest : List ℕ) → decode_field_value form bytes ≡ Ok (value, rest) → length rest ≤ length bytes

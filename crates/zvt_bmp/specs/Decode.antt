@@ -98,35 +98,35 @@ put_field so_far number value =
 
 -- after a value that was added, or that should be in digits and isn't
 abbrev pub after_put_field : ℕ → List ℕ → Option FieldsSoFar → Result (Option (FieldsSoFar × List ℕ)) FieldFault
-after_put_field at rest None = Err (NotDigits at)
-after_put_field at rest (Some so_far) = Ok (Some (so_far, rest))
+after_put_field offset rest None = Err (NotDigits offset)
+after_put_field offset rest (Some so_far) = Ok (Some (so_far, rest))
 
 -- after a value that was read, or the fault of its length
 abbrev pub after_field_value : FieldsSoFar → ℕ → ℕ → Result (List ℕ × List ℕ) LengthFault → Result (Option (FieldsSoFar × List ℕ)) FieldFault
-after_field_value so_far at number (Err Wrong) = Err (BadLength at)
-after_field_value so_far at number (Err Truncated) = Err (Short at)
-after_field_value so_far at number (Ok found) = after_put_field at found.1 (put_field so_far number found.0)
+after_field_value so_far offset number (Err Wrong) = Err (BadLength offset)
+after_field_value so_far offset number (Err Truncated) = Err (Short offset)
+after_field_value so_far offset number (Ok found) = after_put_field offset found.1 (put_field so_far number found.0)
 
 -- after a number, by its form: none where the number is not known
 abbrev pub after_field_number : FieldsSoFar → ℕ → ℕ → List ℕ → Option LengthForm → Result (Option (FieldsSoFar × List ℕ)) FieldFault
-after_field_number so_far at number bytes None = Ok None
-after_field_number so_far at number bytes (Some form) =
-    if may_not_repeat so_far number then Err (Twice number) else after_field_value so_far at number (decode_field_value form bytes)
+after_field_number so_far offset number bytes None = Ok None
+after_field_number so_far offset number bytes (Some form) =
+    if may_not_repeat so_far number then Err (Twice number) else after_field_value so_far offset number (decode_field_value form bytes)
 
 -- the field at this offset: what is known with it, and the bytes after it; none where the tail begins
 unfoldable pub decode_status_field : FieldsSoFar → ℕ → List ℕ → Result (Option (FieldsSoFar × List ℕ)) FieldFault
-decode_status_field so_far at [] = Ok None
-decode_status_field so_far at (number ∷ bytes) = after_field_number so_far at number bytes (length_form_of number)
+decode_status_field so_far offset [] = Ok None
+decode_status_field so_far offset (number ∷ bytes) = after_field_number so_far offset number bytes (length_form_of number)
 
 -- all that is known, with the tail at this offset
 abbrev pub with_tail : FieldsSoFar → ℕ → Fields
-with_tail so_far at = record so_far.fields { tail = at }
+with_tail so_far offset = record so_far.fields { tail = offset }
 
 -- with the first field, what more gives for the bytes after it
 abbrev pub decode_status_from : (FieldsSoFar → List ℕ → Result Fields FieldFault) → FieldsSoFar → ℕ → Result (Option (FieldsSoFar × List ℕ)) FieldFault → Result Fields FieldFault
-decode_status_from more so_far at (Err fault) = Err fault
-decode_status_from more so_far at (Ok None) = Ok (with_tail so_far at)
-decode_status_from more so_far at (Ok (Some found)) = more found.0 found.1
+decode_status_from more so_far offset (Err fault) = Err fault
+decode_status_from more so_far offset (Ok None) = Ok (with_tail so_far offset)
+decode_status_from more so_far offset (Ok (Some found)) = more found.0 found.1
 
 -- at most so many fields, in data of this length
 unfoldable pub decode_status_within : ℕ → ℕ → FieldsSoFar → List ℕ → Result Fields FieldFault

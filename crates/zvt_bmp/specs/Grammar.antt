@@ -16,8 +16,8 @@ pub record Field : Type 0 where
 
 -- the bytes begin with this field of the table, and rest follows it
 abbrev pub BeginsWithField : List ℕ → Field → List ℕ → Type 0
-BeginsWithField bytes field rest = (form : LengthForm) × (body : List ℕ)
-    × (length_form_of field.number ≡ Some form) × (bytes ≡ field.number ∷ body) × BeginsWithFieldValue form body field.value rest
+BeginsWithField bytes field rest = (form : LengthForm) × (following : List ℕ)
+    × (length_form_of field.number ≡ Some form) × (bytes ≡ field.number ∷ following) × BeginsWithFieldValue form following field.value rest
 
 -- the bytes are these fields, one after another, and then the rest
 abbrev pub BeginsWithFields : List ℕ → List Field → List ℕ → Type 0
@@ -82,21 +82,21 @@ AreWellFormedFields before (field ∷ fields) = IsWellFormedAfter before field �
 
 -- ---- where reading ends
 
--- the bytes begin with a known number that may come here, and body follows it
-pub record BeginsKnownField (before : List Field) (bytes : List ℕ) (form : LengthForm) (body : List ℕ) : Type 0 where
+-- the bytes begin with a known number that may come here, and these follow it
+pub record BeginsKnownField (before : List Field) (bytes : List ℕ) (form : LengthForm) (following : List ℕ) : Type 0 where
   pub number : ℕ
   pub known : length_form_of number ≡ Some form
   pub once : ¬ RepeatsField before number
-  pub parts : bytes ≡ number ∷ body
+  pub parts : bytes ≡ number ∷ following
 
 -- After well-formed fields, at this offset, the data end, or the tail or the first faulty field begins. Within one field
 -- a repetition comes first, then a wrong byte of its length, then its being truncated, then its value.
 abbrev pub FieldsEndAt : List Field → List ℕ → ℕ → Result Fields FieldFault → Type 0
-FieldsEndAt before rest at (Ok fields) = IsFieldTail rest × (fields ≡ status_of_fields before at)
-FieldsEndAt before rest at (Err (Twice number)) = (more : List ℕ) × (rest ≡ number ∷ more) × RepeatsField before number
-FieldsEndAt before rest at (Err (BadLength place)) = (place ≡ at) × (form : LengthForm) × (body : List ℕ) × BeginsKnownField before rest form body × HasWrongFieldLength form body
-FieldsEndAt before rest at (Err (Short place)) = (place ≡ at) × (form : LengthForm) × (body : List ℕ) × BeginsKnownField before rest form body × IsTruncatedFieldValue form body
-FieldsEndAt before rest at (Err (NotDigits place)) = (place ≡ at) × (field : Field) × (more : List ℕ) × BeginsWithField rest field more
+FieldsEndAt before rest offset (Ok fields) = IsFieldTail rest × (fields ≡ status_of_fields before offset)
+FieldsEndAt before rest offset (Err (Twice number)) = (more : List ℕ) × (rest ≡ number ∷ more) × RepeatsField before number
+FieldsEndAt before rest offset (Err (BadLength reported)) = (reported ≡ offset) × (form : LengthForm) × (following : List ℕ) × BeginsKnownField before rest form following × HasWrongFieldLength form following
+FieldsEndAt before rest offset (Err (Short reported)) = (reported ≡ offset) × (form : LengthForm) × (following : List ℕ) × BeginsKnownField before rest form following × IsTruncatedFieldValue form following
+FieldsEndAt before rest offset (Err (NotDigits reported)) = (reported ≡ offset) × (field : Field) × (more : List ℕ) × BeginsWithField rest field more
     × (¬ RepeatsField before field.number) × HasDigitsField field.number × (¬ IsBcd field.value)
 
 -- the data spell this status, or have this first fault

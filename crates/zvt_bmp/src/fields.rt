@@ -49,8 +49,11 @@ pub enum FieldFault {
 impl fmt::Display for FieldFault {
     fn fmt<W: fmt::Write>(&self, f: &mut fmt::Formatter<W>) -> fmt::Result {
         match self {
-            FieldFault::Short { at } => write!(f, "the field at {at} is cut"),
-            FieldFault::BadLength { at } => write!(f, "the field at {at} has no lawful length"),
+            FieldFault::Short { at } => write!(f, "the field at {at} is truncated"),
+            FieldFault::BadLength { at } => write!(
+                f,
+                "the field at {at} has no well-formed length"
+            ),
             FieldFault::NotDigits { at } => write!(f, "the field at {at} is not in digits"),
             FieldFault::Twice { number } => write!(f, "a second field {number:02X}"),
         }
@@ -127,6 +130,7 @@ impl FieldsSoFar {
                 None => return false,
             },
             0x87 => {
+                // A receipt number that is not in digits counts as absent and makes no status faulty, but it may not come again.
                 self.receipt = true;
                 if let Some(receipt) = digits(value) {
                     self.fields.receipt = Some(receipt as u16);
@@ -145,8 +149,12 @@ impl FieldsSoFar {
     /// Reads the field that the bytes begin with, which are at this offset of the data: what follows it, or `None` where
     /// the tail begins.
     #[tactic(auto, unfolding(crate::specs::Decode::decode_status_field))]
-    fn read_field<'a>(&mut self, at: usize, bytes: &'a [u8]) -> Result<Option<&'a [u8]>, FieldFault>
-        ensures field { ReturnsStatusField self.old self.new result (decode_status_field self.old at bytes.now) }
+    fn read_field<'a>(
+        &mut self,
+        offset: usize,
+        bytes: &'a [u8],
+    ) -> Result<Option<&'a [u8]>, FieldFault>
+        ensures field { ReturnsStatusField self.old self.new result (decode_status_field self.old offset bytes.now) }
         ensures shorter { IfOk result (λ found. IfSome found (λ rest. length rest.now < length bytes.now)) }
         ensures digits { HasFieldDigits self.old.fields → HasFieldDigits self.new.fields }
     {
@@ -162,11 +170,11 @@ impl FieldsSoFar {
             return Err(FieldFault::Twice { number: *number });
         }
         match form.value(bytes) {
-            Err(LengthFault::Wrong) => Err(FieldFault::BadLength { at }),
-            Err(LengthFault::Truncated) => Err(FieldFault::Short { at }),
+            Err(LengthFault::Wrong) => Err(FieldFault::BadLength { at: offset }),
+            Err(LengthFault::Truncated) => Err(FieldFault::Short { at: offset }),
             Ok((value, rest)) => {
                 if !self.put_field(*number, value) {
-                    return Err(FieldFault::NotDigits { at });
+                    return Err(FieldFault::NotDigits { at: offset });
                 }
                 Ok(Some(rest))
             }

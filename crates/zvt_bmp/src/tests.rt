@@ -2,6 +2,7 @@
 
 use crate::{FieldFault, Fields, read_fields, write_fields};
 use arrayvec::ArrayVec;
+use gw_bytes::{GREATEST_AMOUNT, GREATEST_RECEIPT};
 use std::test::Fail;
 
 const NOTHING: Fields = Fields {
@@ -89,9 +90,9 @@ fn written_form(rt: HostRuntime) {
     write_fields(
         &Fields {
             result: Some(0x6C),
-            amount: Some(999_999_999_999),
+            amount: Some(GREATEST_AMOUNT),
             trace: Some(7),
-            receipt: Some(9_999),
+            receipt: Some(GREATEST_RECEIPT),
             currency: Some([0x09, 0x78]),
             tail: 0,
         },

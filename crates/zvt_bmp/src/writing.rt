@@ -26,11 +26,11 @@ fn write_result(result_code: Option<u8>, out: &mut ArrayVec<u8, 512>)
     requires { array_vec_len out.old + length (canonical_result_field result_code) ≤ 512 }
     ensures { out.new.items ≡ out.old.items ++ canonical_result_field result_code }
 {
-    let Some(code) = result_code else {
+    let Some(result) = result_code else {
         return;
     };
     out.push(0x27);
-    out.push(code);
+    out.push(result);
 }
 
 /// Appends a field with its value's digits in so many bytes, where there is a value.

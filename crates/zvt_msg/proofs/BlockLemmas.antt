@@ -8,7 +8,7 @@ use Rattle.zvt_tlv.specs.Grammar.{ObjectValue, SpellsTlvObject, BeginsWithTlvObj
 use Rattle.zvt_tlv.specs.GrammarOfObjects.{BeginsWithTlvObjects, SpellsTlvObjects, IsMalformedTlvObject, IsEndOfTlvObjects}
 use Rattle.zvt_tlv.specs.Decode.{decode_tlv_object}
 use Rattle.zvt_tlv.specs.DecodeObjects.{DecodedTlvObjects, decode_tlv_objects}
-use Rattle.zvt_tlv.proofs.DecodeLemmas.{begins_found, found_begins, none_unlawful, unlawful_none, unlawful_some}
+use Rattle.zvt_tlv.proofs.DecodeLemmas.{begins_found, found_begins, none_malformed, malformed_none, malformed_some}
 use Rattle.zvt_tlv.proofs.DecodeObjectsLemmas.{begins_shrinks, split_is, only_split, fills_is}
 use Rattle.zvt_msg.specs.BlockGrammar.{container_tag, text_tag, SpellsContainer, IsWellFormedInside, AreWellFormedInside, AreWholeObjects, SpellsBlock, IsMalformedHere, IsMalformedInside, IsMalformedWith, IsBlockFault}
 use Rattle.zvt_msg.specs.BlockDecode.{container_value, decode_container, left_inside, bytes_left, decode_in_container, decode_block}
@@ -57,14 +57,14 @@ container_shorter body bytes spells =
 
 -- ---- what is well-formed inside of an object
 
-lawful_with : (object : ObjectValue) → (object.tag ≡ text_tag) ⊎ (object.tag ≡ text_tag → ⊥) → IsWellFormedInside object → left_inside object ≡ 0
-lawful_with object (inl is) lawful =
-    let inner = lawful is in
+well_formed_with : (object : ObjectValue) → (object.tag ≡ text_tag) ⊎ (object.tag ≡ text_tag → ⊥) → IsWellFormedInside object → left_inside object ≡ 0
+well_formed_with object (inl is) well_formed =
+    let inner = well_formed is in
     rw (eq-eqb object.tag text_tag is) (ap (λ (s : DecodedTlvObjects). length s.rest) ((fills_is object.value inner.0).0 inner.1))
-lawful_with object (inr other) lawful = rw (ne_eqb object.tag text_tag other) refl
+well_formed_with object (inr other) well_formed = rw (ne_eqb object.tag text_tag other) refl
 
-lawful_zero : (object : ObjectValue) → IsWellFormedInside object → left_inside object ≡ 0
-lawful_zero object lawful = lawful_with object (cases_eq object.tag text_tag) lawful
+well_formed_zero : (object : ObjectValue) → IsWellFormedInside object → left_inside object ≡ 0
+well_formed_zero object well_formed = well_formed_with object (cases_eq object.tag text_tag) well_formed
 
 abbrev split : List ObjectValue → List ℕ → DecodedTlvObjects
 split objects rest = record { objects = objects; rest = rest }
@@ -72,89 +72,89 @@ split objects rest = record { objects = objects; rest = rest }
 filled_at : (value : List ℕ) → length (decode_tlv_objects value).rest ≡ 0 → SpellsTlvObjects value (decode_tlv_objects value).objects
 filled_at value e = subst (BeginsWithTlvObjects value (decode_tlv_objects value).objects) (nil_of_length _ e) (split_is value).0
 
-zero_lawful : (object : ObjectValue) → left_inside object ≡ 0 → IsWellFormedInside object
-zero_lawful object e is = ((decode_tlv_objects object.value).objects, filled_at object.value (rw (eq-eqb object.tag text_tag is) at e))
+zero_well_formed : (object : ObjectValue) → left_inside object ≡ 0 → IsWellFormedInside object
+zero_well_formed object e is = ((decode_tlv_objects object.value).objects, filled_at object.value (rw (eq-eqb object.tag text_tag is) at e))
 
-ends_unlawful : (rest : List ℕ) → IsEndOfTlvObjects rest → 0 < length rest → IsMalformedTlvObject rest
-ends_unlawful rest (inl empty) some = absurd (omega (arith, ap length empty))
-ends_unlawful rest (inr unlawful) some = unlawful
+ends_malformed : (rest : List ℕ) → IsEndOfTlvObjects rest → 0 < length rest → IsMalformedTlvObject rest
+ends_malformed rest (inl empty) some = absurd (omega (arith, ap length empty))
+ends_malformed rest (inr malformed) some = malformed
 
 stops_with : (bytes : List ℕ) (object : ObjectValue) (rest : List ℕ) → BeginsWithTlvObject bytes object rest → (object.tag ≡ text_tag) ⊎ (object.tag ≡ text_tag → ⊥) → 0 < left_inside object → IsMalformedInside bytes (left_inside object + length rest)
 stops_with bytes object rest begins (inl is) some =
     let left : left_inside object ≡ length (decode_tlv_objects object.value).rest = rw (eq-eqb object.tag text_tag is) refl in
     let parts = split_is object.value in
-    (object, rest, (decode_tlv_objects object.value).objects, (decode_tlv_objects object.value).rest, begins, is, parts.0, ends_unlawful _ parts.1 (omega (arith, left)), ap (λ (n : ℕ). n + length rest) left)
+    (object, rest, (decode_tlv_objects object.value).objects, (decode_tlv_objects object.value).rest, begins, is, parts.0, ends_malformed _ parts.1 (omega (arith, left)), ap (λ (n : ℕ). n + length rest) left)
 stops_with bytes object rest begins (inr other) some =
     let none : left_inside object ≡ 0 = rw (ne_eqb object.tag text_tag other) refl in
     absurd (omega (arith, none))
 
 -- ---- the first malformed object
 
-abbrev Left : List ℕ → ℕ → Type 0
-Left bytes left = ((left ≡ 0) × AreWholeObjects bytes) ⊎ ((0 < left) × IsMalformedWith bytes left)
+abbrev LeftOf : List ℕ → ℕ → Type 0
+LeftOf bytes left = ((left ≡ 0) × AreWholeObjects bytes) ⊎ ((0 < left) × IsMalformedWith bytes left)
 
-left_here : (bytes : List ℕ) → decode_tlv_object bytes ≡ None → Left bytes (bytes_left bytes)
+left_here : (bytes : List ℕ) → decode_tlv_object bytes ≡ None → LeftOf bytes (bytes_left bytes)
 left_here [] e = inl (left_ends [] e, ([], refl, tt))
 left_here (b ∷ bytes) e =
     let ends = left_ends (b ∷ bytes) e in
-    let unlawful = none_unlawful (b ∷ bytes) (λ empty. absurd cc) e in
-    inr (omega (arith, ends), ([], b ∷ bytes, refl, tt, inl (unlawful, ends)))
+    let malformed = none_malformed (b ∷ bytes) (λ empty. absurd cc) e in
+    inr (omega (arith, ends), ([], b ∷ bytes, refl, tt, inl (malformed, ends)))
 
-left_more : (bytes : List ℕ) (object : ObjectValue) (rest : List ℕ) (left : ℕ) → BeginsWithTlvObject bytes object rest → IsWellFormedInside object → Left rest left → Left bytes left
-left_more bytes object rest left begins lawful (inl (none, (objects, fills, others))) =
-    inl (none, (object ∷ objects, (rest, begins, fills), (lawful, others)))
-left_more bytes object rest left begins lawful (inr (some, (before, last, splits, others, stops))) =
-    inr (some, (object ∷ before, last, (rest, begins, splits), (lawful, others), stops))
+left_more : (bytes : List ℕ) (object : ObjectValue) (rest : List ℕ) (left : ℕ) → BeginsWithTlvObject bytes object rest → IsWellFormedInside object → LeftOf rest left → LeftOf bytes left
+left_more bytes object rest left begins well_formed (inl (none, (objects, fills, others))) =
+    inl (none, (object ∷ objects, (rest, begins, fills), (well_formed, others)))
+left_more bytes object rest left begins well_formed (inr (some, (before, last, splits, others, stops))) =
+    inr (some, (object ∷ before, last, (rest, begins, splits), (well_formed, others), stops))
 
-left_by : (bytes : List ℕ) (object : ObjectValue) (rest : List ℕ) → decode_tlv_object bytes ≡ Some (object, rest) → (left_inside object ≡ 0) ⊎ (left_inside object ≡ 0 → ⊥) → Left rest (bytes_left rest) → Left bytes (bytes_left bytes)
+left_by : (bytes : List ℕ) (object : ObjectValue) (rest : List ℕ) → decode_tlv_object bytes ≡ Some (object, rest) → (left_inside object ≡ 0) ⊎ (left_inside object ≡ 0 → ⊥) → LeftOf rest (bytes_left rest) → LeftOf bytes (bytes_left bytes)
 left_by bytes object rest e (inl none) others =
-    rw (left_goes_on bytes object rest e none) (left_more bytes object rest (bytes_left rest) (found_begins bytes object rest e) (zero_lawful object none) others)
+    rw (left_goes_on bytes object rest e none) (left_more bytes object rest (bytes_left rest) (found_begins bytes object rest e) (zero_well_formed object none) others)
 left_by bytes object rest e (inr some) others =
     let more : 0 < left_inside object = omega (arith, some) in
     let inside = stops_with bytes object rest (found_begins bytes object rest e) (cases_eq object.tag text_tag) more in
     rw (left_stops bytes object rest e more) (inr (omega (arith, more), ([], bytes, refl, tt, inr inside)))
 
-left_at : (bytes : List ℕ) (found : Option (ObjectValue × List ℕ)) → decode_tlv_object bytes ≡ found → ((rest : List ℕ) → length rest < length bytes → Left rest (bytes_left rest)) → Left bytes (bytes_left bytes)
+left_at : (bytes : List ℕ) (found : Option (ObjectValue × List ℕ)) → decode_tlv_object bytes ≡ found → ((rest : List ℕ) → length rest < length bytes → LeftOf rest (bytes_left rest)) → LeftOf bytes (bytes_left bytes)
 left_at bytes None e others = left_here bytes e
 left_at bytes (Some (object, rest)) e others =
     left_by bytes object rest e (cases_eq (left_inside object) 0) (others rest (begins_shrinks bytes object rest (found_begins bytes object rest e)))
 
-left_within : (n : ℕ) (bytes : List ℕ) → length bytes ≤ n → Left bytes (bytes_left bytes)
+left_within : (n : ℕ) (bytes : List ℕ) → length bytes ≤ n → LeftOf bytes (bytes_left bytes)
 left_within zero bytes few = left_at bytes (decode_tlv_object bytes) refl (λ rest shorter. absurd (omega arith))
 left_within (suc n) bytes few = left_at bytes (decode_tlv_object bytes) refl (λ rest shorter. left_within n rest (omega arith))
 
-left_is : (bytes : List ℕ) → Left bytes (bytes_left bytes)
+left_is : (bytes : List ℕ) → LeftOf bytes (bytes_left bytes)
 left_is bytes = left_within (length bytes) bytes (omega arith)
 
 -- ---- and no other is
 
 whole_fills : (objects : List ObjectValue) (bytes : List ℕ) → SpellsTlvObjects bytes objects → AreWellFormedInside objects → bytes_left bytes ≡ 0
-whole_fills [] bytes fills lawful = ap bytes_left fills ∙ left_ends [] nothing
-whole_fills (object ∷ objects) bytes (rest, begins, fills) lawful =
-    left_goes_on bytes object rest (begins_found bytes object rest begins) (lawful_zero object lawful.0) ∙ whole_fills objects rest fills lawful.1
+whole_fills [] bytes fills well_formed = ap bytes_left fills ∙ left_ends [] nothing
+whole_fills (object ∷ objects) bytes (rest, begins, fills) well_formed =
+    left_goes_on bytes object rest (begins_found bytes object rest begins) (well_formed_zero object well_formed.0) ∙ whole_fills objects rest fills well_formed.1
 
 pub whole_zero : (bytes : List ℕ) → AreWholeObjects bytes → bytes_left bytes ≡ 0
-whole_zero bytes (objects, fills, lawful) = whole_fills objects bytes fills lawful
+whole_zero bytes (objects, fills, well_formed) = whole_fills objects bytes fills well_formed
 
 some_bytes : (bytes : List ℕ) → IsMalformedTlvObject bytes → 0 < length bytes
-some_bytes [] unlawful = absurd (unlawful_some [] unlawful refl)
-some_bytes (b ∷ bytes) unlawful = omega arith
+some_bytes [] malformed = absurd (malformed_some [] malformed refl)
+some_bytes (b ∷ bytes) malformed = omega arith
 
 stops_here : (bytes : List ℕ) (left : ℕ) → IsMalformedHere bytes left ⊎ IsMalformedInside bytes left → bytes_left bytes ≡ left
-stops_here bytes left (inl (unlawful, is)) = left_ends bytes (unlawful_none bytes (decode_tlv_object bytes) unlawful refl) ∙ sym is
-stops_here bytes left (inr (object, after, inner, broken, begins, tag, splits, unlawful, is)) =
-    let same : decode_tlv_objects object.value ≡ split inner broken = only_split object.value inner broken splits (inr unlawful) in
+stops_here bytes left (inl (malformed, is)) = left_ends bytes (malformed_none bytes (decode_tlv_object bytes) malformed refl) ∙ sym is
+stops_here bytes left (inr (object, after, inner, broken, begins, tag, splits, malformed, is)) =
+    let same : decode_tlv_objects object.value ≡ split inner broken = only_split object.value inner broken splits (inr malformed) in
     let inside : left_inside object ≡ length broken = rw (eq-eqb object.tag text_tag tag) (ap (λ (s : DecodedTlvObjects). length s.rest) same) in
-    left_stops bytes object after (begins_found bytes object after begins) (omega (arith, inside, some_bytes broken unlawful))
+    left_stops bytes object after (begins_found bytes object after begins) (omega (arith, inside, some_bytes broken malformed))
     ∙ ap (λ (n : ℕ). n + length after) inside ∙ sym is
 
-stops_behind : (before : List ObjectValue) (bytes rest : List ℕ) (left : ℕ) → BeginsWithTlvObjects bytes before rest → AreWellFormedInside before → IsMalformedHere rest left ⊎ IsMalformedInside rest left → bytes_left bytes ≡ left
-stops_behind [] bytes rest left splits lawful stops = ap bytes_left splits ∙ stops_here rest left stops
-stops_behind (object ∷ before) bytes rest left (more, begins, splits) lawful stops =
-    left_goes_on bytes object more (begins_found bytes object more begins) (lawful_zero object lawful.0) ∙ stops_behind before more rest left splits lawful.1 stops
+stops_after : (before : List ObjectValue) (bytes rest : List ℕ) (left : ℕ) → BeginsWithTlvObjects bytes before rest → AreWellFormedInside before → IsMalformedHere rest left ⊎ IsMalformedInside rest left → bytes_left bytes ≡ left
+stops_after [] bytes rest left splits well_formed stops = ap bytes_left splits ∙ stops_here rest left stops
+stops_after (object ∷ before) bytes rest left (more, begins, splits) well_formed stops =
+    left_goes_on bytes object more (begins_found bytes object more begins) (well_formed_zero object well_formed.0) ∙ stops_after before more rest left splits well_formed.1 stops
 
 stops_left : (bytes : List ℕ) (left : ℕ) → IsMalformedWith bytes left → bytes_left bytes ≡ left
-stops_left bytes left (before, rest, splits, lawful, stops) = stops_behind before bytes rest left splits lawful stops
+stops_left bytes left (before, rest, splits, well_formed, stops) = stops_after before bytes rest left splits well_formed stops
 
 -- ---- how many bytes these are
 
@@ -164,27 +164,27 @@ splits_shorter (object ∷ objects) bytes rest (more, begins, splits) =
     omega (arith, begins_shrinks bytes object more begins, splits_shorter objects more rest splits)
 
 stop_size : (rest : List ℕ) (left : ℕ) → IsMalformedHere rest left ⊎ IsMalformedInside rest left → (0 < left) × (left ≤ length rest)
-stop_size rest left (inl (unlawful, is)) = let some = some_bytes rest unlawful in (omega arith, omega arith)
-stop_size rest left (inr (object, after, inner, broken, begins, tag, splits, unlawful, is)) =
-    let some = some_bytes broken unlawful in
+stop_size rest left (inl (malformed, is)) = let some = some_bytes rest malformed in (omega arith, omega arith)
+stop_size rest left (inr (object, after, inner, broken, begins, tag, splits, malformed, is)) =
+    let some = some_bytes broken malformed in
     let within = splits_shorter inner object.value broken splits in
     let shorter = value_shrinks rest object after begins in
     (omega arith, omega arith)
 
 stops_size : (bytes : List ℕ) (left : ℕ) → IsMalformedWith bytes left → (0 < left) × (left ≤ length bytes)
-stops_size bytes left (before, rest, splits, lawful, stops) =
+stops_size bytes left (before, rest, splits, well_formed, stops) =
     let size = stop_size rest left stops in
     let shorter = splits_shorter before bytes rest splits in
     (size.0, omega (arith, size.1))
 
 -- ---- a block
 
--- what the body is, by what is computed of it
+-- what the data are, by what is computed of them
 abbrev pub BlockIs : List ℕ → Result (List ℕ) TlvFault → Type 0
 BlockIs body (Ok bytes) = SpellsBlock body bytes
 BlockIs body (Err fault) = IsBlockFault body fault.at
 
-block_left : (body bytes : List ℕ) → SpellsContainer body bytes → Left bytes (bytes_left bytes) → BlockIs body (decode_in_container (length body) (kept bytes))
+block_left : (body bytes : List ℕ) → SpellsContainer body bytes → LeftOf bytes (bytes_left bytes) → BlockIs body (decode_in_container (length body) (kept bytes))
 block_left body bytes is (inl (none, whole)) = rw none (is, whole)
 block_left body bytes is (inr (some, stops)) =
     let test : eqb (bytes_left bytes) 0 ≡ false = ne_eqb _ _ (λ e. omega (arith, some)) in
@@ -208,13 +208,13 @@ none_contained body None e none = refl
 none_contained body (Some bytes) e none = absurd (none bytes (found_container body bytes e))
 
 abbrev fault_at : ℕ → TlvFault
-fault_at at = record { at = at }
+fault_at offset = record { at = offset }
 
 pub only_block_fault : (body : List ℕ) (fault : TlvFault) → IsBlockFault body fault.at → decode_block body ≡ Err fault
 only_block_fault body fault (inl (is, none)) =
-    ap (decode_in_container (length body)) (none_contained body (decode_container body) refl none) ∙ ap (λ (at : ℕ). Err (fault_at at)) (sym is)
+    ap (decode_in_container (length body)) (none_contained body (decode_container body) refl none) ∙ ap (λ (offset : ℕ). Err (fault_at offset)) (sym is)
 only_block_fault body fault (inr (bytes, left, is, stops, offset)) =
     let same = stops_left bytes left stops in
     let size = stops_size bytes left stops in
     let test : eqb left 0 ≡ false = ne_eqb _ _ (λ e. omega (arith, size.0)) in
-    ap (decode_in_container (length body)) (container_found body bytes is) ∙ rw (same, test) (ap (λ (at : ℕ). Err (fault_at at)) (omega (arith, offset)))
+    ap (decode_in_container (length body)) (container_found body bytes is) ∙ rw (same, test) (ap (λ (offset : ℕ). Err (fault_at offset)) (omega (arith, offset)))

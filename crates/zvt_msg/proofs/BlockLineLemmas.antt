@@ -52,21 +52,21 @@ lines_begin objects = ap (λ (prefix : List (List ℕ)). prefix ++ all_block_lin
 -- ---- and by the definition
 
 have_with : (object : ObjectValue) (objects : List ObjectValue) → (object.tag ≡ text_tag) ⊎ (object.tag ≡ text_tag → ⊥) → IsWellFormedInside object → HaveBlockLines (values_with_tag text_tag objects) (all_block_lines (values_with_tag text_tag objects)) → HaveBlockLines (values_with_tag text_tag (object ∷ objects)) (all_block_lines (values_with_tag text_tag (object ∷ objects)))
-have_with object objects (inl is) lawful others =
-    let inner = lawful is in
+have_with object objects (inl is) well_formed others =
+    let inner = well_formed is in
     let e = values_filled line_tag object.value inner.0 inner.1 in
     rw is (inner.0, all_block_lines (values_with_tag text_tag objects), inner.1, others, ap (λ (prefix : List (List ℕ)). prefix ++ all_block_lines (values_with_tag text_tag objects)) e)
-have_with object objects (inr other) lawful others = rw (ne_eqb object.tag text_tag other) others
+have_with object objects (inr other) well_formed others = rw (ne_eqb object.tag text_tag other) others
 
 have_lines : (objects : List ObjectValue) → AreWellFormedInside objects → HaveBlockLines (values_with_tag text_tag objects) (all_block_lines (values_with_tag text_tag objects))
-have_lines [] lawful = refl
-have_lines (object ∷ objects) lawful = have_with object objects (cases_eq object.tag text_tag) lawful.0 (have_lines objects lawful.1)
+have_lines [] well_formed = refl
+have_lines (object ∷ objects) well_formed = have_with object objects (cases_eq object.tag text_tag) well_formed.0 (have_lines objects well_formed.1)
 
 -- the lines that are computed of a whole block are its lines
 pub are_lines : (bytes : List ℕ) → AreWholeObjects bytes → AreBlockLines bytes (decode_block_lines bytes)
-are_lines bytes (objects, fills, lawful) =
+are_lines bytes (objects, fills, well_formed) =
     let e = values_filled text_tag bytes objects fills in
-    (objects, all_block_lines (values_with_tag text_tag objects), fills, have_lines objects lawful, ap (λ (values : List (List ℕ)). take most_block_lines (all_block_lines values)) e)
+    (objects, all_block_lines (values_with_tag text_tag objects), fills, have_lines objects well_formed, ap (λ (values : List (List ℕ)). take most_block_lines (all_block_lines values)) e)
 
 only_have : (values lines : List (List ℕ)) → HaveBlockLines values lines → lines ≡ all_block_lines values
 only_have [] lines is = is
@@ -80,7 +80,7 @@ only_lines bytes lines (objects, all, fills, have, is) =
 
 -- ---- a new reader of lines
 
-pub lines_over : (block : List ℕ) (objects lines : TlvReaderValue) → objects ≡ record { at = 0; rest = block } → lines ≡ record { at = 0; rest = [] } → take most_block_lines (block_lines_from lines.rest objects.rest) ≡ decode_block_lines block
+pub lines_over : (block : List ℕ) (objects lines : TlvReaderValue) → objects ≡ record { offset = 0; rest = block } → lines ≡ record { offset = 0; rest = [] } → take most_block_lines (block_lines_from lines.rest objects.rest) ≡ decode_block_lines block
 lines_over block objects lines over empty =
     ap (λ (p : TlvReaderValue). take most_block_lines (block_lines_from p.rest objects.rest)) empty
     ∙ ap (λ (p : TlvReaderValue). take most_block_lines (block_lines_from [] p.rest)) over

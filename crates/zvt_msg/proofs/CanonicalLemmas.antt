@@ -8,7 +8,7 @@ use Rattle.zvt_bmp.specs.declared.fields.Fields.{Fields}
 use Rattle.zvt_bmp.specs.Grammar.{SpellsStatusOrFault}
 use Rattle.zvt_bmp.specs.Decode.{decode_status}
 use Rattle.zvt_bmp.specs.Canonical.{HasFieldDigits, canonical_status}
-use Rattle.zvt_bmp.proofs.DecodeLemmas.{fields_tell}
+use Rattle.zvt_bmp.proofs.DecodeLemmas.{fields_report}
 use Rattle.zvt_msg.specs.declared.command.Command.{Command}
 use Rattle.zvt_msg.specs.BlockGrammar.{container_tag}
 use Rattle.zvt_msg.specs.Message.{MessageValue}
@@ -74,7 +74,7 @@ message_again again objects fields (MessageValue.Block block) rest form sizes fi
     (apdu 0x06 0xD3 body, begins again 0x06 0xD3 body rest fits, ((refl, refl), (objects (record { tag = container_tag; value = block }) is_container small, form)))
 message_again again objects fields (MessageValue.Status values) rest form sizes fits =
     let body = canonical_status values in
-    (apdu 0x04 0x0F body, begins again 0x04 0x0F body rest fits, ((refl, refl), subst (SpellsStatusOrFault body) (fields values form sizes) (fields_tell body)))
+    (apdu 0x04 0x0F body, begins again 0x04 0x0F body rest fits, ((refl, refl), subst (SpellsStatusOrFault body) (fields values form sizes) (fields_report body)))
 message_again again objects fields MessageValue.Completion rest form sizes fits =
     (apdu 0x06 0x0F [], begins again 0x06 0x0F [] rest fits, (refl, refl))
 message_again again objects fields (MessageValue.Abort code) rest form sizes fits =

@@ -154,8 +154,8 @@ of_instr : (apdu : ApduValue) (instr : ℕ) → HasClassAndInstruction apdu 0x06
 unfolding decode_command
 of_instr apdu instr (class, is) = rw (class, is) refl
 
-behind_password : (password rest : List ℕ) → IsPassword password → (take 3 (password ++ rest) ≡ password) × (drop 3 (password ++ rest) ≡ rest)
-behind_password password rest is = (take_at password rest 3 is.0, drop_at password rest 3 is.0)
+after_password : (password rest : List ℕ) → IsPassword password → (take 3 (password ++ rest) ≡ password) × (drop 3 (password ++ rest) ≡ rest)
+after_password password rest is = (take_at password rest 3 is.0, drop_at password rest 3 is.0)
 
 lines_kept : (lines : ArrayVec (ArrayVec ℕ)) (text : List ℕ) (found : Option (List (ArrayVec ℕ))) → found ≡ Some lines.items → show_with found ≡ Some (Show lines)
 lines_kept lines text found e = ap show_with e
@@ -163,7 +163,7 @@ lines_kept lines text found e = ap show_with e
 pub spelt_found : (apdu : ApduValue) (command : Command) → SpellsCommand apdu command → decode_command apdu ≡ Some command
 unfolding decode_display_lines
 spelt_found apdu (Register password config currency) (has, number, is_password, is_number, is) =
-    let prefix = behind_password password (config ∷ number) is_password in
+    let prefix = after_password password (config ∷ number) is_password in
     of_instr apdu 0x00 has ∙ ap decode_register is
     ∙ ap (λ (t : List ℕ). register_at (decode_password t) (drop 3 (password ++ config ∷ number))) prefix.0
     ∙ ap (register_at (decode_password password)) prefix.1
@@ -176,7 +176,7 @@ spelt_found apdu (Authorise amount currency) (has, digits, number, is_amount, is
 spelt_found apdu (Enquire password) (has, is_password, is) =
     of_instr apdu 0x20 has ∙ ap (λ (b : List ℕ). enquire_with (decode_password b)) is ∙ ap enquire_with (password_found password is_password)
 spelt_found apdu (Reverse password receipt) (has, number, is_password, is_number, is) =
-    let prefix = behind_password password (0x87 ∷ number) is_password in
+    let prefix = after_password password (0x87 ∷ number) is_password in
     of_instr apdu 0x30 has ∙ ap decode_reverse is
     ∙ ap (λ (t : List ℕ). reverse_at (decode_password t) (drop 3 (password ++ 0x87 ∷ number))) prefix.0
     ∙ ap (reverse_at (decode_password password)) prefix.1

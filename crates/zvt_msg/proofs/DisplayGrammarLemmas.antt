@@ -18,19 +18,19 @@ digit_found digit small =
     let value : (240 + digit) - 240 ≡ digit = omega arith in
     rw (test, value) refl
 
-abbrev told : ℕ → Option ℕ
-told n = Some n
+abbrev some_of : ℕ → Option ℕ
+some_of n = Some n
 
-told_is : (m n : ℕ) → told m ≡ told n → m ≡ n
-told_is m n e = cc
+some_of_is : (m n : ℕ) → some_of m ≡ some_of n → m ≡ n
+some_of_is m n e = cc
 
-digit_by : (byte digit : ℕ) (test : Bool) → (leb 240 byte && leb byte 249) ≡ test → cond test (told (byte - 240)) None ≡ told digit → (digit < 10) × (byte ≡ 240 + digit)
+digit_by : (byte digit : ℕ) (test : Bool) → (leb 240 byte && leb byte 249) ≡ test → cond test (some_of (byte - 240)) None ≡ some_of digit → (digit < 10) × (byte ≡ 240 + digit)
 digit_by byte digit false is e = absurd cc
 digit_by byte digit true is e =
     let tests = and_parts (leb 240 byte) (leb byte 249) is in
     let low : 240 ≤ byte = leb-true _ _ tests.0 in
     let high : byte ≤ 249 = leb-true _ _ tests.1 in
-    let value = told_is (byte - 240) digit e in
+    let value = some_of_is (byte - 240) digit e in
     (omega arith, omega arith)
 
 found_digit : (byte digit : ℕ) → length_digit byte ≡ Some digit → (digit < 10) × (byte ≡ 240 + digit)
@@ -45,7 +45,7 @@ line items = record { items = items }
 pub record HasLine (bytes : List ℕ) (found : ArrayVec ℕ) (rest : List ℕ) : Type 0 where
   pub size : List ℕ
   pub spells : SpellsLlvar size (length found.items)
-  pub short : length found.items ≤ 40
+  pub fits : length found.items ≤ 40
   pub parts : bytes ≡ size ++ (found.items ++ rest)
 
 line_found : (bytes : List ℕ) (found : ArrayVec ℕ) (rest : List ℕ) → HasLine bytes found rest → decode_display_line bytes ≡ Some (found, rest)
@@ -56,13 +56,13 @@ line_found bytes found rest has =
     let whole : bytes ≡ (240 + tens) ∷ (240 + units) ∷ (found.items ++ rest) = has.parts ∙ ap (λ (s : List ℕ). s ++ (found.items ++ rest)) has.spells.5 in
     let first = digit_found tens has.spells.2 in
     let second = digit_found units has.spells.3 in
-    let short : ltb 40 (length found.items) ≡ false = le-ltb _ _ has.short in
+    let fits : ltb 40 (length found.items) ≡ false = le-ltb _ _ has.fits in
     let there : ltb (length (found.items ++ rest)) (length found.items) ≡ false = le-ltb _ _ (omega (arith, length-append found.items rest)) in
     ap decode_display_line whole
     ∙ ap (λ (d : Option ℕ). display_line_by d (length_digit (240 + units)) (found.items ++ rest)) first
     ∙ ap (λ (d : Option ℕ). display_line_by (Some tens) d (found.items ++ rest)) second
     ∙ ap (λ (n : ℕ). display_line_with n (found.items ++ rest)) (sym count)
-    ∙ rw (short, there, take_at found.items rest (length found.items) refl, drop_at found.items rest (length found.items) refl) refl
+    ∙ rw (fits, there, take_at found.items rest (length found.items) refl, drop_at found.items rest (length found.items) refl) refl
 
 abbrev both : ArrayVec ℕ → List ℕ → Option (ArrayVec ℕ × List ℕ)
 both found rest = Some (found, rest)
@@ -75,28 +75,28 @@ both_are a b x y e =
       some_is p q e = cc
 
 -- after a length, its bytes
-record Cuts (n : ℕ) (bytes : List ℕ) (found : ArrayVec ℕ) (rest : List ℕ) : Type 0 where
+record SplitsAt (n : ℕ) (bytes : List ℕ) (found : ArrayVec ℕ) (rest : List ℕ) : Type 0 where
   count : length found.items ≡ n
-  short : n ≤ 40
+  fits : n ≤ 40
   parts : bytes ≡ found.items ++ rest
 
-cut_with : (n : ℕ) (bytes : List ℕ) (found : ArrayVec ℕ) (rest : List ℕ) → (40 < n) ⊎ (n ≤ 40) → (length bytes < n) ⊎ (n ≤ length bytes) → display_line_with n bytes ≡ both found rest → Cuts n bytes found rest
-cut_with n bytes found rest (inl long) there e =
+split_with : (n : ℕ) (bytes : List ℕ) (found : ArrayVec ℕ) (rest : List ℕ) → (40 < n) ⊎ (n ≤ 40) → (length bytes < n) ⊎ (n ≤ length bytes) → display_line_with n bytes ≡ both found rest → SplitsAt n bytes found rest
+split_with n bytes found rest (inl long) there e =
     let test : ltb 40 n ≡ true = lt-ltb _ _ long in
     let none = rw test at e in absurd (cc none)
-cut_with n bytes found rest (inr short) (inl cut) e =
-    let first : ltb 40 n ≡ false = le-ltb _ _ short in
-    let second : ltb (length bytes) n ≡ true = lt-ltb _ _ cut in
+split_with n bytes found rest (inr fits) (inl truncated) e =
+    let first : ltb 40 n ≡ false = le-ltb _ _ fits in
+    let second : ltb (length bytes) n ≡ true = lt-ltb _ _ truncated in
     let none = rw (first, second) at e in absurd (cc none)
-cut_with n bytes found rest (inr short) (inr there) e =
-    let first : ltb 40 n ≡ false = le-ltb _ _ short in
+split_with n bytes found rest (inr fits) (inr there) e =
+    let first : ltb 40 n ≡ false = le-ltb _ _ fits in
     let second : ltb (length bytes) n ≡ false = le-ltb _ _ there in
     let same = both_are (line (take n bytes)) found (drop n bytes) rest (rw (first, second) at e) in
-    let items : take n bytes ≡ found.items = ap (λ (l : ArrayVec ℕ). l.items) same.0 in
+    let same_bytes : take n bytes ≡ found.items = ap (λ (l : ArrayVec ℕ). l.items) same.0 in
     record {
-      count = ap length (sym items) ∙ length-take-le n bytes there;
-      short = short;
-      parts = sym (take-append-drop n bytes) ∙ ap (λ (t : List ℕ). t ++ drop n bytes) items ∙ ap (λ (r : List ℕ). found.items ++ r) same.1;
+      count = ap length (sym same_bytes) ∙ length-take-le n bytes there;
+      fits = fits;
+      parts = sym (take-append-drop n bytes) ∙ ap (λ (t : List ℕ). t ++ drop n bytes) same_bytes ∙ ap (λ (r : List ℕ). found.items ++ r) same.1;
     }
 
 line_by_digits : (tens units : ℕ) (bytes : List ℕ) (found : ArrayVec ℕ) (rest : List ℕ) (t u : Option ℕ) → length_digit tens ≡ t → length_digit units ≡ u → display_line_by t u bytes ≡ both found rest → HasLine (tens ∷ units ∷ bytes) found rest
@@ -105,12 +105,12 @@ line_by_digits tens units bytes found rest (Some t) None first second e = absurd
 line_by_digits tens units bytes found rest (Some t) (Some u) first second e =
     let high = found_digit tens t first in
     let low = found_digit units u second in
-    let cuts = cut_with (10 * t + u) bytes found rest (cases_lt 40 (10 * t + u)) (cases_lt (length bytes) (10 * t + u)) e in
+    let splits = split_with (10 * t + u) bytes found rest (cases_lt 40 (10 * t + u)) (cases_lt (length bytes) (10 * t + u)) e in
     record {
       size = tens ∷ units ∷ [];
-      spells = (t, u, high.0, low.0, cuts.count, ap (λ (a : ℕ). a ∷ units ∷ []) high.1 ∙ ap (λ (b : ℕ). (240 + t) ∷ b ∷ []) low.1);
-      short = omega (arith, cuts.count, cuts.short);
-      parts = ap (λ (b : List ℕ). tens ∷ units ∷ b) cuts.parts;
+      spells = (t, u, high.0, low.0, splits.count, ap (λ (a : ℕ). a ∷ units ∷ []) high.1 ∙ ap (λ (b : ℕ). (240 + t) ∷ b ∷ []) low.1);
+      fits = omega (arith, splits.count, splits.fits);
+      parts = ap (λ (b : List ℕ). tens ∷ units ∷ b) splits.parts;
     }
 
 found_line : (bytes : List ℕ) (found : ArrayVec ℕ) (rest : List ℕ) → decode_display_line bytes ≡ Some (found, rest) → HasLine bytes found rest
@@ -125,12 +125,12 @@ no_bytes zero number = refl
 no_bytes (suc n) number = refl
 
 pub lines_found : (lines : List (ArrayVec ℕ)) (n number : ℕ) (bytes : List ℕ) → length lines ≤ n → AreShortLines lines → SpellsDisplayLines number bytes lines → decode_display_lines_within n number bytes ≡ Some lines
-lines_found [] n number bytes few short empty = ap (decode_display_lines_within n number) empty ∙ no_bytes n number
-lines_found (first ∷ lines) zero number bytes few short spells = absurd (omega arith)
-lines_found (first ∷ lines) (suc n) number bytes few short (size, more, length_is, others, whole) =
-    let has : HasLine (size ++ (first.items ++ more)) first more = record { size = size; spells = length_is; short = short.0; parts = refl } in
+lines_found [] n number bytes few fits empty = ap (decode_display_lines_within n number) empty ∙ no_bytes n number
+lines_found (first ∷ lines) zero number bytes few fits spells = absurd (omega arith)
+lines_found (first ∷ lines) (suc n) number bytes few fits (size, more, length_is, others, whole) =
+    let has : HasLine (size ++ (first.items ++ more)) first more = record { size = size; spells = length_is; fits = fits.0; parts = refl } in
     let found = line_found (size ++ (first.items ++ more)) first more has in
-    let after = lines_found lines n (number + 1) more (omega arith) short.1 others in
+    let after = lines_found lines n (number + 1) more (omega arith) fits.1 others in
     ap (decode_display_lines_within (suc n) number) whole
     ∙ rw (eq-eqb number number refl) (ap (display_lines_from (decode_display_lines_within n (number + 1))) found ∙ ap (with_first_line first) after)
 
@@ -141,8 +141,8 @@ AreFound n number bytes (Some lines) = (length lines ≤ n) × AreShortLines lin
 
 with_line : (n number : ℕ) (bytes : List ℕ) (first : ArrayVec ℕ) (rest : List ℕ) (others : Option (List (ArrayVec ℕ))) → HasLine bytes first rest → AreFound n (number + 1) rest others → AreFound (suc n) number (number ∷ bytes) (with_first_line first others)
 with_line n number bytes first rest None has found = tt
-with_line n number bytes first rest (Some lines) has (few, short, spells) =
-    (omega (arith, few), (has.short, short), (has.size, rest, has.spells, spells, ap (λ (b : List ℕ). number ∷ b) has.parts))
+with_line n number bytes first rest (Some lines) has (few, fits, spells) =
+    (omega (arith, few), (has.fits, fits), (has.size, rest, has.spells, spells, ap (λ (b : List ℕ). number ∷ b) has.parts))
 
 at_line : (n number : ℕ) (bytes : List ℕ) (found : Option (ArrayVec ℕ × List ℕ)) → decode_display_line bytes ≡ found → ((rest : List ℕ) → AreFound n (number + 1) rest (decode_display_lines_within n (number + 1) rest)) → AreFound (suc n) number (number ∷ bytes) (display_lines_from (decode_display_lines_within n (number + 1)) found)
 at_line n number bytes None e others = tt
@@ -169,7 +169,7 @@ llvar_is size n (tens, units, high, low, count, is) =
     is ∙ ap (λ (a : ℕ). a ∷ (240 + units) ∷ []) first ∙ ap (λ (b : ℕ). (240 + n / 10) ∷ b ∷ []) second
 
 llvar_spells : (n : ℕ) → n ≤ 40 → SpellsLlvar (canonical_llvar n) n
-llvar_spells n short = (n / 10, n % 10, omega arith, omega arith, omega arith, refl)
+llvar_spells n fits = (n / 10, n % 10, omega arith, omega arith, omega arith, refl)
 
 pub lines_are : (lines : List (ArrayVec ℕ)) (number : ℕ) (bytes : List ℕ) → SpellsDisplayLines number bytes lines → bytes ≡ canonical_display_lines number lines
 lines_are [] number bytes empty = empty
@@ -179,6 +179,6 @@ lines_are (first ∷ lines) number bytes (size, more, length_is, others, whole) 
     ∙ ap (λ (m : List ℕ). number ∷ (canonical_llvar (length first.items) ++ (first.items ++ m))) (lines_are lines (number + 1) more others)
 
 pub lines_spell : (lines : List (ArrayVec ℕ)) (number : ℕ) → AreShortLines lines → SpellsDisplayLines number (canonical_display_lines number lines) lines
-lines_spell [] number short = refl
-lines_spell (first ∷ lines) number short =
-    (canonical_llvar (length first.items), canonical_display_lines (number + 1) lines, llvar_spells (length first.items) short.0, lines_spell lines (number + 1) short.1, refl)
+lines_spell [] number fits = refl
+lines_spell (first ∷ lines) number fits =
+    (canonical_llvar (length first.items), canonical_display_lines (number + 1) lines, llvar_spells (length first.items) fits.0, lines_spell lines (number + 1) fits.1, refl)

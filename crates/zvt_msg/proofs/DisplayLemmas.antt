@@ -6,20 +6,20 @@ use Rattle.arrayvec.specs.ArrayVec.{ArrayVec}
 use Rattle.zvt_msg.specs.CommandDecode.{decode_display_line, with_first_line, display_lines_from, decode_display_lines_within}
 
 -- these lines before others
-abbrev pub behind : List (ArrayVec ℕ) → Option (List (ArrayVec ℕ)) → Option (List (ArrayVec ℕ))
-behind lines None = None
-behind lines (Some others) = Some (lines ++ others)
+abbrev pub preceded_by : List (ArrayVec ℕ) → Option (List (ArrayVec ℕ)) → Option (List (ArrayVec ℕ))
+preceded_by lines None = None
+preceded_by lines (Some others) = Some (lines ++ others)
 
 -- these lines, and those that the rest gives
 abbrev pub all_from : List (ArrayVec ℕ) → List ℕ → Option (List (ArrayVec ℕ))
-all_from lines rest = behind lines (decode_display_lines_within (8 - length lines) (241 + length lines) rest)
+all_from lines rest = preceded_by lines (decode_display_lines_within (8 - length lines) (241 + length lines) rest)
 
-behind_nothing : (found : Option (List (ArrayVec ℕ))) → behind [] found ≡ found
-behind_nothing None = refl
-behind_nothing (Some lines) = refl
+preceded_by_nothing : (found : Option (List (ArrayVec ℕ))) → preceded_by [] found ≡ found
+preceded_by_nothing None = refl
+preceded_by_nothing (Some lines) = refl
 
 pub all_begin : (lines : List (ArrayVec ℕ)) (bytes : List ℕ) → lines ≡ [] → all_from lines bytes ≡ decode_display_lines_within 8 241 bytes
-all_begin lines bytes none = ap (λ (l : List (ArrayVec ℕ)). all_from l bytes) none ∙ behind_nothing (decode_display_lines_within 8 241 bytes)
+all_begin lines bytes none = ap (λ (l : List (ArrayVec ℕ)). all_from l bytes) none ∙ preceded_by_nothing (decode_display_lines_within 8 241 bytes)
 
 -- no line is the ninth
 pub all_full : (lines : List (ArrayVec ℕ)) (rest : List ℕ) → length lines ≡ 8 → 1 ≤ length rest → all_from lines rest ≡ None
@@ -33,7 +33,7 @@ all_misnumbered lines (b ∷ rest) room some other =
     let left : 8 - length lines ≡ suc (7 - length lines) = omega arith in
     rw (left, ne_eqb b (241 + length lines) other) refl
 
-from_line : (lines : List (ArrayVec ℕ)) (rest : List ℕ) → length lines < 8 → 1 ≤ length rest → get_or rest 0 0 ≡ 241 + length lines → all_from lines rest ≡ behind lines (display_lines_from (decode_display_lines_within (7 - length lines) (241 + length lines + 1)) (decode_display_line (drop 1 rest)))
+from_line : (lines : List (ArrayVec ℕ)) (rest : List ℕ) → length lines < 8 → 1 ≤ length rest → get_or rest 0 0 ≡ 241 + length lines → all_from lines rest ≡ preceded_by lines (display_lines_from (decode_display_lines_within (7 - length lines) (241 + length lines + 1)) (decode_display_line (drop 1 rest)))
 from_line lines [] room some is = absurd (omega arith)
 from_line lines (b ∷ rest) room some is =
     let left : 8 - length lines ≡ suc (7 - length lines) = omega arith in
@@ -42,11 +42,11 @@ from_line lines (b ∷ rest) room some is =
 pub all_ended : (lines : List (ArrayVec ℕ)) (rest : List ℕ) → length lines < 8 → 1 ≤ length rest → get_or rest 0 0 ≡ 241 + length lines → decode_display_line (drop 1 rest) ≡ None → all_from lines rest ≡ None
 all_ended lines rest room some is none =
     from_line lines rest room some is
-    ∙ ap (λ (f : Option (ArrayVec ℕ × List ℕ)). behind lines (display_lines_from (decode_display_lines_within (7 - length lines) (241 + length lines + 1)) f)) none
+    ∙ ap (λ (f : Option (ArrayVec ℕ × List ℕ)). preceded_by lines (display_lines_from (decode_display_lines_within (7 - length lines) (241 + length lines + 1)) f)) none
 
-behind_one : (lines : List (ArrayVec ℕ)) (line : ArrayVec ℕ) (found : Option (List (ArrayVec ℕ))) → behind lines (with_first_line line found) ≡ behind (lines ++ line ∷ []) found
-behind_one lines line None = refl
-behind_one lines line (Some others) = ap (λ (l : List (ArrayVec ℕ)). Some l) (sym (append_assoc lines (line ∷ []) others))
+preceded_by_one : (lines : List (ArrayVec ℕ)) (line : ArrayVec ℕ) (found : Option (List (ArrayVec ℕ))) → preceded_by lines (with_first_line line found) ≡ preceded_by (lines ++ line ∷ []) found
+preceded_by_one lines line None = refl
+preceded_by_one lines line (Some others) = ap (λ (l : List (ArrayVec ℕ)). Some l) (sym (append_assoc lines (line ∷ []) others))
 
 pub all_go_on : (lines : List (ArrayVec ℕ)) (rest : List ℕ) (line : ArrayVec ℕ) (after : List ℕ) → length lines < 8 → 1 ≤ length rest → get_or rest 0 0 ≡ 241 + length lines → decode_display_line (drop 1 rest) ≡ Some (line, after) → all_from lines rest ≡ all_from (lines ++ line ∷ []) after
 all_go_on lines rest line after room some is found =
@@ -54,10 +54,10 @@ all_go_on lines rest line after room some is found =
     let left : 7 - length lines ≡ 8 - length (lines ++ line ∷ []) = omega (arith, size) in
     let number : 241 + length lines + 1 ≡ 241 + length (lines ++ line ∷ []) = omega (arith, size) in
     from_line lines rest room some is
-    ∙ ap (λ (f : Option (ArrayVec ℕ × List ℕ)). behind lines (display_lines_from (decode_display_lines_within (7 - length lines) (241 + length lines + 1)) f)) found
-    ∙ behind_one lines line (decode_display_lines_within (7 - length lines) (241 + length lines + 1) after)
-    ∙ ap (λ (n : ℕ). behind (lines ++ line ∷ []) (decode_display_lines_within n (241 + length lines + 1) after)) left
-    ∙ ap (λ (n : ℕ). behind (lines ++ line ∷ []) (decode_display_lines_within (8 - length (lines ++ line ∷ [])) n after)) number
+    ∙ ap (λ (f : Option (ArrayVec ℕ × List ℕ)). preceded_by lines (display_lines_from (decode_display_lines_within (7 - length lines) (241 + length lines + 1)) f)) found
+    ∙ preceded_by_one lines line (decode_display_lines_within (7 - length lines) (241 + length lines + 1) after)
+    ∙ ap (λ (n : ℕ). preceded_by (lines ++ line ∷ []) (decode_display_lines_within n (241 + length lines + 1) after)) left
+    ∙ ap (λ (n : ℕ). preceded_by (lines ++ line ∷ []) (decode_display_lines_within (8 - length (lines ++ line ∷ [])) n after)) number
 
 -- all after the first byte, as the code splits it off
 abbrev pub text : List ℕ → List ℕ

@@ -8,7 +8,7 @@ use Rattle.zvt_bmp.specs.declared.fields.Fields.{Fields}
 use Rattle.zvt_bmp.specs.declared.fields.FieldFault.{FieldFault}
 use Rattle.zvt_bmp.specs.Grammar.{SpellsStatusOrFault}
 use Rattle.zvt_bmp.specs.Decode.{decode_status}
-use Rattle.zvt_bmp.proofs.DecodeLemmas.{fields_tell, only_told}
+use Rattle.zvt_bmp.proofs.DecodeLemmas.{fields_report, only_reported}
 use Rattle.zvt_msg.specs.declared.fault.PtFault.{PtFault}
 use Rattle.zvt_msg.specs.declared.fault.PtFault.TheVariants.{Field, Tlv}
 use Rattle.zvt_msg.specs.declared.message.PtMessage.{PtMessage}
@@ -21,7 +21,7 @@ use Rattle.zvt_msg.proofs.BlockLemmas.{BlockIs, block_is, only_block, only_block
 
 -- ---- the control field
 
-kind_found : (apdu : ApduValue) (kind : ControlField) → HasControlField apdu kind → control_field_of apdu.class apdu.instr ≡ Some kind
+kind_found : (apdu : ApduValue) (control_field : ControlField) → HasControlField apdu control_field → control_field_of apdu.class apdu.instr ≡ Some control_field
 kind_found apdu ControlField.Ack (class, instr) = rw (class, instr) refl
 kind_found apdu ControlField.Nack class = rw class refl
 kind_found apdu ControlField.Intermediate (class, instr) = rw (class, instr) refl
@@ -34,7 +34,7 @@ kind_found apdu ControlField.Abort (class, instr) = rw (class, instr) refl
 -- the APDU has this control field, if one was found
 abbrev IsSome : ApduValue → Option ControlField → Type 0
 IsSome apdu None = Unit {0}
-IsSome apdu (Some kind) = HasControlField apdu kind
+IsSome apdu (Some control_field) = HasControlField apdu control_field
 
 by_test : (apdu : ApduValue) (test : Bool) (x y : Option ControlField) → (test ≡ true → IsSome apdu x) → (test ≡ false → IsSome apdu y) → IsSome apdu (cond test x y)
 by_test apdu true x y first second = first refl
@@ -54,21 +54,21 @@ found_some apdu =
 
 -- the APDU has this control field, or none
 abbrev KindIs : ApduValue → Option ControlField → Type 0
-KindIs apdu None = (kind : ControlField) → ¬ HasControlField apdu kind
-KindIs apdu (Some kind) = HasControlField apdu kind
+KindIs apdu None = (control_field : ControlField) → ¬ HasControlField apdu control_field
+KindIs apdu (Some control_field) = HasControlField apdu control_field
 
 kind_by : (apdu : ApduValue) (found : Option ControlField) → control_field_of apdu.class apdu.instr ≡ found → IsSome apdu found → KindIs apdu found
-kind_by apdu None e is = λ kind of. let some = kind_found apdu kind of in cc (some, e)
-kind_by apdu (Some kind) e is = is
+kind_by apdu None e is = λ control_field of. let some = kind_found apdu control_field of in cc (some, e)
+kind_by apdu (Some control_field) e is = is
 
 kind_is : (apdu : ApduValue) → KindIs apdu (control_field_of apdu.class apdu.instr)
 kind_is apdu = kind_by apdu (control_field_of apdu.class apdu.instr) refl (found_some apdu)
 
-none_found : (apdu : ApduValue) (found : Option ControlField) → ((kind : ControlField) → ¬ HasControlField apdu kind) → KindIs apdu found → found ≡ None
+none_found : (apdu : ApduValue) (found : Option ControlField) → ((control_field : ControlField) → ¬ HasControlField apdu control_field) → KindIs apdu found → found ≡ None
 none_found apdu None none is = refl
-none_found apdu (Some kind) none is = absurd (none kind is)
+none_found apdu (Some control_field) none is = absurd (none control_field is)
 
--- ---- what the body carries
+-- ---- what the data carry
 
 first_is : (body : List ℕ) → IsFirstByte body (first_byte_of body)
 first_is [] = refl
@@ -96,36 +96,36 @@ only_text body text (inr (empty, is)) = ap after_first_byte empty ∙ sym is
 
 -- ---- what the APDU spells
 
-tells_fields : (apdu : ApduValue) (told : Result Fields FieldFault) → HasControlField apdu ControlField.Status → SpellsStatusOrFault apdu.body told → SpellsPtMessageOrFault apdu (status_or_fault told)
-tells_fields apdu (Ok fields) is tell = (is, tell)
-tells_fields apdu (Err fault) is tell = (is, tell)
+reports_fields : (apdu : ApduValue) (reported : Result Fields FieldFault) → HasControlField apdu ControlField.Status → SpellsStatusOrFault apdu.body reported → SpellsPtMessageOrFault apdu (status_or_fault reported)
+reports_fields apdu (Ok fields) is spells = (is, spells)
+reports_fields apdu (Err fault) is spells = (is, spells)
 
-tells_block : (apdu : ApduValue) (told : Result (List ℕ) TlvFault) → HasControlField apdu ControlField.Block → BlockIs apdu.body told → SpellsPtMessageOrFault apdu (block_or_fault told)
-tells_block apdu (Ok bytes) is block = (is, block)
-tells_block apdu (Err fault) is block = (is, block)
+reports_block : (apdu : ApduValue) (reported : Result (List ℕ) TlvFault) → HasControlField apdu ControlField.Block → BlockIs apdu.body reported → SpellsPtMessageOrFault apdu (block_or_fault reported)
+reports_block apdu (Ok bytes) is block = (is, block)
+reports_block apdu (Err fault) is block = (is, block)
 
-tells_by : (apdu : ApduValue) (found : Option ControlField) → KindIs apdu found → SpellsPtMessageOrFault apdu (decode_pt_message_by found apdu)
-tells_by apdu None is = is
-tells_by apdu (Some ControlField.Ack) is = is
-tells_by apdu (Some ControlField.Nack) is = (is, refl)
-tells_by apdu (Some ControlField.Intermediate) is = (is, code_is apdu.body)
-tells_by apdu (Some ControlField.Line) is = (is, text_is apdu.body)
-tells_by apdu (Some ControlField.Block) is = tells_block apdu (decode_block apdu.body) is (block_is apdu.body)
-tells_by apdu (Some ControlField.Status) is = tells_fields apdu (decode_status apdu.body) is (fields_tell apdu.body)
-tells_by apdu (Some ControlField.Completion) is = is
-tells_by apdu (Some ControlField.Abort) is = (is, first_is apdu.body)
+reports_by : (apdu : ApduValue) (found : Option ControlField) → KindIs apdu found → SpellsPtMessageOrFault apdu (decode_pt_message_by found apdu)
+reports_by apdu None is = is
+reports_by apdu (Some ControlField.Ack) is = is
+reports_by apdu (Some ControlField.Nack) is = (is, refl)
+reports_by apdu (Some ControlField.Intermediate) is = (is, code_is apdu.body)
+reports_by apdu (Some ControlField.Line) is = (is, text_is apdu.body)
+reports_by apdu (Some ControlField.Block) is = reports_block apdu (decode_block apdu.body) is (block_is apdu.body)
+reports_by apdu (Some ControlField.Status) is = reports_fields apdu (decode_status apdu.body) is (fields_report apdu.body)
+reports_by apdu (Some ControlField.Completion) is = is
+reports_by apdu (Some ControlField.Abort) is = (is, first_is apdu.body)
 
-pub tells : (apdu : ApduValue) → SpellsPtMessageOrFault apdu (decode_pt_message apdu)
+pub reports : (apdu : ApduValue) → SpellsPtMessageOrFault apdu (decode_pt_message apdu)
 unfolding decode_pt_message
-tells apdu = tells_by apdu (control_field_of apdu.class apdu.instr) (kind_is apdu)
+reports apdu = reports_by apdu (control_field_of apdu.class apdu.instr) (kind_is apdu)
 
 -- ---- and nothing else
 
-of_kind : (apdu : ApduValue) (kind : ControlField) → HasControlField apdu kind → decode_pt_message apdu ≡ decode_pt_message_by (Some kind) apdu
+of_kind : (apdu : ApduValue) (control_field : ControlField) → HasControlField apdu control_field → decode_pt_message apdu ≡ decode_pt_message_by (Some control_field) apdu
 unfolding decode_pt_message
-of_kind apdu kind is = ap (λ (found : Option ControlField). decode_pt_message_by found apdu) (kind_found apdu kind is)
+of_kind apdu control_field is = ap (λ (found : Option ControlField). decode_pt_message_by found apdu) (kind_found apdu control_field is)
 
-of_none : (apdu : ApduValue) → ((kind : ControlField) → ¬ HasControlField apdu kind) → decode_pt_message apdu ≡ Ok MessageValue.Other
+of_none : (apdu : ApduValue) → ((control_field : ControlField) → ¬ HasControlField apdu control_field) → decode_pt_message apdu ≡ Ok MessageValue.Other
 unfolding decode_pt_message
 of_none apdu none = ap (λ (found : Option ControlField). decode_pt_message_by found apdu) (none_found apdu (control_field_of apdu.class apdu.instr) none (kind_is apdu))
 
@@ -133,20 +133,20 @@ only_says : (apdu : ApduValue) (message : MessageValue) → SpellsPtMessage apdu
 only_says apdu MessageValue.Ack is = of_kind apdu ControlField.Ack is
 only_says apdu (MessageValue.Nack code) (is, same) = of_kind apdu ControlField.Nack is ∙ ap (λ (c : ℕ). Ok (MessageValue.Nack c)) same
 only_says apdu (MessageValue.Intermediate code) (is, first) = of_kind apdu ControlField.Intermediate is ∙ ap (λ (c : ℕ). Ok (MessageValue.Intermediate c)) (only_code apdu.body code first)
-only_says apdu (MessageValue.Line text) (is, behind) = of_kind apdu ControlField.Line is ∙ ap (λ (t : List ℕ). Ok (MessageValue.Line t)) (only_text apdu.body text behind)
+only_says apdu (MessageValue.Line text) (is, is_text) = of_kind apdu ControlField.Line is ∙ ap (λ (t : List ℕ). Ok (MessageValue.Line t)) (only_text apdu.body text is_text)
 only_says apdu (MessageValue.Block objects) (is, block) = of_kind apdu ControlField.Block is ∙ ap block_or_fault (only_block apdu.body objects block)
-only_says apdu (MessageValue.Status fields) (is, are) = of_kind apdu ControlField.Status is ∙ ap status_or_fault (only_told apdu.body (Ok fields) are)
+only_says apdu (MessageValue.Status fields) (is, are) = of_kind apdu ControlField.Status is ∙ ap status_or_fault (only_reported apdu.body (Ok fields) are)
 only_says apdu MessageValue.Completion is = of_kind apdu ControlField.Completion is
 only_says apdu (MessageValue.Abort code) (is, first) = of_kind apdu ControlField.Abort is ∙ ap (λ (c : Option ℕ). Ok (MessageValue.Abort c)) (only_first apdu.body code first)
 only_says apdu MessageValue.Other none = of_none apdu none
 
 only_fault : (apdu : ApduValue) (fault : PtFault) → HasPtFault apdu fault → decode_pt_message apdu ≡ Err fault
-only_fault apdu (Field fault) (is, first) = of_kind apdu ControlField.Status is ∙ ap status_or_fault (only_told apdu.body (Err fault) first)
+only_fault apdu (Field fault) (is, first) = of_kind apdu ControlField.Status is ∙ ap status_or_fault (only_reported apdu.body (Err fault) first)
 only_fault apdu (Tlv fault) (is, first) = of_kind apdu ControlField.Block is ∙ ap block_or_fault (only_block_fault apdu.body fault first)
 
-pub only_tells : (apdu : ApduValue) (told : Result MessageValue PtFault) → SpellsPtMessageOrFault apdu told → decode_pt_message apdu ≡ told
-only_tells apdu (Ok message) says = only_says apdu message says
-only_tells apdu (Err fault) has = only_fault apdu fault has
+pub only_reports : (apdu : ApduValue) (reported : Result MessageValue PtFault) → SpellsPtMessageOrFault apdu reported → decode_pt_message apdu ≡ reported
+only_reports apdu (Ok message) says = only_says apdu message says
+only_reports apdu (Err fault) has = only_fault apdu fault has
 
 -- ---- the clauses of the call
 
@@ -162,20 +162,20 @@ failed fault = Err fault
 failed_is : (a b : PtFault) → failed a ≡ failed b → a ≡ b
 failed_is a b e = cc
 
-pub message_clause : (apdu : ApduValue) (answer : Result PtMessage PtFault) → ReturnsPtMessage answer (decode_pt_message apdu) → (message : MessageValue) → IsPtMessage answer message ↔ SpellsPtMessage apdu message
+pub message_clause : (apdu : ApduValue) (result : Result PtMessage PtFault) → ReturnsPtMessage result (decode_pt_message apdu) → (message : MessageValue) → IsPtMessage result message ↔ SpellsPtMessage apdu message
 message_clause apdu (Ok found) is message = (
-  (λ same. subst (SpellsPtMessage apdu) same (subst (SpellsPtMessageOrFault apdu) is (tells apdu))),
+  (λ same. subst (SpellsPtMessage apdu) same (subst (SpellsPtMessageOrFault apdu) is (reports apdu))),
   λ says. said_is (value_of found) message (sym is ∙ only_says apdu message says),
 )
 message_clause apdu (Err fault) is message =
     ((λ h. absurd h), λ says. let other = only_says apdu message says in absurd (cc (is, other)))
 
-pub fault_clause : (apdu : ApduValue) (answer : Result PtMessage PtFault) → ReturnsPtMessage answer (decode_pt_message apdu) → (fault : PtFault) → (answer ≡ Err fault) ↔ HasPtFault apdu fault
+pub fault_clause : (apdu : ApduValue) (result : Result PtMessage PtFault) → ReturnsPtMessage result (decode_pt_message apdu) → (fault : PtFault) → (result ≡ Err fault) ↔ HasPtFault apdu fault
 fault_clause apdu (Ok found) is fault =
     ((λ e. absurd cc), λ has. let other = only_fault apdu fault has in absurd (cc (is, other)))
 fault_clause apdu (Err found) is fault = (
-  (λ e. subst (HasPtFault apdu) (answer_is found fault e) (subst (SpellsPtMessageOrFault apdu) is (tells apdu))),
+  (λ e. subst (HasPtFault apdu) (result_is found fault e) (subst (SpellsPtMessageOrFault apdu) is (reports apdu))),
   λ has. ap (λ (f : PtFault). Err f) (failed_is found fault (sym is ∙ only_fault apdu fault has)),
 ) where
-  answer_is : (a b : PtFault) → (let x : Result PtMessage PtFault = Err a in x) ≡ Err b → a ≡ b
-  answer_is a b e = cc
+  result_is : (a b : PtFault) → (let x : Result PtMessage PtFault = Err a in x) ≡ Err b → a ≡ b
+  result_is a b e = cc

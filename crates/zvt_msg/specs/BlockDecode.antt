@@ -11,7 +11,7 @@ abbrev pub container_value : Option (ObjectValue × List ℕ) → Option (List �
 container_value None = None
 container_value (Some found) = if (found.0.tag == container_tag) && (length found.1 == 0) then Some found.0.value else None
 
--- the bytes in the container, where the body is one
+-- the bytes in the container, where the data are one
 abbrev pub decode_container : List ℕ → Option (List ℕ)
 decode_container body = container_value (decode_tlv_object body)
 

@@ -57,8 +57,8 @@ IsMalformedWith bytes left = (before : List ObjectValue) × (rest : List ℕ)
 
 -- the data are no container, or the first malformed object in it is at this offset of the data
 abbrev pub IsBlockFault : List ℕ → ℕ → Type 0
-IsBlockFault body at = ((at ≡ 0) × ((bytes : List ℕ) → ¬ SpellsContainer body bytes))
-    ⊎ ((bytes : List ℕ) × (left : ℕ) × SpellsContainer body bytes × IsMalformedWith bytes left × (at + left ≡ length body))
+IsBlockFault body offset = ((offset ≡ 0) × ((bytes : List ℕ) → ¬ SpellsContainer body bytes))
+    ⊎ ((bytes : List ℕ) × (left : ℕ) × SpellsContainer body bytes × IsMalformedWith bytes left × (offset + left ≡ length body))
 
 -- ---- lines
 

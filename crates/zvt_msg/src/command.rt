@@ -2,10 +2,10 @@
 
 use arrayvec::ArrayVec;
 
-/// A text line of a terminal's display, in the terminal's character set: at most 40 bytes.
+/// A line of text that a terminal shows, in the terminal's character set: at most 40 bytes.
 pub type Line = ArrayVec<u8, 40>;
 
-/// The lines of a terminal's display, from the top: at most eight.
+/// The lines that a terminal shows, from the top: at most eight.
 pub type Lines = ArrayVec<Line, 8>;
 
 /// A command to a terminal. A password is its six digits in three bytes, two in each, and a currency its

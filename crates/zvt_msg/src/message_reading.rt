@@ -5,7 +5,7 @@ ghost use Rattle.zvt_apdu.specs.Grammar.{value_of};
 ghost use Rattle.zvt_bmp.specs.Decode.{decode_status};
 ghost use Rattle.zvt_msg.specs.declared.fault.PtFault.{PtFault};
 ghost use Rattle.zvt_msg.specs.Message.{MessageValue, value_of as message_value};
-ghost use Rattle.zvt_msg.specs.Numbers.{HasNumbers};
+ghost use Rattle.zvt_msg.specs.Numbers.{NumbersFitFields};
 ghost use Rattle.zvt_msg.specs.MessageGrammar.{SpellsPtMessage, HasPtFault};
 ghost use Rattle.zvt_msg.specs.BlockDecode.{decode_block};
 ghost use Rattle.zvt_msg.specs.MessageDecode.{first_byte_of, after_first_byte, status_or_fault, block_or_fault, decode_pt_message};
@@ -26,7 +26,7 @@ pub fn read_pt<'a>(apdu: &Apdu<'a>) -> Result<PtMessage<'a>, PtFault>
     ensures computes { ReturnsPtMessage result (decode_pt_message (value_of apdu.now)) }
 
     // A status that was read can be written again.
-    ensures numbers { IfOk result (λ message. HasNumbers (message_value message)) }
+    ensures numbers { IfOk result (λ message. NumbersFitFields (message_value message)) }
 {
     read_message(apdu)
 }
@@ -36,7 +36,7 @@ pub fn read_pt<'a>(apdu: &Apdu<'a>) -> Result<PtMessage<'a>, PtFault>
 #[tactic(auto, unfolding(crate::specs::MessageDecode::decode_pt_message))]
 fn read_message<'a>(apdu: &Apdu<'a>) -> Result<PtMessage<'a>, PtFault>
     ensures computes { ReturnsPtMessage result (decode_pt_message (value_of apdu.now)) }
-    ensures numbers { IfOk result (λ message. HasNumbers (message_value message)) }
+    ensures numbers { IfOk result (λ message. NumbersFitFields (message_value message)) }
 {
     match (apdu.class, apdu.instr) {
         (0x80, 0x00) => Ok(PtMessage::Ack),
@@ -68,7 +68,7 @@ fn after_first_byte(body: &[u8]) -> &[u8]
 
 fn status(body: &[u8]) -> Result<PtMessage<'_>, PtFault>
     ensures computes { ReturnsPtMessage result (status_or_fault (decode_status body.now)) }
-    ensures numbers { IfOk result (λ message. HasNumbers (message_value message)) }
+    ensures numbers { IfOk result (λ message. NumbersFitFields (message_value message)) }
 {
     match read_fields(body) {
         Ok(fields) => Ok(PtMessage::Status(fields)),
@@ -78,7 +78,7 @@ fn status(body: &[u8]) -> Result<PtMessage<'_>, PtFault>
 
 fn block(body: &[u8]) -> Result<PtMessage<'_>, PtFault>
     ensures computes { ReturnsPtMessage result (block_or_fault (decode_block body.now)) }
-    ensures numbers { IfOk result (λ message. HasNumbers (message_value message)) }
+    ensures numbers { IfOk result (λ message. NumbersFitFields (message_value message)) }
 {
     match read_block(body) {
         Ok(objects) => Ok(PtMessage::Block(objects)),

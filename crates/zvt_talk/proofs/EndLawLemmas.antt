@@ -28,14 +28,14 @@ still_over true true more e = refl
 still_over true false more e = absurd cc
 still_over false over more e = refl
 
-still_ended : (kind : DialogueKind) (taken more : List MessageValue) → has_ended kind taken ≡ true → has_ended kind (taken ++ more) ≡ true
-still_ended kind [] more e = absurd cc
-still_ended kind (first ∷ rest) more e =
-    ap (λ (over : Bool). not ((is_ack first && not (is_display kind)) && not over)) (list_any-append is_completion_or_abort (first ∷ rest) more)
-    ∙ still_over (is_ack first && not (is_display kind)) (list_any is_completion_or_abort (first ∷ rest)) (list_any is_completion_or_abort more) e
+still_ended : (dialogue_kind : DialogueKind) (taken more : List MessageValue) → has_ended dialogue_kind taken ≡ true → has_ended dialogue_kind (taken ++ more) ≡ true
+still_ended dialogue_kind [] more e = absurd cc
+still_ended dialogue_kind (first ∷ rest) more e =
+    ap (λ (over : Bool). not ((is_ack first && not (is_display dialogue_kind)) && not over)) (list_any-append is_completion_or_abort (first ∷ rest) more)
+    ∙ still_over (is_ack first && not (is_display dialogue_kind)) (list_any is_completion_or_abort (first ∷ rest)) (list_any is_completion_or_abort more) e
 
-ended_with : (kind : DialogueKind) (came more : List Came) → has_ended kind (messages came) ≡ true → has_ended kind (messages (came ++ more)) ≡ true
-ended_with kind came more e = ap (has_ended kind) (filter_map-append taken_message came more) ∙ still_ended kind (messages came) (messages more) e
+ended_with : (dialogue_kind : DialogueKind) (came more : List Came) → has_ended dialogue_kind (messages came) ≡ true → has_ended dialogue_kind (messages (came ++ more)) ≡ true
+ended_with dialogue_kind came more e = ap (has_ended dialogue_kind) (filter_map-append taken_message came more) ∙ still_ended dialogue_kind (messages came) (messages more) e
 
 -- ---- a talk goes on where it has not ended
 
@@ -43,25 +43,25 @@ open_phase : (b stop_sent : Bool) (statuses : Statuses) → is_open_phase (cond 
 open_phase true stop_sent statuses = refl
 open_phase false stop_sent statuses = refl
 
-open_taken : (kind : DialogueKind) (taken : List MessageValue) (stop_wished stop_sent : Bool) (statuses : Statuses)
-    → is_open_phase (cond (is_asked taken) (Asked stop_wished) (cond (is_begun kind taken) (Begun stop_sent statuses) (Ended stop_sent))) ≡ not (has_ended kind taken)
-open_taken kind [] stop_wished stop_sent statuses = refl
-open_taken kind (first ∷ rest) stop_wished stop_sent statuses = open_phase (is_begun kind (first ∷ rest)) stop_sent statuses
+open_taken : (dialogue_kind : DialogueKind) (taken : List MessageValue) (stop_wished stop_sent : Bool) (statuses : Statuses)
+    → is_open_phase (cond (is_asked taken) (Asked stop_wished) (cond (is_begun dialogue_kind taken) (Begun stop_sent statuses) (Ended stop_sent))) ≡ not (has_ended dialogue_kind taken)
+open_taken dialogue_kind [] stop_wished stop_sent statuses = refl
+open_taken dialogue_kind (first ∷ rest) stop_wished stop_sent statuses = open_phase (is_begun dialogue_kind (first ∷ rest)) stop_sent statuses
 
-pub goes_on_is : (dialogue : Dialogue) (came : List Came) → talk_goes_on (talk_after dialogue came) ≡ not (has_ended dialogue.kind (messages came))
+pub goes_on_is : (dialogue : Dialogue) (came : List Came) → talk_goes_on (talk_after dialogue came) ≡ not (has_ended dialogue.dialogue_kind (messages came))
 goes_on_is dialogue came =
-    open_taken dialogue.kind (messages came) (is_stop_wished came) (is_stop_sent dialogue.kind came) (statuses_of came)
+    open_taken dialogue.dialogue_kind (messages came) (is_stop_wished came) (is_stop_sent dialogue.dialogue_kind came) (statuses_of came)
 
-not_ended : (dialogue : Dialogue) (came : List Came) → talk_goes_on (talk_after dialogue came) ≡ true → has_ended dialogue.kind (messages came) ≡ false
+not_ended : (dialogue : Dialogue) (came : List Came) → talk_goes_on (talk_after dialogue came) ≡ true → has_ended dialogue.dialogue_kind (messages came) ≡ false
 not_ended dialogue came e = not_same _ _ (sym (goes_on_is dialogue came) ∙ e)
 
-is_going : (dialogue : Dialogue) (came : List Came) → has_ended dialogue.kind (messages came) ≡ false → talk_goes_on (talk_after dialogue came) ≡ true
+is_going : (dialogue : Dialogue) (came : List Came) → has_ended dialogue.dialogue_kind (messages came) ≡ false → talk_goes_on (talk_after dialogue came) ≡ true
 is_going dialogue came e = goes_on_is dialogue came ∙ ap not e
 
 -- ---- a message ends a dialogue exactly where its meaning is an end
 
-ended_more : (dialogue : Dialogue) (came : List Came) (message : MessageValue) (at : ℤ) → has_ended dialogue.kind (messages came) ≡ false
-    → has_ended dialogue.kind (messages (came ++ Message message at ∷ [])) ≡ is_end (meaning dialogue came message)
+ended_more : (dialogue : Dialogue) (came : List Came) (message : MessageValue) (at : ℤ) → has_ended dialogue.dialogue_kind (messages came) ≡ false
+    → has_ended dialogue.dialogue_kind (messages (came ++ Message message at ∷ [])) ≡ is_end (meaning dialogue came message)
 ended_more dialogue came message at e =
     let open_ : talk_goes_on (talk_after dialogue came) ≡ true = is_going dialogue came e in
     not_same _ _
@@ -70,31 +70,31 @@ ended_more dialogue came message at e =
     ∙ talk_ends (talk_after dialogue came) message at open_
     ∙ ap (λ (h : Heard). not (is_end h)) (heard_is dialogue came message open_))
 
-ended_wish : (kind : DialogueKind) (came : List Came) → has_ended kind (messages (came ++ StopWished ∷ [])) ≡ has_ended kind (messages came)
-ended_wish kind came = ap (has_ended kind) (messages_wish came)
+ended_wish : (dialogue_kind : DialogueKind) (came : List Came) → has_ended dialogue_kind (messages (came ++ StopWished ∷ [])) ≡ has_ended dialogue_kind (messages came)
+ended_wish dialogue_kind came = ap (has_ended dialogue_kind) (messages_wish came)
 
 -- ---- the end
 
-regroup : (kind : DialogueKind) (before : List Came) (x : Came) (rest : List Came)
-    → has_ended kind (messages (before ++ x ∷ rest)) ≡ has_ended kind (messages ((before ++ x ∷ []) ++ rest))
-regroup kind before x rest = ap (λ (all : List Came). has_ended kind (messages all)) (sym (append_assoc before (x ∷ []) rest))
+regroup : (dialogue_kind : DialogueKind) (before : List Came) (x : Came) (rest : List Came)
+    → has_ended dialogue_kind (messages (before ++ x ∷ rest)) ≡ has_ended dialogue_kind (messages ((before ++ x ∷ []) ++ rest))
+regroup dialogue_kind before x rest = ap (λ (all : List Came). has_ended dialogue_kind (messages all)) (sym (append_assoc before (x ∷ []) rest))
 
 at_end : (over now : Bool) (end : Heard) (more : Option Heard) → (now ≡ true → over ≡ true) → (now ≡ false → over ≡ is_some more) → over ≡ is_some (cond now (Some end) more)
 at_end over true end more ends goes = ends refl
 at_end over false end more ends goes = goes refl
 
-pub ended_from : (dialogue : Dialogue) (before rest : List Came) → has_ended dialogue.kind (messages before) ≡ false
-    → has_ended dialogue.kind (messages (before ++ rest)) ≡ is_some (end_from dialogue before rest)
-ended_from dialogue before [] e = ap (λ (all : List Came). has_ended dialogue.kind (messages all)) (append-nil before) ∙ e
+pub ended_from : (dialogue : Dialogue) (before rest : List Came) → has_ended dialogue.dialogue_kind (messages before) ≡ false
+    → has_ended dialogue.dialogue_kind (messages (before ++ rest)) ≡ is_some (end_from dialogue before rest)
+ended_from dialogue before [] e = ap (λ (all : List Came). has_ended dialogue.dialogue_kind (messages all)) (append-nil before) ∙ e
 ended_from dialogue before (StopWished ∷ rest) e =
-    regroup dialogue.kind before StopWished rest ∙ ended_from dialogue (before ++ StopWished ∷ []) rest (ended_wish dialogue.kind before ∙ e)
+    regroup dialogue.dialogue_kind before StopWished rest ∙ ended_from dialogue (before ++ StopWished ∷ []) rest (ended_wish dialogue.dialogue_kind before ∙ e)
 ended_from dialogue before (Message message at ∷ rest) e =
-    let more : has_ended dialogue.kind (messages (before ++ Message message at ∷ [])) ≡ is_end (meaning dialogue before message) = ended_more dialogue before message at e in
+    let more : has_ended dialogue.dialogue_kind (messages (before ++ Message message at ∷ [])) ≡ is_end (meaning dialogue before message) = ended_more dialogue before message at e in
     at_end _ (is_end (meaning dialogue before message)) (meaning dialogue before message) (end_from dialogue (before ++ Message message at ∷ []) rest)
-    (λ now. regroup dialogue.kind before (Message message at) rest ∙ ended_with dialogue.kind (before ++ Message message at ∷ []) rest (more ∙ now))
-    (λ now. regroup dialogue.kind before (Message message at) rest ∙ ended_from dialogue (before ++ Message message at ∷ []) rest (more ∙ now))
+    (λ now. regroup dialogue.dialogue_kind before (Message message at) rest ∙ ended_with dialogue.dialogue_kind (before ++ Message message at ∷ []) rest (more ∙ now))
+    (λ now. regroup dialogue.dialogue_kind before (Message message at) rest ∙ ended_from dialogue (before ++ Message message at ∷ []) rest (more ∙ now))
 
-pub ended_is : (dialogue : Dialogue) (came : List Came) → has_ended dialogue.kind (messages came) ≡ is_some (end_of dialogue came)
+pub ended_is : (dialogue : Dialogue) (came : List Came) → has_ended dialogue.dialogue_kind (messages came) ≡ is_some (end_of dialogue came)
 ended_is dialogue came = ended_from dialogue [] came refl
 
 -- ---- the end after one more message
@@ -124,15 +124,15 @@ end_by_message dialogue came message at open_ =
 some_same : (a b : Heard) → Some a ≡ Some b → a ≡ b
 some_same a b e = cc
 
-at_kind : (kind : DialogueKind) (now : Bool) (heard end : Heard) (more : Option Heard) → is_end heard ≡ now → (is_end heard ≡ true → IsEndOf kind heard) → (more ≡ Some end → IsEndOf kind end)
-    → cond now (Some heard) more ≡ Some end → IsEndOf kind end
-at_kind kind true heard end more over means later is = subst (IsEndOf kind) (some_same heard end is) (means over)
-at_kind kind false heard end more over means later is = later is
+at_kind : (dialogue_kind : DialogueKind) (now : Bool) (heard end : Heard) (more : Option Heard) → is_end heard ≡ now → (is_end heard ≡ true → IsEndOf dialogue_kind heard) → (more ≡ Some end → IsEndOf dialogue_kind end)
+    → cond now (Some heard) more ≡ Some end → IsEndOf dialogue_kind end
+at_kind dialogue_kind true heard end more over means later is = subst (IsEndOf dialogue_kind) (some_same heard end is) (means over)
+at_kind dialogue_kind false heard end more over means later is = later is
 
-pub kind_from : (dialogue : Dialogue) (means : (came : List Came) (message : MessageValue) → is_end (meaning dialogue came message) ≡ true → IsEndOf dialogue.kind (meaning dialogue came message))
-    → (before rest : List Came) (end : Heard) → end_from dialogue before rest ≡ Some end → IsEndOf dialogue.kind end
+pub kind_from : (dialogue : Dialogue) (means : (came : List Came) (message : MessageValue) → is_end (meaning dialogue came message) ≡ true → IsEndOf dialogue.dialogue_kind (meaning dialogue came message))
+    → (before rest : List Came) (end : Heard) → end_from dialogue before rest ≡ Some end → IsEndOf dialogue.dialogue_kind end
 kind_from dialogue means before [] end is = absurd cc
 kind_from dialogue means before (StopWished ∷ rest) end is = kind_from dialogue means (before ++ StopWished ∷ []) rest end is
 kind_from dialogue means before (Message message at ∷ rest) end is =
-    at_kind dialogue.kind (is_end (meaning dialogue before message)) (meaning dialogue before message) end (end_from dialogue (before ++ Message message at ∷ []) rest)
+    at_kind dialogue.dialogue_kind (is_end (meaning dialogue before message)) (meaning dialogue before message) end (end_from dialogue (before ++ Message message at ∷ []) rest)
     refl (means before message) (kind_from dialogue means (before ++ Message message at ∷ []) rest end) is

@@ -28,9 +28,9 @@ approved_ends : (figures : Option Figures) → is_end (approved_with figures) �
 approved_ends None = refl
 approved_ends (Some figures) = refl
 
-told_ends : (number : ℕ) (figures : Option Figures) → is_end (enquiry_approved number figures) ≡ true
-told_ends number None = refl
-told_ends number (Some figures) = refl
+reported_ends : (trace : ℕ) (figures : Option Figures) → is_end (enquiry_approved trace figures) ≡ true
+reported_ends trace None = refl
+reported_ends trace (Some figures) = refl
 
 result_ends : (statuses : Statuses) (status : Fields) (result : Option ℕ) → is_end (transaction_result statuses status result) ≡ true
 result_ends statuses status None = refl
@@ -45,7 +45,7 @@ transaction_ends statuses (Some status) = result_ends statuses status status.res
 enquiry_ends : (status : Fields) (result trace : Option ℕ) → is_end (enquiry_result status result trace) ≡ true
 enquiry_ends status None trace = refl
 enquiry_ends status (Some code) None = refl
-enquiry_ends status (Some code) (Some number) = either_ends (eqb code 0) (enquiry_approved number (full_figures status)) (heard.Told number None code) (told_ends number (full_figures status)) refl
+enquiry_ends status (Some code) (Some trace) = either_ends (eqb code 0) (enquiry_approved trace (full_figures status)) (heard.Told trace None code) (reported_ends trace (full_figures status)) refl
 
 enquiry_over : (last : Option Fields) → is_end (enquiry_completed last) ≡ true
 enquiry_over None = refl
@@ -59,7 +59,7 @@ service_over : (statuses : Statuses) (last : Option Fields) → is_end (service_
 service_over statuses None = refl
 service_over statuses (Some status) = service_ends statuses status.result
 
-pub completed_ends : (kind : DialogueKind) (statuses : Statuses) → is_end (meaning_of_completion kind statuses) ≡ true
+pub completed_ends : (dialogue_kind : DialogueKind) (statuses : Statuses) → is_end (meaning_of_completion dialogue_kind statuses) ≡ true
 completed_ends Registration statuses = service_over statuses statuses.last
 completed_ends Enquiry statuses = enquiry_over statuses.last
 completed_ends Payment statuses = transaction_ends statuses statuses.last
@@ -71,7 +71,7 @@ none_ends : (none : ℕ) (last : Option Fields) (code : ℕ) → is_end (enquiry
 none_ends none None code = either_ends (eqb code none) (heard.Told 0 None code) heard.Unclear refl refl
 none_ends none (Some status) code = refl
 
-aborted_with_ends : (kind : DialogueKind) (none : ℕ) (statuses : Statuses) (code : ℕ) → is_end (meaning_of_abort_with kind none statuses code) ≡ true
+aborted_with_ends : (dialogue_kind : DialogueKind) (none : ℕ) (statuses : Statuses) (code : ℕ) → is_end (meaning_of_abort_with dialogue_kind none statuses code) ≡ true
 aborted_with_ends Registration none statuses code = refl
 aborted_with_ends Enquiry none statuses code = none_ends none statuses.last code
 aborted_with_ends Payment none statuses code = unless_ends statuses.approved statuses code
@@ -79,58 +79,58 @@ aborted_with_ends Reversal none statuses code = unless_ends statuses.approved st
 aborted_with_ends EndOfDay none statuses code = refl
 aborted_with_ends Display none statuses code = refl
 
-pub aborted_ends : (kind : DialogueKind) (none : ℕ) (statuses : Statuses) (code : Option ℕ) → is_end (meaning_of_abort kind none statuses code) ≡ true
-aborted_ends kind none statuses None = refl
-aborted_ends kind none statuses (Some code) = either_ends (eqb code 0) heard.Unclear (meaning_of_abort_with kind none statuses code) refl (aborted_with_ends kind none statuses code)
+pub aborted_ends : (dialogue_kind : DialogueKind) (none : ℕ) (statuses : Statuses) (code : Option ℕ) → is_end (meaning_of_abort dialogue_kind none statuses code) ≡ true
+aborted_ends dialogue_kind none statuses None = refl
+aborted_ends dialogue_kind none statuses (Some code) = either_ends (eqb code 0) heard.Unclear (meaning_of_abort_with dialogue_kind none statuses code) refl (aborted_with_ends dialogue_kind none statuses code)
 
 acknowledged_ends : (display stop_wished : Bool) (statuses : Statuses) → is_open_phase (cond (not display) (Begun stop_wished statuses) (Ended false)) ≡ not (is_end (acknowledged display stop_wished))
 acknowledged_ends true stop_wished statuses = refl
 acknowledged_ends false stop_wished statuses = refl
 
-asked_ends : (kind : DialogueKind) (none : ℕ) (stop_wished : Bool) (message : MessageValue) → is_taken message ≡ true
-    → is_open_phase (next_phase kind (Asked stop_wished) message) ≡ not (is_end (meaning_in_phase kind none (Asked stop_wished) message))
-asked_ends kind none stop_wished Ack is = acknowledged_ends (is_display kind) stop_wished (record { last = None; approved = false })
-asked_ends kind none stop_wished (Nack code) is = sym (ap not (either_ends (eqb code 0) heard.Unclear (heard.Declined code None) refl refl))
-asked_ends kind none stop_wished (Intermediate code) is = refl
-asked_ends kind none stop_wished (Line text) is = refl
-asked_ends kind none stop_wished (Block objects) is = refl
-asked_ends kind none stop_wished (Status fields) is = refl
-asked_ends kind none stop_wished Completion is = refl
-asked_ends kind none stop_wished (Abort code) is = refl
-asked_ends kind none stop_wished Other is = absurd cc
+asked_ends : (dialogue_kind : DialogueKind) (none : ℕ) (stop_wished : Bool) (message : MessageValue) → is_taken message ≡ true
+    → is_open_phase (next_phase dialogue_kind (Asked stop_wished) message) ≡ not (is_end (meaning_in_phase dialogue_kind none (Asked stop_wished) message))
+asked_ends dialogue_kind none stop_wished Ack is = acknowledged_ends (is_display dialogue_kind) stop_wished (record { last = None; approved = false })
+asked_ends dialogue_kind none stop_wished (Nack code) is = sym (ap not (either_ends (eqb code 0) heard.Unclear (heard.Declined code None) refl refl))
+asked_ends dialogue_kind none stop_wished (Intermediate code) is = refl
+asked_ends dialogue_kind none stop_wished (Line text) is = refl
+asked_ends dialogue_kind none stop_wished (Block objects) is = refl
+asked_ends dialogue_kind none stop_wished (Status fields) is = refl
+asked_ends dialogue_kind none stop_wished Completion is = refl
+asked_ends dialogue_kind none stop_wished (Abort code) is = refl
+asked_ends dialogue_kind none stop_wished Other is = absurd cc
 
-begun_ends : (kind : DialogueKind) (none : ℕ) (stop_sent : Bool) (statuses : Statuses) (message : MessageValue) → is_taken message ≡ true
-    → is_open_phase (next_phase kind (Begun stop_sent statuses) message) ≡ not (is_end (meaning_in_phase kind none (Begun stop_sent statuses) message))
-begun_ends kind none stop_sent statuses Ack is = refl
-begun_ends kind none stop_sent statuses (Nack code) is = refl
-begun_ends kind none stop_sent statuses (Intermediate code) is = refl
-begun_ends kind none stop_sent statuses (Line text) is = refl
-begun_ends kind none stop_sent statuses (Block objects) is = refl
-begun_ends kind none stop_sent statuses (Status fields) is = refl
-begun_ends kind none stop_sent statuses Completion is = sym (ap not (completed_ends kind statuses))
-begun_ends kind none stop_sent statuses (Abort code) is = sym (ap not (aborted_ends kind none statuses code))
-begun_ends kind none stop_sent statuses Other is = absurd cc
+begun_ends : (dialogue_kind : DialogueKind) (none : ℕ) (stop_sent : Bool) (statuses : Statuses) (message : MessageValue) → is_taken message ≡ true
+    → is_open_phase (next_phase dialogue_kind (Begun stop_sent statuses) message) ≡ not (is_end (meaning_in_phase dialogue_kind none (Begun stop_sent statuses) message))
+begun_ends dialogue_kind none stop_sent statuses Ack is = refl
+begun_ends dialogue_kind none stop_sent statuses (Nack code) is = refl
+begun_ends dialogue_kind none stop_sent statuses (Intermediate code) is = refl
+begun_ends dialogue_kind none stop_sent statuses (Line text) is = refl
+begun_ends dialogue_kind none stop_sent statuses (Block objects) is = refl
+begun_ends dialogue_kind none stop_sent statuses (Status fields) is = refl
+begun_ends dialogue_kind none stop_sent statuses Completion is = sym (ap not (completed_ends dialogue_kind statuses))
+begun_ends dialogue_kind none stop_sent statuses (Abort code) is = sym (ap not (aborted_ends dialogue_kind none statuses code))
+begun_ends dialogue_kind none stop_sent statuses Other is = absurd cc
 
-phase_ends : (kind : DialogueKind) (none : ℕ) (phase : Phase) (message : MessageValue) → is_taken message ≡ true → is_open_phase phase ≡ true
-    → is_open_phase (next_phase kind phase message) ≡ not (is_end (meaning_in_phase kind none phase message))
-phase_ends kind none (Asked stop_wished) message is open_ = asked_ends kind none stop_wished message is
-phase_ends kind none (Begun stop_sent statuses) message is open_ = begun_ends kind none stop_sent statuses message is
-phase_ends kind none (Ended stop_sent) message is open_ = absurd cc
+phase_ends : (dialogue_kind : DialogueKind) (none : ℕ) (phase : Phase) (message : MessageValue) → is_taken message ≡ true → is_open_phase phase ≡ true
+    → is_open_phase (next_phase dialogue_kind phase message) ≡ not (is_end (meaning_in_phase dialogue_kind none phase message))
+phase_ends dialogue_kind none (Asked stop_wished) message is open_ = asked_ends dialogue_kind none stop_wished message is
+phase_ends dialogue_kind none (Begun stop_sent statuses) message is open_ = begun_ends dialogue_kind none stop_sent statuses message is
+phase_ends dialogue_kind none (Ended stop_sent) message is open_ = absurd cc
 
-stray_open : (kind : DialogueKind) (none : ℕ) (phase : Phase) → is_open_phase phase ≡ true → is_open_phase phase ≡ not (is_end (meaning_in_phase kind none phase Other))
-stray_open kind none (Asked stop_wished) open_ = refl
-stray_open kind none (Begun stop_sent statuses) open_ = refl
-stray_open kind none (Ended stop_sent) open_ = absurd cc
+stray_open : (dialogue_kind : DialogueKind) (none : ℕ) (phase : Phase) → is_open_phase phase ≡ true → is_open_phase phase ≡ not (is_end (meaning_in_phase dialogue_kind none phase Other))
+stray_open dialogue_kind none (Asked stop_wished) open_ = refl
+stray_open dialogue_kind none (Begun stop_sent statuses) open_ = refl
+stray_open dialogue_kind none (Ended stop_sent) open_ = absurd cc
 
 -- a dialogue goes on exactly where the message did not end it
 pub talk_ends : (talk : TalkFacts) (message : MessageValue) (now : ℤ) → talk_goes_on talk ≡ true
-    → talk_goes_on (next_talk talk message now) ≡ not (is_end (meaning_in_phase talk.kind talk.none talk.phase message))
-talk_ends talk Ack now open_ = phase_ends talk.kind talk.none talk.phase Ack refl open_
-talk_ends talk (Nack code) now open_ = phase_ends talk.kind talk.none talk.phase (Nack code) refl open_
-talk_ends talk (Intermediate code) now open_ = phase_ends talk.kind talk.none talk.phase (Intermediate code) refl open_
-talk_ends talk (Line text) now open_ = phase_ends talk.kind talk.none talk.phase (Line text) refl open_
-talk_ends talk (Block objects) now open_ = phase_ends talk.kind talk.none talk.phase (Block objects) refl open_
-talk_ends talk (Status fields) now open_ = phase_ends talk.kind talk.none talk.phase (Status fields) refl open_
-talk_ends talk Completion now open_ = phase_ends talk.kind talk.none talk.phase Completion refl open_
-talk_ends talk (Abort code) now open_ = phase_ends talk.kind talk.none talk.phase (Abort code) refl open_
-talk_ends talk Other now open_ = stray_open talk.kind talk.none talk.phase open_
+    → talk_goes_on (next_talk talk message now) ≡ not (is_end (meaning_in_phase talk.dialogue_kind talk.none talk.phase message))
+talk_ends talk Ack now open_ = phase_ends talk.dialogue_kind talk.none talk.phase Ack refl open_
+talk_ends talk (Nack code) now open_ = phase_ends talk.dialogue_kind talk.none talk.phase (Nack code) refl open_
+talk_ends talk (Intermediate code) now open_ = phase_ends talk.dialogue_kind talk.none talk.phase (Intermediate code) refl open_
+talk_ends talk (Line text) now open_ = phase_ends talk.dialogue_kind talk.none talk.phase (Line text) refl open_
+talk_ends talk (Block objects) now open_ = phase_ends talk.dialogue_kind talk.none talk.phase (Block objects) refl open_
+talk_ends talk (Status fields) now open_ = phase_ends talk.dialogue_kind talk.none talk.phase (Status fields) refl open_
+talk_ends talk Completion now open_ = phase_ends talk.dialogue_kind talk.none talk.phase Completion refl open_
+talk_ends talk (Abort code) now open_ = phase_ends talk.dialogue_kind talk.none talk.phase (Abort code) refl open_
+talk_ends talk Other now open_ = stray_open talk.dialogue_kind talk.none talk.phase open_

@@ -14,9 +14,9 @@ use Rattle.zvt_talk.specs.Dialogue.{Dialogue}
 use Rattle.zvt_talk.specs.Came.{Came, status_fields_of, last_status, messages}
 use Rattle.zvt_talk.specs.Talk.{meaning, is_end}
 use Rattle.zvt_talk.specs.Laws.{HasFigures, IsEndOf, IsEnquiry, ReportsLastTransaction, ReportsNoTransaction}
-use Rattle.zvt_talk.specs.Limits.{AreAtLeastOne, AreWithinFields, HaveNumbers}
+use Rattle.zvt_talk.specs.Limits.{AreAtLeastOne, FiguresFitFields, AllNumbersFitFields}
 
-last_digits : (before : Option Fields) (taken : List MessageValue) → IfSome before HasFieldDigits → HaveNumbers taken → IfSome (last_or before (filter_map status_fields_of taken)) HasFieldDigits
+last_digits : (before : Option Fields) (taken : List MessageValue) → IfSome before HasFieldDigits → AllNumbersFitFields taken → IfSome (last_or before (filter_map status_fields_of taken)) HasFieldDigits
 last_digits before [] has all = has
 last_digits before (Ack ∷ taken) has all = last_digits before taken has all.1
 last_digits before (Nack code ∷ taken) has all = last_digits before taken has all.1
@@ -28,18 +28,18 @@ last_digits before (Completion ∷ taken) has all = last_digits before taken has
 last_digits before (Abort code ∷ taken) has all = last_digits before taken has all.1
 last_digits before (Other ∷ taken) has all = last_digits before taken has all.1
 
-status_digits : (came : List Came) (status : Fields) → HaveNumbers (messages came) → last_status came ≡ Some status → HasFieldDigits status
+status_digits : (came : List Came) (status : Fields) → AllNumbersFitFields (messages came) → last_status came ≡ Some status → HasFieldDigits status
 status_digits came status all last =
     let P : Option Fields → Type 0 = λ o. IfSome o HasFieldDigits in
     subst P last (last_digits None (messages came) tt all)
 
-pub within_fields : (came : List Came) (status : Fields) (figures : Figures) → HaveNumbers (messages came) → last_status came ≡ Some status → HasFigures status figures → AreWithinFields figures
+pub within_fields : (came : List Came) (status : Fields) (figures : Figures) → AllNumbersFitFields (messages came) → last_status came ≡ Some status → HasFigures status figures → FiguresFitFields figures
 within_fields came status figures all last full =
     let digits : HasFieldDigits status = status_digits came status all last in
     let N : Option ℕ → Type 0 = λ o. IfSome o (λ n. n < 100 ^ 3) in
     let R : Option ℕ → Type 0 = λ o. IfSome o (λ n. n < 100 ^ 2) in
     let A : Option ℕ → Type 0 = λ o. IfSome o (λ n. n < 100 ^ 6) in
-    record { number = subst N full.number digits.trace; receipt = subst R full.receipt digits.receipt; amount = subst A full.amount digits.amount }
+    record { number = subst N full.trace digits.trace; receipt = subst R full.receipt digits.receipt; amount = subst A full.amount digits.amount }
 
 -- full figures have a number and an amount above 0
 pub at_least_one : (status : Fields) (figures : Figures) → HasFigures status figures → AreAtLeastOne figures
@@ -47,36 +47,36 @@ at_least_one status figures full = record { number = full.first_number; amount =
 
 -- ---- what an enquiry reports
 
-told_kind : (kind : DialogueKind) (number : ℕ) (approved : Option Figures) (code : ℕ) → IsEndOf kind (heard.Told number approved code) → IsEnquiry kind
-told_kind Registration number approved code is = absurd is
-told_kind Enquiry number approved code is = tt
-told_kind Payment number approved code is = absurd is
-told_kind Reversal number approved code is = absurd is
-told_kind EndOfDay number approved code is = absurd is
-told_kind Display number approved code is = absurd is
+reported_kind : (dialogue_kind : DialogueKind) (trace : ℕ) (approved : Option Figures) (code : ℕ) → IsEndOf dialogue_kind (heard.Told trace approved code) → IsEnquiry dialogue_kind
+reported_kind Registration trace approved code is = absurd is
+reported_kind Enquiry trace approved code is = tt
+reported_kind Payment trace approved code is = absurd is
+reported_kind Reversal trace approved code is = absurd is
+reported_kind EndOfDay trace approved code is = absurd is
+reported_kind Display trace approved code is = absurd is
 
 -- only an enquiry reports a transaction
-pub told_by_enquiry : (dialogue : Dialogue) (came : List Came) (message : MessageValue) (number : ℕ) (approved : Option Figures) (code : ℕ)
-    → (is_end (meaning dialogue came message) ≡ true → IsEndOf dialogue.kind (meaning dialogue came message))
-    → meaning dialogue came message ≡ heard.Told number approved code → IsEnquiry dialogue.kind
-told_by_enquiry dialogue came message number approved code means is =
-    told_kind dialogue.kind number approved code (subst (IsEndOf dialogue.kind) is (means (ap is_end is)))
+pub reported_by_enquiry : (dialogue : Dialogue) (came : List Came) (message : MessageValue) (trace : ℕ) (approved : Option Figures) (code : ℕ)
+    → (is_end (meaning dialogue came message) ≡ true → IsEndOf dialogue.dialogue_kind (meaning dialogue came message))
+    → meaning dialogue came message ≡ heard.Told trace approved code → IsEnquiry dialogue.dialogue_kind
+reported_by_enquiry dialogue came message trace approved code means is =
+    reported_kind dialogue.dialogue_kind trace approved code (subst (IsEndOf dialogue.dialogue_kind) is (means (ap is_end is)))
 
 -- the figures are those of the last status
-pub told_figures : (dialogue : Dialogue) (came : List Came) (message : MessageValue) (number : ℕ) (figures : Figures) (code : ℕ)
-    → (ReportsLastTransaction came message number (Some figures) code ⊎ ReportsNoTransaction dialogue came message number (Some figures) code)
+pub reported_figures : (dialogue : Dialogue) (came : List Came) (message : MessageValue) (trace : ℕ) (figures : Figures) (code : ℕ)
+    → (ReportsLastTransaction came message trace (Some figures) code ⊎ ReportsNoTransaction dialogue came message trace (Some figures) code)
     → (status : Fields) × (last_status came ≡ Some status) × HasFigures status figures
-told_figures dialogue came message number figures code (inl last) = (last.status, last.last, last.told.1)
-told_figures dialogue came message number figures code (inr none) = let no : Some figures ≡ None = none.no_figures in absurd cc
+reported_figures dialogue came message trace figures code (inl last) = (last.status, last.last, last.reported.1)
+reported_figures dialogue came message trace figures code (inr none) = let no : Some figures ≡ None = none.no_figures in absurd cc
 
-zero_fits : (number : ℕ) → number ≡ 0 → number < 100 ^ 3
-zero_fits number is = omega arith
+zero_fits : (trace : ℕ) → trace ≡ 0 → trace < 100 ^ 3
+zero_fits trace is = omega arith
 
-pub told_number : (dialogue : Dialogue) (came : List Came) (message : MessageValue) (number : ℕ) (approved : Option Figures) (code : ℕ)
-    → HaveNumbers (messages came)
-    → (ReportsLastTransaction came message number approved code ⊎ ReportsNoTransaction dialogue came message number approved code)
-    → number < 100 ^ 3
-told_number dialogue came message number approved code all (inl last) =
+pub reported_number : (dialogue : Dialogue) (came : List Came) (message : MessageValue) (trace : ℕ) (approved : Option Figures) (code : ℕ)
+    → AllNumbersFitFields (messages came)
+    → (ReportsLastTransaction came message trace approved code ⊎ ReportsNoTransaction dialogue came message trace approved code)
+    → trace < 100 ^ 3
+reported_number dialogue came message trace approved code all (inl last) =
     let N : Option ℕ → Type 0 = λ o. IfSome o (λ n. n < 100 ^ 3) in
     subst N last.its_number (status_digits came last.status all last.last).trace
-told_number dialogue came message number approved code all (inr none) = zero_fits number none.no_number
+reported_number dialogue came message trace approved code all (inr none) = zero_fits trace none.no_number

@@ -117,25 +117,25 @@ statuses_more taken Other = none_more taken Other refl
 
 -- the phase by the messages taken, and by whether a stop was wished in time
 abbrev phase_in : DialogueKind → List MessageValue → Bool → Phase
-phase_in kind taken stop_wished =
+phase_in dialogue_kind taken stop_wished =
     cond (is_asked taken) (Asked stop_wished)
-    (cond (is_begun kind taken) (Begun (was_begun kind taken && stop_wished) (statuses_in taken)) (Ended (was_begun kind taken && stop_wished)))
+    (cond (is_begun dialogue_kind taken) (Begun (was_begun dialogue_kind taken && stop_wished) (statuses_in taken)) (Ended (was_begun dialogue_kind taken && stop_wished)))
 
 -- the first message
 first_phase : (display : Bool) (stop_wished : Bool) → cond (not display && true) (Begun (not display && stop_wished) (summary [])) (Ended (not display && stop_wished)) ≡ cond (not display) (Begun stop_wished (summary [])) (Ended false)
 first_phase true stop_wished = refl
 first_phase false stop_wished = refl
 
-phase_first : (kind : DialogueKind) (stop_wished : Bool) (message : MessageValue) → phase_in kind (message ∷ []) stop_wished ≡ next_phase kind (Asked stop_wished) message
-phase_first kind stop_wished Ack = first_phase (is_display kind) stop_wished
-phase_first kind stop_wished (Nack code) = refl
-phase_first kind stop_wished (Intermediate code) = refl
-phase_first kind stop_wished (Line text) = refl
-phase_first kind stop_wished (Block objects) = refl
-phase_first kind stop_wished (Status fields) = refl
-phase_first kind stop_wished Completion = refl
-phase_first kind stop_wished (Abort code) = refl
-phase_first kind stop_wished Other = refl
+phase_first : (dialogue_kind : DialogueKind) (stop_wished : Bool) (message : MessageValue) → phase_in dialogue_kind (message ∷ []) stop_wished ≡ next_phase dialogue_kind (Asked stop_wished) message
+phase_first dialogue_kind stop_wished Ack = first_phase (is_display dialogue_kind) stop_wished
+phase_first dialogue_kind stop_wished (Nack code) = refl
+phase_first dialogue_kind stop_wished (Intermediate code) = refl
+phase_first dialogue_kind stop_wished (Line text) = refl
+phase_first dialogue_kind stop_wished (Block objects) = refl
+phase_first dialogue_kind stop_wished (Status fields) = refl
+phase_first dialogue_kind stop_wished Completion = refl
+phase_first dialogue_kind stop_wished (Abort code) = refl
+phase_first dialogue_kind stop_wished Other = refl
 
 -- a later message: `begun` is whether the dialogue was begun, `over` whether it has ended since, `last` whether it ends now
 later_phase : (begun over last stop_wished : Bool) (statuses : Statuses) → begun && not over ≡ true
@@ -150,24 +150,24 @@ open_begun : (begun stop_sent : Bool) (statuses : Statuses) → is_open_phase (c
 open_begun true stop_sent statuses open_ = refl
 open_begun false stop_sent statuses open_ = absurd cc
 
-phase_later : (kind : DialogueKind) (first : MessageValue) (rest : List MessageValue) (stop_wished : Bool) (message : MessageValue)
-    → is_open_phase (phase_in kind (first ∷ rest) stop_wished) ≡ true
-    → phase_in kind ((first ∷ rest) ++ message ∷ []) stop_wished ≡ next_phase kind (phase_in kind (first ∷ rest) stop_wished) message
-phase_later kind first rest stop_wished message open_ =
-    let begun : Bool = is_ack first && not (is_display kind) in
+phase_later : (dialogue_kind : DialogueKind) (first : MessageValue) (rest : List MessageValue) (stop_wished : Bool) (message : MessageValue)
+    → is_open_phase (phase_in dialogue_kind (first ∷ rest) stop_wished) ≡ true
+    → phase_in dialogue_kind ((first ∷ rest) ++ message ∷ []) stop_wished ≡ next_phase dialogue_kind (phase_in dialogue_kind (first ∷ rest) stop_wished) message
+phase_later dialogue_kind first rest stop_wished message open_ =
+    let begun : Bool = is_ack first && not (is_display dialogue_kind) in
     let over : Bool = list_any is_completion_or_abort (first ∷ rest) in
     let old : Statuses = statuses_in (first ∷ rest) in
     let goes : (begun && not over) ≡ true = open_begun (begun && not over) (begun && stop_wished) old open_ in
     ap (λ (e : Bool). cond (begun && not e) (Begun (begun && stop_wished) (statuses_in ((first ∷ rest) ++ message ∷ []))) (Ended (begun && stop_wished))) (list_any-append is_completion_or_abort (first ∷ rest) (message ∷ []))
     ∙ ap (λ (n : Statuses). cond (begun && not (over || (is_completion_or_abort message || false))) (Begun (begun && stop_wished) n) (Ended (begun && stop_wished))) (statuses_more (first ∷ rest) message)
     ∙ later_phase begun over (is_completion_or_abort message) stop_wished (with_status old message) goes
-    ∙ ap (λ (b : Bool). next_phase kind (cond b (Begun (begun && stop_wished) old) (Ended (begun && stop_wished))) message) (sym goes)
+    ∙ ap (λ (b : Bool). next_phase dialogue_kind (cond b (Begun (begun && stop_wished) old) (Ended (begun && stop_wished))) message) (sym goes)
 
-phase_step : (kind : DialogueKind) (taken : List MessageValue) (stop_wished : Bool) (message : MessageValue)
-    → is_open_phase (phase_in kind taken stop_wished) ≡ true
-    → phase_in kind (taken ++ message ∷ []) stop_wished ≡ next_phase kind (phase_in kind taken stop_wished) message
-phase_step kind [] stop_wished message open_ = phase_first kind stop_wished message
-phase_step kind (first ∷ rest) stop_wished message open_ = phase_later kind first rest stop_wished message open_
+phase_step : (dialogue_kind : DialogueKind) (taken : List MessageValue) (stop_wished : Bool) (message : MessageValue)
+    → is_open_phase (phase_in dialogue_kind taken stop_wished) ≡ true
+    → phase_in dialogue_kind (taken ++ message ∷ []) stop_wished ≡ next_phase dialogue_kind (phase_in dialogue_kind taken stop_wished) message
+phase_step dialogue_kind [] stop_wished message open_ = phase_first dialogue_kind stop_wished message
+phase_step dialogue_kind (first ∷ rest) stop_wished message open_ = phase_later dialogue_kind first rest stop_wished message open_
 
 wish_later : (begun over stop_wished : Bool) (statuses : Statuses)
     → cond (begun && not over) (Begun (begun && (stop_wished || not over)) statuses) (Ended (begun && (stop_wished || not over)))
@@ -176,15 +176,15 @@ wish_later true true stop_wished statuses = ap Ended (or_false stop_wished)
 wish_later true false stop_wished statuses = ap (λ (b : Bool). Begun b statuses) (or_true stop_wished)
 wish_later false over stop_wished statuses = refl
 
-wish_phase : (kind : DialogueKind) (taken : List MessageValue) (stop_wished : Bool)
-    → phase_in kind taken (stop_wished || not (list_any is_completion_or_abort taken)) ≡ phase_after_wish (phase_in kind taken stop_wished)
-wish_phase kind [] stop_wished = ap Asked (or_true stop_wished)
-wish_phase kind (first ∷ rest) stop_wished = wish_later (is_ack first && not (is_display kind)) (list_any is_completion_or_abort (first ∷ rest)) stop_wished (statuses_in (first ∷ rest))
+wish_phase : (dialogue_kind : DialogueKind) (taken : List MessageValue) (stop_wished : Bool)
+    → phase_in dialogue_kind taken (stop_wished || not (list_any is_completion_or_abort taken)) ≡ phase_after_wish (phase_in dialogue_kind taken stop_wished)
+wish_phase dialogue_kind [] stop_wished = ap Asked (or_true stop_wished)
+wish_phase dialogue_kind (first ∷ rest) stop_wished = wish_later (is_ack first && not (is_display dialogue_kind)) (list_any is_completion_or_abort (first ∷ rest)) stop_wished (statuses_in (first ∷ rest))
 
 -- ---- talks
 
 abbrev talk_in : Dialogue → ℤ → Phase → TalkFacts
-talk_in dialogue due phase = record { kind = dialogue.kind; none = dialogue.none; command_time = dialogue.command_time; deadline = due; phase = phase }
+talk_in dialogue due phase = record { dialogue_kind = dialogue.dialogue_kind; none = dialogue.none; command_time = dialogue.command_time; deadline = due; phase = phase }
 
 same_talk : (dialogue : Dialogue) (a b : ℤ) (p q : Phase) → a ≡ b → p ≡ q → talk_in dialogue a p ≡ talk_in dialogue b q
 same_talk dialogue a b p q e f = ap (λ (x : ℤ). talk_in dialogue x p) e ∙ ap (talk_in dialogue b) f
@@ -194,23 +194,23 @@ due_more dialogue came message at is =
     ap (λ (all : List ℤ). due dialogue (last_or None all)) (moments_more came message at is)
     ∙ ap (due dialogue) (last_push None (moments came) at)
 
-pub phase_more : (kind : DialogueKind) (came : List Came) (message : MessageValue) (at : ℤ) → is_taken message ≡ true → is_open_phase (phase_of kind came) ≡ true
-    → phase_of kind (came ++ Message message at ∷ []) ≡ next_phase kind (phase_of kind came) message
-phase_more kind came message at is open_ =
-    ap (λ (taken : List MessageValue). phase_in kind taken (is_stop_wished (came ++ Message message at ∷ []))) (messages_more came message at is)
-    ∙ ap (phase_in kind (messages came ++ message ∷ [])) (wished_message came message at)
-    ∙ phase_step kind (messages came) (is_stop_wished came) message open_
+pub phase_more : (dialogue_kind : DialogueKind) (came : List Came) (message : MessageValue) (at : ℤ) → is_taken message ≡ true → is_open_phase (phase_of dialogue_kind came) ≡ true
+    → phase_of dialogue_kind (came ++ Message message at ∷ []) ≡ next_phase dialogue_kind (phase_of dialogue_kind came) message
+phase_more dialogue_kind came message at is open_ =
+    ap (λ (taken : List MessageValue). phase_in dialogue_kind taken (is_stop_wished (came ++ Message message at ∷ []))) (messages_more came message at is)
+    ∙ ap (phase_in dialogue_kind (messages came ++ message ∷ [])) (wished_message came message at)
+    ∙ phase_step dialogue_kind (messages came) (is_stop_wished came) message open_
 
 after_taken : (dialogue : Dialogue) (came : List Came) (message : MessageValue) (at : ℤ) → is_taken message ≡ true → talk_goes_on (talk_after dialogue came) ≡ true
-    → talk_after dialogue (came ++ Message message at ∷ []) ≡ talk_in dialogue (at +ℤ pos dialogue.command_time) (next_phase dialogue.kind (phase_of dialogue.kind came) message)
+    → talk_after dialogue (came ++ Message message at ∷ []) ≡ talk_in dialogue (at +ℤ pos dialogue.command_time) (next_phase dialogue.dialogue_kind (phase_of dialogue.dialogue_kind came) message)
 after_taken dialogue came message at is open_ =
-    same_talk dialogue _ _ _ _ (due_more dialogue came message at is) (phase_more dialogue.kind came message at is open_)
+    same_talk dialogue _ _ _ _ (due_more dialogue came message at is) (phase_more dialogue.dialogue_kind came message at is open_)
 
 after_other : (dialogue : Dialogue) (came : List Came) (at : ℤ) → talk_after dialogue (came ++ Message Other at ∷ []) ≡ talk_after dialogue came
 after_other dialogue came at =
     same_talk dialogue _ _ _ _ (ap (λ (all : List ℤ). due dialogue (last_or None all)) (moments_same came at))
-    (ap (λ (taken : List MessageValue). phase_in dialogue.kind taken (is_stop_wished (came ++ Message Other at ∷ []))) (messages_same came at)
-    ∙ ap (phase_in dialogue.kind (messages came)) (wished_message came Other at))
+    (ap (λ (taken : List MessageValue). phase_in dialogue.dialogue_kind taken (is_stop_wished (came ++ Message Other at ∷ []))) (messages_same came at)
+    ∙ ap (phase_in dialogue.dialogue_kind (messages came)) (wished_message came Other at))
 
 -- a message more in the list is what the talk makes of it
 pub after_message : (dialogue : Dialogue) (came : List Came) (message : MessageValue) (at : ℤ) → talk_goes_on (talk_after dialogue came) ≡ true
@@ -227,26 +227,26 @@ after_message dialogue came Other at open_ = after_other dialogue came at
 
 -- and so is a wish
 pub after_wish : (dialogue : Dialogue) (came : List Came)
-    → talk_after dialogue (came ++ StopWished ∷ []) ≡ talk_in dialogue (deadline dialogue came) (phase_after_wish (phase_of dialogue.kind came))
+    → talk_after dialogue (came ++ StopWished ∷ []) ≡ talk_in dialogue (deadline dialogue came) (phase_after_wish (phase_of dialogue.dialogue_kind came))
 after_wish dialogue came =
     same_talk dialogue _ _ _ _ (ap (λ (all : List ℤ). due dialogue (last_or None all)) (moments_wish came))
-    (ap (λ (taken : List MessageValue). phase_in dialogue.kind taken (is_stop_wished (came ++ StopWished ∷ []))) (messages_wish came)
-    ∙ ap (phase_in dialogue.kind (messages came)) (wished_more came)
-    ∙ wish_phase dialogue.kind (messages came) (is_stop_wished came))
+    (ap (λ (taken : List MessageValue). phase_in dialogue.dialogue_kind taken (is_stop_wished (came ++ StopWished ∷ []))) (messages_wish came)
+    ∙ ap (phase_in dialogue.dialogue_kind (messages came)) (wished_more came)
+    ∙ wish_phase dialogue.dialogue_kind (messages came) (is_stop_wished came))
 
 -- ---- what a message means
 
-heard_at : (kind : DialogueKind) (none : ℕ) (taken : List MessageValue) (stop_wished : Bool) (message : MessageValue) → is_open_phase (phase_in kind taken stop_wished) ≡ true
-    → meaning_in_phase kind none (phase_in kind taken stop_wished) message
-    ≡ cond (is_asked taken) (meaning_when_asked kind stop_wished message) (meaning_when_begun kind none (statuses_in taken) message)
-heard_at kind none [] stop_wished message open_ = refl
-heard_at kind none (first ∷ rest) stop_wished message open_ =
-    let stop_sent : Bool = (is_ack first && not (is_display kind)) && stop_wished in
+heard_at : (dialogue_kind : DialogueKind) (none : ℕ) (taken : List MessageValue) (stop_wished : Bool) (message : MessageValue) → is_open_phase (phase_in dialogue_kind taken stop_wished) ≡ true
+    → meaning_in_phase dialogue_kind none (phase_in dialogue_kind taken stop_wished) message
+    ≡ cond (is_asked taken) (meaning_when_asked dialogue_kind stop_wished message) (meaning_when_begun dialogue_kind none (statuses_in taken) message)
+heard_at dialogue_kind none [] stop_wished message open_ = refl
+heard_at dialogue_kind none (first ∷ rest) stop_wished message open_ =
+    let stop_sent : Bool = (is_ack first && not (is_display dialogue_kind)) && stop_wished in
     let old : Statuses = statuses_in (first ∷ rest) in
-    ap (λ (b : Bool). meaning_in_phase kind none (cond b (Begun stop_sent old) (Ended stop_sent)) message)
-    (open_begun (is_begun kind (first ∷ rest)) stop_sent old open_)
+    ap (λ (b : Bool). meaning_in_phase dialogue_kind none (cond b (Begun stop_sent old) (Ended stop_sent)) message)
+    (open_begun (is_begun dialogue_kind (first ∷ rest)) stop_sent old open_)
 
 -- for a talk that goes on, a message means what the table says after the list
 pub heard_is : (dialogue : Dialogue) (came : List Came) (message : MessageValue) → talk_goes_on (talk_after dialogue came) ≡ true
-    → meaning_in_phase dialogue.kind dialogue.none (phase_of dialogue.kind came) message ≡ meaning dialogue came message
-heard_is dialogue came message open_ = heard_at dialogue.kind dialogue.none (messages came) (is_stop_wished came) message open_
+    → meaning_in_phase dialogue.dialogue_kind dialogue.none (phase_of dialogue.dialogue_kind came) message ≡ meaning dialogue came message
+heard_is dialogue came message open_ = heard_at dialogue.dialogue_kind dialogue.none (messages came) (is_stop_wished came) message open_

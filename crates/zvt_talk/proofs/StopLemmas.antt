@@ -20,32 +20,32 @@ use Rattle.zvt_talk.proofs.EndLemmas.{aborted_ends, completed_ends}
 
 -- ---- an acknowledgement or a refusal once begun
 
-begun_taken : (kind : DialogueKind) (taken : List MessageValue) (stop_wished stop_sent : Bool) (statuses : Statuses) → is_begun kind taken ≡ true
-    → cond (is_asked taken) (Asked stop_wished) (cond (is_begun kind taken) (Begun stop_sent statuses) (Ended stop_sent)) ≡ Begun stop_sent statuses
-begun_taken kind [] stop_wished stop_sent statuses is = absurd cc
-begun_taken kind (first ∷ rest) stop_wished stop_sent statuses is = ap (λ (b : Bool). cond b (Begun stop_sent statuses) (Ended stop_sent)) is
+begun_taken : (dialogue_kind : DialogueKind) (taken : List MessageValue) (stop_wished stop_sent : Bool) (statuses : Statuses) → is_begun dialogue_kind taken ≡ true
+    → cond (is_asked taken) (Asked stop_wished) (cond (is_begun dialogue_kind taken) (Begun stop_sent statuses) (Ended stop_sent)) ≡ Begun stop_sent statuses
+begun_taken dialogue_kind [] stop_wished stop_sent statuses is = absurd cc
+begun_taken dialogue_kind (first ∷ rest) stop_wished stop_sent statuses is = ap (λ (b : Bool). cond b (Begun stop_sent statuses) (Ended stop_sent)) is
 
-begun_phase : (kind : DialogueKind) (came : List Came) → is_begun kind (messages came) ≡ true → phase_of kind came ≡ Begun (is_stop_sent kind came) (statuses_of came)
-begun_phase kind came is = begun_taken kind (messages came) (is_stop_wished came) (is_stop_sent kind came) (statuses_of came) is
+begun_phase : (dialogue_kind : DialogueKind) (came : List Came) → is_begun dialogue_kind (messages came) ≡ true → phase_of dialogue_kind came ≡ Begun (is_stop_sent dialogue_kind came) (statuses_of came)
+begun_phase dialogue_kind came is = begun_taken dialogue_kind (messages came) (is_stop_wished came) (is_stop_sent dialogue_kind came) (statuses_of came) is
 
-begun_open : (kind : DialogueKind) (came : List Came) → is_begun kind (messages came) ≡ true → is_open_phase (phase_of kind came) ≡ true
-begun_open kind came is = ap is_open_phase (begun_phase kind came is)
+begun_open : (dialogue_kind : DialogueKind) (came : List Came) → is_begun dialogue_kind (messages came) ≡ true → is_open_phase (phase_of dialogue_kind came) ≡ true
+begun_open dialogue_kind came is = ap is_open_phase (begun_phase dialogue_kind came is)
 
-pub ack_same : (kind : DialogueKind) (came : List Came) (at : ℤ) → is_begun kind (messages came) ≡ true → phase_of kind (came ++ Message Ack at ∷ []) ≡ phase_of kind came
-ack_same kind came at is =
-    phase_more kind came Ack at refl (begun_open kind came is)
-    ∙ ap (λ (p : Phase). next_phase kind p Ack) (begun_phase kind came is) ∙ sym (begun_phase kind came is)
+pub ack_same : (dialogue_kind : DialogueKind) (came : List Came) (at : ℤ) → is_begun dialogue_kind (messages came) ≡ true → phase_of dialogue_kind (came ++ Message Ack at ∷ []) ≡ phase_of dialogue_kind came
+ack_same dialogue_kind came at is =
+    phase_more dialogue_kind came Ack at refl (begun_open dialogue_kind came is)
+    ∙ ap (λ (p : Phase). next_phase dialogue_kind p Ack) (begun_phase dialogue_kind came is) ∙ sym (begun_phase dialogue_kind came is)
 
-pub nack_same : (kind : DialogueKind) (came : List Came) (code : ℕ) (at : ℤ) → is_begun kind (messages came) ≡ true → phase_of kind (came ++ Message (Nack code) at ∷ []) ≡ phase_of kind came
-nack_same kind came code at is =
-    phase_more kind came (Nack code) at refl (begun_open kind came is)
-    ∙ ap (λ (p : Phase). next_phase kind p (Nack code)) (begun_phase kind came is) ∙ sym (begun_phase kind came is)
+pub nack_same : (dialogue_kind : DialogueKind) (came : List Came) (code : ℕ) (at : ℤ) → is_begun dialogue_kind (messages came) ≡ true → phase_of dialogue_kind (came ++ Message (Nack code) at ∷ []) ≡ phase_of dialogue_kind came
+nack_same dialogue_kind came code at is =
+    phase_more dialogue_kind came (Nack code) at refl (begun_open dialogue_kind came is)
+    ∙ ap (λ (p : Phase). next_phase dialogue_kind p (Nack code)) (begun_phase dialogue_kind came is) ∙ sym (begun_phase dialogue_kind came is)
 
-pub stray : (dialogue : Dialogue) (came : List Came) (message : MessageValue) → is_begun dialogue.kind (messages came) ≡ true
-    → meaning_in_phase dialogue.kind dialogue.none (Begun (is_stop_sent dialogue.kind came) (statuses_of came)) message ≡ heard.Stray → meaning dialogue came message ≡ heard.Stray
-stray dialogue came message is told =
-    sym (heard_is dialogue came message (begun_open dialogue.kind came is))
-    ∙ ap (λ (p : Phase). meaning_in_phase dialogue.kind dialogue.none p message) (begun_phase dialogue.kind came is) ∙ told
+pub stray : (dialogue : Dialogue) (came : List Came) (message : MessageValue) → is_begun dialogue.dialogue_kind (messages came) ≡ true
+    → meaning_in_phase dialogue.dialogue_kind dialogue.none (Begun (is_stop_sent dialogue.dialogue_kind came) (statuses_of came)) message ≡ heard.Stray → meaning dialogue came message ≡ heard.Stray
+stray dialogue came message is reported =
+    sym (heard_is dialogue came message (begun_open dialogue.dialogue_kind came is))
+    ∙ ap (λ (p : Phase). meaning_in_phase dialogue.dialogue_kind dialogue.none p message) (begun_phase dialogue.dialogue_kind came is) ∙ reported
 
 -- ---- tests
 
@@ -57,7 +57,7 @@ none_new : (b : Bool) → (b && not b) ≡ false
 none_new true = refl
 none_new false = refl
 
-end_no_stop : (told : Heard) → is_end told ≡ true → says_stop told ≡ false
+end_no_stop : (reported : Heard) → is_end reported ≡ true → says_stop reported ≡ false
 end_no_stop (heard.Begun stop) is = absurd cc
 end_no_stop (heard.Note code) is = refl
 end_no_stop heard.Line is = refl
@@ -80,73 +80,73 @@ first_stop : (display stop_wished : Bool) (statuses : Statuses) → says_stop (a
 first_stop true stop_wished statuses = refl
 first_stop false stop_wished statuses = sym (and_true stop_wished)
 
-asked_stop : (kind : DialogueKind) (none : ℕ) (stop_wished : Bool) (message : MessageValue) → is_taken message ≡ true
-    → says_stop (meaning_in_phase kind none (Asked stop_wished) message) ≡ (was_stop_sent (next_phase kind (Asked stop_wished) message) && true)
-asked_stop kind none stop_wished Ack is = first_stop (is_display kind) stop_wished (record { last = None; approved = false })
-asked_stop kind none stop_wished (Nack code) is = either_no_stop (eqb code 0) heard.Unclear (heard.Declined code None) refl refl
-asked_stop kind none stop_wished (Intermediate code) is = refl
-asked_stop kind none stop_wished (Line text) is = refl
-asked_stop kind none stop_wished (Block objects) is = refl
-asked_stop kind none stop_wished (Status fields) is = refl
-asked_stop kind none stop_wished Completion is = refl
-asked_stop kind none stop_wished (Abort code) is = refl
-asked_stop kind none stop_wished Other is = absurd cc
+asked_stop : (dialogue_kind : DialogueKind) (none : ℕ) (stop_wished : Bool) (message : MessageValue) → is_taken message ≡ true
+    → says_stop (meaning_in_phase dialogue_kind none (Asked stop_wished) message) ≡ (was_stop_sent (next_phase dialogue_kind (Asked stop_wished) message) && true)
+asked_stop dialogue_kind none stop_wished Ack is = first_stop (is_display dialogue_kind) stop_wished (record { last = None; approved = false })
+asked_stop dialogue_kind none stop_wished (Nack code) is = either_no_stop (eqb code 0) heard.Unclear (heard.Declined code None) refl refl
+asked_stop dialogue_kind none stop_wished (Intermediate code) is = refl
+asked_stop dialogue_kind none stop_wished (Line text) is = refl
+asked_stop dialogue_kind none stop_wished (Block objects) is = refl
+asked_stop dialogue_kind none stop_wished (Status fields) is = refl
+asked_stop dialogue_kind none stop_wished Completion is = refl
+asked_stop dialogue_kind none stop_wished (Abort code) is = refl
+asked_stop dialogue_kind none stop_wished Other is = absurd cc
 
-begun_stop : (kind : DialogueKind) (none : ℕ) (stop_sent : Bool) (statuses : Statuses) (message : MessageValue) → is_taken message ≡ true
-    → says_stop (meaning_in_phase kind none (Begun stop_sent statuses) message) ≡ (was_stop_sent (next_phase kind (Begun stop_sent statuses) message) && not stop_sent)
-begun_stop kind none stop_sent statuses Ack is = sym (none_new stop_sent)
-begun_stop kind none stop_sent statuses (Nack code) is = sym (none_new stop_sent)
-begun_stop kind none stop_sent statuses (Intermediate code) is = sym (none_new stop_sent)
-begun_stop kind none stop_sent statuses (Line text) is = sym (none_new stop_sent)
-begun_stop kind none stop_sent statuses (Block objects) is = sym (none_new stop_sent)
-begun_stop kind none stop_sent statuses (Status fields) is = sym (none_new stop_sent)
-begun_stop kind none stop_sent statuses Completion is = end_no_stop (meaning_of_completion kind statuses) (completed_ends kind statuses) ∙ sym (none_new stop_sent)
-begun_stop kind none stop_sent statuses (Abort code) is = end_no_stop (meaning_of_abort kind none statuses code) (aborted_ends kind none statuses code) ∙ sym (none_new stop_sent)
-begun_stop kind none stop_sent statuses Other is = absurd cc
+begun_stop : (dialogue_kind : DialogueKind) (none : ℕ) (stop_sent : Bool) (statuses : Statuses) (message : MessageValue) → is_taken message ≡ true
+    → says_stop (meaning_in_phase dialogue_kind none (Begun stop_sent statuses) message) ≡ (was_stop_sent (next_phase dialogue_kind (Begun stop_sent statuses) message) && not stop_sent)
+begun_stop dialogue_kind none stop_sent statuses Ack is = sym (none_new stop_sent)
+begun_stop dialogue_kind none stop_sent statuses (Nack code) is = sym (none_new stop_sent)
+begun_stop dialogue_kind none stop_sent statuses (Intermediate code) is = sym (none_new stop_sent)
+begun_stop dialogue_kind none stop_sent statuses (Line text) is = sym (none_new stop_sent)
+begun_stop dialogue_kind none stop_sent statuses (Block objects) is = sym (none_new stop_sent)
+begun_stop dialogue_kind none stop_sent statuses (Status fields) is = sym (none_new stop_sent)
+begun_stop dialogue_kind none stop_sent statuses Completion is = end_no_stop (meaning_of_completion dialogue_kind statuses) (completed_ends dialogue_kind statuses) ∙ sym (none_new stop_sent)
+begun_stop dialogue_kind none stop_sent statuses (Abort code) is = end_no_stop (meaning_of_abort dialogue_kind none statuses code) (aborted_ends dialogue_kind none statuses code) ∙ sym (none_new stop_sent)
+begun_stop dialogue_kind none stop_sent statuses Other is = absurd cc
 
-phase_stop : (kind : DialogueKind) (none : ℕ) (phase : Phase) (message : MessageValue) → is_taken message ≡ true → is_open_phase phase ≡ true
-    → says_stop (meaning_in_phase kind none phase message) ≡ (was_stop_sent (next_phase kind phase message) && not (was_stop_sent phase))
-phase_stop kind none (Asked stop_wished) message is open_ = asked_stop kind none stop_wished message is
-phase_stop kind none (Begun stop_sent statuses) message is open_ = begun_stop kind none stop_sent statuses message is
-phase_stop kind none (Ended stop_sent) message is open_ = absurd cc
+phase_stop : (dialogue_kind : DialogueKind) (none : ℕ) (phase : Phase) (message : MessageValue) → is_taken message ≡ true → is_open_phase phase ≡ true
+    → says_stop (meaning_in_phase dialogue_kind none phase message) ≡ (was_stop_sent (next_phase dialogue_kind phase message) && not (was_stop_sent phase))
+phase_stop dialogue_kind none (Asked stop_wished) message is open_ = asked_stop dialogue_kind none stop_wished message is
+phase_stop dialogue_kind none (Begun stop_sent statuses) message is open_ = begun_stop dialogue_kind none stop_sent statuses message is
+phase_stop dialogue_kind none (Ended stop_sent) message is open_ = absurd cc
 
-other_stop : (kind : DialogueKind) (none : ℕ) (phase : Phase) → is_open_phase phase ≡ true → says_stop (meaning_in_phase kind none phase Other) ≡ (was_stop_sent phase && not (was_stop_sent phase))
-other_stop kind none (Asked stop_wished) open_ = refl
-other_stop kind none (Begun stop_sent statuses) open_ = sym (none_new stop_sent)
-other_stop kind none (Ended stop_sent) open_ = absurd cc
+other_stop : (dialogue_kind : DialogueKind) (none : ℕ) (phase : Phase) → is_open_phase phase ≡ true → says_stop (meaning_in_phase dialogue_kind none phase Other) ≡ (was_stop_sent phase && not (was_stop_sent phase))
+other_stop dialogue_kind none (Asked stop_wished) open_ = refl
+other_stop dialogue_kind none (Begun stop_sent statuses) open_ = sym (none_new stop_sent)
+other_stop dialogue_kind none (Ended stop_sent) open_ = absurd cc
 
 talk_stop : (talk : TalkFacts) (message : MessageValue) (now : ℤ) → talk_goes_on talk ≡ true
-    → says_stop (meaning_in_phase talk.kind talk.none talk.phase message) ≡ (was_stop_sent (next_talk talk message now).phase && not (was_stop_sent talk.phase))
-talk_stop talk Ack now open_ = phase_stop talk.kind talk.none talk.phase Ack refl open_
-talk_stop talk (Nack code) now open_ = phase_stop talk.kind talk.none talk.phase (Nack code) refl open_
-talk_stop talk (Intermediate code) now open_ = phase_stop talk.kind talk.none talk.phase (Intermediate code) refl open_
-talk_stop talk (Line text) now open_ = phase_stop talk.kind talk.none talk.phase (Line text) refl open_
-talk_stop talk (Block objects) now open_ = phase_stop talk.kind talk.none talk.phase (Block objects) refl open_
-talk_stop talk (Status fields) now open_ = phase_stop talk.kind talk.none talk.phase (Status fields) refl open_
-talk_stop talk Completion now open_ = phase_stop talk.kind talk.none talk.phase Completion refl open_
-talk_stop talk (Abort code) now open_ = phase_stop talk.kind talk.none talk.phase (Abort code) refl open_
-talk_stop talk Other now open_ = other_stop talk.kind talk.none talk.phase open_
+    → says_stop (meaning_in_phase talk.dialogue_kind talk.none talk.phase message) ≡ (was_stop_sent (next_talk talk message now).phase && not (was_stop_sent talk.phase))
+talk_stop talk Ack now open_ = phase_stop talk.dialogue_kind talk.none talk.phase Ack refl open_
+talk_stop talk (Nack code) now open_ = phase_stop talk.dialogue_kind talk.none talk.phase (Nack code) refl open_
+talk_stop talk (Intermediate code) now open_ = phase_stop talk.dialogue_kind talk.none talk.phase (Intermediate code) refl open_
+talk_stop talk (Line text) now open_ = phase_stop talk.dialogue_kind talk.none talk.phase (Line text) refl open_
+talk_stop talk (Block objects) now open_ = phase_stop talk.dialogue_kind talk.none talk.phase (Block objects) refl open_
+talk_stop talk (Status fields) now open_ = phase_stop talk.dialogue_kind talk.none talk.phase (Status fields) refl open_
+talk_stop talk Completion now open_ = phase_stop talk.dialogue_kind talk.none talk.phase Completion refl open_
+talk_stop talk (Abort code) now open_ = phase_stop talk.dialogue_kind talk.none talk.phase (Abort code) refl open_
+talk_stop talk Other now open_ = other_stop talk.dialogue_kind talk.none talk.phase open_
 
 stopped_later : (begun stop_sent : Bool) (statuses : Statuses) → was_stop_sent (cond begun (Begun stop_sent statuses) (Ended stop_sent)) ≡ stop_sent
 stopped_later true stop_sent statuses = refl
 stopped_later false stop_sent statuses = refl
 
-stopped_taken : (kind : DialogueKind) (taken : List MessageValue) (stop_wished : Bool) (statuses : Statuses)
-    → was_stop_sent (cond (is_asked taken) (Asked stop_wished) (cond (is_begun kind taken) (Begun (was_begun kind taken && stop_wished) statuses) (Ended (was_begun kind taken && stop_wished)))) ≡ (was_begun kind taken && stop_wished)
-stopped_taken kind [] stop_wished statuses = refl
-stopped_taken kind (first ∷ rest) stop_wished statuses = stopped_later (is_begun kind (first ∷ rest)) (was_begun kind (first ∷ rest) && stop_wished) statuses
+stopped_taken : (dialogue_kind : DialogueKind) (taken : List MessageValue) (stop_wished : Bool) (statuses : Statuses)
+    → was_stop_sent (cond (is_asked taken) (Asked stop_wished) (cond (is_begun dialogue_kind taken) (Begun (was_begun dialogue_kind taken && stop_wished) statuses) (Ended (was_begun dialogue_kind taken && stop_wished)))) ≡ (was_begun dialogue_kind taken && stop_wished)
+stopped_taken dialogue_kind [] stop_wished statuses = refl
+stopped_taken dialogue_kind (first ∷ rest) stop_wished statuses = stopped_later (is_begun dialogue_kind (first ∷ rest)) (was_begun dialogue_kind (first ∷ rest) && stop_wished) statuses
 
-stopped_is : (kind : DialogueKind) (came : List Came) → was_stop_sent (phase_of kind came) ≡ is_stop_sent kind came
-stopped_is kind came = stopped_taken kind (messages came) (is_stop_wished came) (statuses_of came)
+stopped_is : (dialogue_kind : DialogueKind) (came : List Came) → was_stop_sent (phase_of dialogue_kind came) ≡ is_stop_sent dialogue_kind came
+stopped_is dialogue_kind came = stopped_taken dialogue_kind (messages came) (is_stop_wished came) (statuses_of came)
 
 pub message_stop : (dialogue : Dialogue) (came : List Came) (message : MessageValue) (at : ℤ) → talk_goes_on (talk_after dialogue came) ≡ true
-    → says_stop (meaning dialogue came message) ≡ (is_stop_sent dialogue.kind (came ++ Message message at ∷ []) && not (is_stop_sent dialogue.kind came))
+    → says_stop (meaning dialogue came message) ≡ (is_stop_sent dialogue.dialogue_kind (came ++ Message message at ∷ []) && not (is_stop_sent dialogue.dialogue_kind came))
 message_stop dialogue came message at open_ =
     ap says_stop (sym (heard_is dialogue came message open_))
     ∙ talk_stop (talk_after dialogue came) message at open_
-    ∙ ap (λ (t : TalkFacts). was_stop_sent t.phase && not (was_stop_sent (phase_of dialogue.kind came))) (sym (after_message dialogue came message at open_))
-    ∙ ap (λ (b : Bool). b && not (was_stop_sent (phase_of dialogue.kind came))) (stopped_is dialogue.kind (came ++ Message message at ∷ []))
-    ∙ ap (λ (b : Bool). is_stop_sent dialogue.kind (came ++ Message message at ∷ []) && not b) (stopped_is dialogue.kind came)
+    ∙ ap (λ (t : TalkFacts). was_stop_sent t.phase && not (was_stop_sent (phase_of dialogue.dialogue_kind came))) (sym (after_message dialogue came message at open_))
+    ∙ ap (λ (b : Bool). b && not (was_stop_sent (phase_of dialogue.dialogue_kind came))) (stopped_is dialogue.dialogue_kind (came ++ Message message at ∷ []))
+    ∙ ap (λ (b : Bool). is_stop_sent dialogue.dialogue_kind (came ++ Message message at ∷ []) && not b) (stopped_is dialogue.dialogue_kind came)
 
 -- ---- a wish
 
@@ -157,12 +157,12 @@ wish_tests true false true = refl
 wish_tests true false false = refl
 wish_tests false over stop_wished = refl
 
-pub wish_stop : (kind : DialogueKind) (came : List Came)
-    → (is_begun kind (messages came) && not (is_stop_sent kind came)) ≡ (is_stop_sent kind (came ++ StopWished ∷ []) && not (is_stop_sent kind came))
-wish_stop kind came =
-    wish_tests (was_begun kind (messages came)) (list_any is_completion_or_abort (messages came)) (is_stop_wished came)
-    ∙ ap (λ (b : Bool). (was_begun kind (messages came) && b) && not (is_stop_sent kind came)) (sym (wished_more came))
-    ∙ ap (λ (taken : List MessageValue). (was_begun kind taken && is_stop_wished (came ++ StopWished ∷ [])) && not (is_stop_sent kind came)) (sym (messages_wish came))
+pub wish_stop : (dialogue_kind : DialogueKind) (came : List Came)
+    → (is_begun dialogue_kind (messages came) && not (is_stop_sent dialogue_kind came)) ≡ (is_stop_sent dialogue_kind (came ++ StopWished ∷ []) && not (is_stop_sent dialogue_kind came))
+wish_stop dialogue_kind came =
+    wish_tests (was_begun dialogue_kind (messages came)) (list_any is_completion_or_abort (messages came)) (is_stop_wished came)
+    ∙ ap (λ (b : Bool). (was_begun dialogue_kind (messages came) && b) && not (is_stop_sent dialogue_kind came)) (sym (wished_more came))
+    ∙ ap (λ (taken : List MessageValue). (was_begun dialogue_kind taken && is_stop_wished (came ++ StopWished ∷ [])) && not (is_stop_sent dialogue_kind came)) (sym (messages_wish came))
 
 -- ---- what was sent stays sent
 
@@ -177,9 +177,9 @@ both_right false b is = absurd cc
 both : (a b : Bool) → a ≡ true → b ≡ true → (a && b) ≡ true
 both a b p q = rw (p, q) refl
 
-begun_with : (kind : DialogueKind) (taken more : List MessageValue) → was_begun kind taken ≡ true → was_begun kind (taken ++ more) ≡ true
-begun_with kind [] more is = absurd cc
-begun_with kind (first ∷ rest) more is = is
+begun_with : (dialogue_kind : DialogueKind) (taken more : List MessageValue) → was_begun dialogue_kind taken ≡ true → was_begun dialogue_kind (taken ++ more) ≡ true
+begun_with dialogue_kind [] more is = absurd cc
+begun_with dialogue_kind (first ∷ rest) more is = is
 
 wished_with : (came more : List Came) → is_stop_wished came ≡ true → is_stop_wished (came ++ more) ≡ true
 wished_with [] more is = absurd cc
@@ -188,8 +188,8 @@ wished_with (Message message at ∷ came) more is =
     both (not (is_completion_or_abort message)) (is_stop_wished (came ++ more)) (both_left (not (is_completion_or_abort message)) (is_stop_wished came) is)
     (wished_with came more (both_right (not (is_completion_or_abort message)) (is_stop_wished came) is))
 
-pub stopped_with : (kind : DialogueKind) (came more : List Came) → is_stop_sent kind came ≡ true → is_stop_sent kind (came ++ more) ≡ true
-stopped_with kind came more is =
-    both (was_begun kind (messages (came ++ more))) (is_stop_wished (came ++ more))
-    (ap (was_begun kind) (filter_map-append taken_message came more) ∙ begun_with kind (messages came) (messages more) (both_left (was_begun kind (messages came)) (is_stop_wished came) is))
-    (wished_with came more (both_right (was_begun kind (messages came)) (is_stop_wished came) is))
+pub stopped_with : (dialogue_kind : DialogueKind) (came more : List Came) → is_stop_sent dialogue_kind came ≡ true → is_stop_sent dialogue_kind (came ++ more) ≡ true
+stopped_with dialogue_kind came more is =
+    both (was_begun dialogue_kind (messages (came ++ more))) (is_stop_wished (came ++ more))
+    (ap (was_begun dialogue_kind) (filter_map-append taken_message came more) ∙ begun_with dialogue_kind (messages came) (messages more) (both_left (was_begun dialogue_kind (messages came)) (is_stop_wished came) is))
+    (wished_with came more (both_right (was_begun dialogue_kind (messages came)) (is_stop_wished came) is))

@@ -4,16 +4,16 @@ use Rattle.std.specs.List.{last_or}
 use Rattle.zvt_msg.specs.Message.{MessageValue, Ack, Nack, Intermediate, Line, Block, Status, Completion, Abort, Other}
 use Rattle.zvt_talk.specs.Dialogue.{Dialogue}
 use Rattle.zvt_talk.specs.Came.{Came, Message, StopWished, messages, is_stop_wished, is_taken, deadline, due}
-use Rattle.zvt_talk.specs.Laws.{HasNoWish, HasWish}
+use Rattle.zvt_talk.specs.Laws.{HasNoStopWished, HasStopWished}
 use Rattle.zvt_talk.proofs.StepLemmas.{due_more, moments_same, moments_wish}
 
 -- ---- wishes
 
 abbrev WishIs : Bool → List Came → Type 0
-WishIs true came = HasWish came
-WishIs false came = HasNoWish came
+WishIs true came = HasStopWished came
+WishIs false came = HasNoStopWished came
 
-wish_more : (wished : Bool) (came : List Came) (at : ℤ) → WishIs wished came → WishIs wished (Message Other at ∷ came)
+wish_more : (stop_wished : Bool) (came : List Came) (at : ℤ) → WishIs stop_wished came → WishIs stop_wished (Message Other at ∷ came)
 wish_more true came at is = is
 wish_more false came at is = is
 
@@ -30,30 +30,30 @@ wish_is (Message Completion at ∷ came) asked = absurd cc
 wish_is (Message (Abort code) at ∷ came) asked = absurd cc
 wish_is (Message Other at ∷ came) asked = wish_more (is_stop_wished came) came at (wish_is came asked)
 
-never_both : (came : List Came) → HasWish came → HasNoWish came → ⊥
-never_both [] wish none = wish
-never_both (Message message at ∷ came) wish none = never_both came wish none
-never_both (StopWished ∷ came) wish none = none
+never_both : (came : List Came) → HasStopWished came → HasNoStopWished came → ⊥
+never_both [] stop_wish none = stop_wish
+never_both (Message message at ∷ came) stop_wish none = never_both came stop_wish none
+never_both (StopWished ∷ came) stop_wish none = none
 
-is_no_wish : (wished : Bool) (came : List Came) → WishIs wished came → HasNoWish came → wished ≡ false
+is_no_wish : (stop_wished : Bool) (came : List Came) → WishIs stop_wished came → HasNoStopWished came → stop_wished ≡ false
 is_no_wish true came is none = absurd (never_both came is none)
 is_no_wish false came is none = refl
 
-is_wish : (wished : Bool) (came : List Came) → WishIs wished came → HasWish came → wished ≡ true
-is_wish true came is wish = refl
-is_wish false came is wish = absurd (never_both came wish is)
+is_wish : (stop_wished : Bool) (came : List Came) → WishIs stop_wished came → HasStopWished came → stop_wished ≡ true
+is_wish true came is stop_wish = refl
+is_wish false came is stop_wish = absurd (never_both came stop_wish is)
 
-pub no_wish : (came : List Came) → messages came ≡ [] → is_stop_wished came ≡ false → HasNoWish came
-no_wish came asked is = subst (λ (wished : Bool). WishIs wished came) is (wish_is came asked)
+pub no_wish : (came : List Came) → messages came ≡ [] → is_stop_wished came ≡ false → HasNoStopWished came
+no_wish came asked is = subst (λ (stop_wished : Bool). WishIs stop_wished came) is (wish_is came asked)
 
-pub wish : (came : List Came) → messages came ≡ [] → is_stop_wished came ≡ true → HasWish came
-wish came asked is = subst (λ (wished : Bool). WishIs wished came) is (wish_is came asked)
+pub stop_wish : (came : List Came) → messages came ≡ [] → is_stop_wished came ≡ true → HasStopWished came
+stop_wish came asked is = subst (λ (stop_wished : Bool). WishIs stop_wished came) is (wish_is came asked)
 
-pub not_wished : (came : List Came) → messages came ≡ [] → HasNoWish came → is_stop_wished came ≡ false
+pub not_wished : (came : List Came) → messages came ≡ [] → HasNoStopWished came → is_stop_wished came ≡ false
 not_wished came asked none = is_no_wish (is_stop_wished came) came (wish_is came asked) none
 
-pub wished : (came : List Came) → messages came ≡ [] → HasWish came → is_stop_wished came ≡ true
-wished came asked has = is_wish (is_stop_wished came) came (wish_is came asked) has
+pub stop_wished : (came : List Came) → messages came ≡ [] → HasStopWished came → is_stop_wished came ≡ true
+stop_wished came asked has = is_wish (is_stop_wished came) came (wish_is came asked) has
 
 -- ---- deadlines
 

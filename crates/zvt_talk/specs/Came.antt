@@ -109,16 +109,16 @@ is_asked (message ∷ more) = false
 
 -- the first message taken acknowledges the command, and more is to come, as in each dialogue but a display
 abbrev pub was_begun : DialogueKind → List MessageValue → Bool
-was_begun kind [] = false
-was_begun kind (message ∷ more) = is_ack message && not (is_display kind)
+was_begun dialogue_kind [] = false
+was_begun dialogue_kind (message ∷ more) = is_ack message && not (is_display dialogue_kind)
 
 -- the dialogue was begun, and goes on
 abbrev pub is_begun : DialogueKind → List MessageValue → Bool
-is_begun kind taken = was_begun kind taken && not (list_any is_completion_or_abort taken)
+is_begun dialogue_kind taken = was_begun dialogue_kind taken && not (list_any is_completion_or_abort taken)
 
 -- it is neither asked nor begun
 abbrev pub has_ended : DialogueKind → List MessageValue → Bool
-has_ended kind taken = not (is_asked taken) && not (is_begun kind taken)
+has_ended dialogue_kind taken = not (is_asked taken) && not (is_begun dialogue_kind taken)
 
 -- a stop was wished, and no completion or abort came before
 abbrev pub is_stop_wished : List Came → Bool
@@ -128,7 +128,7 @@ is_stop_wished (Message message at ∷ came) = not (is_completion_or_abort messa
 
 -- `06 B0` was sent: a stop was wished in time, and the dialogue was begun
 abbrev pub is_stop_sent : DialogueKind → List Came → Bool
-is_stop_sent kind came = was_begun kind (messages came) && is_stop_wished came
+is_stop_sent dialogue_kind came = was_begun dialogue_kind (messages came) && is_stop_wished came
 
 -- ---- the deadline
 

@@ -58,7 +58,7 @@ IsNoDisplay Display = ⊥
 
 -- the status has full figures, and they are these
 pub record HasFigures (status : Fields) (figures : Figures) : Type 0 where
-  pub number : status.trace ≡ Some figures.number
+  pub trace : status.trace ≡ Some figures.number
   pub receipt : status.receipt ≡ Some figures.receipt
   pub amount : status.amount ≡ Some figures.amount
   pub first_number : 1 ≤ figures.number
@@ -66,7 +66,7 @@ pub record HasFigures (status : Fields) (figures : Figures) : Type 0 where
 
 -- a payment or a reversal is completed, and the last status said that it is approved, with these figures
 pub record Approves (dialogue : Dialogue) (came : List Came) (message : MessageValue) (figures : Figures) : Type 0 where
-  pub transaction : IsTransaction dialogue.kind
+  pub transaction : IsTransaction dialogue.dialogue_kind
   pub completion : message ≡ Completion
   pub status : Fields
   pub last : last_status came ≡ Some status
@@ -74,10 +74,10 @@ pub record Approves (dialogue : Dialogue) (came : List Came) (message : MessageV
   pub full : HasFigures status figures
 
 -- the command is refused at once
-pub record RefusedAtOnce (came : List Came) (message : MessageValue) (code : ℕ) (number : Option ℕ) : Type 0 where
+pub record RefusedAtOnce (came : List Came) (message : MessageValue) (code : ℕ) (trace : Option ℕ) : Type 0 where
   pub asked : messages came ≡ []
   pub refusal : message ≡ Nack code
-  pub no_number : number ≡ None
+  pub no_number : trace ≡ None
 
 -- the terminal aborts with this code, or completes and the last status has this code
 abbrev pub EndsWithCode : List Came → MessageValue → ℕ → Type 0
@@ -85,14 +85,14 @@ EndsWithCode came message code = (message ≡ Abort (Some code))
     ⊎ ((message ≡ Completion) × (status : Fields) × (last_status came ≡ Some status) × (status.result ≡ Some code))
 
 -- the command was answered, and the dialogue ends with a code; the number is that of the last status
-pub record RefusedLater (came : List Came) (message : MessageValue) (code : ℕ) (number : Option ℕ) : Type 0 where
-  pub answered : messages came ≢ []
+pub record RefusedLater (came : List Came) (message : MessageValue) (code : ℕ) (trace : Option ℕ) : Type 0 where
+  pub after_messages : messages came ≢ []
   pub ends : EndsWithCode came message code
-  pub its_number : number ≡ trace_of (last_status came)
+  pub its_number : trace ≡ trace_of (last_status came)
 
 -- the terminal refuses with this code, which isn't 00
 abbrev pub RefusesCommand : List Came → MessageValue → ℕ → Option ℕ → Type 0
-RefusesCommand came message code number = (code ≢ 0) × (RefusedAtOnce came message code number ⊎ RefusedLater came message code number)
+RefusesCommand came message code trace = (code ≢ 0) × (RefusedAtOnce came message code trace ⊎ RefusedLater came message code trace)
 
 -- a result that isn't there, or 00
 abbrev pub IsNoRefusal : Option ℕ → Type 0
@@ -114,22 +114,22 @@ IsReportedWith status code None = code ≢ 0
 IsReportedWith status code (Some figures) = (code ≡ 0) × HasFigures status figures
 
 -- the last transaction is the one of the last status
-pub record ReportsLastTransaction (came : List Came) (message : MessageValue) (number : ℕ) (approved : Option Figures) (code : ℕ) : Type 0 where
+pub record ReportsLastTransaction (came : List Came) (message : MessageValue) (trace : ℕ) (approved : Option Figures) (code : ℕ) : Type 0 where
   pub completion : message ≡ Completion
   pub status : Fields
   pub last : last_status came ≡ Some status
   pub its_code : status.result ≡ Some code
-  pub its_number : status.trace ≡ Some number
-  pub told : IsReportedWith status code approved
+  pub its_number : status.trace ≡ Some trace
+  pub reported : IsReportedWith status code approved
 
 -- there is no transaction: no status was heard, and the terminal aborts with the configured code
-pub record ReportsNoTransaction (dialogue : Dialogue) (came : List Came) (message : MessageValue) (number : ℕ) (approved : Option Figures) (code : ℕ) : Type 0 where
+pub record ReportsNoTransaction (dialogue : Dialogue) (came : List Came) (message : MessageValue) (trace : ℕ) (approved : Option Figures) (code : ℕ) : Type 0 where
   pub begun : messages came ≢ []
   pub abort : message ≡ Abort (Some code)
   pub configured : code ≡ dialogue.none
   pub no_status : statuses came ≡ []
   pub not_zero : code ≢ 0
-  pub no_number : number ≡ 0
+  pub no_number : trace ≡ 0
   pub no_figures : approved ≡ None
 
 -- ---- what leaves open how a dialogue ended
@@ -153,7 +153,7 @@ AbortsWithoutCode message = (message ≡ Abort None) ⊎ (message ≡ Abort (Som
 -- a number that isn't there, or 0
 abbrev pub IsNoNumber : Option ℕ → Type 0
 IsNoNumber None = Unit {0}
-IsNoNumber (Some number) = number ≡ 0
+IsNoNumber (Some trace) = trace ≡ 0
 
 -- the status has no full figures: a trace number above 0, a receipt number in digits or an amount above 0 is missing
 abbrev pub LacksFigures : Fields → Type 0
@@ -194,8 +194,8 @@ IsTransactionEnd heard.Block = ⊥
 IsTransactionEnd heard.Seen = ⊥
 IsTransactionEnd (heard.Approved figures) = Unit {0}
 IsTransactionEnd heard.Done = ⊥
-IsTransactionEnd (heard.Told number approved code) = ⊥
-IsTransactionEnd (heard.Declined code number) = Unit {0}
+IsTransactionEnd (heard.Told trace approved code) = ⊥
+IsTransactionEnd (heard.Declined code trace) = Unit {0}
 IsTransactionEnd heard.Unclear = Unit {0}
 IsTransactionEnd heard.Stray = ⊥
 
@@ -208,8 +208,8 @@ IsEnquiryEnd heard.Block = ⊥
 IsEnquiryEnd heard.Seen = ⊥
 IsEnquiryEnd (heard.Approved figures) = ⊥
 IsEnquiryEnd heard.Done = ⊥
-IsEnquiryEnd (heard.Told number approved code) = Unit {0}
-IsEnquiryEnd (heard.Declined code number) = Unit {0}
+IsEnquiryEnd (heard.Told trace approved code) = Unit {0}
+IsEnquiryEnd (heard.Declined code trace) = Unit {0}
 IsEnquiryEnd heard.Unclear = Unit {0}
 IsEnquiryEnd heard.Stray = ⊥
 
@@ -222,8 +222,8 @@ IsServiceEnd heard.Block = ⊥
 IsServiceEnd heard.Seen = ⊥
 IsServiceEnd (heard.Approved figures) = ⊥
 IsServiceEnd heard.Done = Unit {0}
-IsServiceEnd (heard.Told number approved code) = ⊥
-IsServiceEnd (heard.Declined code number) = Unit {0}
+IsServiceEnd (heard.Told trace approved code) = ⊥
+IsServiceEnd (heard.Declined code trace) = Unit {0}
 IsServiceEnd heard.Unclear = Unit {0}
 IsServiceEnd heard.Stray = ⊥
 
@@ -245,30 +245,30 @@ says_stop heard.Block = false
 says_stop heard.Seen = false
 says_stop (heard.Approved figures) = false
 says_stop heard.Done = false
-says_stop (heard.Told number approved code) = false
-says_stop (heard.Declined code number) = false
+says_stop (heard.Told trace approved code) = false
+says_stop (heard.Declined code trace) = false
 says_stop heard.Unclear = false
 says_stop heard.Stray = false
 
 -- ---- what goes on
 
 -- no stop was wished
-abbrev pub HasNoWish : List Came → Type 0
-HasNoWish [] = Unit {0}
-HasNoWish (Message message at ∷ came) = HasNoWish came
-HasNoWish (StopWished ∷ came) = ⊥
+abbrev pub HasNoStopWished : List Came → Type 0
+HasNoStopWished [] = Unit {0}
+HasNoStopWished (Message message at ∷ came) = HasNoStopWished came
+HasNoStopWished (StopWished ∷ came) = ⊥
 
 -- a stop was wished
-abbrev pub HasWish : List Came → Type 0
-HasWish [] = ⊥
-HasWish (Message message at ∷ came) = HasWish came
-HasWish (StopWished ∷ came) = Unit {0}
+abbrev pub HasStopWished : List Came → Type 0
+HasStopWished [] = ⊥
+HasStopWished (Message message at ∷ came) = HasStopWished came
+HasStopWished (StopWished ∷ came) = Unit {0}
 
 -- the command, which is no display, is acknowledged
 pub record AcknowledgesCommand (dialogue : Dialogue) (came : List Came) (message : MessageValue) : Type 0 where
   pub asked : messages came ≡ []
   pub acknowledgement : message ≡ Ack
-  pub no_display : IsNoDisplay dialogue.kind
+  pub no_display : IsNoDisplay dialogue.dialogue_kind
 
 -- the command was answered, and this is a line
 abbrev pub BringsLine : List Came → MessageValue → Type 0

@@ -1,5 +1,6 @@
 pub mod Came
 pub mod Dialogue
+pub mod Example
 pub mod Laws
 pub mod Limits
 pub mod Table

@@ -51,15 +51,15 @@ acknowledged false stop_wished = heard.Begun stop_wished
 
 -- by whether a stop was wished
 abbrev pub meaning_when_asked : DialogueKind → Bool → MessageValue → Heard
-meaning_when_asked kind stop_wished Ack = acknowledged (is_display kind) stop_wished
-meaning_when_asked kind stop_wished (Nack code) = if code == 0 then heard.Unclear else heard.Declined code None
-meaning_when_asked kind stop_wished (Intermediate code) = heard.Unclear
-meaning_when_asked kind stop_wished (Line text) = heard.Unclear
-meaning_when_asked kind stop_wished (Block objects) = heard.Unclear
-meaning_when_asked kind stop_wished (Status fields) = heard.Unclear
-meaning_when_asked kind stop_wished Completion = heard.Unclear
-meaning_when_asked kind stop_wished (Abort code) = heard.Unclear
-meaning_when_asked kind stop_wished Other = heard.Stray
+meaning_when_asked dialogue_kind stop_wished Ack = acknowledged (is_display dialogue_kind) stop_wished
+meaning_when_asked dialogue_kind stop_wished (Nack code) = if code == 0 then heard.Unclear else heard.Declined code None
+meaning_when_asked dialogue_kind stop_wished (Intermediate code) = heard.Unclear
+meaning_when_asked dialogue_kind stop_wished (Line text) = heard.Unclear
+meaning_when_asked dialogue_kind stop_wished (Block objects) = heard.Unclear
+meaning_when_asked dialogue_kind stop_wished (Status fields) = heard.Unclear
+meaning_when_asked dialogue_kind stop_wished Completion = heard.Unclear
+meaning_when_asked dialogue_kind stop_wished (Abort code) = heard.Unclear
+meaning_when_asked dialogue_kind stop_wished Other = heard.Stray
 
 -- ---- begun: an abort by the terminal
 
@@ -79,8 +79,8 @@ meaning_of_abort_with Display none statuses code = heard.Unclear
 
 -- without a code, and with 00, nothing is known
 abbrev pub meaning_of_abort : DialogueKind → ℕ → Statuses → Option ℕ → Heard
-meaning_of_abort kind none statuses None = heard.Unclear
-meaning_of_abort kind none statuses (Some code) = if code == 0 then heard.Unclear else meaning_of_abort_with kind none statuses code
+meaning_of_abort dialogue_kind none statuses None = heard.Unclear
+meaning_of_abort dialogue_kind none statuses (Some code) = if code == 0 then heard.Unclear else meaning_of_abort_with dialogue_kind none statuses code
 
 -- ---- begun: a completion
 
@@ -140,12 +140,12 @@ meaning_of_completion Display statuses = heard.Unclear
 
 -- an acknowledgement or a refusal answers `06 B0`, or nothing
 abbrev pub meaning_when_begun : DialogueKind → ℕ → Statuses → MessageValue → Heard
-meaning_when_begun kind none statuses Ack = heard.Stray
-meaning_when_begun kind none statuses (Nack code) = heard.Stray
-meaning_when_begun kind none statuses (Intermediate code) = heard.Note code
-meaning_when_begun kind none statuses (Line text) = heard.Line
-meaning_when_begun kind none statuses (Block objects) = heard.Block
-meaning_when_begun kind none statuses (Status fields) = heard.Seen
-meaning_when_begun kind none statuses Completion = meaning_of_completion kind statuses
-meaning_when_begun kind none statuses (Abort code) = meaning_of_abort kind none statuses code
-meaning_when_begun kind none statuses Other = heard.Stray
+meaning_when_begun dialogue_kind none statuses Ack = heard.Stray
+meaning_when_begun dialogue_kind none statuses (Nack code) = heard.Stray
+meaning_when_begun dialogue_kind none statuses (Intermediate code) = heard.Note code
+meaning_when_begun dialogue_kind none statuses (Line text) = heard.Line
+meaning_when_begun dialogue_kind none statuses (Block objects) = heard.Block
+meaning_when_begun dialogue_kind none statuses (Status fields) = heard.Seen
+meaning_when_begun dialogue_kind none statuses Completion = meaning_of_completion dialogue_kind statuses
+meaning_when_begun dialogue_kind none statuses (Abort code) = meaning_of_abort dialogue_kind none statuses code
+meaning_when_begun dialogue_kind none statuses Other = heard.Stray

@@ -18,8 +18,8 @@ statuses_of came = record { last = last_status came; approved = said_approved ca
 -- what a message means after all that came before it, while the dialogue goes on
 abbrev pub meaning : Dialogue → List Came → MessageValue → Heard
 meaning dialogue came message =
-    if is_asked (messages came) then meaning_when_asked dialogue.kind (is_stop_wished came) message
-    else meaning_when_begun dialogue.kind dialogue.none (statuses_of came) message
+    if is_asked (messages came) then meaning_when_asked dialogue.dialogue_kind (is_stop_wished came) message
+    else meaning_when_begun dialogue.dialogue_kind dialogue.none (statuses_of came) message
 
 -- this ends the dialogue
 abbrev pub is_end : Heard → Bool
@@ -51,7 +51,7 @@ end_of dialogue came = end_from dialogue [] came
 
 -- a few facts of all that came
 pub record TalkFacts : Type 0 where
-  pub kind : DialogueKind
+  pub dialogue_kind : DialogueKind
   pub none : ℕ
   pub command_time : ℕ
   pub deadline : ℤ
@@ -59,19 +59,19 @@ pub record TalkFacts : Type 0 where
 
 -- how far the dialogue is, with what counts from there on
 abbrev pub phase_of : DialogueKind → List Came → Phase
-phase_of kind came =
+phase_of dialogue_kind came =
     if is_asked (messages came) then Asked (is_stop_wished came)
-    else if is_begun kind (messages came) then Begun (is_stop_sent kind came) (statuses_of came)
-    else Ended (is_stop_sent kind came)
+    else if is_begun dialogue_kind (messages came) then Begun (is_stop_sent dialogue_kind came) (statuses_of came)
+    else Ended (is_stop_sent dialogue_kind came)
 
 -- the talk of a dialogue, after all that came
 abbrev pub talk_after : Dialogue → List Came → TalkFacts
 talk_after dialogue came = record {
-  kind = dialogue.kind;
+  dialogue_kind = dialogue.dialogue_kind;
   none = dialogue.none;
   command_time = dialogue.command_time;
   deadline = deadline dialogue came;
-  phase = phase_of dialogue.kind came;
+  phase = phase_of dialogue.dialogue_kind came;
 }
 
 -- asked or begun

@@ -15,13 +15,13 @@ use Rattle.zvt_talk.specs.Talk.{TalkFacts}
 
 -- what a message means in this phase
 abbrev pub meaning_in_phase : DialogueKind → ℕ → Phase → MessageValue → Heard
-meaning_in_phase kind none (Asked stop_wished) message = meaning_when_asked kind stop_wished message
-meaning_in_phase kind none (Begun stop_sent statuses) message = meaning_when_begun kind none statuses message
-meaning_in_phase kind none (Ended stop_sent) message = heard.Stray
+meaning_in_phase dialogue_kind none (Asked stop_wished) message = meaning_when_asked dialogue_kind stop_wished message
+meaning_in_phase dialogue_kind none (Begun stop_sent statuses) message = meaning_when_begun dialogue_kind none statuses message
+meaning_in_phase dialogue_kind none (Ended stop_sent) message = heard.Stray
 
 -- what a message means for the talk
 abbrev pub meaning_for_talk : TalkFacts → MessageValue → Heard
-meaning_for_talk talk message = meaning_in_phase talk.kind talk.none talk.phase message
+meaning_for_talk talk message = meaning_in_phase talk.dialogue_kind talk.none talk.phase message
 
 -- none was heard
 abbrev pub no_statuses : Statuses
@@ -45,17 +45,17 @@ with_status statuses Other = statuses
 
 -- the phase after a message that is taken
 abbrev pub next_phase : DialogueKind → Phase → MessageValue → Phase
-next_phase kind (Asked stop_wished) message =
-    if is_ack message && not (is_display kind) then Begun stop_wished no_statuses else Ended false
-next_phase kind (Begun stop_sent statuses) message =
+next_phase dialogue_kind (Asked stop_wished) message =
+    if is_ack message && not (is_display dialogue_kind) then Begun stop_wished no_statuses else Ended false
+next_phase dialogue_kind (Begun stop_sent statuses) message =
     if is_completion_or_abort message then Ended stop_sent else Begun stop_sent (with_status statuses message)
-next_phase kind (Ended stop_sent) message = Ended stop_sent
+next_phase dialogue_kind (Ended stop_sent) message = Ended stop_sent
 
 -- the talk after a message
 abbrev pub next_talk : TalkFacts → MessageValue → ℤ → TalkFacts
 next_talk talk message now =
     if is_taken message
-    then record talk { phase = next_phase talk.kind talk.phase message; deadline = now +ℤ pos talk.command_time }
+    then record talk { phase = next_phase talk.dialogue_kind talk.phase message; deadline = now +ℤ pos talk.command_time }
     else talk
 
 -- the phase after a stop is wished

@@ -6,10 +6,11 @@ ghost use Rattle.zvt_talk.specs.declared.meaning.Heard.{Heard};
 ghost use Rattle.zvt_talk.specs.declared.meaning.Heard.TheVariants as heard;
 ghost use Rattle.zvt_talk.specs.declared.dialogue_kind.DialogueKind.TheVariants.{Display};
 ghost use Rattle.zvt_talk.specs.Dialogue.{Dialogue};
+ghost use Rattle.zvt_talk.specs.Example.{ExampleBegins, ExampleGoesOn, ExampleDeadlines, ExampleFigures, ExampleReports};
 ghost use Rattle.zvt_talk.specs.Came.{Came, Message, StopWished, messages, statuses, last_status, said_approved, has_ended, is_begun, is_stop_sent, is_stop_wished, deadline};
 ghost use Rattle.zvt_talk.specs.Talk.{meaning, end_of, is_end, phase_of, talk_after, talk_goes_on};
-ghost use Rattle.zvt_talk.specs.Limits.{AreAtLeastOne, AreWithinFields, HaveNumbers};
-ghost use Rattle.zvt_talk.specs.Laws.{AbortsApproved, AbortsEnquiry, AbortsWithoutCode, AcknowledgesCommand, Approves, BringsBlock, BringsLine, BringsStatus, HasNoRefusal, HasNoWish, HasWish, IsAckOrNack, IsEndOf, IsEnquiry, IsEnquiryOrDisplay, LeavesCommandUnclear, IsService, IsTransaction, LeavesEnquiryOpen, LeavesTransactionOpen, RefusedAtOnce, RefusedLater, RefusesCommand, ReportsLastTransaction, ReportsNoTransaction, says_stop};
+ghost use Rattle.zvt_talk.specs.Limits.{AreAtLeastOne, FiguresFitFields, AllNumbersFitFields};
+ghost use Rattle.zvt_talk.specs.Laws.{AbortsApproved, AbortsEnquiry, AbortsWithoutCode, AcknowledgesCommand, Approves, BringsBlock, BringsLine, BringsStatus, HasNoRefusal, HasNoStopWished, HasStopWished, IsAckOrNack, IsEndOf, IsEnquiry, IsEnquiryOrDisplay, LeavesCommandUnclear, IsService, IsTransaction, LeavesEnquiryOpen, LeavesTransactionOpen, RefusedAtOnce, RefusedLater, RefusesCommand, ReportsLastTransaction, ReportsNoTransaction, says_stop};
 
 /// A message approves exactly where it completes a payment or a reversal whose last status said that it is approved, with
 /// full figures.
@@ -20,36 +21,36 @@ pub fn law_approved()
 
 /// When a dialogue is declined. A payment or a reversal never is once a status said that it is approved.
 pub fn law_declined()
-    ensures transaction { (dialogue : Dialogue) (came : List Came) (message : MessageValue) (code : ℕ) (number : Option ℕ)
-        → IsTransaction dialogue.kind → (meaning dialogue came message ≡ heard.Declined code number)
-        ↔ (IsFalse (said_approved came) × RefusesCommand came message code number) }
-    ensures service { (dialogue : Dialogue) (came : List Came) (message : MessageValue) (code : ℕ) (number : Option ℕ)
-        → IsService dialogue.kind → (meaning dialogue came message ≡ heard.Declined code number)
-        ↔ RefusesCommand came message code number }
-    ensures other { (dialogue : Dialogue) (came : List Came) (message : MessageValue) (code : ℕ) (number : Option ℕ)
-        → IsEnquiryOrDisplay dialogue.kind → (meaning dialogue came message ≡ heard.Declined code number)
-        ↔ ((code ≢ 0) × RefusedAtOnce came message code number) }
-    ensures never { (dialogue : Dialogue) (came : List Came) (message : MessageValue) (code : ℕ) (number : Option ℕ)
-        → IsTransaction dialogue.kind → IsTrue (said_approved came)
-        → meaning dialogue came message ≢ heard.Declined code number }
+    ensures transaction { (dialogue : Dialogue) (came : List Came) (message : MessageValue) (code : ℕ) (trace : Option ℕ)
+        → IsTransaction dialogue.dialogue_kind → (meaning dialogue came message ≡ heard.Declined code trace)
+        ↔ (IsFalse (said_approved came) × RefusesCommand came message code trace) }
+    ensures service { (dialogue : Dialogue) (came : List Came) (message : MessageValue) (code : ℕ) (trace : Option ℕ)
+        → IsService dialogue.dialogue_kind → (meaning dialogue came message ≡ heard.Declined code trace)
+        ↔ RefusesCommand came message code trace }
+    ensures other { (dialogue : Dialogue) (came : List Came) (message : MessageValue) (code : ℕ) (trace : Option ℕ)
+        → IsEnquiryOrDisplay dialogue.dialogue_kind → (meaning dialogue came message ≡ heard.Declined code trace)
+        ↔ ((code ≢ 0) × RefusedAtOnce came message code trace) }
+    ensures never { (dialogue : Dialogue) (came : List Came) (message : MessageValue) (code : ℕ) (trace : Option ℕ)
+        → IsTransaction dialogue.dialogue_kind → IsTrue (said_approved came)
+        → meaning dialogue came message ≢ heard.Declined code trace }
 {
     law_transaction_declined();
 }
 
 /// When a payment or a reversal is declined, by the phases. For the prover alone: `law_declined` follows from it.
 fn law_transaction_declined()
-    ensures { (dialogue : Dialogue) (came : List Came) (message : MessageValue) (code : ℕ) (number : Option ℕ)
-        → IsTransaction dialogue.kind → (meaning dialogue came message ≡ heard.Declined code number)
-        ↔ ((code ≢ 0) × (RefusedAtOnce came message code number
-        ⊎ (RefusedLater came message code number × IsFalse (said_approved came)))) }
+    ensures { (dialogue : Dialogue) (came : List Came) (message : MessageValue) (code : ℕ) (trace : Option ℕ)
+        → IsTransaction dialogue.dialogue_kind → (meaning dialogue came message ≡ heard.Declined code trace)
+        ↔ ((code ≢ 0) × (RefusedAtOnce came message code trace
+        ⊎ (RefusedLater came message code trace × IsFalse (said_approved came)))) }
 {}
 
 /// When a registration, an end of day or a display is done.
 pub fn law_done()
-    ensures service { (dialogue : Dialogue) (came : List Came) (message : MessageValue) → IsService dialogue.kind
+    ensures service { (dialogue : Dialogue) (came : List Came) (message : MessageValue) → IsService dialogue.dialogue_kind
         → (meaning dialogue came message ≡ heard.Done)
         ↔ ((messages came ≢ []) × (message ≡ Completion) × HasNoRefusal (last_status came)) }
-    ensures display { (dialogue : Dialogue) (came : List Came) (message : MessageValue) → dialogue.kind ≡ Display
+    ensures display { (dialogue : Dialogue) (came : List Came) (message : MessageValue) → dialogue.dialogue_kind ≡ Display
         → (meaning dialogue came message ≡ heard.Done) ↔ ((messages came ≡ []) × (message ≡ Ack)) }
 {}
 
@@ -59,15 +60,15 @@ pub fn law_unclear()
     ensures asked { (dialogue : Dialogue) (came : List Came) (message : MessageValue) → messages came ≡ []
         → (meaning dialogue came message ≡ heard.Unclear) ↔ LeavesCommandUnclear message }
     ensures transaction { (dialogue : Dialogue) (came : List Came) (message : MessageValue) → messages came ≢ []
-        → IsTransaction dialogue.kind → (meaning dialogue came message ≡ heard.Unclear)
+        → IsTransaction dialogue.dialogue_kind → (meaning dialogue came message ≡ heard.Unclear)
         ↔ (AbortsWithoutCode message ⊎ (AbortsApproved came message
         ⊎ ((message ≡ Completion) × LeavesTransactionOpen came (last_status came)))) }
     ensures enquiry { (dialogue : Dialogue) (came : List Came) (message : MessageValue) → messages came ≢ []
-        → IsEnquiry dialogue.kind → (meaning dialogue came message ≡ heard.Unclear)
+        → IsEnquiry dialogue.dialogue_kind → (meaning dialogue came message ≡ heard.Unclear)
         ↔ (AbortsWithoutCode message ⊎ (AbortsEnquiry dialogue came message
         ⊎ ((message ≡ Completion) × LeavesEnquiryOpen (last_status came)))) }
     ensures service { (dialogue : Dialogue) (came : List Came) (message : MessageValue) → messages came ≢ []
-        → IsService dialogue.kind → (meaning dialogue came message ≡ heard.Unclear) ↔ AbortsWithoutCode message }
+        → IsService dialogue.dialogue_kind → (meaning dialogue came message ≡ heard.Unclear) ↔ AbortsWithoutCode message }
 {}
 
 /// A message means nothing exactly where it is outside the table, or an acknowledgement or a refusal that comes after the
@@ -80,31 +81,31 @@ pub fn law_stray()
 
 /// A completion without a status neither approves nor declines a payment or a reversal.
 pub fn law_no_status()
-    ensures { (dialogue : Dialogue) (came : List Came) → IsTransaction dialogue.kind
-        → IsTrue (is_begun dialogue.kind (messages came)) → statuses came ≡ []
+    ensures { (dialogue : Dialogue) (came : List Came) → IsTransaction dialogue.dialogue_kind
+        → IsTrue (is_begun dialogue.dialogue_kind (messages came)) → statuses came ≡ []
         → meaning dialogue came Completion ≡ heard.Unclear }
 {}
 
 /// What an enquiry reports of the terminal's last transaction.
 #[tactic(auto, using(crate::proofs::StatusLemmas::no_status))]
-pub fn law_told()
-    ensures { (dialogue : Dialogue) (came : List Came) (message : MessageValue) (number : ℕ) (approved : Option Figures) (code : ℕ)
-        → IsEnquiry dialogue.kind → (meaning dialogue came message ≡ heard.Told number approved code)
-        ↔ (ReportsLastTransaction came message number approved code ⊎ ReportsNoTransaction dialogue came message number approved code) }
+pub fn law_reports()
+    ensures { (dialogue : Dialogue) (came : List Came) (message : MessageValue) (trace : ℕ) (approved : Option Figures) (code : ℕ)
+        → IsEnquiry dialogue.dialogue_kind → (meaning dialogue came message ≡ heard.Told trace approved code)
+        ↔ (ReportsLastTransaction came message trace approved code ⊎ ReportsNoTransaction dialogue came message trace approved code) }
 {}
 
 /// In a dialogue that was begun, an acknowledgement or a refusal answers `06 B0`, or nothing: it ends nothing, and nothing
 /// but the deadline changes.
 pub fn law_answer_to_stop()
-    ensures ack { (dialogue : Dialogue) (came : List Came) → IsTrue (is_begun dialogue.kind (messages came))
+    ensures ack { (dialogue : Dialogue) (came : List Came) → IsTrue (is_begun dialogue.dialogue_kind (messages came))
         → meaning dialogue came Ack ≡ heard.Stray }
-    ensures ack_stays { (dialogue : Dialogue) (came : List Came) (at : ℤ) → IsTrue (is_begun dialogue.kind (messages came))
-        → phase_of dialogue.kind (came ++ Message Ack at ∷ []) ≡ phase_of dialogue.kind came }
-    ensures nack { (dialogue : Dialogue) (came : List Came) (code : ℕ) → IsTrue (is_begun dialogue.kind (messages came))
+    ensures ack_stays { (dialogue : Dialogue) (came : List Came) (at : ℤ) → IsTrue (is_begun dialogue.dialogue_kind (messages came))
+        → phase_of dialogue.dialogue_kind (came ++ Message Ack at ∷ []) ≡ phase_of dialogue.dialogue_kind came }
+    ensures nack { (dialogue : Dialogue) (came : List Came) (code : ℕ) → IsTrue (is_begun dialogue.dialogue_kind (messages came))
         → meaning dialogue came (Nack code) ≡ heard.Stray }
     ensures nack_stays { (dialogue : Dialogue) (came : List Came) (code : ℕ) (at : ℤ)
-        → IsTrue (is_begun dialogue.kind (messages came))
-        → phase_of dialogue.kind (came ++ Message (Nack code) at ∷ []) ≡ phase_of dialogue.kind came }
+        → IsTrue (is_begun dialogue.dialogue_kind (messages came))
+        → phase_of dialogue.dialogue_kind (came ++ Message (Nack code) at ∷ []) ≡ phase_of dialogue.dialogue_kind came }
 {}
 
 /// `06 B0` is asked for once: exactly where it was not sent before and is sent afterwards.
@@ -112,12 +113,12 @@ pub fn law_stop()
     ensures message { (dialogue : Dialogue) (came : List Came) (message : MessageValue) (at : ℤ)
         → IsTrue (talk_goes_on (talk_after dialogue came))
         → says_stop (meaning dialogue came message)
-        ≡ (is_stop_sent dialogue.kind (came ++ Message message at ∷ []) && not (is_stop_sent dialogue.kind came)) }
-    ensures wish { (dialogue : Dialogue) (came : List Came)
-        → (is_begun dialogue.kind (messages came) && not (is_stop_sent dialogue.kind came))
-        ≡ (is_stop_sent dialogue.kind (came ++ StopWished ∷ []) && not (is_stop_sent dialogue.kind came)) }
-    ensures stays { (dialogue : Dialogue) (came more : List Came) → IsTrue (is_stop_sent dialogue.kind came)
-        → IsTrue (is_stop_sent dialogue.kind (came ++ more)) }
+        ≡ (is_stop_sent dialogue.dialogue_kind (came ++ Message message at ∷ []) && not (is_stop_sent dialogue.dialogue_kind came)) }
+    ensures stop_wished { (dialogue : Dialogue) (came : List Came)
+        → (is_begun dialogue.dialogue_kind (messages came) && not (is_stop_sent dialogue.dialogue_kind came))
+        ≡ (is_stop_sent dialogue.dialogue_kind (came ++ StopWished ∷ []) && not (is_stop_sent dialogue.dialogue_kind came)) }
+    ensures stays { (dialogue : Dialogue) (came more : List Came) → IsTrue (is_stop_sent dialogue.dialogue_kind came)
+        → IsTrue (is_stop_sent dialogue.dialogue_kind (came ++ more)) }
 {}
 
 /// A dialogue has ended exactly where it has an end, and that is the meaning of the message that ended it. The ends of a
@@ -125,14 +126,14 @@ pub fn law_stop()
 /// the others done, declined and unclear.
 pub fn law_ends()
     ensures ended { (dialogue : Dialogue) (came : List Came)
-        → has_ended dialogue.kind (messages came) ≡ is_some (end_of dialogue came) }
+        → has_ended dialogue.dialogue_kind (messages came) ≡ is_some (end_of dialogue came) }
     ensures goes_on { (dialogue : Dialogue) (came : List Came)
-        → talk_goes_on (talk_after dialogue came) ≡ not (has_ended dialogue.kind (messages came)) }
+        → talk_goes_on (talk_after dialogue came) ≡ not (has_ended dialogue.dialogue_kind (messages came)) }
     ensures by_message { (dialogue : Dialogue) (came : List Came) (message : MessageValue) (at : ℤ)
         → IsTrue (talk_goes_on (talk_after dialogue came)) → end_of dialogue (came ++ Message message at ∷ [])
         ≡ (if is_end (meaning dialogue came message) then Some (meaning dialogue came message) else None) }
     ensures kinds { (dialogue : Dialogue) (came : List Came) (end : Heard)
-        → end_of dialogue came ≡ Some end → IsEndOf dialogue.kind end }
+        → end_of dialogue came ≡ Some end → IsEndOf dialogue.dialogue_kind end }
 {
     law_meanings();
 }
@@ -140,26 +141,26 @@ pub fn law_ends()
 /// What ends a dialogue is an end that its kind may have. For the prover alone: `law_ends` follows from it.
 fn law_meanings()
     ensures { (dialogue : Dialogue) (came : List Came) (message : MessageValue)
-        → IsTrue (is_end (meaning dialogue came message)) → IsEndOf dialogue.kind (meaning dialogue came message) }
+        → IsTrue (is_end (meaning dialogue came message)) → IsEndOf dialogue.dialogue_kind (meaning dialogue came message) }
 {}
 
 /// What is reported of a transaction fits the fields that it came in, where the messages were read; and its number and its
 /// amount aren't 0 where it is approved, whatever the messages.
 pub fn law_figures()
     ensures approved { (dialogue : Dialogue) (came : List Came) (message : MessageValue) (figures : Figures)
-        → HaveNumbers (messages came) → meaning dialogue came message ≡ heard.Approved figures → AreWithinFields figures }
+        → AllNumbersFitFields (messages came) → meaning dialogue came message ≡ heard.Approved figures → FiguresFitFields figures }
     ensures some { (dialogue : Dialogue) (came : List Came) (message : MessageValue) (figures : Figures)
         → meaning dialogue came message ≡ heard.Approved figures → AreAtLeastOne figures }
-    ensures told { (dialogue : Dialogue) (came : List Came) (message : MessageValue) (number : ℕ) (figures : Figures) (code : ℕ)
-        → HaveNumbers (messages came) → meaning dialogue came message ≡ heard.Told number (Some figures) code
-        → AreWithinFields figures }
-    ensures told_some { (dialogue : Dialogue) (came : List Came) (message : MessageValue) (number : ℕ) (figures : Figures) (code : ℕ)
-        → meaning dialogue came message ≡ heard.Told number (Some figures) code → AreAtLeastOne figures }
-    ensures told_number { (dialogue : Dialogue) (came : List Came) (message : MessageValue) (number : ℕ) (approved : Option Figures) (code : ℕ)
-        → HaveNumbers (messages came) → meaning dialogue came message ≡ heard.Told number approved code → number < 100 ^ 3 }
+    ensures reported { (dialogue : Dialogue) (came : List Came) (message : MessageValue) (trace : ℕ) (figures : Figures) (code : ℕ)
+        → AllNumbersFitFields (messages came) → meaning dialogue came message ≡ heard.Told trace (Some figures) code
+        → FiguresFitFields figures }
+    ensures reported_some { (dialogue : Dialogue) (came : List Came) (message : MessageValue) (trace : ℕ) (figures : Figures) (code : ℕ)
+        → meaning dialogue came message ≡ heard.Told trace (Some figures) code → AreAtLeastOne figures }
+    ensures reported_number { (dialogue : Dialogue) (came : List Came) (message : MessageValue) (trace : ℕ) (approved : Option Figures) (code : ℕ)
+        → AllNumbersFitFields (messages came) → meaning dialogue came message ≡ heard.Told trace approved code → trace < 100 ^ 3 }
 {
     law_approved();
-    law_told();
+    law_reports();
     law_meanings();
 }
 
@@ -167,9 +168,9 @@ pub fn law_figures()
 /// exactly where one was wished before.
 pub fn law_begun()
     ensures without_wish { (dialogue : Dialogue) (came : List Came) (message : MessageValue)
-        → (meaning dialogue came message ≡ heard.Begun false) ↔ (AcknowledgesCommand dialogue came message × HasNoWish came) }
+        → (meaning dialogue came message ≡ heard.Begun false) ↔ (AcknowledgesCommand dialogue came message × HasNoStopWished came) }
     ensures with_wish { (dialogue : Dialogue) (came : List Came) (message : MessageValue)
-        → (meaning dialogue came message ≡ heard.Begun true) ↔ (AcknowledgesCommand dialogue came message × HasWish came) }
+        → (meaning dialogue came message ≡ heard.Begun true) ↔ (AcknowledgesCommand dialogue came message × HasStopWished came) }
 {
     law_acknowledged();
 }
@@ -190,7 +191,7 @@ pub fn law_goes_on()
         → (meaning dialogue came message ≡ heard.Line) ↔ BringsLine came message }
     ensures block { (dialogue : Dialogue) (came : List Came) (message : MessageValue)
         → (meaning dialogue came message ≡ heard.Block) ↔ BringsBlock came message }
-    ensures seen { (dialogue : Dialogue) (came : List Came) (message : MessageValue)
+    ensures status { (dialogue : Dialogue) (came : List Came) (message : MessageValue)
         → (meaning dialogue came message ≡ heard.Seen) ↔ BringsStatus came message }
 {}
 
@@ -202,6 +203,16 @@ pub fn law_deadline()
         → deadline dialogue (came ++ Message message at ∷ []) ≡ at +ℤ pos dialogue.command_time }
     ensures other { (dialogue : Dialogue) (came : List Came) (at : ℤ)
         → deadline dialogue (came ++ Message Other at ∷ []) ≡ deadline dialogue came }
-    ensures wish { (dialogue : Dialogue) (came : List Came)
+    ensures stop_wished { (dialogue : Dialogue) (came : List Came)
         → deadline dialogue (came ++ StopWished ∷ []) ≡ deadline dialogue came }
+{}
+
+/// Examples of the laws, which are computed: how a payment begins and goes on, its deadlines, the greatest numbers that
+/// are reported, and what an enquiry reports.
+pub fn law_examples()
+    ensures begun { ExampleBegins }
+    ensures goes_on { ExampleGoesOn }
+    ensures deadline { ExampleDeadlines }
+    ensures figures { ExampleFigures }
+    ensures reports { ExampleReports }
 {}

@@ -29,12 +29,12 @@ pub(crate) enum Phase {
 
 impl Phase {
     /// The phase after a message that is taken.
-    pub(crate) fn after(self, kind: DialogueKind, message: &PtMessage<'_>) -> Phase
-        ensures { result ≡ next_phase kind self (value_of message.now) }
+    pub(crate) fn after(self, dialogue_kind: DialogueKind, message: &PtMessage<'_>) -> Phase
+        ensures { result ≡ next_phase dialogue_kind self (value_of message.now) }
     {
         match self {
             Phase::Asked { stop_wished } => match message {
-                PtMessage::Ack if !kind.is_display() => Phase::Begun {
+                PtMessage::Ack if !dialogue_kind.is_display() => Phase::Begun {
                     stop_sent: stop_wished,
                     statuses: Statuses::none(),
                 },
@@ -60,6 +60,7 @@ impl Phase {
         ensures { result ≡ phase_after_wish self }
     {
         match self {
+            // A terminal takes no other command before it has answered this one, so the wish waits.
             Phase::Asked { .. } => Phase::Asked { stop_wished: true },
             Phase::Begun { statuses, .. } => Phase::Begun {
                 stop_sent: true,

@@ -61,14 +61,14 @@ impl Statuses {
 pub(crate) fn full_figures(status: &Fields) -> Option<Figures>
     ensures { result ≡ full_figures status.now }
 {
-    let number = status.trace?;
+    let trace = status.trace?;
     let receipt = status.receipt?;
     let amount = status.amount?;
-    if number == 0 || amount == 0 {
+    if trace == 0 || amount == 0 {
         return None;
     }
     Some(Figures {
-        number,
+        number: trace,
         receipt,
         amount,
     })

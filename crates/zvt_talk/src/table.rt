@@ -11,14 +11,14 @@ use zvt_msg::PtMessage;
 
 /// The first message after the command.
 pub(crate) fn meaning_when_asked(
-    kind: DialogueKind,
+    dialogue_kind: DialogueKind,
     stop_wished: bool,
     message: &PtMessage<'_>,
 ) -> Heard
-    ensures { result ≡ meaning_when_asked kind stop_wished (value_of message.now) }
+    ensures { result ≡ meaning_when_asked dialogue_kind stop_wished (value_of message.now) }
 {
     match message {
-        PtMessage::Ack if kind.is_display() => Heard::Done,
+        PtMessage::Ack if dialogue_kind.is_display() => Heard::Done,
         PtMessage::Ack => Heard::Begun { stop: stop_wished },
         PtMessage::Nack(code) if *code != 0 => Heard::Declined {
             code: *code,
@@ -32,12 +32,12 @@ pub(crate) fn meaning_when_asked(
 /// A message after the acknowledgement. `none` is the code by which the terminal reports to an enquiry that it has no
 /// transaction.
 pub(crate) fn meaning_when_begun(
-    kind: DialogueKind,
+    dialogue_kind: DialogueKind,
     none: u8,
     statuses: Statuses,
     message: &PtMessage<'_>,
 ) -> Heard
-    ensures { result ≡ meaning_when_begun kind none statuses (value_of message.now) }
+    ensures { result ≡ meaning_when_begun dialogue_kind none statuses (value_of message.now) }
 {
     match message {
         // It answers `06 B0`, or nothing: which of them can't be seen here, and neither ends the dialogue.
@@ -46,15 +46,15 @@ pub(crate) fn meaning_when_begun(
         PtMessage::Line(_) => Heard::Line,
         PtMessage::Block(_) => Heard::Block,
         PtMessage::Status(_) => Heard::Seen,
-        PtMessage::Completion => meaning_of_completion(kind, statuses),
-        PtMessage::Abort(code) => meaning_of_abort(kind, none, statuses, *code),
+        PtMessage::Completion => meaning_of_completion(dialogue_kind, statuses),
+        PtMessage::Abort(code) => meaning_of_abort(dialogue_kind, none, statuses, *code),
     }
 }
 
-fn meaning_of_completion(kind: DialogueKind, statuses: Statuses) -> Heard
-    ensures { result ≡ meaning_of_completion kind statuses }
+fn meaning_of_completion(dialogue_kind: DialogueKind, statuses: Statuses) -> Heard
+    ensures { result ≡ meaning_of_completion dialogue_kind statuses }
 {
-    match kind {
+    match dialogue_kind {
         DialogueKind::Payment | DialogueKind::Reversal => transaction_completed(statuses),
         DialogueKind::Enquiry => enquiry_completed(statuses.last),
         DialogueKind::Registration | DialogueKind::EndOfDay => service_completed(statuses),
@@ -84,12 +84,12 @@ fn enquiry_completed(last: Option<Fields>) -> Heard
     let Some(status) = last else {
         return Heard::Unclear;
     };
-    let (Some(code), Some(number)) = (status.result, status.trace) else {
+    let (Some(code), Some(trace)) = (status.result, status.trace) else {
         return Heard::Unclear;
     };
     if code != 0 {
         return Heard::Told {
-            number,
+            number: trace,
             approved: None,
             code,
         };
@@ -97,7 +97,7 @@ fn enquiry_completed(last: Option<Fields>) -> Heard
     match full_figures(&status) {
         None => Heard::Unclear,
         approved => Heard::Told {
-            number,
+            number: trace,
             approved,
             code,
         },
@@ -114,8 +114,13 @@ fn service_completed(statuses: Statuses) -> Heard
 }
 
 /// An abort by the terminal.
-fn meaning_of_abort(kind: DialogueKind, none: u8, statuses: Statuses, code: Option<u8>) -> Heard
-    ensures { result ≡ meaning_of_abort kind none statuses code }
+fn meaning_of_abort(
+    dialogue_kind: DialogueKind,
+    none: u8,
+    statuses: Statuses,
+    code: Option<u8>,
+) -> Heard
+    ensures { result ≡ meaning_of_abort dialogue_kind none statuses code }
 {
     let Some(code) = code else {
         return Heard::Unclear;
@@ -123,7 +128,7 @@ fn meaning_of_abort(kind: DialogueKind, none: u8, statuses: Statuses, code: Opti
     if code == 0 {
         return Heard::Unclear;
     }
-    match kind {
+    match dialogue_kind {
         DialogueKind::Payment | DialogueKind::Reversal => statuses.declined_unless_approved(code),
         DialogueKind::Enquiry => enquiry_aborted(none, statuses.last, code),
         DialogueKind::Registration | DialogueKind::EndOfDay => statuses.declined(code),

@@ -18,7 +18,7 @@ use zvt_msg::{Command, PtMessage};
 /// aren't kept, so that a dialogue takes no memory, however long it lasts; the contracts speak of all that came.
 #[derive(Clone, Copy, Debug, PartialEq, Eq)]
 pub struct Talk {
-    kind: DialogueKind,
+    dialogue_kind: DialogueKind,
     /// The code by which the terminal reports to an enquiry that it has no transaction.
     none: u8,
     /// Seconds from one message to the next.
@@ -32,9 +32,9 @@ impl Model for Talk {
 
     ghost Value = { TalkFacts };
 
-    ghost view = { λ t. record { kind = t.kind; none = t.none; command_time = t.command_time; deadline = t.deadline; phase = t.phase } };
+    ghost view = { λ t. record { dialogue_kind = t.dialogue_kind; none = t.none; command_time = t.command_time; deadline = t.deadline; phase = t.phase } };
 
-    ghost inverse = { λ t. record { kind = t.kind; none = t.none; command_time = t.command_time; deadline = t.deadline; phase = t.phase } };
+    ghost inverse = { λ t. record { dialogue_kind = t.dialogue_kind; none = t.none; command_time = t.command_time; deadline = t.deadline; phase = t.phase } };
 }
 
 impl Talk {
@@ -50,7 +50,7 @@ impl Talk {
         ensures goes_on { IsTrue (talk_goes_on result) }
     {
         Talk {
-            kind: DialogueKind::of(command),
+            dialogue_kind: DialogueKind::of(command),
             none,
             command_time,
             deadline: now + i64::from(answer),
@@ -89,7 +89,7 @@ impl Talk {
             return;
         }
         self.deadline = now + i64::from(self.command_time);
-        self.phase = self.phase.after(self.kind, message);
+        self.phase = self.phase.after(self.dialogue_kind, message);
     }
 
     /// What the message means in the phase that the dialogue is in.
@@ -97,9 +97,16 @@ impl Talk {
         ensures { result ≡ meaning_for_talk self.now (value_of message.now) }
     {
         match self.phase {
-            Phase::Asked { stop_wished } => meaning_when_asked(self.kind, stop_wished, message),
+            Phase::Asked { stop_wished } => meaning_when_asked(
+                self.dialogue_kind,
+                stop_wished,
+                message,
+            ),
             Phase::Begun { statuses, .. } => meaning_when_begun(
-                self.kind, self.none, statuses, message,
+                self.dialogue_kind,
+                self.none,
+                statuses,
+                message,
             ),
             Phase::Ended { .. } => Heard::Stray,
         }
@@ -110,7 +117,7 @@ impl Talk {
     pub fn abort(&mut self) -> bool
         // Where the dialogue is begun and goes on, and `06 B0` was not sent yet.
         ensures sent { (dialogue : Dialogue) (came : List Came) → self.old ≡ talk_after dialogue came
-            → result ≡ (is_begun dialogue.kind (messages came) && not (is_stop_sent dialogue.kind came)) }
+            → result ≡ (is_begun dialogue.dialogue_kind (messages came) && not (is_stop_sent dialogue.dialogue_kind came)) }
         ensures added { (dialogue : Dialogue) (came : List Came) → self.old ≡ talk_after dialogue came
             → self.new ≡ talk_after dialogue (came ++ StopWished ∷ []) }
 
@@ -133,7 +140,7 @@ impl Talk {
     /// Whether `06 B0` was sent in this dialogue.
     pub fn aborted(&self) -> bool
         ensures sent { (dialogue : Dialogue) (came : List Came) → self.now ≡ talk_after dialogue came
-            → result ≡ is_stop_sent dialogue.kind came }
+            → result ≡ is_stop_sent dialogue.dialogue_kind came }
         ensures computes { result ≡ was_stop_sent self.now.phase }
     {
         self.phase.was_stop_sent()

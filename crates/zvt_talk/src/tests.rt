@@ -68,13 +68,16 @@ fn abort(code: Option<u8>) -> PtMessage<'static> {
     PtMessage::Abort(code)
 }
 
-fn declined(code: u8, number: Option<u32>) -> Heard {
-    Heard::Declined { code, number }
+fn declined(code: u8, trace: Option<u32>) -> Heard {
+    Heard::Declined {
+        code,
+        number: trace,
+    }
 }
 
-fn last(number: u32, approved: Option<Figures>, code: u8) -> Heard {
+fn last(trace: u32, approved: Option<Figures>, code: u8) -> Heard {
     Heard::Told {
-        number,
+        number: trace,
         approved,
         code,
     }
@@ -181,7 +184,7 @@ fn begun(rt: HostRuntime) {
     let done = Heard::Done;
     let unclear = Heard::Unclear;
     let approved = Heard::Approved(FIGURES);
-    let told = last(123, Some(FIGURES), 0);
+    let reported = last(123, Some(FIGURES), 0);
     let refused = declined(5, Some(123));
     let other = last(123, None, 5);
     let cancelled = declined(0x6C, None);
@@ -219,10 +222,10 @@ fn begun(rt: HostRuntime) {
         ),
         // Ended by a completion.
         (one(END), done, unclear, unclear),
-        (two(status(0), END), done, told, approved),
+        (two(status(0), END), done, reported, approved),
         (two(status(5), END), refused, other, refused),
         ([status(0), status(5), END], refused, other, unclear),
-        ([status(5), status(0), END], done, told, approved),
+        ([status(5), status(0), END], done, reported, approved),
         (two(without_receipt, END), done, unclear, unclear),
         (two(amount_zero, END), done, unclear, unclear),
         (two(number_zero, END), done, unclear, unclear),
@@ -268,7 +271,7 @@ fn status_with_an_unknown_field(rt: HostRuntime) -> Result<(), Fail> {
     Ok(())
 }
 
-/// An abort is wished, and sent once the dialogue is begun; the answer to it ends nothing.
+/// A stop is wished, and sent once the dialogue is begun; the answer to it ends nothing.
 #[test]
 fn aborts(rt: HostRuntime) {
     let mut talk = Talk::start(&PAYMENT, NONE, 5, 90, NOW);

@@ -62,20 +62,20 @@ pub record Measured (bytes : List ℕ) (n : ℕ) (rest : List ℕ) : Type 0 wher
   pub parts : bytes ≡ prefix ++ rest
 
 -- pairs that are found are equal where their results are
-abbrev pub told : {A : Type 0} → A → Option A
-told x = Some x
+abbrev pub some_of : {A : Type 0} → A → Option A
+some_of x = Some x
 
-pub told_is : {A : Type 0} (x y : A) → told x ≡ told y → x ≡ y
-told_is x y e = cc
+pub some_of_is : {A : Type 0} (x y : A) → some_of x ≡ some_of y → x ≡ y
+some_of_is x y e = cc
 
-pub found_number : (m n : ℕ) (xs ys : List ℕ) → told {A = ℕ × List ℕ} (m, xs) ≡ told {A = ℕ × List ℕ} (n, ys) → (m ≡ n) × (xs ≡ ys)
+pub found_number : (m n : ℕ) (xs ys : List ℕ) → some_of {A = ℕ × List ℕ} (m, xs) ≡ some_of {A = ℕ × List ℕ} (n, ys) → (m ≡ n) × (xs ≡ ys)
 found_number m n xs ys e =
-    let pair = told_is {A = ℕ × List ℕ} (m, xs) (n, ys) e in
+    let pair = some_of_is {A = ℕ × List ℕ} (m, xs) (n, ys) e in
     (ap (λ (p : ℕ × List ℕ). p.0) pair, ap (λ (p : ℕ × List ℕ). p.1) pair)
 
-pub found_object : (m n : ObjectValue) (xs ys : List ℕ) → told {A = ObjectValue × List ℕ} (m, xs) ≡ told {A = ObjectValue × List ℕ} (n, ys) → (m ≡ n) × (xs ≡ ys)
+pub found_object : (m n : ObjectValue) (xs ys : List ℕ) → some_of {A = ObjectValue × List ℕ} (m, xs) ≡ some_of {A = ObjectValue × List ℕ} (n, ys) → (m ≡ n) × (xs ≡ ys)
 found_object m n xs ys e =
-    let pair = told_is {A = ObjectValue × List ℕ} (m, xs) (n, ys) e in
+    let pair = some_of_is {A = ObjectValue × List ℕ} (m, xs) (n, ys) e in
     (ap (λ (p : ObjectValue × List ℕ). p.0) pair, ap (λ (p : ObjectValue × List ℕ). p.1) pair)
 
 third_read : (b c : ℕ) (bytes : List ℕ) (tag : ℕ) (rest : List ℕ) → b % 32 ≡ 31 → 128 ≤ c → decode_third_tag_byte b c bytes ≡ Some (tag, rest) → Tagged (b ∷ c ∷ bytes) tag rest
@@ -125,16 +125,16 @@ two_read (high ∷ low ∷ bytes) n rest e =
     record { prefix = 130 ∷ high ∷ low ∷ []; is_length = (refl, sym both.0); parts = ap (λ (t : List ℕ). 130 ∷ high ∷ low ∷ t) both.1 }
 
 -- the first byte of a length: below 80, 81, 82 or another
-data Form : ℕ → Type 0 where
-  Short : {b : ℕ} → b < 128 → Form b
-  One : {b : ℕ} → b ≡ 129 → Form b
-  Two : {b : ℕ} → b ≡ 130 → Form b
-  Bad : {b : ℕ} → (b ≡ 128) ⊎ (130 < b) → Form b
+data LengthByte : ℕ → Type 0 where
+  ShortForm : {b : ℕ} → b < 128 → LengthByte b
+  One : {b : ℕ} → b ≡ 129 → LengthByte b
+  Two : {b : ℕ} → b ≡ 130 → LengthByte b
+  Bad : {b : ℕ} → (b ≡ 128) ⊎ (130 < b) → LengthByte b
 
-form_of : (b : ℕ) → Form b
+form_of : (b : ℕ) → LengthByte b
 form_of b =
     elim (cases_lt b 128) [
-      | inl small ↦ Short small
+      | inl small ↦ ShortForm small
       | inr large ↦ elim (cases_eq b 129) [
         | inl e ↦ One e
         | inr ne ↦ elim (cases_eq b 130) [
@@ -152,8 +152,8 @@ bad_length b bytes (inr above) =
     let not_two : eqb b 130 ≡ false = ne_eqb _ _ (λ e. omega arith) in
     rw (large, not_one, not_two) refl
 
-length_by : (b : ℕ) (bytes : List ℕ) (n : ℕ) (rest : List ℕ) → Form b → decode_tlv_length (b ∷ bytes) ≡ Some (n, rest) → Measured (b ∷ bytes) n rest
-length_by b bytes n rest (Short small) e =
+length_by : (b : ℕ) (bytes : List ℕ) (n : ℕ) (rest : List ℕ) → LengthByte b → decode_tlv_length (b ∷ bytes) ≡ Some (n, rest) → Measured (b ∷ bytes) n rest
+length_by b bytes n rest (ShortForm small) e =
     let test : ltb b 128 ≡ true = lt-ltb _ _ small in
     let both = found_number b n bytes rest (rw test at e) in
     record { prefix = b ∷ []; is_length = (small, sym both.0); parts = ap (λ (t : List ℕ). b ∷ t) both.1 }
@@ -171,7 +171,7 @@ length_read (b ∷ bytes) n rest e = length_by b bytes n rest (form_of b) e
 value_read : (tag n : ℕ) (bytes : List ℕ) (object : ObjectValue) (rest : List ℕ) → decode_tlv_value tag n bytes ≡ Some (object, rest) → (tag ≡ object.tag) × (n ≡ length object.value) × (bytes ≡ object.value ++ rest)
 value_read tag n bytes object rest e =
     elim (cases_lt (length bytes) n) [
-      | inl cut ↦ let test : ltb (length bytes) n ≡ true = lt-ltb _ _ cut in let none = rw test at e in absurd (cc none)
+      | inl truncated ↦ let test : ltb (length bytes) n ≡ true = lt-ltb _ _ truncated in let none = rw test at e in absurd (cc none)
       | inr there ↦
           let test : ltb (length bytes) n ≡ false = le-ltb _ _ there in
           let both = found_object (record { tag = tag; value = take n bytes }) object (drop n bytes) rest (rw test at e) in
@@ -207,14 +207,14 @@ found_begins bytes object rest e = at_tag (decode_tag bytes) refl e where
 -- ---- what is malformed
 
 -- with more bytes after it, it is an object
-cut_by : (bytes more prefix length_bytes value : List ℕ) (tag : ℕ) → bytes ≢ [] → more ≢ [] → SpellsTag prefix tag → SpellsTlvLength length_bytes (length value) → bytes ++ more ≡ prefix ++ (length_bytes ++ value) → IsMalformedTlvObject bytes
-cut_by bytes more prefix length_bytes value tag some longer is_tag is_length whole =
+truncated_by : (bytes more prefix length_bytes value : List ℕ) (tag : ℕ) → bytes ≢ [] → more ≢ [] → SpellsTag prefix tag → SpellsTlvLength length_bytes (length value) → bytes ++ more ≡ prefix ++ (length_bytes ++ value) → IsMalformedTlvObject bytes
+truncated_by bytes more prefix length_bytes value tag some longer is_tag is_length whole =
     let spells : SpellsTlvObject (bytes ++ more) (record { tag = tag; value = value }) = record { tag_bytes = prefix; length_bytes = length_bytes; is_tag = is_tag; is_length = is_length; whole = whole } in
     inl (some, more, record { tag = tag; value = value }, longer, spells)
 
 third_missing : (b c : ℕ) (bytes : List ℕ) → b % 32 ≡ 31 → 128 ≤ c → decode_third_tag_byte b c bytes ≡ None → IsMalformedTlvObject (b ∷ c ∷ bytes)
 third_missing b c [] set large e =
-    cut_by (b ∷ c ∷ []) (0 ∷ 0 ∷ []) (b ∷ c ∷ 0 ∷ []) (0 ∷ []) [] (256 * c + 65536 * b) (λ e. absurd cc) (λ e. absurd cc) (set, large, omega arith, omega arith) (omega arith, refl) refl
+    truncated_by (b ∷ c ∷ []) (0 ∷ 0 ∷ []) (b ∷ c ∷ 0 ∷ []) (0 ∷ []) [] (256 * c + 65536 * b) (λ e. absurd cc) (λ e. absurd cc) (set, large, omega arith, omega arith) (omega arith, refl) refl
 third_missing b c (d ∷ bytes) set large e =
     elim (cases_lt d 128) [
       | inl small ↦ let test : ltb d 128 ≡ true = lt-ltb _ _ small in let there = rw test at e in absurd (cc there)
@@ -223,7 +223,7 @@ third_missing b c (d ∷ bytes) set large e =
 
 second_missing : (b : ℕ) (bytes : List ℕ) → b % 32 ≡ 31 → decode_second_tag_byte b bytes ≡ None → IsMalformedTlvObject (b ∷ bytes)
 second_missing b [] set e =
-    cut_by (b ∷ []) (0 ∷ 0 ∷ []) (b ∷ 0 ∷ []) (0 ∷ []) [] (256 * b) (λ e. absurd cc) (λ e. absurd cc) (set, omega arith, omega arith) (omega arith, refl) refl
+    truncated_by (b ∷ []) (0 ∷ 0 ∷ []) (b ∷ 0 ∷ []) (0 ∷ []) [] (256 * b) (λ e. absurd cc) (λ e. absurd cc) (set, omega arith, omega arith) (omega arith, refl) refl
 second_missing b (c ∷ bytes) set e =
     elim (cases_lt c 128) [
       | inl small ↦ let test : ltb c 128 ≡ true = lt-ltb _ _ small in let there = rw test at e in absurd (cc there)
@@ -244,9 +244,9 @@ tag_some [] rest tag h e = h
 tag_some (b ∷ prefix) rest tag h e = cc
 
 -- after a tag, the bytes that are there of a length and a value, and what makes them whole
-cut_behind : (prefix there more length_bytes value : List ℕ) (tag : ℕ) → SpellsTag prefix tag → more ≢ [] → SpellsTlvLength length_bytes (length value) → there ++ more ≡ length_bytes ++ value → IsMalformedTlvObject (prefix ++ there)
-cut_behind prefix there more length_bytes value tag is_tag longer is_length whole =
-    cut_by (prefix ++ there) more prefix length_bytes value tag (tag_some prefix there tag is_tag) longer is_tag is_length (append_assoc prefix there more ∙ ap (λ (t : List ℕ). prefix ++ t) whole)
+truncated_after : (prefix there more length_bytes value : List ℕ) (tag : ℕ) → SpellsTag prefix tag → more ≢ [] → SpellsTlvLength length_bytes (length value) → there ++ more ≡ length_bytes ++ value → IsMalformedTlvObject (prefix ++ there)
+truncated_after prefix there more length_bytes value tag is_tag longer is_length whole =
+    truncated_by (prefix ++ there) more prefix length_bytes value tag (tag_some prefix there tag is_tag) longer is_tag is_length (append_assoc prefix there more ∙ ap (λ (t : List ℕ). prefix ++ t) whole)
 
 zeros : ℕ → List ℕ
 zeros n = replicate n 0
@@ -255,37 +255,37 @@ zeros_are : (n : ℕ) → length (zeros n) ≡ n
 unfolding zeros
 zeros_are n = length-replicate {A = ℕ} n 0
 
-length_missing : (prefix : List ℕ) (tag : ℕ) (b : ℕ) (bytes : List ℕ) → SpellsTag prefix tag → Form b → decode_tlv_length (b ∷ bytes) ≡ None → IsMalformedTlvObject (prefix ++ b ∷ bytes)
-length_missing prefix tag b bytes is_tag (Short small) e =
+length_missing : (prefix : List ℕ) (tag : ℕ) (b : ℕ) (bytes : List ℕ) → SpellsTag prefix tag → LengthByte b → decode_tlv_length (b ∷ bytes) ≡ None → IsMalformedTlvObject (prefix ++ b ∷ bytes)
+length_missing prefix tag b bytes is_tag (ShortForm small) e =
     let test : ltb b 128 ≡ true = lt-ltb _ _ small in let there = rw test at e in absurd (cc there)
 length_missing prefix tag b [] is_tag (One is) e =
-    cut_behind prefix (b ∷ []) (0 ∷ []) (b ∷ 0 ∷ []) [] tag is_tag (λ e. absurd cc) (is, refl) refl
+    truncated_after prefix (b ∷ []) (0 ∷ []) (b ∷ 0 ∷ []) [] tag is_tag (λ e. absurd cc) (is, refl) refl
 length_missing prefix tag b (n ∷ bytes) is_tag (One is) e = let there = rw is at e in absurd (cc there)
 length_missing prefix tag b [] is_tag (Two is) e =
-    cut_behind prefix (b ∷ []) (0 ∷ 0 ∷ []) (b ∷ 0 ∷ 0 ∷ []) [] tag is_tag (λ e. absurd cc) (is, refl) refl
+    truncated_after prefix (b ∷ []) (0 ∷ 0 ∷ []) (b ∷ 0 ∷ 0 ∷ []) [] tag is_tag (λ e. absurd cc) (is, refl) refl
 length_missing prefix tag b (high ∷ []) is_tag (Two is) e =
     let size = zeros_are (256 * high) in
-    cut_behind prefix (b ∷ high ∷ []) (0 ∷ zeros (256 * high)) (b ∷ high ∷ 0 ∷ []) (zeros (256 * high)) tag is_tag (λ e. absurd cc) (is, omega (arith, size)) refl
+    truncated_after prefix (b ∷ high ∷ []) (0 ∷ zeros (256 * high)) (b ∷ high ∷ 0 ∷ []) (zeros (256 * high)) tag is_tag (λ e. absurd cc) (is, omega (arith, size)) refl
 length_missing prefix tag b (high ∷ low ∷ bytes) is_tag (Two is) e = let there = rw is at e in absurd (cc there)
 length_missing prefix tag b bytes is_tag (Bad form) e = inr (inr (prefix, tag, b, bytes, is_tag, form, refl))
 
 value_missing : (prefix length_bytes : List ℕ) (tag n : ℕ) (bytes : List ℕ) → SpellsTag prefix tag → SpellsTlvLength length_bytes n → decode_tlv_value tag n bytes ≡ None → IsMalformedTlvObject (prefix ++ (length_bytes ++ bytes))
 value_missing prefix length_bytes tag n bytes is_tag is_length e =
     elim (cases_lt (length bytes) n) [
-      | inl cut ↦
+      | inl truncated ↦
           let missing = zeros (n - length bytes) in
           let count = zeros_are (n - length bytes) in
           let size : length (bytes ++ missing) ≡ n = omega (arith, length-append bytes missing, count) in
-          cut_behind prefix (length_bytes ++ bytes) missing length_bytes (bytes ++ missing) tag is_tag (λ none. omega (arith, ap length none, count)) (rw size is_length) (append_assoc length_bytes bytes missing)
+          truncated_after prefix (length_bytes ++ bytes) missing length_bytes (bytes ++ missing) tag is_tag (λ none. omega (arith, ap length none, count)) (rw size is_length) (append_assoc length_bytes bytes missing)
       | inr there ↦ let test : ltb (length bytes) n ≡ false = le-ltb _ _ there in let there = rw test at e in absurd (cc there)
     ]
 
-pub none_unlawful : (bytes : List ℕ) → bytes ≢ [] → decode_tlv_object bytes ≡ None → IsMalformedTlvObject bytes
+pub none_malformed : (bytes : List ℕ) → bytes ≢ [] → decode_tlv_object bytes ≡ None → IsMalformedTlvObject bytes
 unfolding decode_tlv_object
-none_unlawful bytes some e = at_tag (decode_tag bytes) refl e where
+none_malformed bytes some e = at_tag (decode_tag bytes) refl e where
   at_length : (prefix : List ℕ) (tag : ℕ) (after : List ℕ) (found : Option (ℕ × List ℕ)) → SpellsTag prefix tag → decode_tlv_length after ≡ found → decode_after_tlv_length tag found ≡ None → IsMalformedTlvObject (prefix ++ after)
   at_length prefix tag [] None is_tag is_length e =
-      cut_behind prefix [] (0 ∷ []) (0 ∷ []) [] tag is_tag (λ e. absurd cc) (omega arith, refl) refl
+      truncated_after prefix [] (0 ∷ []) (0 ∷ []) [] tag is_tag (λ e. absurd cc) (omega arith, refl) refl
   at_length prefix tag (b ∷ after) None is_tag is_length e = length_missing prefix tag b after is_tag (form_of b) is_length
   at_length prefix tag after (Some (n, body)) is_tag is_length e =
       let l = length_read after n body is_length in
@@ -307,31 +307,31 @@ nil_of_append [] ys e = e
 nil_of_append (x ∷ xs) ys e = absurd cc
 
 -- malformed bytes begin with no object
-pub unlawful_begins : (bytes : List ℕ) (object : ObjectValue) (rest : List ℕ) → IsMalformedTlvObject bytes → BeginsWithTlvObject bytes object rest → ⊥
+pub malformed_begins : (bytes : List ℕ) (object : ObjectValue) (rest : List ℕ) → IsMalformedTlvObject bytes → BeginsWithTlvObject bytes object rest → ⊥
 unfolding decode_tlv_object
-unlawful_begins bytes object rest (inl (some, more, other, longer, spells)) begins =
+malformed_begins bytes object rest (inl (some, more, other, longer, spells)) begins =
     let one = begins_found (bytes ++ more) object (rest ++ more) (begins_longer bytes more object rest begins) in
     let whole = begins_found (bytes ++ more) other [] (bytes ++ more, spells, sym (append-nil (bytes ++ more))) in
     longer (nil_of_append rest more (found_object object other (rest ++ more) [] (sym one ∙ whole)).1)
-unlawful_begins bytes object rest (inr (inl (b, c, d, more, set, second, third, parts))) begins =
+malformed_begins bytes object rest (inr (inl (b, c, d, more, set, second, third, parts))) begins =
     let large : ltb c 128 ≡ false = le-ltb _ _ second in
     let larger : ltb d 128 ≡ false = le-ltb _ _ third in
     let none : decode_tlv_object (b ∷ c ∷ d ∷ more) ≡ None = rw (set, large, larger) refl in
     let found = begins_found bytes object rest begins in
     cc (none, found, parts)
-unlawful_begins bytes object rest (inr (inr (prefix, tag, form, more, is_tag, bad, parts))) begins =
+malformed_begins bytes object rest (inr (inr (prefix, tag, form, more, is_tag, bad, parts))) begins =
     let none : decode_tlv_object (prefix ++ form ∷ more) ≡ None = ap decode_after_tag (tag_found prefix tag (form ∷ more) is_tag) ∙ ap (decode_after_tlv_length tag) (bad_length form more bad) in
     let found = begins_found bytes object rest begins in
     cc (none, found, parts)
 
-pub unlawful_none : (bytes : List ℕ) (found : Option (ObjectValue × List ℕ)) → IsMalformedTlvObject bytes → decode_tlv_object bytes ≡ found → found ≡ None
-unlawful_none bytes None unlawful e = refl
-unlawful_none bytes (Some (object, rest)) unlawful e = absurd (unlawful_begins bytes object rest unlawful (found_begins bytes object rest e))
+pub malformed_none : (bytes : List ℕ) (found : Option (ObjectValue × List ℕ)) → IsMalformedTlvObject bytes → decode_tlv_object bytes ≡ found → found ≡ None
+malformed_none bytes None malformed e = refl
+malformed_none bytes (Some (object, rest)) malformed e = absurd (malformed_begins bytes object rest malformed (found_begins bytes object rest e))
 
-pub unlawful_some : (bytes : List ℕ) → IsMalformedTlvObject bytes → bytes ≢ []
-unlawful_some bytes (inl (some, more, object, longer, spells)) e = some e
-unlawful_some bytes (inr (inl (b, c, d, more, set, second, third, parts))) e = cc
-unlawful_some bytes (inr (inr (prefix, tag, form, more, is_tag, bad, parts))) e = tag_some prefix (form ∷ more) tag is_tag (sym parts ∙ e)
+pub malformed_some : (bytes : List ℕ) → IsMalformedTlvObject bytes → bytes ≢ []
+malformed_some bytes (inl (some, more, object, longer, spells)) e = some e
+malformed_some bytes (inr (inl (b, c, d, more, set, second, third, parts))) e = cc
+malformed_some bytes (inr (inr (prefix, tag, form, more, is_tag, bad, parts))) e = tag_some prefix (form ∷ more) tag is_tag (sym parts ∙ e)
 
 -- ---- what is written
 

@@ -7,7 +7,7 @@ use Rattle.zvt_tlv.specs.GrammarOfObjects.{BeginsWithTlvObjects, SpellsTlvObject
 use Rattle.zvt_tlv.specs.Decode.{decode_tlv_object}
 use Rattle.zvt_tlv.specs.DecodeObjects.{DecodedTlvObjects, with_first_tlv_object, decode_tlv_objects_from, decode_tlv_objects_within, decode_tlv_objects}
 use Rattle.zvt_tlv.specs.Reader.{TlvReaderValue, PassesTlvObjects}
-use Rattle.zvt_tlv.proofs.DecodeLemmas.{found_object, begins_found, found_begins, none_unlawful, unlawful_begins}
+use Rattle.zvt_tlv.proofs.DecodeLemmas.{found_object, begins_found, found_begins, none_malformed, malformed_begins}
 
 -- ---- one reading
 
@@ -32,7 +32,7 @@ end_begins : (bytes : List ℕ) (object : ObjectValue) (rest : List ℕ) → IsE
 end_begins bytes object rest (inl empty) begins =
     let some = begins_shrinks bytes object rest begins in
     omega (arith, ap length empty)
-end_begins bytes object rest (inr unlawful) begins = unlawful_begins bytes object rest unlawful begins
+end_begins bytes object rest (inr malformed) begins = malformed_begins bytes object rest malformed begins
 
 pub one_reading : (xs ys : List ObjectValue) (bytes r s : List ℕ) → BeginsWithTlvObjects bytes xs r → IsEndOfTlvObjects r → BeginsWithTlvObjects bytes ys s → IsEndOfTlvObjects s → (xs ≡ ys) × (r ≡ s)
 one_reading [] [] bytes r s first ends second stops = (refl, sym first ∙ second)
@@ -92,7 +92,7 @@ record Ends (bytes : List ℕ) (split : DecodedTlvObjects) : Type 0 where
 
 nothing_more : (bytes : List ℕ) → decode_tlv_object bytes ≡ None → IsEndOfTlvObjects bytes
 nothing_more [] e = inl refl
-nothing_more (b ∷ bytes) e = inr (none_unlawful (b ∷ bytes) (λ empty. absurd cc) e)
+nothing_more (b ∷ bytes) e = inr (none_malformed (b ∷ bytes) (λ empty. absurd cc) e)
 
 at_prefix : (bytes : List ℕ) (found : Option (ObjectValue × List ℕ)) → decode_tlv_object bytes ≡ found → ((rest : List ℕ) → length rest < length bytes → Ends rest (decode_tlv_objects rest)) → Ends bytes (decode_tlv_objects bytes)
 at_prefix bytes None e others = rw (split_none bytes e) (record { splits = refl; ends = nothing_more bytes e })
@@ -122,16 +122,16 @@ fills_is bytes objects = (
   λ is. subst (λ (s : DecodedTlvObjects). BeginsWithTlvObjects bytes s.objects s.rest) is (split_is bytes).0,
 )
 
-pub fault_is : (bytes : List ℕ) (at : ℕ) → HasTlvFaultAt bytes at ↔ (IsMalformedTlvObject (decode_tlv_objects bytes).rest × (at + length (decode_tlv_objects bytes).rest ≡ length bytes))
-fault_is bytes at = (
-  (λ (objects, rest, splits, unlawful, offset). let is = only_split bytes objects rest splits (inr unlawful) in rw is (unlawful, offset)),
-  λ (unlawful, offset). ((decode_tlv_objects bytes).objects, (decode_tlv_objects bytes).rest, (split_is bytes).0, unlawful, offset),
+pub fault_is : (bytes : List ℕ) (offset : ℕ) → HasTlvFaultAt bytes offset ↔ (IsMalformedTlvObject (decode_tlv_objects bytes).rest × (offset + length (decode_tlv_objects bytes).rest ≡ length bytes))
+fault_is bytes offset = (
+  (λ (objects, rest, splits, malformed, offset_is). let is = only_split bytes objects rest splits (inr malformed) in rw is (malformed, offset_is)),
+  λ (malformed, offset_is). ((decode_tlv_objects bytes).objects, (decode_tlv_objects bytes).rest, (split_is bytes).0, malformed, offset_is),
 )
 
 -- ---- calls of `next`
 
-pub walk_splits : (objects : List ObjectValue) (old new : TlvReaderValue) → PassesTlvObjects old objects new → BeginsWithTlvObjects old.rest objects new.rest × (new.at + length new.rest ≡ old.at + length old.rest)
-walk_splits [] old new same = (ap (λ (p : TlvReaderValue). p.rest) (sym same), ap (λ (p : TlvReaderValue). p.at + length p.rest) same)
+pub walk_splits : (objects : List ObjectValue) (old new : TlvReaderValue) → PassesTlvObjects old objects new → BeginsWithTlvObjects old.rest objects new.rest × (new.offset + length new.rest ≡ old.offset + length old.rest)
+walk_splits [] old new same = (ap (λ (p : TlvReaderValue). p.rest) (sym same), ap (λ (p : TlvReaderValue). p.offset + length p.rest) same)
 walk_splits (object ∷ objects) old new (mid, moves, walk) =
     let others = walk_splits objects mid new walk in
     ((mid.rest, moves.begins, others.0), others.1 ∙ moves.offset)

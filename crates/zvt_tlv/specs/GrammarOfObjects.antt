@@ -31,8 +31,8 @@ SpellsTlvObjects bytes objects = BeginsWithTlvObjects bytes objects []
 
 -- at this offset, after well-formed objects, begins the first that is malformed
 abbrev pub HasTlvFaultAt : List ℕ → ℕ → Type 0
-HasTlvFaultAt bytes at = (objects : List ObjectValue) × (rest : List ℕ)
-    × BeginsWithTlvObjects bytes objects rest × IsMalformedTlvObject rest × (at + length rest ≡ length bytes)
+HasTlvFaultAt bytes offset = (objects : List ObjectValue) × (rest : List ℕ)
+    × BeginsWithTlvObjects bytes objects rest × IsMalformedTlvObject rest × (offset + length rest ≡ length bytes)
 
 -- no object follows: nothing does, or what does is malformed
 abbrev pub IsEndOfTlvObjects : List ℕ → Type 0

@@ -7,7 +7,7 @@ use Rattle.zvt_tlv.specs.Decode.{decode_tlv_object}
 
 -- the bytes that are not read yet, and their offset in the whole bytes
 pub record TlvReaderValue : Type 0 where
-  pub at : ℕ
+  pub offset : ℕ
   pub rest : List ℕ
 
 -- the result is this object
@@ -20,12 +20,12 @@ IsTlvObject (Err fault) object = ⊥
 abbrev pub ReturnsTlvObject : Result (Option Object) TlvFault → TlvReaderValue → Type 0
 ReturnsTlvObject (Ok None) old = old.rest ≡ []
 ReturnsTlvObject (Ok (Some object)) old = (rest : List ℕ) × (decode_tlv_object old.rest ≡ Some (value_of object, rest))
-ReturnsTlvObject (Err fault) old = (fault ≡ record { at = old.at }) × (old.rest ≢ []) × (decode_tlv_object old.rest ≡ None)
+ReturnsTlvObject (Err fault) old = (fault ≡ record { at = old.offset }) × (old.rest ≢ []) × (decode_tlv_object old.rest ≡ None)
 
 -- the reader went past this object
 pub record PassesTlvObject (old new : TlvReaderValue) (object : ObjectValue) : Type 0 where
   pub begins : BeginsWithTlvObject old.rest object new.rest
-  pub offset : new.at + length new.rest ≡ old.at + length old.rest
+  pub offset : new.offset + length new.rest ≡ old.offset + length old.rest
 
 -- from a reader to the same after a call of `next` with this result: it goes on only past an object
 abbrev pub LeavesTlvReader : TlvReaderValue → Result (Option Object) TlvFault → TlvReaderValue → Type 0
@@ -35,7 +35,7 @@ LeavesTlvReader old (Err fault) new = new ≡ old
 
 -- a reader of these bytes that has read nothing
 abbrev pub tlv_reader_over : List ℕ → TlvReaderValue
-tlv_reader_over bytes = record { at = 0; rest = bytes }
+tlv_reader_over bytes = record { offset = 0; rest = bytes }
 
 -- calls of `next` gave these objects, one after another
 abbrev pub PassesTlvObjects : TlvReaderValue → List ObjectValue → TlvReaderValue → Type 0

@@ -37,15 +37,15 @@ pub fn law_objects()
     ensures end { (bytes : List ℕ) (objects : List ObjectValue) (reader : TlvReaderValue) → PassesTlvObjects (tlv_reader_over bytes) objects reader
         → reader.rest ≡ [] → SpellsTlvObjects bytes objects }
     ensures fault { (bytes : List ℕ) (objects : List ObjectValue) (reader : TlvReaderValue)
-        → PassesTlvObjects (tlv_reader_over bytes) objects reader → IsMalformedTlvObject reader.rest → HasTlvFaultAt bytes reader.at }
+        → PassesTlvObjects (tlv_reader_over bytes) objects reader → IsMalformedTlvObject reader.rest → HasTlvFaultAt bytes reader.offset }
 {}
 
 /// The function that computes the objects of bytes agrees with the grammar, and goes on after the first of them.
 pub fn law_decode_objects()
     ensures fills { (bytes : List ℕ) (objects : List ObjectValue)
         → SpellsTlvObjects bytes objects ↔ (decode_tlv_objects bytes ≡ record { objects = objects; rest = [] }) }
-    ensures fault { (bytes : List ℕ) (at : ℕ) → HasTlvFaultAt bytes at
-        ↔ (IsMalformedTlvObject (decode_tlv_objects bytes).rest × (at + length (decode_tlv_objects bytes).rest ≡ length bytes)) }
+    ensures fault { (bytes : List ℕ) (offset : ℕ) → HasTlvFaultAt bytes offset
+        ↔ (IsMalformedTlvObject (decode_tlv_objects bytes).rest × (offset + length (decode_tlv_objects bytes).rest ≡ length bytes)) }
     ensures whole { (bytes : List ℕ) (object : ObjectValue) (rest : List ℕ) → decode_tlv_object bytes ≡ Some (object, rest)
         → decode_tlv_objects bytes ≡ with_first_tlv_object object (decode_tlv_objects rest) }
     ensures none { (bytes : List ℕ) → decode_tlv_object bytes ≡ None → decode_tlv_objects bytes ≡ record { objects = []; rest = bytes } }

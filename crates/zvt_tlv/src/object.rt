@@ -20,6 +20,8 @@ pub struct Object<'a> {
 fn first_tag(bytes: &[u8]) -> Option<(u32, &[u8])>
     ensures { ReturnsTag result (decode_tag bytes.now) }
 {
+    // A first byte whose low five bits are all 1 says that more bytes follow, and the top bit of each of these that one
+    // more does. No tag of PA00P015 has more than three.
     match bytes {
         [first, rest @ ..] if *first % 32 != 31 => Some((u32::from(*first), rest)),
         [first, second, rest @ ..] if *second < 0x80 => {
@@ -51,6 +53,7 @@ fn first_length(bytes: &[u8]) -> Option<(usize, usize)>
     ensures within { IfSome result (λ found. found.1 ≤ length bytes.now) }
     ensures computes { ReturnsTlvLength bytes.now result (decode_tlv_length bytes.now) }
 {
+    // `80` would begin a value without a stated length, and no APDU holds a longer one than two bytes say.
     match bytes {
         [length, ..] if *length < 0x80 => Some((usize::from(*length), 1)),
         [0x81, length, ..] => Some((usize::from(*length), 2)),

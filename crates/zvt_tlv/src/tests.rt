@@ -36,14 +36,14 @@ fn the_example(rt: HostRuntime) -> Result<(), Fail> {
 
 #[test]
 fn objects_and_faults(rt: HostRuntime) -> Result<(), Fail> {
-    for (bytes, tags, at) in OBJECTS {
+    for (bytes, tags, offset) in OBJECTS {
         let mut tlv = Tlv::over(bytes);
         for tag in *tags {
             let object = tlv.next()?.expect(&rt, "an object");
             assert_eq!(rt; object.tag, *tag);
         }
         let fault = tlv.next().err();
-        assert_eq!(rt; fault, at.map(|at| TlvFault { at }));
+        assert_eq!(rt; fault, offset.map(|offset| TlvFault { at: offset }));
         if fault.is_none() {
             assert!(rt; tlv.next()?.is_none());
         }

@@ -14,7 +14,7 @@ use std::marker::Model;
 /// Contracts see a reader as the bytes that it has not read yet, and their offset in the whole.
 #[derive(Clone, Debug, Drop)]
 pub struct Tlv<'a> {
-    at: usize,
+    offset: usize,
     rest: &'a [u8],
 }
 
@@ -24,24 +24,27 @@ impl<'a> Model for Tlv<'a> {
 
     ghost Value = { TlvReaderValue };
 
-    ghost view = { λ r. record { at = r.at; rest = r.rest.now } };
+    ghost view = { λ r. record { offset = r.offset; rest = r.rest.now } };
 
-    ghost invariant = { λ r. r.at + length r.rest.now < 2 ^ 64 };
+    ghost invariant = { λ r. r.offset + length r.rest.now < 2 ^ 64 };
 }
 
 impl<'a> Tlv<'a> {
     /// A reader of these bytes.
     pub fn over(bytes: &'a [u8]) -> Tlv<'a>
-        ensures { result ≡ record { at = 0; rest = bytes.now } }
+        ensures { result ≡ record { offset = 0; rest = bytes.now } }
     {
-        Tlv { at: 0, rest: bytes }
+        Tlv {
+            offset: 0,
+            rest: bytes,
+        }
     }
 
     /// The offset, in the whole bytes, of those that are not read yet.
     pub fn offset(&self) -> usize
-        ensures { result ≡ self.now.at }
+        ensures { result ≡ self.now.offset }
     {
-        self.at
+        self.offset
     }
 
     /// The next object, or `None` at the end. At a malformed object the reader stays, and returns the same fault again.
@@ -49,7 +52,7 @@ impl<'a> Tlv<'a> {
         ensures whole { (object : ObjectValue)
             → IsTlvObject result object ↔ ((rest : List ℕ) × BeginsWithTlvObject self.old.rest object rest) }
         ensures none { IsOkAnd result IsNone ↔ (self.old.rest ≡ []) }
-        ensures fault { (at : ℕ) → (result ≡ Err (record { at = at })) ↔ ((at ≡ self.old.at) × IsMalformedTlvObject self.old.rest) }
+        ensures fault { (offset : ℕ) → (result ≡ Err (record { at = offset })) ↔ ((offset ≡ self.old.offset) × IsMalformedTlvObject self.old.rest) }
 
         // The result, by the function that decodes what is left, and what is left then.
         ensures computes { ReturnsTlvObject result self.old }
@@ -59,9 +62,9 @@ impl<'a> Tlv<'a> {
             return Ok(None);
         }
         let Some((object, rest)) = first_object(self.rest) else {
-            return Err(TlvFault { at: self.at });
+            return Err(TlvFault { at: self.offset });
         };
-        self.at += self.rest.len() - rest.len();
+        self.offset += self.rest.len() - rest.len();
         self.rest = rest;
         Ok(Some(object))
     }

@@ -1,4 +1,4 @@
--- What `jiff` makes of a moment.
+-- The value of `jiff` that a civil date and time has.
 use Rattle.std.specs.Prelude.{◌≡◌, pos}
 use Rattle.jiff_core.specs.declared.civil.datetime.DateTime.{DateTime}
 use Rattle.gw_base.specs.declared.moment.Civil.{Civil}

@@ -17,8 +17,8 @@ use std::alloc::{AllocError, Global};
 #[derive(Clone, Copy)]
 pub(super) struct Found<'a> {
     pub(super) event: Option<&'a ScriptEvent>,
-    /// The index after the lines that were passed.
-    pub(super) behind: usize,
+    /// The index of the first line that was not passed.
+    pub(super) next_line: usize,
     /// The moment of the last `at` line that was passed.
     pub(super) now: i64,
 }
@@ -53,7 +53,7 @@ fn is_above(till: u64, opened: Option<u64>) -> bool
     }
 }
 
-/// The first event, from a place on, that isn't skipped.
+/// The first event, from an index on, that isn't skipped.
 pub(super) fn sought<'a>(
     lines: &'a [ScriptLine],
     from: usize,
@@ -63,9 +63,9 @@ pub(super) fn sought<'a>(
 ) -> Found<'a>
     requires { from ≤ length lines.now }
     ensures met { met (outside_with tills.now opened) moment (map line_value (drop from lines.now))
-        ≡ record { lines = map line_value (drop result.behind lines.now); moment = result.now; due = due_of (option_map event_value (option_copied result.event)) } }
+        ≡ record { lines = map line_value (drop result.next_line lines.now); moment = result.now; due = due_of (option_map event_value (option_copied result.event)) } }
     ensures may_come { MayCome (outside_with tills.now opened) (option_map event_value (option_copied result.event)) }
-    ensures within { result.behind ≤ length lines.now }
+    ensures within { result.next_line ≤ length lines.now }
 {
     let mut now = moment;
     let mut at = from;
@@ -76,7 +76,7 @@ pub(super) fn sought<'a>(
                 if applies_to(event, tills, opened) {
                     return Found {
                         event: Some(event),
-                        behind: at + 1,
+                        next_line: at + 1,
                         now,
                     };
                 }
@@ -86,7 +86,7 @@ pub(super) fn sought<'a>(
     }
     Found {
         event: None,
-        behind: at,
+        next_line: at,
         now,
     }
 }

@@ -13,12 +13,12 @@ use crate::player::next_event::{Found, sought};
 use gw_site::Turn;
 use std::alloc::Global;
 
-/// A script, and the log that has played its lines up to a place.
+/// A script, and the log that has played its lines up to a line.
 #[derive(Drop)]
 pub(super) struct Played<'a> {
     pub(super) script: &'a [u8],
     pub(super) read: Script,
-    /// The place of the first line that no poll has passed.
+    /// The index of the first line that no poll has passed.
     pub(super) at: usize,
     /// The moment of the last `at` line passed.
     pub(super) moment: i64,
@@ -47,6 +47,7 @@ fn grown_by(log: &mut Vec<Turn>, first: Turn, second: Option<Turn>) -> bool
     ensures grown { result ≡ true → log.new.items ≡ log.old.items ++ first ∷ option_to_list second }
     ensures same { result ≡ false → log.new.items ≡ log.old.items }
 {
+    // Room for both first: a poll and its event are added together or not at all.
     if log.reserve(2).is_err() {
         return false;
     }
@@ -83,9 +84,9 @@ impl<'a> Played<'a> {
     /// What a poll meets, where these tills are there and this one opened last.
     pub(super) fn found(&self, tills: &[u64], opened: Option<u64>) -> Found<'_>
         ensures met { met (outside_with tills.now opened) self.now.moment (map line_value (drop self.now.at self.now.read.lines.items))
-            ≡ record { lines = map line_value (drop result.behind self.now.read.lines.items); moment = result.now; due = due_of (option_map event_value (option_copied result.event)) } }
+            ≡ record { lines = map line_value (drop result.next_line self.now.read.lines.items); moment = result.now; due = due_of (option_map event_value (option_copied result.event)) } }
         ensures may_come { MayCome (outside_with tills.now opened) (option_map event_value (option_copied result.event)) }
-        ensures within { result.behind ≤ length self.now.read.lines.items }
+        ensures within { result.next_line ≤ length self.now.read.lines.items }
     {
         sought(&self.read.lines, self.at, self.moment, tills, opened)
     }
@@ -110,7 +111,7 @@ impl<'a> Played<'a> {
         }
     }
 
-    /// Adds a poll at a moment and what it has brought, and passes the lines before a place. False where memory is
+    /// Adds a poll at a moment and what it has brought, and passes the lines before an index. False where memory is
     /// refused, and nothing is added.
     pub(super) fn add_poll(&mut self, now: i64, event: Option<Turn>, at: usize) -> bool
         requires whole { self.old.dark ≡ false }

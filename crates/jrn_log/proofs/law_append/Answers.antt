@@ -1,3 +1,4 @@
+-- Proof of the contract of `law_append`.
 use Rattle.jrn_log.proofs.AppendLemmas.{append_images, append_rests}
 use Rattle.jrn_log.proofs.law_append.Goals as goal
 

@@ -1,3 +1,5 @@
+-- Proof of the contract of `law_slots`.
+use Rattle.jrn_log.proofs.DecodeLemmas.{decoded_are_slots}
 use Rattle.jrn_log.proofs.SlotLemmas.{one_slots, each_slots}
 use Rattle.jrn_log.proofs.law_slots.Goals as goal
 
@@ -6,3 +8,6 @@ returns-clause-each c = each_slots
 
 pub returns-clause-one : goal.returns-clause-one
 returns-clause-one c = one_slots
+
+pub returns-clause-decoded : goal.returns-clause-decoded
+returns-clause-decoded c = decoded_are_slots

@@ -29,7 +29,7 @@ pub record IsNumberByte (c : ℕ) : Type 0 where
   pub no_space : (c ≢ 32) × (c ≢ 9) × (c ≢ 10) × (c ≢ 13)
   pub no_mark : (c ≢ 44) × (c ≢ 93) × (c ≢ 125) × (c ≢ 34)
 
--- where L says what is left, the byte c leaves what the phase q says
+-- where L says what is left, the byte c leaves what the state q says
 pub record LeavesNumber (L : List ℕ → Type 0) (c : ℕ) (q : NumberState) : Type 0 where
   pub on : (s : List ℕ) → L (c ∷ s) → LeftOfNumber q s
   pub back : (s : List ℕ) → LeftOfNumber q s → L (c ∷ s)

@@ -8,8 +8,8 @@ use Rattle.json_text.specs.MemberNames.{pair_names}
 use Rattle.json_text.specs.Character.{AreCharacters}
 use Rattle.json_text.specs.Grammar.{Rules, skip, Value, First, More, FirstMember, MoreMembers, Allows, SpellsBy, literal_null, literal_true, literal_false}
 use Rattle.json_text.specs.Scan.{Scan, outside, inside, scan_step}
-use Rattle.json_text.specs.inner.CharacterLeft.{LeftOfCharacter as CharacterLeft, IsSound, scan_within}
-use Rattle.json_text.specs.inner.NumberLeft.{LeftOfNumber as NumberLeft}
+use Rattle.json_text.specs.inner.CharacterLeft.{LeftOfCharacter, IsSound, scan_within}
+use Rattle.json_text.specs.inner.NumberLeft.{LeftOfNumber}
 use Rattle.json_text.specs.declared.character.CharacterState.{CharacterState}
 use Rattle.json_text.specs.declared.number.NumberState.{NumberState}
 use Rattle.json_text.specs.declared.state.OpenLevel.{OpenLevel}
@@ -88,7 +88,7 @@ pub data Role : Type 0 where
 -- what the reader reads, with what it has of it so far
 pub data ReaderState : Type 0 where
   value : ReaderState
-  first_item : ReaderState
+  first_element : ReaderState
   first_name : ReaderState
   name : List (List ℕ × Tree) → ReaderState
   colon : List (List ℕ × Tree) → List ℕ → ReaderState
@@ -106,15 +106,15 @@ Closed R st (as_name done) text b v = AtColon R st done text b v
 -- b, read from here, makes v
 abbrev pub Rest : Rules → ReaderState → List Level → List ℕ → Tree → Type 0
 Rest R value st b v = AtValue R st b v
-Rest R first_item st b v = (xs : Items) × (n : List ℕ) × First R (suc (length st)) xs b n × After R st (array xs) n v
+Rest R first_element st b v = (xs : Items) × (n : List ℕ) × First R (suc (length st)) xs b n × After R st (array xs) n v
 Rest R first_name st b v = (ms : Members) × (n : List ℕ) × FirstMember R (suc (length st)) ms b n × Allows R (names ms) × After R st (object ms) n v
 Rest R (name done) st b v = (m : List ℕ) × (skip b ≡ 34 ∷ m) × IsStringRest (λ k n. AtColon R st done k n v) [] m
 Rest R (colon done k) st b v = AtColon R st done k b v
 Rest R (after x) st b v = After R st x b v
 Rest R (literal l x) st b v = (n : List ℕ) × (b ≡ l ++ n) × After R st x n v
-Rest R (number_in text p) st b v = IsNumberRest (NumberLeft p) (λ s n. After R st (number s) n v) text b
+Rest R (number_in text p) st b v = IsNumberRest (LeftOfNumber p) (λ s n. After R st (number s) n v) text b
 Rest R (string_in role text) st b v = IsStringRest (λ s n. Closed R st role s n v) text b
-Rest R (character_in role text s) st b v = IsInside (CharacterLeft s) (λ t n. Closed R st role t n v) text b
+Rest R (character_in role text s) st b v = IsInside (LeftOfCharacter s) (λ t n. Closed R st role t n v) text b
 
 -- the byte c leads from one state to another, whatever follows
 pub record LeadsTo (R : Rules) (p : ReaderState) (st : List Level) (c : ℕ) (q : ReaderState) (st' : List Level) : Type 0 where
@@ -137,7 +137,7 @@ pub record Follows (R : Rules) (prefix : List ℕ) (p : ReaderState) (st : List 
 -- what the scan says in this state
 abbrev pub scan_of : ReaderState → Scan
 scan_of value = outside
-scan_of first_item = outside
+scan_of first_element = outside
 scan_of first_name = outside
 scan_of (name done) = outside
 scan_of (colon done k) = outside
@@ -182,7 +182,7 @@ literal_tree literals.False = boolean false
 -- the state of each mode of the reader
 abbrev pub reader_state : Mode → ReaderState
 reader_state modes.Value = value
-reader_state modes.FirstItem = first_item
+reader_state modes.FirstElement = first_element
 reader_state modes.FirstName = first_name
 reader_state (modes.Name f) = name (pairs f.members.items)
 reader_state (modes.Colon n) = colon (pairs n.members.items) n.name
@@ -195,7 +195,7 @@ reader_state (modes.Character t text s) = character_in (role_of t) (string_bytes
 -- a letter is still owed; a character can still come of what is read
 abbrev pub IsWithin : Mode → Type 0
 IsWithin modes.Value = Unit {0}
-IsWithin modes.FirstItem = Unit {0}
+IsWithin modes.FirstElement = Unit {0}
 IsWithin modes.FirstName = Unit {0}
 IsWithin (modes.Name f) = Unit {0}
 IsWithin (modes.Colon n) = Unit {0}

@@ -1,4 +1,4 @@
--- Inner: why the reader stops at a byte.
+-- Inner: the errors with which the reader ends at a byte.
 use Rattle.std.specs.Prelude.{◌≡◌, ◌≢◌, ℕ, ◌<◌, ◌≤◌, List, true, false}
 use Rattle.json_text.specs.Grammar.{Rules}
 use Rattle.json_text.specs.Scan.{Scan, outside, inside, IsBadUtf8}
@@ -12,24 +12,24 @@ use Rattle.json_text.specs.declared.fault.ReadError.TheVariants as errors
 
 -- the error where the reader stops at this offset
 abbrev pub read_error_at : StepError → ℕ → ReadError
-read_error_at step_errors.Memory at = errors.Memory
-read_error_at (step_errors.Fault kind) at = errors.Fault (record { at = at; kind = kind })
+read_error_at step_errors.Memory offset = errors.Memory
+read_error_at (step_errors.Fault kind) offset = errors.Fault (record { at = offset; kind = kind })
 
--- no text has another level here, but for the limit
+-- the byte c would open one level too many: it is dead at 32 levels, and alive where enough are allowed
 pub record IsTooDeep (p : ReaderState) (st : List Level) (c : ℕ) : Type 0 where
   pub dead : (R : Rules) → R.limit ≤ 32 → IsDead R p st c
   pub enough : ℕ
   pub alive : (R : Rules) → enough < R.limit → IsAlive R p st c
   pub scans : scan_of p ≡ outside
 
--- no text has the name again, but for the rule
+-- the byte c would close a name that the object has already: it is dead where names have to differ, and alive where not
 pub record IsRepeated (p : ReaderState) (st : List Level) (c : ℕ) : Type 0 where
   pub dead : (R : Rules) → R.distinct ≡ true → IsDead R p st c
   pub alive : (R : Rules) → R.distinct ≡ false → IsAlive R p st c
   pub scans : scan_of p ≡ inside
   pub quote : c ≡ 34
 
--- no text goes on so, whatever the rules; in a string that is no UTF-8, or isn't
+-- no text goes on with the byte c, whatever the rules; U says whether it is bad UTF-8 of a string
 pub record IsWrongByte (p : ReaderState) (st : List Level) (c : ℕ) (U : Type 0) : Type 0 where
   pub dead : (R : Rules) → IsDead R p st c
   pub utf8 : U

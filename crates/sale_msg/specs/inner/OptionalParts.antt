@@ -18,4 +18,4 @@ texts_part prefix (Some texts) = prefix ++ canonical (array (text_items texts))
 -- the bytes before money and the money, where there is some
 abbrev pub money_part : List ℕ → Option ℕ → List ℕ
 money_part prefix None = []
-money_part prefix (Some minor) = prefix ++ money_text minor
+money_part prefix (Some units) = prefix ++ money_text units

@@ -11,7 +11,7 @@ use denote.Ref.{Bor}
 -- a reader of objects went past this one
 pub record TakesTlvObject (old new : TlvReaderValue) (object : ObjectValue) : Type 0 where
   pub found : decode_tlv_object old.rest ≡ Some (object, new.rest)
-  pub offset : new.at + length new.rest ≡ old.at + length old.rest
+  pub offset : new.offset + length new.rest ≡ old.offset + length old.rest
   pub shorter : length object.value + length new.rest < length old.rest
 
 -- the next object, and the reader after it; none, and the reader stays, where no well-formed one follows

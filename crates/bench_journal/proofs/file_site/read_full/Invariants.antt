@@ -1,3 +1,4 @@
+-- What the loop of `read_full` keeps.
 use Rattle.std.proofs.Common.{◌≤◌, length}
 use Rattle.bench_journal.proofs.file_site.read_full.Given as goal
 

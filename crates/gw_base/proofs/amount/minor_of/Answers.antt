@@ -7,9 +7,9 @@ use Rattle.gw_base.proofs.amount.minor_of.Goals as goal
 
 -- the meaning of what was found
 meaning : (text : List ℕ) (found : Option ℕ) → found ≡ minor_units text
-    → MatchOption found ((minor : ℕ) → ¬ SpellsAmount text minor) (SpellsAmount text)
+    → MatchOption found ((units : ℕ) → ¬ SpellsAmount text units) (SpellsAmount text)
 meaning text found e =
-    let P : Option ℕ → Type 0 = λ r. MatchOption r ((minor : ℕ) → ¬ SpellsAmount text minor) (SpellsAmount text) in
+    let P : Option ℕ → Type 0 = λ r. MatchOption r ((units : ℕ) → ¬ SpellsAmount text units) (SpellsAmount text) in
     subst P (sym e) (minor_units-meaning text)
 
 pub split_at-requires : goal.split_at-requires

@@ -3,5 +3,5 @@ use Rattle.gw_base.specs.Bcd.{IsBcd, bcd_value}
 use Rattle.gw_base.proofs.bcd.bcd_read.Given as goal
 
 -- the digits before this offset spell the value
-abbrev pub invariant-loop-at : goal.invariant-loop-at
-invariant-loop-at l = IsBcd (take l.at l.bytes) × (l.value ≡ bcd_value (take l.at l.bytes))
+abbrev pub invariant-loop-offset : goal.invariant-loop-offset
+invariant-loop-offset l = IsBcd (take l.offset l.bytes) × (l.value ≡ bcd_value (take l.offset l.bytes))

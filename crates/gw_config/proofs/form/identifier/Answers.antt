@@ -7,6 +7,6 @@ use Rattle.gw_config.proofs.form.identifier.Goals as goal
 
 pub returns : goal.returns
 returns c =
-    let seen : as_str (view c.args.value.now) ≡ Some c.in_ok-as_str.field-0.now =
+    let is_value : as_str (view c.args.value.now) ≡ Some c.in_ok-as_str.field-0.now =
     sym c.as_str.ensures ∙ ap option_copied c.in_ok-as_str.was in
-    rw seen (identifier_found c.of.result c.in_ok-as_str.field-0.now (rw c.as_bytes.ensures.value at c.of.ensures))
+    rw is_value (identifier_found c.of.result c.in_ok-as_str.field-0.now (rw c.as_bytes.ensures.value at c.of.ensures))

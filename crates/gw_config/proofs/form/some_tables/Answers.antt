@@ -7,12 +7,12 @@ use Rattle.gw_config.proofs.form.some_tables.Goals as goal
 
 pub returns-then-are_tables : goal.returns-then-are_tables
 returns-then-are_tables c =
-    let seen : as_array (view c.args.value.now) ≡ Some (items_view c.in_ok-as_array.field-0.now.items) =
+    let is_value : as_array (view c.args.value.now) ≡ Some (items_view c.in_ok-as_array.field-0.now.items) =
     sym c.as_array.ensures ∙ ap (option_map (λ v. array_view v.now)) c.in_ok-as_array.was in
-    rw (seen, ← c.as_slice-values.ensures.value, tables_among-view c.as_slice-values.result.now c.are_tables.result c.are_tables.ensures, c.if-are_tables.true) refl
+    rw (is_value, ← c.as_slice-values.ensures.value, tables_among-view c.as_slice-values.result.now c.are_tables.result c.are_tables.ensures, c.if-are_tables.true) refl
 
 pub returns-else-are_tables : goal.returns-else-are_tables
 returns-else-are_tables c =
-    let seen : as_array (view c.args.value.now) ≡ Some (items_view c.in_ok-as_array.field-0.now.items) =
+    let is_value : as_array (view c.args.value.now) ≡ Some (items_view c.in_ok-as_array.field-0.now.items) =
     sym c.as_array.ensures ∙ ap (option_map (λ v. array_view v.now)) c.in_ok-as_array.was in
-    rw (seen, ← c.as_slice-values.ensures.value, tables_among-view c.as_slice-values.result.now c.are_tables.result c.are_tables.ensures, c.if-are_tables.false) refl
+    rw (is_value, ← c.as_slice-values.ensures.value, tables_among-view c.as_slice-values.result.now c.are_tables.result c.are_tables.ensures, c.if-are_tables.false) refl

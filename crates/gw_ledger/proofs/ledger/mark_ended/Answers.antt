@@ -1,3 +1,4 @@
+-- Proof of the contract of `mark_ended`.
 use Rattle.std.proofs.Common.{◌∙◌, ◌<◌, length, set, ap, arith}
 use Rattle.gw_ledger.specs.Steps.{ended_mark}
 use Rattle.gw_ledger.proofs.Marks.{set_is_changed}

@@ -1,3 +1,4 @@
+-- Proof of the contract of `mark_reversed`.
 use Rattle.std.proofs.Common.{◌∙◌, ◌<◌, ◌≤◌, length, set, sym, ap, arith}
 use Rattle.gw_ledger.specs.Steps.{reversed_mark}
 use Rattle.gw_ledger.proofs.Marks.{set_is_changed, past_is_changed}

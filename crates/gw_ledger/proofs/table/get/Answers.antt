@@ -1,3 +1,4 @@
+-- Proof of the contract of `get`.
 use Rattle.std.proofs.Common.{sym}
 use Rattle.gw_ledger.proofs.Rows.{value_found, value_absent}
 use Rattle.gw_ledger.proofs.table.get.Goals as goal

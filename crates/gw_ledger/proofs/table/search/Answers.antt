@@ -1,3 +1,4 @@
+-- Proof of the contract of `search`.
 use Rattle.std.proofs.Common.{rules}
 use Rattle.std.proofs.lemmas.List.Sorted.{answers_always}
 use Rattle.gw_ledger.proofs.Rows.{searched}

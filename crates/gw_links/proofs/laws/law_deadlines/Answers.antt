@@ -1,3 +1,4 @@
+-- Proof of the contract of `law_deadlines`.
 use Rattle.gw_links.proofs.DeadlineLemmas.{by_deadline-sorted, by_deadline-stable, by_deadline-same}
 use Rattle.gw_links.proofs.laws.law_deadlines.Goals as goal
 

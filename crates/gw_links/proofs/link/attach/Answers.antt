@@ -1,3 +1,4 @@
+-- Proof of the contract of `attach`.
 use Rattle.std.proofs.Common.{sym, ◌∙◌, Some}
 use Rattle.gw_links.proofs.LinkLemmas.{Inserts-joins}
 use Rattle.gw_links.proofs.link.attach.Goals as goal

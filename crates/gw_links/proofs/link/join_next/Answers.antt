@@ -1,3 +1,4 @@
+-- Proof of the contract of `join_next`.
 use Rattle.std.proofs.Common.{refl, ap}
 use Rattle.slab.proofs.SlabLemmas.{Updates-with_value}
 use Rattle.gw_links.specs.declared.link.Link.{Link}

@@ -4,15 +4,15 @@ use Rattle.std.proofs.lemmas.Int.{to_z-of_z}
 use Rattle.sale_frame.specs.Steps.{TakesFrame, frame_step}
 use Rattle.gw_run.proofs.engine.next_message.Goals as goal
 
-pub returns-in_ok-answer-in-Ok-Some : goal.returns-in_ok-answer-in-Ok-Some
-returns-in_ok-answer-in-Ok-Some c =
+pub returns-in_ok-reply-in-Ok-Some : goal.returns-in_ok-reply-in-Ok-Some
+returns-in_ok-reply-in-Ok-Some c =
     let step : TakesFrame c.args.reader.now (frame_step (Ok (Some c.in-Ok-Some.message))) c.next.follows.lender-at-none =
     subst (λ r. TakesFrame c.args.reader.now (frame_step r) c.next.follows.lender-at-none) (c.in-Ok-Some.is ∙ ap Ok c.in-Ok-Some.field-0-is) c.next.follows.holds-at-none in (
       record {
         message = c.in-Ok-Some.message.now;
-        lawful = step.0;
+        payload = step.0;
         taken = step.1;
-        answers = simp (to_z-of_z, c.ranges.now) at c.in_ok-answer-in-Ok-Some.ensures.reply;
+        is_reply = simp (to_z-of_z, c.ranges.now) at c.in_ok-reply-in-Ok-Some.ensures.reply;
       },
-      c.in_ok-answer-in-Ok-Some.ensures.fits,
+      c.in_ok-reply-in-Ok-Some.ensures.fits,
     )

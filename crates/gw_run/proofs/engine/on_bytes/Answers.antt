@@ -2,28 +2,28 @@ use Rattle.std.proofs.Common.{◌∙◌, ap, sym}
 use Rattle.std.specs.declared.alloc.AllocError.{AllocError}
 use Rattle.std.proofs.lemmas.Int.{to_z-of_z}
 use Rattle.gw_run.specs.Tills.{rank}
-use Rattle.gw_run.specs.declared.engine.Served.TheVariants.{Waiting}
-use Rattle.gw_run.proofs.RoundLemmas.{chunk-unheld, chunk-waited, chunk-gone, chunk-memory}
+use Rattle.gw_run.specs.declared.engine.Served.TheVariants.{Incomplete}
+use Rattle.gw_run.proofs.RoundLemmas.{chunk-unheld, chunk-incomplete, chunk-gone, chunk-memory}
 use Rattle.gw_run.proofs.engine.on_bytes.Goals as goal
 
 pub returns-in-None-clause-keeps : goal.returns-in-None-clause-keeps
 returns-in-None-clause-keeps g c = λ setup polls named. chunk-unheld _ setup c.args.tills.now.items polls c.args.now c.args.number c.args.bytes.now _
-    (ap (rank c.args.number) (sym c.deref.ensures.value) ∙ sym c.place_of.ensures.place ∙ c.in-None.is)
+    (ap (rank c.args.number) (sym c.deref.ensures.value) ∙ sym c.index_of.ensures.index ∙ c.in-None.is)
 
 pub returns-in-Ok-Gone-clause-keeps : goal.returns-in-Ok-Gone-clause-keeps
 returns-in-Ok-Gone-clause-keeps g c = λ setup polls named.
-    chunk-gone AllocError _ _ setup c.args.tills.now.items c.drop_till.new.tills.items polls c.args.now c.args.number c.in-Some.at c.args.bytes.now c.index_mut.result.now c.read_chunk.new.till
-    (ap (rank c.args.number) (sym c.deref.ensures.value) ∙ sym c.place_of.ensures.place ∙ c.in-Some.is) (sym c.index_mut.ensures.value) c.in-Ok-Gone.ensures.number c.drop_till.ensures
+    chunk-gone AllocError _ _ setup c.args.tills.now.items c.drop_till.new.tills.items polls c.args.now c.args.number c.in-Some.index c.args.bytes.now c.index_mut.result.now c.read_chunk.new.till
+    (ap (rank c.args.number) (sym c.deref.ensures.value) ∙ sym c.index_of.ensures.index ∙ c.in-Some.is) (sym c.index_mut.ensures.value) c.in-Ok-Gone.ensures.number c.drop_till.ensures
     (λ o. rw c.in-Ok-Gone.field-0-is at (simp (to_z-of_z, c.ranges.now) at (c.in-Ok-Gone.ensures.keeps setup polls o named)))
 
-pub returns-in-Ok-Waiting-clause-keeps : goal.returns-in-Ok-Waiting-clause-keeps
-returns-in-Ok-Waiting-clause-keeps g c = λ setup polls named.
-    chunk-waited AllocError _ _ setup c.args.tills.now.items polls c.args.now c.args.number c.in-Some.at c.args.bytes.now c.index_mut.result.now c.read_chunk.new.till Waiting
-    (ap (rank c.args.number) (sym c.deref.ensures.value) ∙ sym c.place_of.ensures.place ∙ c.in-Some.is) (sym c.index_mut.ensures.value) c.in-Ok-Waiting.ensures.number
-    (rw c.in-Ok-Waiting.field-0-is at c.in-Ok-Waiting.ensures.reader) (λ e. cc) (λ e. cc)
-    (λ o. rw c.in-Ok-Waiting.field-0-is at (simp (to_z-of_z, c.ranges.now) at (c.in-Ok-Waiting.ensures.keeps setup polls o named)))
+pub returns-in-Ok-Incomplete-clause-keeps : goal.returns-in-Ok-Incomplete-clause-keeps
+returns-in-Ok-Incomplete-clause-keeps g c = λ setup polls named.
+    chunk-incomplete AllocError _ _ setup c.args.tills.now.items polls c.args.now c.args.number c.in-Some.index c.args.bytes.now c.index_mut.result.now c.read_chunk.new.till Incomplete
+    (ap (rank c.args.number) (sym c.deref.ensures.value) ∙ sym c.index_of.ensures.index ∙ c.in-Some.is) (sym c.index_mut.ensures.value) c.in-Ok-Incomplete.ensures.number
+    (rw c.in-Ok-Incomplete.field-0-is at c.in-Ok-Incomplete.ensures.reader) (λ e. cc) (λ e. cc)
+    (λ o. rw c.in-Ok-Incomplete.field-0-is at (simp (to_z-of_z, c.ranges.now) at (c.in-Ok-Incomplete.ensures.keeps setup polls o named)))
 
 pub returns-in-Err-clause-keeps : goal.returns-in-Err-clause-keeps
 returns-in-Err-clause-keeps g c = λ setup polls named.
-    chunk-memory AllocError _ _ _ setup c.args.tills.now.items polls c.args.now c.args.number c.in-Some.at c.args.bytes.now c.index_mut.result.now c.read_chunk.new.till
-    (ap (rank c.args.number) (sym c.deref.ensures.value) ∙ sym c.place_of.ensures.place ∙ c.in-Some.is) (sym c.index_mut.ensures.value) (λ o. simp (to_z-of_z, c.ranges.now) at (c.in-Err.ensures.keeps setup polls o named))
+    chunk-memory AllocError _ _ _ setup c.args.tills.now.items polls c.args.now c.args.number c.in-Some.index c.args.bytes.now c.index_mut.result.now c.read_chunk.new.till
+    (ap (rank c.args.number) (sym c.deref.ensures.value) ∙ sym c.index_of.ensures.index ∙ c.in-Some.is) (sym c.index_mut.ensures.value) (λ o. simp (to_z-of_z, c.ranges.now) at (c.in-Err.ensures.keeps setup polls o named))

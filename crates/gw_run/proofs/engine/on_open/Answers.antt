@@ -5,7 +5,7 @@ use Rattle.gw_run.proofs.engine.on_open.Goals as goal
 
 pub returns-in-Some-clause-keeps : goal.returns-in-Some-clause-keeps
 returns-in-Some-clause-keeps g c = λ setup polls. open-held _ setup c.args.tills.now.items polls c.args.number c.in-Some.field-0 _
-    (ap (rank c.args.number) (sym c.deref.ensures.value) ∙ sym c.place_of.ensures.place ∙ c.in-Some.is)
+    (ap (rank c.args.number) (sym c.deref.ensures.value) ∙ sym c.index_of.ensures.index ∙ c.in-Some.is)
 
 pub returns-then-len-ge-MOST_TILLS-clause-keeps : goal.returns-then-len-ge-MOST_TILLS-clause-keeps
 returns-then-len-ge-MOST_TILLS-clause-keeps g c = λ setup polls. open-crowded _ _ setup c.args.tills.now.items polls c.args.number

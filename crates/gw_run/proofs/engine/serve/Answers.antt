@@ -14,9 +14,9 @@ loop-preserved g c =
       later = omega (arith, c.loop.invariant.later, c.in-Ok-More.ensures.later);
     }
 
-pub returns-in-Ok-Waiting-clause-keeps : goal.returns-in-Ok-Waiting-clause-keeps
-returns-in-Ok-Waiting-clause-keeps g c = λ setup polls o named.
-    keeps-then _ _ _ _ _ _ (simp (to_z-of_z, c.ranges.now) at (c.loop.invariant.kept setup polls o named)) (simp (to_z-of_z, c.ranges.now, c.in-Ok-Waiting.field-0-is) at (c.in-Ok-Waiting.ensures.keeps setup polls o named))
+pub returns-in-Ok-Incomplete-clause-keeps : goal.returns-in-Ok-Incomplete-clause-keeps
+returns-in-Ok-Incomplete-clause-keeps g c = λ setup polls o named.
+    keeps-then _ _ _ _ _ _ (simp (to_z-of_z, c.ranges.now) at (c.loop.invariant.kept setup polls o named)) (simp (to_z-of_z, c.ranges.now, c.in-Ok-Incomplete.field-0-is) at (c.in-Ok-Incomplete.ensures.keeps setup polls o named))
 
 pub returns-in-Ok-Gone-clause-keeps : goal.returns-in-Ok-Gone-clause-keeps
 returns-in-Ok-Gone-clause-keeps g c = λ setup polls o named.

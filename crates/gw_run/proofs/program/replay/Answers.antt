@@ -7,7 +7,7 @@ use Rattle.gw_run.proofs.ReplayLemmas.{fault-observed, observed-cause, play-caus
 use Rattle.gw_run.proofs.program.replay.Goals as goal
 
 pub returns-in-Ok-read_script-clause-cause : goal.returns-in-Ok-read_script-clause-cause
-returns-in-Ok-read_script-clause-cause g c = λ words acc. play-cause c.play.result words _ _ acc (λ script e. let x = c.in-Ok.ensures.bytes script e in (x.1, is-script _ script (script_value c.in-Ok-read_script.script) (c.deref.ensures.value ∙ x.0) x.2 c.in-Ok-read_script.ensures.ok)) c.play.ensures.cut c.play.ensures.end
+returns-in-Ok-read_script-clause-cause g c = λ words acc. play-cause c.play.result words _ _ acc (λ script e. let x = c.in-Ok.ensures.bytes script e in (x.1, is-script _ script (script_value c.in-Ok-read_script.script) (c.deref.ensures.value ∙ x.0) x.2 c.in-Ok-read_script.ensures.ok)) c.play.ensures.output_failed c.play.ensures.end
 
 pub returns-in-Ok-read_script-clause-written : goal.returns-in-Ok-read_script-clause-written
 returns-in-Ok-read_script-clause-written g c = λ written e.
@@ -20,50 +20,50 @@ returns-in-Ok-read_script-clause-written g c = λ written e.
 
 pub returns-in-Err-Line-clause-written : goal.returns-in-Err-Line-clause-written
 returns-in-Err-Line-clause-written g c = λ written e.
-    let y = c.tell-in-Err-Line.ensures.observed written e in (
+    let y = c.write_last_lines-in-Err-Line.ensures.observed written e in (
       y.0,
-      (λ words acc. fault-observed (AtLine c.in-Err-Line.line) c.tell-in-Err-Line.result words _ _ y.0 tt acc
+      (λ words acc. fault-observed (AtLine c.in-Err-Line.line) c.write_last_lines-in-Err-Line.result words _ _ y.0 tt acc
           (acc, λ script e. let x = c.in-Ok.ensures.bytes script e in (x.1, rw (c.in-Err-Line.field-0-is, c.deref.ensures.value, x.0) at c.in-Err-Line.ensures.fault)) y.1),
       y.2,
     )
 
 pub returns-in-Err-Line-clause-cause : goal.returns-in-Err-Line-clause-cause
-returns-in-Err-Line-clause-cause g c = λ words acc. observed-cause (AtLine c.in-Err-Line.line) c.tell-in-Err-Line.result words _ _ acc
+returns-in-Err-Line-clause-cause g c = λ words acc. observed-cause (AtLine c.in-Err-Line.line) c.write_last_lines-in-Err-Line.result words _ _ acc
     (acc, λ script e. let x = c.in-Ok.ensures.bytes script e in (x.1, rw (c.in-Err-Line.field-0-is, c.deref.ensures.value, x.0) at c.in-Err-Line.ensures.fault))
-    c.tell-in-Err-Line.ensures.cut c.tell-in-Err-Line.ensures.which
+    c.write_last_lines-in-Err-Line.ensures.output_failed c.write_last_lines-in-Err-Line.ensures.which
 
 pub returns-in-Ok-clause-written : goal.returns-in-Ok-clause-written
 returns-in-Ok-clause-written g c = λ written e.
-    let y = c.tell-in-Err-Memory.ensures.observed written e in
-    (y.0, (λ words acc. fault-observed Memory c.tell-in-Err-Memory.result words _ _ y.0 tt acc acc y.1), y.2)
+    let y = c.write_last_lines-in-Err-Memory.ensures.observed written e in
+    (y.0, (λ words acc. fault-observed Memory c.write_last_lines-in-Err-Memory.result words _ _ y.0 tt acc acc y.1), y.2)
 
 pub returns-clause-written : goal.returns-clause-written
 returns-clause-written g c = λ written e.
-    let y = c.tell-in-Err.ensures.observed written e in (
+    let y = c.write_last_lines-in-Err.ensures.observed written e in (
       y.0,
-      (λ words acc. fault-observed c.in-Err.fault c.tell-in-Err.result words _ _ y.0 (input-fault c.in-Err.fault c.in-Err.ensures.fault) acc
+      (λ words acc. fault-observed c.in-Err.fault c.write_last_lines-in-Err.result words _ _ y.0 (input-fault c.in-Err.fault c.in-Err.ensures.fault) acc
           (input-cause c.in-Err.fault words _ _ acc c.in-Err.ensures.fault (λ e. c.in-Err.ensures.failed (ap Err e)) c.in-Err.ensures.bytes) y.1),
       y.2,
     )
 
 pub returns-clause-cause : goal.returns-clause-cause
-returns-clause-cause g c = λ words acc. observed-cause c.in-Err.fault c.tell-in-Err.result words _ _ acc
+returns-clause-cause g c = λ words acc. observed-cause c.in-Err.fault c.write_last_lines-in-Err.result words _ _ acc
     (input-cause c.in-Err.fault words _ _ acc c.in-Err.ensures.fault (λ e. c.in-Err.ensures.failed (ap Err e)) c.in-Err.ensures.bytes)
-    c.tell-in-Err.ensures.cut c.tell-in-Err.ensures.which
+    c.write_last_lines-in-Err.ensures.output_failed c.write_last_lines-in-Err.ensures.which
 
 pub returns-clause-complete : goal.returns-clause-complete
-returns-clause-complete g c = λ script calm uncut. input-complete c.in-Err.fault c.tell-in-Err.result _ _ _ c.in-Err.ensures.fault (λ e. c.in-Err.ensures.failed (ap Err e)) c.in-Err.ensures.bytes script calm c.tell-in-Err.ensures.which
+returns-clause-complete g c = λ script calm written. input-complete c.in-Err.fault c.write_last_lines-in-Err.result _ _ _ c.in-Err.ensures.fault (λ e. c.in-Err.ensures.failed (ap Err e)) c.in-Err.ensures.bytes script calm c.write_last_lines-in-Err.ensures.which
 
 pub returns-in-Err-Long-clause-written : goal.returns-in-Err-Long-clause-written
 returns-in-Err-Long-clause-written g c = λ written e.
-    let y = c.tell.ensures.observed written e in (
+    let y = c.write_last_lines.ensures.observed written e in (
       y.0,
-      (λ words acc. fault-observed Long c.tell.result words _ _ y.0 tt acc
+      (λ words acc. fault-observed Long c.write_last_lines.result words _ _ y.0 tt acc
           (acc, λ script e. let x = c.in-Ok.ensures.bytes script e in let h : script_limit < length script = rw (c.in-Err-Long.field-0-is, c.deref.ensures.value, x.0) at c.in-Err-Long.ensures.fault in let m = x.2 in absurd (omega arith)) y.1),
       y.2,
     )
 
 pub returns-in-Err-Long-clause-cause : goal.returns-in-Err-Long-clause-cause
-returns-in-Err-Long-clause-cause g c = λ words acc. observed-cause Long c.tell.result words _ _ acc
+returns-in-Err-Long-clause-cause g c = λ words acc. observed-cause Long c.write_last_lines.result words _ _ acc
     (acc, λ script e. let x = c.in-Ok.ensures.bytes script e in let h : script_limit < length script = rw (c.in-Err-Long.field-0-is, c.deref.ensures.value, x.0) at c.in-Err-Long.ensures.fault in let m = x.2 in absurd (omega arith))
-    c.tell.ensures.cut c.tell.ensures.which
+    c.write_last_lines.ensures.output_failed c.write_last_lines.ensures.which

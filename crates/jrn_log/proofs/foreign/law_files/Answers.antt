@@ -1,4 +1,5 @@
-use Rattle.jrn_log.proofs.ForeignLemmas.{beginning_leaves, opening_leaves, opening_closed, append_leaves, append_closed}
+-- Proof of the contract of `law_files`.
+use Rattle.jrn_log.proofs.ForeignLemmas.{beginning_leaves, opening_leaves, opening_closed, append_leaves, append_closed, failed_opening_leaves, failed_append_leaves, crash_leaves, others_leave, file_can}
 use Rattle.jrn_log.proofs.foreign.law_files.Goals as goal
 
 pub returns-clause-beginning : goal.returns-clause-beginning
@@ -15,3 +16,18 @@ returns-clause-append c = append_leaves
 
 pub returns-clause-appended : goal.returns-clause-appended
 returns-clause-appended c = append_closed
+
+pub returns-clause-failed_opening : goal.returns-clause-failed_opening
+returns-clause-failed_opening c = failed_opening_leaves
+
+pub returns-clause-failed_append : goal.returns-clause-failed_append
+returns-clause-failed_append c = failed_append_leaves
+
+pub returns-clause-crash : goal.returns-clause-crash
+returns-clause-crash c = crash_leaves
+
+pub returns-clause-others : goal.returns-clause-others
+returns-clause-others c = others_leave
+
+pub returns-clause-file : goal.returns-clause-file
+returns-clause-file c = file_can

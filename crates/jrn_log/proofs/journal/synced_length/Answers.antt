@@ -1,3 +1,4 @@
+-- Proof of the contract of `synced_length`.
 use Rattle.std.specs.Prelude.{IfOk, length}
 use Rattle.std.proofs.Common.{◌≡◌, inl}
 use Rattle.jrn_log.proofs.SequenceLemmas.{grows-then, grows-weaker, synced_same}

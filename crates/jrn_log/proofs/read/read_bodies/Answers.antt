@@ -1,3 +1,4 @@
+-- Proof of the contract of `read_bodies`.
 use Rattle.std.proofs.Common.{refl, arith}
 use Rattle.gw_site.specs.Outside.{outside_of}
 use Rattle.jrn_log.proofs.SequenceLemmas.{grows-then, grows-nothing}

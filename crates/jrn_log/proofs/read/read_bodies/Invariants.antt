@@ -1,3 +1,4 @@
+-- What the loop of `read_bodies` keeps, and why it ends.
 use Rattle.std.proofs.Common.{◌≡◌, ◌-◌, ◌*◌, ◌<◌, ◌≤◌, [], length, vec_len}
 use Rattle.gw_site.specs.Outside.{outside_of}
 use Rattle.gw_site.specs.Observed.{IfObserved, Grows}

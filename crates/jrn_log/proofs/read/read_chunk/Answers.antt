@@ -1,3 +1,4 @@
+-- Proof of the contract of `read_chunk`.
 use Rattle.jrn_log.proofs.SequenceLemmas.{grows-weaker}
 use Rattle.jrn_log.proofs.ReadLemmas.{no_disk_looks}
 use Rattle.jrn_log.proofs.read.read_chunk.Goals as goal

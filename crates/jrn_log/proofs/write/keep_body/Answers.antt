@@ -1,3 +1,4 @@
+-- Proof of the contract of `keep_body`.
 use Rattle.std.proofs.Common.{◌*◌, ap}
 use Rattle.jrn_log.proofs.SequenceLemmas.{grows-then, grows-weaker}
 use Rattle.jrn_log.proofs.AppendedLemmas.{keep_then, keep_fails}

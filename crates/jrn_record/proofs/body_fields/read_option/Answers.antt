@@ -1,3 +1,4 @@
+-- Proof of the contract of `read_option`.
 use Rattle.std.proofs.Common.{◌+◌}
 use Rattle.jrn_record.proofs.FieldLemmas.{option_none}
 use Rattle.jrn_record.proofs.body_fields.read_option.Goals as goal

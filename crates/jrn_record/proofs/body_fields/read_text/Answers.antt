@@ -1,3 +1,4 @@
+-- Proof of the contract of `read_text`.
 use Rattle.std.proofs.Common.{refl, ap, ◌+◌, ◌∙◌, sym}
 use Rattle.jrn_record.specs.Grammar.{text_field}
 use Rattle.jrn_record.proofs.FieldLemmas.{text_none}

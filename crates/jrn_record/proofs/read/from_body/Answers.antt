@@ -1,3 +1,4 @@
+-- Proof of the contract of `from_body`.
 use Rattle.std.proofs.Common.{refl, sym, arith}
 use Rattle.jrn_record.specs.Grammar.{intent_fields, outcome_fields, settled_fields}
 use Rattle.jrn_record.specs.Table.{intent_table, outcome_table, settled_table}

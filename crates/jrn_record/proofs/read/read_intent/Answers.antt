@@ -1,3 +1,4 @@
+-- Proof of the contract of `read_intent`.
 use Rattle.std.proofs.Common.{arith, sym, subst, pos, ℤ}
 use Rattle.std.proofs.lemmas.Result.{err_from_is_err_and}
 use Rattle.gw_base.specs.declared.currency.Currency.TheVariants.{Eur}
@@ -17,7 +18,7 @@ returns-in_err-what c =
     let agrees : Agree 1 (intent_fields draft) intent_table c.args.body.now = (sym c.requires, tt) in
     exit _ c.in_err-what.field-0.0 _ _ (err_from_is_err_and c.from_residual.result c.from_residual.ensures.1)
     (intent_fault c.args.body.now 1 _ draft (omega arith) c.in_err-what.ensures.0 is agrees (sym c.requires)
-    (λ item lawful a. c.in_err-what.ensures.1 item.what tt a.1.0))
+    (λ the_record within a. c.in_err-what.ensures.1 the_record.what tt a.1.0))
 
 pub returns-in_err-sale : goal.returns-in_err-sale
 returns-in_err-sale c =
@@ -26,7 +27,7 @@ returns-in_err-sale c =
     let agrees : Agree 2 (intent_fields draft) intent_table c.args.body.now = (sym c.requires, (c.in_ok-what.ensures.1, tt)) in
     exit _ c.in_err-sale.field-0.0 _ _ (err_from_is_err_and c.from_residual-in_err-sale.result c.from_residual-in_err-sale.ensures.1)
     (intent_fault c.args.body.now 2 _ draft (omega arith) c.in_err-sale.ensures.0 is agrees (sym c.requires)
-    (λ item lawful a. c.in_err-sale.ensures.1 item.sale lawful.sale a.1.1.0))
+    (λ the_record within a. c.in_err-sale.ensures.1 the_record.sale within.sale a.1.1.0))
 
 pub returns-in_err-poi : goal.returns-in_err-poi
 returns-in_err-poi c =
@@ -35,7 +36,7 @@ returns-in_err-poi c =
     let agrees : Agree 3 (intent_fields draft) intent_table c.args.body.now = (sym c.requires, (c.in_ok-what.ensures.1, (c.in_ok-sale.ensures.1, tt))) in
     exit _ c.in_err-poi.field-0.0 _ _ (err_from_is_err_and c.from_residual-in_err-poi.result c.from_residual-in_err-poi.ensures.1)
     (intent_fault c.args.body.now 3 _ draft (omega arith) c.in_err-poi.ensures.0 is agrees (sym c.requires)
-    (λ item lawful a. c.in_err-poi.ensures.1 item.poi lawful.poi a.1.1.1.0))
+    (λ the_record within a. c.in_err-poi.ensures.1 the_record.poi within.poi a.1.1.1.0))
 
 pub returns-in_err-service : goal.returns-in_err-service
 returns-in_err-service c =
@@ -44,7 +45,7 @@ returns-in_err-service c =
     let agrees : Agree 4 (intent_fields draft) intent_table c.args.body.now = (sym c.requires, (c.in_ok-what.ensures.1, (c.in_ok-sale.ensures.1, (c.in_ok-poi.ensures.1, tt)))) in
     exit _ c.in_err-service.field-0.0 _ _ (err_from_is_err_and c.from_residual-in_err-service.result c.from_residual-in_err-service.ensures.1)
     (intent_fault c.args.body.now 4 _ draft (omega arith) c.in_err-service.ensures.0 is agrees (sym c.requires)
-    (λ item lawful a. c.in_err-service.ensures.1 item.service lawful.service a.1.1.1.1.0))
+    (λ the_record within a. c.in_err-service.ensures.1 the_record.service within.service a.1.1.1.1.0))
 
 pub returns-in_err-transaction : goal.returns-in_err-transaction
 returns-in_err-transaction c =
@@ -53,7 +54,7 @@ returns-in_err-transaction c =
     let agrees : Agree 5 (intent_fields draft) intent_table c.args.body.now = (sym c.requires, (c.in_ok-what.ensures.1, (c.in_ok-sale.ensures.1, (c.in_ok-poi.ensures.1, (c.in_ok-service.ensures.1, tt))))) in
     exit _ c.in_err-transaction.field-0.0 _ _ (err_from_is_err_and c.from_residual-in_err-transaction.result c.from_residual-in_err-transaction.ensures.1)
     (intent_fault c.args.body.now 5 _ draft (omega arith) c.in_err-transaction.ensures.0 is agrees (sym c.requires)
-    (λ item lawful a. c.in_err-transaction.ensures.1 item.transaction (subst (λ w. HasTillText w 80 item.transaction) (same_deal item.what c.in_ok-what.what _ a.1.0 c.in_ok-what.ensures.1) lawful.transaction) a.1.1.1.1.1.0))
+    (λ the_record within a. c.in_err-transaction.ensures.1 the_record.transaction (subst (λ w. HasTillText w 80 the_record.transaction) (same_deal the_record.what c.in_ok-what.what _ a.1.0 c.in_ok-what.ensures.1) within.transaction) a.1.1.1.1.1.0))
 
 pub returns-in_err-stamp : goal.returns-in_err-stamp
 returns-in_err-stamp c =
@@ -62,7 +63,7 @@ returns-in_err-stamp c =
     let agrees : Agree 6 (intent_fields draft) intent_table c.args.body.now = (sym c.requires, (c.in_ok-what.ensures.1, (c.in_ok-sale.ensures.1, (c.in_ok-poi.ensures.1, (c.in_ok-service.ensures.1, (c.in_ok-transaction.ensures.1, tt)))))) in
     exit _ c.in_err-stamp.field-0.0 _ _ (err_from_is_err_and c.from_residual-in_err-stamp.result c.from_residual-in_err-stamp.ensures.1)
     (intent_fault c.args.body.now 6 _ draft (omega arith) c.in_err-stamp.ensures.0 is agrees (sym c.requires)
-    (λ item lawful a. c.in_err-stamp.ensures.1 item.stamp (subst (λ w. HasTillText w 35 item.stamp) (same_deal item.what c.in_ok-what.what _ a.1.0 c.in_ok-what.ensures.1) lawful.stamp) a.1.1.1.1.1.1.0))
+    (λ the_record within a. c.in_err-stamp.ensures.1 the_record.stamp (subst (λ w. HasTillText w 35 the_record.stamp) (same_deal the_record.what c.in_ok-what.what _ a.1.0 c.in_ok-what.ensures.1) within.stamp) a.1.1.1.1.1.1.0))
 
 pub returns-in_err-amount : goal.returns-in_err-amount
 returns-in_err-amount c =
@@ -71,7 +72,7 @@ returns-in_err-amount c =
     let agrees : Agree 7 (intent_fields draft) intent_table c.args.body.now = (sym c.requires, (c.in_ok-what.ensures.1, (c.in_ok-sale.ensures.1, (c.in_ok-poi.ensures.1, (c.in_ok-service.ensures.1, (c.in_ok-transaction.ensures.1, (c.in_ok-stamp.ensures.1, tt))))))) in
     exit _ c.in_err-amount.field-0.0 _ _ (err_from_is_err_and c.from_residual-in_err-amount.result c.from_residual-in_err-amount.ensures.1)
     (intent_fault c.args.body.now 7 _ draft (omega arith) c.in_err-amount.ensures.0 is agrees (sym c.requires)
-    (λ item lawful a. c.in_err-amount.ensures.1 item.amount lawful.amount a.1.1.1.1.1.1.1.0))
+    (λ the_record within a. c.in_err-amount.ensures.1 the_record.amount within.amount a.1.1.1.1.1.1.1.0))
 
 pub returns-in_err-currency : goal.returns-in_err-currency
 returns-in_err-currency c =
@@ -80,7 +81,7 @@ returns-in_err-currency c =
     let agrees : Agree 8 (intent_fields draft) intent_table c.args.body.now = (sym c.requires, (c.in_ok-what.ensures.1, (c.in_ok-sale.ensures.1, (c.in_ok-poi.ensures.1, (c.in_ok-service.ensures.1, (c.in_ok-transaction.ensures.1, (c.in_ok-stamp.ensures.1, (c.in_ok-amount.ensures.1, tt)))))))) in
     exit _ c.in_err-currency.field-0.0 _ _ (err_from_is_err_and c.from_residual-in_err-currency.result c.from_residual-in_err-currency.ensures.1)
     (intent_fault c.args.body.now 8 _ draft (omega arith) c.in_err-currency.ensures.0 is agrees (sym c.requires)
-    (λ item lawful a. c.in_err-currency.ensures.1 item.currency tt a.1.1.1.1.1.1.1.1.0))
+    (λ the_record within a. c.in_err-currency.ensures.1 the_record.currency tt a.1.1.1.1.1.1.1.1.0))
 
 pub returns-in_err-before : goal.returns-in_err-before
 returns-in_err-before c =
@@ -89,7 +90,7 @@ returns-in_err-before c =
     let agrees : Agree 9 (intent_fields draft) intent_table c.args.body.now = (sym c.requires, (c.in_ok-what.ensures.1, (c.in_ok-sale.ensures.1, (c.in_ok-poi.ensures.1, (c.in_ok-service.ensures.1, (c.in_ok-transaction.ensures.1, (c.in_ok-stamp.ensures.1, (c.in_ok-amount.ensures.1, (c.in_ok-currency.ensures.1, tt))))))))) in
     exit _ c.in_err-before.field-0.0 _ _ (err_from_is_err_and c.from_residual-in_err-before.result c.from_residual-in_err-before.ensures.1)
     (intent_fault c.args.body.now 9 _ draft (omega arith) c.in_err-before.ensures.0 is agrees (sym c.requires)
-    (λ item lawful a. c.in_err-before.ensures.1 item.before (omega arith, lawful.before) a.1.1.1.1.1.1.1.1.1.0))
+    (λ the_record within a. c.in_err-before.ensures.1 the_record.before (omega arith, within.before) a.1.1.1.1.1.1.1.1.1.0))
 
 pub returns-in_err-original : goal.returns-in_err-original
 returns-in_err-original c =
@@ -98,7 +99,7 @@ returns-in_err-original c =
     let agrees : Agree 10 (intent_fields draft) intent_table c.args.body.now = (sym c.requires, (c.in_ok-what.ensures.1, (c.in_ok-sale.ensures.1, (c.in_ok-poi.ensures.1, (c.in_ok-service.ensures.1, (c.in_ok-transaction.ensures.1, (c.in_ok-stamp.ensures.1, (c.in_ok-amount.ensures.1, (c.in_ok-currency.ensures.1, (c.in_ok-before.ensures.1, tt)))))))))) in
     exit _ c.in_err-original.field-0.0 _ _ (err_from_is_err_and c.from_residual-in_err-original.result c.from_residual-in_err-original.ensures.1)
     (intent_fault c.args.body.now 10 _ draft (omega arith) c.in_err-original.ensures.0 is agrees (sym c.requires)
-    (λ item lawful a. c.in_err-original.ensures.1 item.original (subst (λ w. HasOriginal w item.original) (same_deal item.what c.in_ok-what.what _ a.1.0 c.in_ok-what.ensures.1) lawful.original) a.1.1.1.1.1.1.1.1.1.1.0))
+    (λ the_record within a. c.in_err-original.ensures.1 the_record.original (subst (λ w. HasOriginal w the_record.original) (same_deal the_record.what c.in_ok-what.what _ a.1.0 c.in_ok-what.ensures.1) within.original) a.1.1.1.1.1.1.1.1.1.1.0))
 
 pub returns-in_err-moment : goal.returns-in_err-moment
 returns-in_err-moment c =
@@ -107,7 +108,7 @@ returns-in_err-moment c =
     let agrees : Agree 11 (intent_fields draft) intent_table c.args.body.now = (sym c.requires, (c.in_ok-what.ensures.1, (c.in_ok-sale.ensures.1, (c.in_ok-poi.ensures.1, (c.in_ok-service.ensures.1, (c.in_ok-transaction.ensures.1, (c.in_ok-stamp.ensures.1, (c.in_ok-amount.ensures.1, (c.in_ok-currency.ensures.1, (c.in_ok-before.ensures.1, (c.in_ok-original.ensures.1, tt))))))))))) in
     exit _ c.in_err-moment.field-0.0 _ _ (err_from_is_err_and c.from_residual-in_err-moment.result c.from_residual-in_err-moment.ensures.1)
     (intent_fault c.args.body.now 11 _ draft (omega arith) c.in_err-moment.ensures.0 is agrees (sym c.requires)
-    (λ item lawful a. c.in_err-moment.ensures.1 item.moment lawful.moment a.1.1.1.1.1.1.1.1.1.1.1.0))
+    (λ the_record within a. c.in_err-moment.ensures.1 the_record.moment within.moment a.1.1.1.1.1.1.1.1.1.1.1.0))
 
 pub returns-in_err-read_zeros : goal.returns-in_err-read_zeros
 returns-in_err-read_zeros c =
@@ -116,7 +117,7 @@ returns-in_err-read_zeros c =
     let agrees : Agree 12 (intent_fields draft) intent_table c.args.body.now = (sym c.requires, (c.in_ok-what.ensures.1, (c.in_ok-sale.ensures.1, (c.in_ok-poi.ensures.1, (c.in_ok-service.ensures.1, (c.in_ok-transaction.ensures.1, (c.in_ok-stamp.ensures.1, (c.in_ok-amount.ensures.1, (c.in_ok-currency.ensures.1, (c.in_ok-before.ensures.1, (c.in_ok-original.ensures.1, (c.in_ok-moment.ensures.1, tt)))))))))))) in
     exit _ c.in_err-read_zeros.field-0.0 _ _ (err_from_is_err_and c.from_residual-in_err-read_zeros.result c.from_residual-in_err-read_zeros.ensures.1)
     (intent_fault c.args.body.now 12 _ draft (omega arith) c.in_err-read_zeros.ensures.0 is agrees (sym c.requires)
-    (λ item lawful a. c.in_err-read_zeros.ensures.1 (record {}) tt a.1.1.1.1.1.1.1.1.1.1.1.1.0))
+    (λ the_record within a. c.in_err-read_zeros.ensures.1 (record {}) tt a.1.1.1.1.1.1.1.1.1.1.1.1.0))
 
 pub returns : goal.returns
 returns c =

@@ -1,3 +1,4 @@
+-- Proof of the contract of `put_intent`.
 use Rattle.std.proofs.Common.{[], ◌∷◌, ap, ◌∙◌, ◌++◌}
 use Rattle.gw_base.specs.Bcd.{bcd_of}
 use Rattle.jrn_record.specs.Grammar.{moment_field, text_field}

@@ -1,3 +1,4 @@
+-- Proof of the contract of `put_settled`.
 use Rattle.std.proofs.Common.{[], ◌∷◌, ap, ◌∙◌, ◌++◌}
 use Rattle.jrn_record.specs.Grammar.{moment_field, text_field}
 use Rattle.jrn_record.proofs.MomentLemmas.{moment_back}

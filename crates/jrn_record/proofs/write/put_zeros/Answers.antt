@@ -1,3 +1,4 @@
+-- Proof of the contract of `put_zeros`.
 use Rattle.std.proofs.Common.{arith, ap, ◌∙◌, ◌++◌}
 use Rattle.std.proofs.lemmas.List.{take-replicate}
 use Rattle.jrn_record.proofs.write.put_zeros.Goals as goal

@@ -1,3 +1,4 @@
+-- Proof of the contract of `is_written`.
 use Rattle.std.proofs.Common.{◌∙◌, ◌<◌, length, take, sym, ap, arith}
 use Rattle.gw_site.specs.Image.{is_covered}
 use Rattle.gw_site.specs.Outside.{Outside, outside_of}

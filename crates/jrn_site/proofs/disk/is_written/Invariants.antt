@@ -1,3 +1,4 @@
+-- What the loop of `is_written` keeps.
 use Rattle.std.proofs.Common.{◌≡◌, take}
 use Rattle.gw_site.specs.Image.{is_covered}
 use Rattle.gw_site.specs.Outside.{outside_of}

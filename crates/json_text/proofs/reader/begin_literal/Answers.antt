@@ -6,9 +6,9 @@ use Rattle.json_text.proofs.reader.begin_literal.Goals as goal
 pub returns : goal.returns
 returns c =
     elim c.match-byte.branch [
-      | in-110 w ↦ null_begins c.args.state.now.stack c.match-byte.at c.args.byte w.in-110.is w.at-is
-      | in-116 w ↦ true_begins c.args.state.now.stack c.match-byte.at c.args.byte w.in-116.is w.at-is
-      | in-102 w ↦ false_begins c.args.state.now.stack c.match-byte.at c.args.byte w.in-102.is w.at-is
+      | in-110 w ↦ null_begins c.args.state.now.stack c.match-byte.wanted c.args.byte w.in-110.is w.wanted-is
+      | in-116 w ↦ true_begins c.args.state.now.stack c.match-byte.wanted c.args.byte w.in-116.is w.wanted-is
+      | in-102 w ↦ false_begins c.args.state.now.stack c.match-byte.wanted c.args.byte w.in-102.is w.wanted-is
     ]
 
 pub returns-in_default : goal.returns-in_default

@@ -10,7 +10,7 @@ returns-in-Value c = string_closes c.args.state.now.stack c.args.target c.args.t
 pub returns-in-Some : goal.returns-in-Some
 returns-in-Some c =
     let h = rw c.in-Some.is at c.in_ok-found-in-Name.ensures in
-    name_closes c.args.state.now.stack c.args.target c.in-Name.fields c.args.text _ c.in-Name.is h.0 h.1
+    name_closes c.args.state.now.stack c.args.target c.in-Name.opened c.args.text _ c.in-Name.is h.0 h.1
 
 pub returns-in-None : goal.returns-in-None
-returns-in-None c = name_repeats c.args.state.now.stack.items c.args.target c.in-Name.fields (string_bytes c.args.text) c.in-Name.is (rw c.in-None.is at c.in_ok-found-in-Name.ensures)
+returns-in-None c = name_repeats c.args.state.now.stack.items c.args.target c.in-Name.opened (string_bytes c.args.text) c.in-Name.is (rw c.in-None.is at c.in_ok-found-in-Name.ensures)

@@ -1,11 +1,20 @@
 use Rattle.std.proofs.Common.{◌≡◌, ◌++◌, map, drop, nat_eq}
+use Rattle.gw_bytes.specs.Bytes.{IsPrefix}
 use Rattle.json_text.specs.Tree.{no_items}
 use Rattle.json_text.specs.ValueOf.{value_of, items_onto, members_value}
 use Rattle.json_text.specs.Canonical.{canonical_first, canonical_items, canonical_first_member, canonical_members}
 use Rattle.json_text.proofs.writer.+values.Given as goal
 
-abbrev pub invariant-write_items-loop-i : goal.invariant-write_items-loop-i
-invariant-write_items-loop-i l = l.out.items ++ canonical_items (nat_eq l.i 0) (items_onto (map value_of (drop l.i l.items)) no_items) ≡ l.fn.out.items ++ canonical_first (items_onto (map value_of l.items) no_items)
+-- the elements written and those that follow are all of them, and the buffer has grown
+abbrev pub invariant-write_elements-loop-i : goal.invariant-write_elements-loop-i
+invariant-write_elements-loop-i l = record {
+  spelled : l.out.items ++ canonical_items (nat_eq l.i 0) (items_onto (map value_of (drop l.i l.elements)) no_items) ≡ l.fn.out.items ++ canonical_first (items_onto (map value_of l.elements) no_items);
+  grows : IsPrefix l.fn.out.items l.out.items;
+}
 
+-- the members written and those that follow are all of them, and the buffer has grown
 abbrev pub invariant-write_members-loop-i : goal.invariant-write_members-loop-i
-invariant-write_members-loop-i l = l.out.items ++ canonical_members (nat_eq l.i 0) (members_value (drop l.i l.members)) ≡ l.fn.out.items ++ canonical_first_member (members_value l.members)
+invariant-write_members-loop-i l = record {
+  spelled : l.out.items ++ canonical_members (nat_eq l.i 0) (members_value (drop l.i l.members)) ≡ l.fn.out.items ++ canonical_first_member (members_value l.members);
+  grows : IsPrefix l.fn.out.items l.out.items;
+}

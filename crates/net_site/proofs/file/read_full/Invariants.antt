@@ -4,7 +4,7 @@ use Rattle.net_site.proofs.file.read_full.Given as goal
 abbrev pub invariant-loop : goal.invariant-loop
 invariant-loop l = record {
   size : length l.buf ≡ length l.fn.buf;
-  at : l.at ≤ length l.buf;
+  filled : l.filled ≤ length l.buf;
 }
 
 abbrev pub invariant-loop-byte : goal.invariant-loop-byte

@@ -1,3 +1,4 @@
+-- The book of a played terminal is honest, from its account and its history.
 use Rattle.std.proofs.Common.{ap, sym}
 use Rattle.zvt_msg.specs.CommandDecode.{decode_command}
 use Rattle.pt_core.specs.Serving.{TerminalValue}

@@ -1,3 +1,4 @@
+-- The payment that is found fits a status, as each entry does.
 use Rattle.std.proofs.Common.{Option, sym, subst}
 use Rattle.std.specs.Prelude.{IfSome, IsTrue}
 use Rattle.pt_core.specs.declared.book.BookEntry.{BookEntry}

@@ -1,3 +1,4 @@
+-- The plays from the next index on are those that are left without the first.
 use Rattle.std.proofs.Common.{sym}
 use Rattle.std.proofs.lemmas.List.{drop-drop}
 use Rattle.pt_core.proofs.requests.next_index.Goals as goal

@@ -3,4 +3,4 @@ use Rattle.sale_frame.proofs.StreamLemmas.{any_chunks_from}
 use Rattle.sale_frame.proofs.laws.any_chunks.Goals as goal
 
 pub returns : goal.returns
-returns c = λ calls waiting rest messages run reading. any_chunks_from calls [] waiting rest messages run reading
+returns c = λ steps waiting rest messages run decoded. any_chunks_from steps [] waiting rest messages run decoded

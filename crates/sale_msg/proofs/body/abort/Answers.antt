@@ -1,7 +1,7 @@
 use Rattle.std.proofs.Common.{codes, sym, refl}
 use Rattle.json_text.specs.ValueOf.{value_of}
 use Rattle.sale_msg.specs.declared.table.Form.TheVariants.{Object}
-use Rattle.sale_msg.proofs.PathLemmas.{value_at-within}
+use Rattle.sale_msg.proofs.PathLemmas.{value_at_within}
 use Rattle.sale_msg.proofs.RowLemmas.{required_there, required_as, optional_as}
 use Rattle.sale_msg.proofs.body.abort.Goals as goal
 
@@ -15,13 +15,13 @@ reference-requires c =
     let object = value_of c.in-Some.object.now in
     let there = sym c.in-Some.ensures in (
       required_as _ _ _ _ _ body object c.requires.1.1.1.0
-          (value_at-within (codes "AbortRequest.MessageReference.ServiceID") (codes "AbortRequest.MessageReference") (codes "ServiceID") body object refl there),
+          (value_at_within (codes "AbortRequest.MessageReference.ServiceID") (codes "AbortRequest.MessageReference") (codes "ServiceID") body object refl there),
       (
         optional_as _ _ _ _ _ body object c.requires.1.1.1.1.0
-            (value_at-within (codes "AbortRequest.MessageReference.SaleID") (codes "AbortRequest.MessageReference") (codes "SaleID") body object refl there),
+            (value_at_within (codes "AbortRequest.MessageReference.SaleID") (codes "AbortRequest.MessageReference") (codes "SaleID") body object refl there),
         (
           optional_as _ _ _ _ _ body object c.requires.1.1.1.1.1.0
-              (value_at-within (codes "AbortRequest.MessageReference.POIID") (codes "AbortRequest.MessageReference") (codes "POIID") body object refl there),
+              (value_at_within (codes "AbortRequest.MessageReference.POIID") (codes "AbortRequest.MessageReference") (codes "POIID") body object refl there),
           tt,
         ),
       ),

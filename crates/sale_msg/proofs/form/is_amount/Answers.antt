@@ -4,5 +4,5 @@ use Rattle.sale_msg.proofs.form.is_amount.Goals as goal
 
 pub returns-in-Some : goal.returns-in-Some
 returns-in-Some c =
-    let minor = rw c.as_bytes.ensures at c.minor_of.ensures.amount in
-    amount_form (value_of c.args.value.now) c.in-Some.numeral.now c.minor_of.result c.is_some.result c.in-Some.ensures minor c.is_some.ensures
+    let amount = rw c.as_bytes.ensures at c.minor_of.ensures.amount in
+    amount_form (value_of c.args.value.now) c.in-Some.numeral.now c.minor_of.result c.is_some.result c.in-Some.ensures amount c.is_some.ensures

@@ -12,12 +12,12 @@ use Rattle.sale_msg.proofs.reader.read_message.Goals as goal
 pub returns-in-Ok : goal.returns-in-Ok
 returns-in-Ok c =
     let m = value_of c.args.tree.now in
-    let answer = c.read_headed.ensures m c.in-Ok.ensures.ok in
+    let outcome = c.read_headed.ensures m c.in-Ok.ensures.ok in
     record {
-      ok = ok_part c.read_headed.result (IsTillMessage m) (RefusesTree m) answer;
-      err = err_part c.read_headed.result (IsTillMessage m) (RefusesTree m) answer;
-      every = result_message m c.read_headed.result answer;
-      each = result_fault m c.read_headed.result answer;
+      ok = ok_part c.read_headed.result (IsTillMessage m) (RefusesTree m) outcome;
+      err = err_part c.read_headed.result (IsTillMessage m) (RefusesTree m) outcome;
+      every = result_message m c.read_headed.result outcome;
+      each = result_fault m c.read_headed.result outcome;
     }
 
 pub returns-in-Err : goal.returns-in-Err
@@ -26,5 +26,5 @@ returns-in-Err c =
     let reported = c.in-Err.ensures.err in
     let P : SaleFault → Type 0 = λ f. IsSaleFault m f in
     let fault : IsSaleFault m c.in-Err.fault = subst P (sym reported.2) reported.1 in
-    let answer : Result Incoming MessageError = Err (errors.Fault c.in-Err.fault) in
-    record { ok = tt; err = fault; every = result_message m answer fault; each = result_fault m answer fault }
+    let outcome : Result Incoming MessageError = Err (errors.Fault c.in-Err.fault) in
+    record { ok = tt; err = fault; every = result_message m outcome fault; each = result_fault m outcome fault }

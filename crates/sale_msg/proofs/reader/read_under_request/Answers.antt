@@ -11,7 +11,7 @@ returns-in_default c =
       value_of c.args.body.now,
       c.args.header.now,
       record {
-        stands = headed.0;
+        under = headed.0;
         header_is = headed.1;
         silent = inr (kind_is_notification (value_of c.args.body.now) c.args.header.now headed.1 c.in_default.not-Request);
       },

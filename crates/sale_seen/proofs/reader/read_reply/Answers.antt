@@ -11,14 +11,14 @@ pub returns-in-Ok : goal.returns-in-Ok
 returns-in-Ok c =
     let m = value_of c.args.tree.now in
     let r = c.read_body.result in
-    let answer = c.read_body.ensures m c.in-Ok.headed.envelope c.in-Ok.ensures.ok in
+    let outcome = c.read_body.ensures m c.in-Ok.headed.envelope c.in-Ok.ensures.ok in
     record {
-      ok = result_ok m r answer;
-      every = result_every m r answer;
-      no_header = λ path. result_fault m r answer (faults.NoHeader path);
-      missing = λ header path. result_fault m r answer (faults.Missing header path);
-      wrong = λ header path. result_fault m r answer (faults.Wrong header path);
-      unserved = λ header. (result_fault m r answer (faults.Unserved header)).0;
+      ok = result_ok m r outcome;
+      every = result_every m r outcome;
+      no_header = λ path. result_fault m r outcome (faults.NoHeader path);
+      missing = λ header path. result_fault m r outcome (faults.Missing header path);
+      wrong = λ header path. result_fault m r outcome (faults.Wrong header path);
+      unserved = λ header. (result_fault m r outcome (faults.Unserved header)).0;
     }
 
 pub returns-in-Err : goal.returns-in-Err
@@ -26,12 +26,12 @@ returns-in-Err c =
     let m = value_of c.args.tree.now in
     let r : Result ReplySeen SaleFault = Err c.in-Err.fault in
     let lacks = c.in-Err.ensures.err in
-    let answer = subst (IsReplyFault m) (sym lacks.2) lacks.1 in
+    let outcome = subst (IsReplyFault m) (sym lacks.2) lacks.1 in
     record {
       ok = tt;
-      every = result_every m r answer;
-      no_header = λ path. result_fault m r answer (faults.NoHeader path);
-      missing = λ header path. result_fault m r answer (faults.Missing header path);
-      wrong = λ header path. result_fault m r answer (faults.Wrong header path);
-      unserved = λ header. (result_fault m r answer (faults.Unserved header)).0;
+      every = result_every m r outcome;
+      no_header = λ path. result_fault m r outcome (faults.NoHeader path);
+      missing = λ header path. result_fault m r outcome (faults.Missing header path);
+      wrong = λ header path. result_fault m r outcome (faults.Wrong header path);
+      unserved = λ header. (result_fault m r outcome (faults.Unserved header)).0;
     }

@@ -12,7 +12,7 @@ returns-in-None c =
 pub returns-in-Some : goal.returns-in-Some
 returns-in-Some c =
     let whole = strip_prefix_is Decides-eqb c.args.name.now c.args.category.now (Some c.in-Some.rest) c.in-Some.ensures.cases in
-    let behind = codes "Response" in
+    let suffix = codes "Response" in
     c.eq.ensures
     ∙ ap (bytes_eq c.in-Some.rest.now) c.as_slice.ensures
-    ∙ sym (ap (λ n. bytes_eq n (c.args.category.now ++ behind)) whole ∙ prefix_eq c.args.category.now c.in-Some.rest.now behind)
+    ∙ sym (ap (λ n. bytes_eq n (c.args.category.now ++ suffix)) whole ∙ prefix_eq c.args.category.now c.in-Some.rest.now suffix)

@@ -6,7 +6,7 @@ use Rattle.zvt_bmp.proofs.DecodeLemmas.{goes_on, ends_there, fails_there, all_wi
 use Rattle.zvt_bmp.proofs.fields.read_all.Goals as goal
 
 pub loop-after-init : goal.loop-after-init
-loop-after-init c = record { short = omega arith; same = rw c.no_fields_yet-so_far.ensures (all_within c.args.bytes.now); digits = rw c.no_fields_yet-so_far.ensures (record { amount = tt; trace = tt; receipt = tt }) }
+loop-after-init c = record { within = omega arith; same = rw c.no_fields_yet-so_far.ensures (all_within c.args.bytes.now); digits = rw c.no_fields_yet-so_far.ensures (record { amount = tt; trace = tt; receipt = tt }) }
 
 pub returns-in_err-after-clause-computes : goal.returns-in_err-after-clause-computes
 returns-in_err-after-clause-computes c =
@@ -19,7 +19,7 @@ loop-after-preserved c =
     let field = rw c.in-Some.is at c.in_ok-after.ensures.field in
     let shorter = rw c.in-Some.is at c.in_ok-after.ensures.shorter in
     record {
-      short = omega (arith, shorter, c.loop-after.invariant.short);
+      within = omega (arith, shorter, c.loop-after.invariant.within);
       same = sym (goes_on (length c.args.bytes.now) c.loop-after.so_far c.loop-after.rest.now c.read_field.new.self c.in-Some.after.now field) ∙ c.loop-after.invariant.same;
       digits = c.read_field.ensures.digits c.loop-after.invariant.digits;
     }

@@ -7,7 +7,7 @@ use Rattle.zvt_bmp.proofs.fields.read_all.Given as goal
 -- reading on from here gives what reading all does
 abbrev pub invariant-loop-after : goal.invariant-loop-after
 invariant-loop-after l = record {
-  short : length l.rest ≤ length l.bytes;
+  within : length l.rest ≤ length l.bytes;
   same : decode_status_within (length l.rest) (length l.bytes) l.so_far l.rest ≡ decode_status l.bytes;
   digits : HasFieldDigits l.so_far.fields;
 }

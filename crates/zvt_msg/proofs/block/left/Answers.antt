@@ -18,4 +18,4 @@ loop-object-preserved c = record {
 pub returns-clause-left : goal.returns-clause-left
 returns-clause-left c =
     let ends = left_ends c.loop-object.tlv.rest c.in_default.ensures.0 in
-    omega (arith, ends, ap (λ (p : TlvReaderValue). p.at) c.in_default.ensures.1, c.loop-object.invariant.same, c.loop-object.invariant.offset, c.offset-2.ensures)
+    omega (arith, ends, ap (λ (p : TlvReaderValue). p.offset) c.in_default.ensures.1, c.loop-object.invariant.same, c.loop-object.invariant.offset, c.offset-2.ensures)

@@ -6,7 +6,7 @@ use Rattle.zvt_msg.proofs.block.left.Given as goal
 -- what is left from here on is what is left of all
 abbrev pub invariant-loop-object : goal.invariant-loop-object
 invariant-loop-object l = record {
-  offset : l.tlv.at + length l.tlv.rest ≡ length l.bytes;
+  offset : l.tlv.offset + length l.tlv.rest ≡ length l.bytes;
   same : bytes_left l.tlv.rest ≡ bytes_left l.bytes;
 }
 

@@ -14,4 +14,4 @@ loop-preserved c = record {
 pub returns-clause-left : goal.returns-clause-left
 returns-clause-left c =
     let ends = ap (λ (s : DecodedTlvObjects). length s.rest) (split_none c.loop.tlv.rest c.in_default.ensures.0) in
-    omega (arith, ends, ap (λ (p : TlvReaderValue). p.at) c.in_default.ensures.1, ap (λ (r : List ℕ). length r) c.loop.invariant.same, c.loop.invariant.offset, c.offset.ensures)
+    omega (arith, ends, ap (λ (p : TlvReaderValue). p.offset) c.in_default.ensures.1, ap (λ (r : List ℕ). length r) c.loop.invariant.same, c.loop.invariant.offset, c.offset.ensures)

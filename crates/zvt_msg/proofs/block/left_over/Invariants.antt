@@ -6,7 +6,7 @@ use Rattle.zvt_msg.proofs.block.left_over.Given as goal
 -- what is left from here on is what is left of all
 abbrev pub invariant-loop : goal.invariant-loop
 invariant-loop l = record {
-  offset : l.tlv.at + length l.tlv.rest ≡ length l.bytes;
+  offset : l.tlv.offset + length l.tlv.rest ≡ length l.bytes;
   same : (decode_tlv_objects l.tlv.rest).rest ≡ (decode_tlv_objects l.bytes).rest;
 }
 

@@ -10,7 +10,7 @@ returns-then-object-tag-clause-value c = sym c.loop-object.invariant.same ∙ va
 
 pub loop-object-preserved : goal.loop-object-preserved
 loop-object-preserved c = record {
-  short = omega (arith, c.in-Some.ensures.shorter, c.loop-object.invariant.short);
+  within = omega (arith, c.in-Some.ensures.shorter, c.loop-object.invariant.within);
   same = sym (value_passed c.args.tag c.loop-object.tlv.rest _ c.next_object.new.tlv.rest c.in-Some.ensures.found c.if-object-tag.false) ∙ c.loop-object.invariant.same;
 }
 

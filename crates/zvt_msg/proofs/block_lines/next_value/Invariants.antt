@@ -6,7 +6,7 @@ use Rattle.zvt_msg.proofs.block_lines.next_value.Given as goal
 -- the values from here on are all
 abbrev pub invariant-loop-object : goal.invariant-loop-object
 invariant-loop-object l = record {
-  short : length l.tlv.rest ≤ length l.initial.tlv.rest;
+  within : length l.tlv.rest ≤ length l.initial.tlv.rest;
   same : decode_values_with_tag l.tag l.tlv.rest ≡ decode_values_with_tag l.tag l.initial.tlv.rest;
 }
 

@@ -8,10 +8,10 @@ pub returns-clause-ack : goal.returns-clause-ack
 returns-clause-ack c = λ dialogue came is. stray dialogue came Ack is refl
 
 pub returns-clause-ack_stays : goal.returns-clause-ack_stays
-returns-clause-ack_stays c = λ dialogue came at is. ack_same dialogue.kind came at is
+returns-clause-ack_stays c = λ dialogue came at is. ack_same dialogue.dialogue_kind came at is
 
 pub returns-clause-nack : goal.returns-clause-nack
 returns-clause-nack c = λ dialogue came code is. stray dialogue came (Nack code) is refl
 
 pub returns-clause-nack_stays : goal.returns-clause-nack_stays
-returns-clause-nack_stays c = λ dialogue came code at is. nack_same dialogue.kind came code at is
+returns-clause-nack_stays c = λ dialogue came code at is. nack_same dialogue.dialogue_kind came code at is

@@ -8,5 +8,5 @@ returns-clause-message c = due_after
 pub returns-clause-other : goal.returns-clause-other
 returns-clause-other c = due_same
 
-pub returns-clause-wish : goal.returns-clause-wish
-returns-clause-wish c = due_wish
+pub returns-clause-stop_wished : goal.returns-clause-stop_wished
+returns-clause-stop_wished c = due_wish

@@ -5,8 +5,8 @@ use Rattle.zvt_talk.proofs.laws.law_stop.Goals as goal
 pub returns-clause-message : goal.returns-clause-message
 returns-clause-message c = message_stop
 
-pub returns-clause-wish : goal.returns-clause-wish
-returns-clause-wish c = λ dialogue came. wish_stop dialogue.kind came
+pub returns-clause-stop_wished : goal.returns-clause-stop_wished
+returns-clause-stop_wished c = λ dialogue came. wish_stop dialogue.dialogue_kind came
 
 pub returns-clause-stays : goal.returns-clause-stays
-returns-clause-stays c = λ dialogue came more is. stopped_with dialogue.kind came more is
+returns-clause-stays c = λ dialogue came more is. stopped_with dialogue.dialogue_kind came more is

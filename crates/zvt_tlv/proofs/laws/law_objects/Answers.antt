@@ -9,5 +9,5 @@ pub returns : goal.returns
 returns c = record {
   only = λ bytes r s xs ys first ends second stops. one_reading xs ys bytes r s first ends second stops;
   end = λ bytes objects offset walk empty. subst (BeginsWithTlvObjects bytes objects) empty (walk_splits objects (tlv_reader_over bytes) offset walk).0;
-  fault = λ bytes objects offset walk unlawful. let splits = walk_splits objects (tlv_reader_over bytes) offset walk in (objects, offset.rest, splits.0, unlawful, splits.1 ∙ zero-add (length bytes));
+  fault = λ bytes objects offset walk malformed. let splits = walk_splits objects (tlv_reader_over bytes) offset walk in (objects, offset.rest, splits.0, malformed, splits.1 ∙ zero-add (length bytes));
 }

@@ -1,3 +1,4 @@
+-- Proof of the contract of `accept`.
 use Rattle.std.proofs.Common.{◌≡◌, ◌∙◌, ◌<◌, ◌≤◌, refl, ap, arith, length}
 use Rattle.std.proofs.lemmas.List.{length-append}
 use Rattle.jrn_record.specs.declared.records.Record.{Record}
@@ -42,8 +43,8 @@ invariant_of-self c =
     let sums : (currency : Currency) → sums_in_row (Some c.asked.result) currency ≡ sums_of records intent.poi currency =
     λ currency. ap (λ s. slice_index_or s (ordinal currency) no_sums) c.asked.ensures.sums ∙ c.desk_in-desk.ensures.sums currency ∙ ap (λ desks. sums_in_row (value_at poi_cmp desks intent.poi) currency) c.deref.ensures.value ∙ tables.sums_are intent.poi currency in
     let few : length records < 1000000 = rw same c.requires.few in (
-      rw (c.push.ensures.items, c.push-2.ensures.items) (record {
-        folded = folded_push records (Intent intent) tables.folded c.requires.lawful (rw same c.requires.fits);
+      rw (c.push.ensures.elements, c.push-2.ensures.elements) (record {
+        folded = folded_push records (Intent intent) tables.folded c.requires.within (rw same c.requires.fits);
         few = omega (arith, length-append {A = Record});
         marks_len = omega (arith, length-append {A = Record}, length-append {A = Mark}, tables.marks_len);
         marks_are = marks_are_after records intent _ tables.marks_len tables.marks_are;

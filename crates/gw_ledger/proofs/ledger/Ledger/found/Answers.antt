@@ -1,3 +1,4 @@
+-- Proof of the contract of `found`.
 use Rattle.std.proofs.Common.{◌≡◌, ◌∙◌, Option, Some, None, sym, ap}
 use Rattle.std.specs.Prelude.{option_and_then, slice_get}
 use Rattle.std.specs.Ordering.{nat_cmp}
@@ -8,7 +9,7 @@ use Rattle.jrn_record.specs.declared.records.Record.TheVariants.{Intent, Outcome
 use Rattle.gw_ledger.specs.Slots.{as_settled}
 use Rattle.gw_ledger.proofs.ledger.Ledger.found.Goals as goal
 
-settled_is : (item : Option Record) (settled : TheSettled) → option_and_then as_settled item ≡ Some settled → item ≡ Some (Settled settled)
+settled_is : (the_record : Option Record) (settled : TheSettled) → option_and_then as_settled the_record ≡ Some settled → the_record ≡ Some (Settled settled)
 settled_is None settled found = cc
 settled_is (Some (Intent intent)) settled found = cc
 settled_is (Some (Outcome outcome)) settled found = cc

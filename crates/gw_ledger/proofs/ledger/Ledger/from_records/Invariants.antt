@@ -1,3 +1,4 @@
+-- What the loop of `from_records` keeps.
 use Rattle.std.proofs.Common.{take}
 use Rattle.gw_ledger.specs.Fold.{AreBodiesOf}
 use Rattle.gw_ledger.proofs.ledger.Ledger.from_records.Given as goal

@@ -1,3 +1,4 @@
+-- Proof of the contract of `new`.
 use Rattle.std.proofs.Common.{arith}
 use Rattle.gw_ledger.proofs.Empty.{tables_empty}
 use Rattle.gw_ledger.proofs.ledger.Ledger.new.Goals as goal

@@ -1,3 +1,4 @@
+-- Proof of the contract of `resolve`.
 use Rattle.std.proofs.Common.{◌≡◌, ◌∙◌, ◌-◌, ◌<◌, Option, refl, sym, ap, arith, length, IsSome}
 use Rattle.std.specs.Prelude.{Some, None}
 use Rattle.std.proofs.lemmas.List.{length-append}
@@ -13,7 +14,7 @@ use Rattle.gw_ledger.specs.Table.{value_at}
 use Rattle.gw_ledger.specs.Tables.{account_in_row, poi_cmp, sums_in_row}
 use Rattle.gw_ledger.proofs.After.{count-le, folded_push}
 use Rattle.gw_ledger.proofs.AfterOutcome.{account_after, closings_after, desks_after, keys_after, lasts_after, marks_are_after, sums_after, tally_after, unresolved_after}
-use Rattle.gw_ledger.proofs.Along.{intent_inside, open_has_intent, open_is_counted, open_parts, room_for, told-le, total-below}
+use Rattle.gw_ledger.proofs.Along.{intent_inside, open_has_intent, open_is_counted, open_parts, room_for, present-le, total-below}
 use Rattle.gw_ledger.proofs.Marks.{length-marked}
 use Rattle.gw_ledger.proofs.ledger.Ledger.resolve.Goals as goal
 
@@ -72,7 +73,7 @@ counted-self-inside-requires-clause-sum c =
     let same = ap (λ v. v.records) c.self.view_is in
     let few : length c.self.inside.records.items < 1000000 = rw same c.requires.few in
     rw (ap (λ t. t.sum) tables.tally_is)
-    (total-below c.self.inside.records.items tables.folded few c.args.outcome.now.amount (told-le c.args.outcome.now.approved c.args.outcome.now.amount c.requires.lawful.amount))
+    (total-below c.self.inside.records.items tables.folded few c.args.outcome.now.amount (present-le c.args.outcome.now.approved c.args.outcome.now.amount c.requires.within.amount))
 
 pub resolved-requires : goal.resolved-requires
 resolved-requires c =
@@ -83,7 +84,7 @@ resolved-requires c =
     λ currency. c.desk_in-desk.ensures.sums currency ∙ ap (λ desks. sums_in_row (value_at poi_cmp desks c.in-Some.intent.poi) currency) c.deref-2.ensures.value ∙ tables.sums_are c.in-Some.intent.poi currency in
     record {
       counts = λ currency. rw (sums currency)
-          (room_for c.self.inside.records.items tables.folded few c.args.outcome.now.amount (told-le c.args.outcome.now.approved c.args.outcome.now.amount c.requires.lawful.amount) c.in-Some.intent.poi currency);
+          (room_for c.self.inside.records.items tables.folded few c.args.outcome.now.amount (present-le c.args.outcome.now.approved c.args.outcome.now.amount c.requires.within.amount) c.in-Some.intent.poi currency);
     }
 
 none_has_value : {V : Type 0} (value : Option V) → value ≡ None → IsSome value → ⊥
@@ -121,8 +122,8 @@ invariant_of-self c =
     let opened = open_parts records outcome (rw same c.requires.fits) in
     let counted = open_is_counted records tables.folded outcome.slot opened in
     let open_is : c.self.inside.tally.unresolved ≡ open_count_of records = ap (λ t. t.unresolved) tables.tally_is in (
-      rw (c.push.ensures.items, c.push_outcome.ensures.marks, at) (record {
-        folded = folded_push records (Outcome outcome) tables.folded c.requires.lawful (rw same c.requires.fits);
+      rw (c.push.ensures.elements, c.push_outcome.ensures.marks, at) (record {
+        folded = folded_push records (Outcome outcome) tables.folded c.requires.within (rw same c.requires.fits);
         few = omega (arith, length-append {A = Record});
         marks_len = omega (arith, length-append {A = Record}, length-append {A = Mark}, tables.marks_len, length-marked outcome intent.original (length records) c.self.inside.marks.items);
         marks_are = marks_are_after records outcome intent asked _ tables.marks_len tables.marks_are;

@@ -1,3 +1,4 @@
+-- Proof of the contract of `settle`.
 use Rattle.std.proofs.Common.{◌≡◌, ◌∙◌, ◌<◌, ◌≤◌, refl, sym, ap, arith, length, add-one}
 use Rattle.std.proofs.lemmas.List.{length-append}
 use Rattle.jrn_record.specs.declared.records.Record.{Record}
@@ -31,8 +32,8 @@ invariant_of-self c =
     c.totals_at-totals.ensures ∙ ap (totals_with settled.currency) (c.desk_in-desk.ensures.sums settled.currency
     ∙ ap (λ desks. sums_in_row (value_at poi_cmp desks settled.poi) settled.currency) c.deref.ensures.value ∙ tables.sums_are settled.poi settled.currency) in
     let few : length records < 1000000 = rw same c.requires.few in (
-      rw (c.push.ensures.items, c.push-2.ensures.items) (record {
-        folded = folded_push records (Settled settled) tables.folded c.requires.lawful (rw same c.requires.fits);
+      rw (c.push.ensures.elements, c.push-2.ensures.elements) (record {
+        folded = folded_push records (Settled settled) tables.folded c.requires.within (rw same c.requires.fits);
         few = omega (arith, length-append {A = Record});
         marks_len = omega (arith, length-append {A = Record}, length-append {A = Mark}, tables.marks_len);
         marks_are = marks_are_after records settled _ tables.marks_len tables.marks_are;

@@ -1,3 +1,4 @@
+-- Proof of the contract of `count`.
 use Rattle.std.proofs.Common.{◌≡◌, ◌+◌, ◌∷◌, ◌++◌, [], eqb, length, refl, sym, ap, ◌∙◌, Some, None, arith, append-nil, length-append}
 use Rattle.gw_links.specs.declared.link.Order.TheVariants.{Terminal}
 use Rattle.gw_links.specs.Waiting.{at_terminal}

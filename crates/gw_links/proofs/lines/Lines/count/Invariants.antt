@@ -1,3 +1,4 @@
+-- What the loop of `count` keeps, and why it ends.
 use Rattle.std.proofs.Common.{◌≡◌, length}
 use Rattle.gw_links.specs.Waiting.{at_terminal}
 use Rattle.gw_links.proofs.WalkLemmas.{Walk, rest_from}

@@ -1,3 +1,4 @@
+-- Proof of the contract of `due`.
 use Rattle.std.proofs.Common.{sym, ap, ◌∙◌, to_z, of_z, w64}
 use Rattle.std.specs.Prelude.{int_lt}
 use Rattle.std.proofs.lemmas.Int.{to_z-of_z}

@@ -1,3 +1,4 @@
+-- Proof of the contract of `first_at`.
 use Rattle.std.proofs.Common.{sym, arith, None}
 use Rattle.gw_links.specs.declared.link.Order.TheVariants.{Terminal}
 use Rattle.gw_links.specs.Waiting.{at_terminal}
@@ -6,8 +7,8 @@ use Rattle.gw_links.proofs.ChainLemmas.{next_first}
 use Rattle.gw_links.proofs.FindLemmas.{no_terminal}
 use Rattle.gw_links.proofs.lines.Lines.first_at.Goals as goal
 
-pub returns-then-terminal-ge-TERMINALS : goal.returns-then-terminal-ge-TERMINALS
-returns-then-terminal-ge-TERMINALS c =
+pub returns-then-terminal-ge-MOST_TERMINALS : goal.returns-then-terminal-ge-MOST_TERMINALS
+returns-then-terminal-ge-MOST_TERMINALS c =
     rw (← c.self.view_is) (sym (no_terminal _ _ _ _ _ _ c.self.invariant c.args.terminal (omega arith)))
 
 pub returns : goal.returns

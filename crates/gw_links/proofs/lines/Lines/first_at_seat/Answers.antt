@@ -1,3 +1,4 @@
+-- Proof of the contract of `first_at_seat`.
 use Rattle.std.proofs.Common.{sym, arith, None}
 use Rattle.gw_links.specs.declared.link.Order.TheVariants.{Till}
 use Rattle.gw_links.specs.Waiting.{of_seat}
@@ -6,8 +7,8 @@ use Rattle.gw_links.proofs.ChainLemmas.{next_first}
 use Rattle.gw_links.proofs.FindLemmas.{no_seat}
 use Rattle.gw_links.proofs.lines.Lines.first_at_seat.Goals as goal
 
-pub returns-then-seat-ge-SEATS : goal.returns-then-seat-ge-SEATS
-returns-then-seat-ge-SEATS c =
+pub returns-then-seat-ge-MOST_TILLS : goal.returns-then-seat-ge-MOST_TILLS
+returns-then-seat-ge-MOST_TILLS c =
     rw (← c.self.view_is) (sym (no_seat _ _ _ _ _ _ c.self.invariant c.args.seat (omega arith)))
 
 pub returns : goal.returns

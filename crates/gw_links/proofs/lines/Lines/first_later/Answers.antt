@@ -1,3 +1,4 @@
+-- Proof of the contract of `first_later`.
 use Rattle.std.proofs.Common.{refl, sym, ap, ◌∙◌, Some}
 use Rattle.std.specs.Prelude.{int_lt}
 use Rattle.gw_links.specs.declared.link.Order.TheVariants.{Deadline}

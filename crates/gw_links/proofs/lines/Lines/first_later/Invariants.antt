@@ -1,3 +1,4 @@
+-- What the loop of `first_later` keeps, and why it ends.
 use Rattle.std.proofs.Common.{◌≡◌, length}
 use Rattle.gw_links.specs.Waiting.{by_deadline, later_than}
 use Rattle.gw_links.specs.inner.Table.{accepted_in}

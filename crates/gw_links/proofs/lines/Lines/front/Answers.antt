@@ -1,3 +1,4 @@
+-- Proof of the contract of `front`.
 use Rattle.std.proofs.Common.{eqb}
 use Rattle.gw_links.proofs.FindLemmas.{first_lives}
 use Rattle.gw_links.proofs.lines.Lines.front.Goals as goal

@@ -1,3 +1,4 @@
+-- Proof of the contract of `get`.
 use Rattle.std.proofs.Common.{sym, ap, ◌∙◌, Some}
 use Rattle.gw_links.proofs.SoundLemmas.{some_value, item_some, item_is}
 use Rattle.gw_links.proofs.lines.Lines.get.Goals as goal

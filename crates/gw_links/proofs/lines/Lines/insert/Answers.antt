@@ -1,3 +1,4 @@
+-- Proof of the contract of `insert`.
 use Rattle.std.proofs.Common.{◌≡◌, ◌≢◌, ◌+◌, [], eqb, refl, sym, ◌∙◌, subst, Some, arith, append-nil}
 use Rattle.gw_links.specs.declared.link.Order.TheVariants.{Till, Terminal, Deadline}
 use Rattle.gw_links.specs.Waiting.{of_seat, at_terminal, by_deadline, later_than, first_id}

@@ -1,3 +1,4 @@
+-- Proof of the contract of `new`.
 use Rattle.gw_links.proofs.FindLemmas.{IsSound-new, new_is_empty}
 use Rattle.gw_links.proofs.lines.Lines.new.Goals as goal
 

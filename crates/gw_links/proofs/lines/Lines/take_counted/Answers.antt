@@ -1,3 +1,4 @@
+-- Proof of the contract of `take_counted`.
 use Rattle.std.proofs.Common.{◌≡◌, eqb, eq-eqb, refl, sym, ap, ◌∙◌, subst, Some, inr, [], arith}
 use Rattle.gw_links.specs.declared.item.Item.{Item}
 use Rattle.gw_links.specs.declared.link.Order.TheVariants.{Till, Terminal, Deadline}

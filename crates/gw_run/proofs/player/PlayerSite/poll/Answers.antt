@@ -7,7 +7,7 @@ use mir.Val.{SFits}
 use Rattle.gw_site.specs.Outside.{outside_of}
 use Rattle.gw_run.specs.PlayerTills.{next_after, tills_after}
 use Rattle.gw_run.specs.ScriptRead.{event_value, line_value}
-use Rattle.gw_run.proofs.PlayLemmas.{may_come_with, met_with, told_same}
+use Rattle.gw_run.proofs.PlayLemmas.{may_come_with, met_with, some-same}
 use Rattle.gw_run.proofs.PlayerTillLemmas.{poll_next, poll_tills, was_added}
 use Rattle.gw_run.proofs.player.PlayerSite.poll.Goals as goal
 
@@ -18,7 +18,7 @@ add_poll-requires-clause-met c =
     let found = c.found-found.result in
     let fits : SFits w64 found.now = search rules in
     let same = met_with (outside_of s.play.log.items) c.deref.result.now s.opened (s.tills_are c.if-self.false ∙ sym c.deref.ensures.value) (s.next_is c.if-self.false) s.play.moment (map line_value (drop s.play.at lines)) in
-    simp (to_z-of_z, fits) (same ∙ c.found-found.ensures.met ∙ ap (λ due. record { lines = map line_value (drop found.behind lines); moment = found.now; due = due }) (sym c.in-Ok.ensures.brought.turn))
+    simp (to_z-of_z, fits) (same ∙ c.found-found.ensures.met ∙ ap (λ due. record { lines = map line_value (drop found.next_line lines); moment = found.now; due = due }) (sym c.in-Ok.ensures.brought.turn))
 
 pub invariant_of-self-2 : goal.invariant_of-self-2
 invariant_of-self-2 c =
@@ -38,4 +38,4 @@ pub returns-clause-promise : goal.returns-clause-promise
 returns-clause-promise c = λ log e.
     let s = c.args.self.now in
     let may = may_come_with (outside_of s.play.log.items) c.deref.result.now s.opened (s.tills_are c.if-self.false ∙ sym c.deref.ensures.value) (s.next_is c.if-self.false) (option_map event_value (option_copied c.found-found.result.event)) c.found-found.ensures.may_come in
-    rw (← told_same e) (c.in-Ok.ensures.brought.promise (outside_of s.play.log.items) may)
+    rw (← some-same e) (c.in-Ok.ensures.brought.promise (outside_of s.play.log.items) may)

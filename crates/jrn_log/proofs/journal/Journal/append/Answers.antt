@@ -1,3 +1,4 @@
+-- Proof of the contract of `append`.
 use Rattle.std.proofs.Common.{ap, Ok, Err}
 use Rattle.gw_site.specs.declared.site.Failed.{Failed}
 use Rattle.jrn_log.specs.Journal.{JournalValue}

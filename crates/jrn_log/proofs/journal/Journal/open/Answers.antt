@@ -1,10 +1,11 @@
+-- Proof of the contract of `open`.
 use Rattle.std.proofs.Common.{List, ℕ}
 use Rattle.std.specs.Prelude.{Ok, Err}
 use Rattle.gw_site.specs.Outside.{outside_of}
 use Rattle.jrn_log.specs.Journal.{JournalValue}
-use Rattle.jrn_log.specs.inner.FileReader.{Sizes, NotSized}
+use Rattle.jrn_log.specs.inner.FileReader.{AreJournalBodies, IsFileFault}
 use Rattle.jrn_log.specs.declared.fault.OpenFault.TheVariants.{Disk}
-use Rattle.jrn_log.proofs.OpenLemmas.{open_grows, open_turns, open_fails, sync_fails, sized_before, opens_with, ok_not_long, ok_not_cut, fault_long, fault_cut, opened_rests, opening_images}
+use Rattle.jrn_log.proofs.OpenLemmas.{open_grows, open_turns, open_fails, sync_fails, sized_before, opens_with, ok_not_long, ok_not_truncated, fault_long, fault_truncated, opened_rests, opening_images}
 use Rattle.jrn_log.proofs.journal.Journal.open.Goals as goal
 
 pub returns-in-Err-clause-images : goal.returns-in-Err-clause-images
@@ -13,12 +14,12 @@ returns-in-Err-clause-images g c = opening_images {T = JournalValue} (Err Disk) 
 pub returns-in-Err-sized_bodies-clause-too_long : goal.returns-in-Err-sized_bodies-clause-too_long
 returns-in-Err-sized_bodies-clause-too_long g c = λ log e.
     fault_long c.args.slots (outside_of log).file c.in-Err-sized_bodies.fault
-    (sized_before _ _ c.in-Ok.size (λ file. NotSized c.args.slots file c.in-Err-sized_bodies.fault) c.in-Ok.ensures.turns c.in-Ok.ensures.size c.in-Err-sized_bodies.ensures.sized log e)
+    (sized_before _ _ c.in-Ok.size (λ file. IsFileFault c.args.slots file c.in-Err-sized_bodies.fault) c.in-Ok.ensures.turns c.in-Ok.ensures.size c.in-Err-sized_bodies.ensures.sized log e)
 
 pub returns-in-Err-sized_bodies-clause-truncated : goal.returns-in-Err-sized_bodies-clause-truncated
 returns-in-Err-sized_bodies-clause-truncated g c = λ log e.
-    fault_cut c.args.slots (outside_of log).file c.in-Err-sized_bodies.fault
-    (sized_before _ _ c.in-Ok.size (λ file. NotSized c.args.slots file c.in-Err-sized_bodies.fault) c.in-Ok.ensures.turns c.in-Ok.ensures.size c.in-Err-sized_bodies.ensures.sized log e)
+    fault_truncated c.args.slots (outside_of log).file c.in-Err-sized_bodies.fault
+    (sized_before _ _ c.in-Ok.size (λ file. IsFileFault c.args.slots file c.in-Err-sized_bodies.fault) c.in-Ok.ensures.turns c.in-Ok.ensures.size c.in-Err-sized_bodies.ensures.sized log e)
 
 pub returns-in-Err-sized_bodies-clause-turns : goal.returns-in-Err-sized_bodies-clause-turns
 returns-in-Err-sized_bodies-clause-turns g c = open_fails c.in-Err-sized_bodies.fault _ _ _ c.in-Ok.size c.in-Ok.ensures.size c.in-Ok.ensures.turns c.in-Err-sized_bodies.ensures.turns
@@ -30,17 +31,17 @@ returns-in-Err-sized_bodies-clause-images g c =
 pub returns-in-Ok-sized_bodies-clause-bodies : goal.returns-in-Ok-sized_bodies-clause-bodies
 returns-in-Ok-sized_bodies-clause-bodies g c = λ log e.
     opens_with c.args.slots c.in-Ok.size (outside_of log).file c.in-Ok-sized_bodies.bodies c.as_slice.result.now c.as_slice.ensures (c.in-Ok.ensures.size log e)
-    (sized_before _ _ c.in-Ok.size (λ file. Sizes c.args.slots file c.in-Ok-sized_bodies.bodies) c.in-Ok.ensures.turns c.in-Ok.ensures.size c.in-Ok-sized_bodies.ensures.sized log e)
+    (sized_before _ _ c.in-Ok.size (λ file. AreJournalBodies c.args.slots file c.in-Ok-sized_bodies.bodies) c.in-Ok.ensures.turns c.in-Ok.ensures.size c.in-Ok-sized_bodies.ensures.sized log e)
 
 pub returns-in-Ok-sized_bodies-clause-too_long : goal.returns-in-Ok-sized_bodies-clause-too_long
 returns-in-Ok-sized_bodies-clause-too_long g c = λ log e.
     ok_not_long c.args.slots (outside_of log).file c.in-Ok-sized_bodies.bodies _
-    (sized_before _ _ c.in-Ok.size (λ file. Sizes c.args.slots file c.in-Ok-sized_bodies.bodies) c.in-Ok.ensures.turns c.in-Ok.ensures.size c.in-Ok-sized_bodies.ensures.sized log e)
+    (sized_before _ _ c.in-Ok.size (λ file. AreJournalBodies c.args.slots file c.in-Ok-sized_bodies.bodies) c.in-Ok.ensures.turns c.in-Ok.ensures.size c.in-Ok-sized_bodies.ensures.sized log e)
 
 pub returns-in-Ok-sized_bodies-clause-truncated : goal.returns-in-Ok-sized_bodies-clause-truncated
 returns-in-Ok-sized_bodies-clause-truncated g c = λ log e.
-    ok_not_cut c.args.slots (outside_of log).file c.in-Ok-sized_bodies.bodies _
-    (sized_before _ _ c.in-Ok.size (λ file. Sizes c.args.slots file c.in-Ok-sized_bodies.bodies) c.in-Ok.ensures.turns c.in-Ok.ensures.size c.in-Ok-sized_bodies.ensures.sized log e)
+    ok_not_truncated c.args.slots (outside_of log).file c.in-Ok-sized_bodies.bodies _
+    (sized_before _ _ c.in-Ok.size (λ file. AreJournalBodies c.args.slots file c.in-Ok-sized_bodies.bodies) c.in-Ok.ensures.turns c.in-Ok.ensures.size c.in-Ok-sized_bodies.ensures.sized log e)
 
 pub returns-in-Ok-sized_bodies-clause-turns : goal.returns-in-Ok-sized_bodies-clause-turns
 returns-in-Ok-sized_bodies-clause-turns g c = open_turns c.in-Ok-sized_bodies.bodies _ _ c.in-Ok.size c.in-Ok.ensures.size (open_grows _ _ _ c.in-Ok.size c.in-Ok.ensures.turns c.in-Ok-sized_bodies.ensures.turns)
@@ -48,7 +49,7 @@ returns-in-Ok-sized_bodies-clause-turns g c = open_turns c.in-Ok-sized_bodies.bo
 pub returns-in-Ok-sized_bodies-clause-stands : goal.returns-in-Ok-sized_bodies-clause-stands
 returns-in-Ok-sized_bodies-clause-stands g c =
     rw c.as_slice.ensures (opened_rests _ _ c.args.slots c.in-Ok.size c.in-Ok-sized_bodies.bodies (open_grows _ _ _ c.in-Ok.size c.in-Ok.ensures.turns c.in-Ok-sized_bodies.ensures.turns) c.in-Ok.ensures.size
-    (sized_before _ _ c.in-Ok.size (λ file. Sizes c.args.slots file c.in-Ok-sized_bodies.bodies) c.in-Ok.ensures.turns c.in-Ok.ensures.size c.in-Ok-sized_bodies.ensures.sized))
+    (sized_before _ _ c.in-Ok.size (λ file. AreJournalBodies c.args.slots file c.in-Ok-sized_bodies.bodies) c.in-Ok.ensures.turns c.in-Ok.ensures.size c.in-Ok-sized_bodies.ensures.sized))
 
 pub returns-in-Ok-sized_bodies-clause-images : goal.returns-in-Ok-sized_bodies-clause-images
 returns-in-Ok-sized_bodies-clause-images g c =

@@ -1,3 +1,4 @@
+-- Proof of the contract of `hold`.
 use Rattle.std.proofs.Common.{◌∙◌}
 use Rattle.jrn_site.proofs.DiskLemmas.{file_crashed, stable_crashed}
 use Rattle.jrn_site.proofs.site.DiskSite.hold.Goals as goal

@@ -1,3 +1,4 @@
+-- Proof of the contract of `note`.
 use Rattle.std.proofs.Common.{refl}
 use Rattle.jrn_site.proofs.DiskLemmas.{file_noted, stable_noted}
 use Rattle.jrn_site.proofs.site.DiskSite.note.Goals as goal

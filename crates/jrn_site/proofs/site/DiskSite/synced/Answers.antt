@@ -1,3 +1,4 @@
+-- Proof of the contract of `synced`.
 use Rattle.std.proofs.Common.{◌∙◌, refl}
 use Rattle.jrn_site.proofs.DiskLemmas.{file_synced, stable_synced}
 use Rattle.jrn_site.proofs.site.DiskSite.synced.Goals as goal

@@ -1,3 +1,4 @@
+-- Proof of the contract of `poll`.
 use Rattle.std.proofs.Common.{refl}
 use Rattle.jrn_log.proofs.SequenceLemmas.{grows-then}
 use Rattle.jrn_site.proofs.site.DiskSiteSite.poll.Goals as goal

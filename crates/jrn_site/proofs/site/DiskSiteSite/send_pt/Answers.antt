@@ -1,3 +1,4 @@
+-- Proof of the contract of `send_pt`.
 use Rattle.std.proofs.Common.{[], ◌∷◌, ◌∙◌, ap, refl, false}
 use Rattle.gw_site.specs.declared.turn.Turn.TheVariants.{SentPt}
 use Rattle.jrn_log.proofs.SequenceLemmas.{grows-weaker}

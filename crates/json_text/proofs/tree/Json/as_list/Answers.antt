@@ -4,4 +4,4 @@ use Rattle.json_text.proofs.TreeLemmas.{array_of-view}
 use Rattle.json_text.proofs.tree.Json.as_list.Goals as goal
 
 pub returns-in-List : goal.returns-in-List
-returns-in-List c = ap (λ l. Some (map value_of l)) c.deref.ensures.value ∙ array_of-view c.args.self.now c.in-List.items c.in-List.is
+returns-in-List c = ap (λ l. Some (map value_of l)) c.deref.ensures.value ∙ array_of-view c.args.self.now c.in-List.elements c.in-List.is

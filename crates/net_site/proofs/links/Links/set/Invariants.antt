@@ -1,6 +1,9 @@
-use Rattle.std.proofs.Common.{◌≡◌}
+use Rattle.std.proofs.Common.{◌≡◌, length}
 use Rattle.std.specs.Prelude.{All, false}
 use Rattle.net_site.proofs.links.Links.set.Given as goal
 
 abbrev pub invariant-loop-pt : goal.invariant-loop-pt
-invariant-loop-pt l = All (λ up. up ≡ false) l.self
+invariant-loop-pt l = record {
+  down : All (λ up. up ≡ false) l.self;
+  count : length l.self ≡ l.pt-index;
+}

@@ -1,3 +1,4 @@
+-- The invariant of the loop over chunks.
 use Rattle.std.proofs.Common.{◌≡◌, ◌+◌, ◌*◌, ◌≤◌, ◌++◌, length, vec_len, vec_capacity}
 use Rattle.zvt_apdu.specs.Decode.{DecodedApdu, decode_apdu}
 use Rattle.pt_core.specs.inner.Results.{account_value}

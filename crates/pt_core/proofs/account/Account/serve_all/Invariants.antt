@@ -1,3 +1,4 @@
+-- The invariant of the loop over the requests that wait whole.
 use Rattle.std.proofs.Common.{◌≡◌, ◌+◌, ◌*◌, ◌≤◌, length, vec_len, vec_capacity}
 use Rattle.pt_core.specs.inner.Results.{account_value}
 use Rattle.pt_core.proofs.SplitLemmas.{count_of}

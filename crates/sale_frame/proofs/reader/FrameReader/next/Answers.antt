@@ -7,14 +7,14 @@ use Rattle.sale_frame.proofs.reader.FrameReader.next.Goals.{in-Some, in_default}
 
 pub returns : goal.returns
 returns c =
-    let items = c.self.inside.buffer.items in
+    let all = c.self.inside.buffer.items in
     let start = c.self.inside.start in
     let found = c.in_ok-message.message in
-    let reads : ReadsFrame (drop start items) (Ok found) =
-    subst (λ w. ReadsFrame w (Ok found)) (all_waiting c.deref.result.now items start c.deref.ensures.value) c.in_ok-message.ensures in
-    let exact : IsExact c.args.self.now (Ok found) = subst (λ w. IsExact w (Ok found)) c.self.view_is (exactly (drop start items) (Ok found) reads) in
-    let step : TakesFrame (drop start items) (frame_step (Ok found)) c.match-message.self.0 = elim c.match-message.branch [
-      | in-Some w ↦ subst (TakesFrame (drop start items) (frame_step (Ok found))) (sym (ap (λ p. p.0) w.self-is)) (gives items start found reads w.in-Some.message w.in-Some.is)
-      | in_default w ↦ subst (TakesFrame (drop start items) (frame_step (Ok found))) (sym (ap (λ p. p.0) w.self-is)) (none_taken (drop start items) found reads w.in_default.not-Some)
+    let reads : ReadsFrame (drop start all) (Ok found) =
+    subst (λ w. ReadsFrame w (Ok found)) (all_waiting c.deref.result.now all start c.deref.ensures.value) c.in_ok-message.ensures in
+    let exact : IsExact c.args.self.now (Ok found) = subst (λ w. IsExact w (Ok found)) c.self.view_is (exactly (drop start all) (Ok found) reads) in
+    let step : TakesFrame (drop start all) (frame_step (Ok found)) c.match-message.self.0 = elim c.match-message.branch [
+      | in-Some w ↦ subst (TakesFrame (drop start all) (frame_step (Ok found))) (sym (ap (λ p. p.0) w.self-is)) (gives all start found reads w.in-Some.message w.in-Some.is)
+      | in_default w ↦ subst (TakesFrame (drop start all) (frame_step (Ok found))) (sym (ap (λ p. p.0) w.self-is)) (none_taken (drop start all) found reads w.in_default.not-Some)
     ] in
     ((refl, (λ _. tt), subst (λ w. TakesFrame w (frame_step (Ok found)) c.match-message.self.0) c.self.view_is step), record { step = tt; message = exact.message; none = exact.none; fault = exact.fault })

@@ -1,6 +1,6 @@
 use Rattle.std.proofs.Common.{sym}
 use Rattle.sale_reply.specs.inner.Parts.{next_optional}
-use Rattle.sale_reply.proofs.PartLemmas.{nothing, spelled, next_optional-none}
+use Rattle.sale_reply.proofs.PartLemmas.{nothing, spelled, next_optional_none}
 use Rattle.sale_reply.proofs.buffer.Out.next_id.Goals as goal
 
 pub returns-in-Some : goal.returns-in-Some
@@ -8,4 +8,4 @@ unfolding next_optional
 returns-in-Some g c = spelled c.next_text.ensures (rw c.in-Some.is (cc))
 
 pub returns-in_default : goal.returns-in_default
-returns-in_default g c = spelled nothing (sym (next_optional-none c.args.name.now c.args.id.now c.in_default.not-Some))
+returns-in_default g c = spelled nothing (sym (next_optional_none c.args.name.now c.args.id.now c.in_default.not-Some))

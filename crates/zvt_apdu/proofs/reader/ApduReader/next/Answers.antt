@@ -7,23 +7,23 @@ use Rattle.zvt_apdu.specs.Grammar.{value_of}
 use Rattle.zvt_apdu.specs.Decode.{DecodedApdu, decode_apdu}
 use Rattle.zvt_apdu.specs.inner.FirstApdu.{ReturnsFirstApdu}
 use Rattle.zvt_apdu.specs.Results.{ReturnsApdu, LeavesBytes}
-use Rattle.zvt_apdu.proofs.DecodeLemmas.{whole_begins, prefix_partial}
-use Rattle.zvt_apdu.proofs.ResultLemmas.{fault_answers, fault_leaves, clauses}
+use Rattle.zvt_apdu.proofs.DecodeLemmas.{whole_begins, prefix_incomplete}
+use Rattle.zvt_apdu.proofs.ResultLemmas.{fault_results, fault_leaves, clauses}
 use Rattle.zvt_apdu.proofs.reader.ApduReader.next.Goals as goal
 
 -- `&bytes[start..]` is what the reader's model says
-abbrev Waiting : List ℕ → ℕ → List ℕ
-Waiting items start = take (length items - start) (drop start items)
+abbrev Remaining : List ℕ → ℕ → List ℕ
+Remaining all start = take (length all - start) (drop start all)
 
-is_value : (items held value : List ℕ) (start : ℕ) → held ≡ items → drop start items ≡ value → Waiting held start ≡ value
-is_value items held value start e view_is = rw e (take_rest items start ∙ view_is)
+is_value : (all held value : List ℕ) (start : ℕ) → held ≡ all → drop start all ≡ value → Remaining held start ≡ value
+is_value all held value start e view_is = rw e (take_rest all start ∙ view_is)
 
 -- what is left after the APDU that was found is the end of what was read
-tail : (items value prefix rest : List ℕ) (start len : ℕ) → drop start items ≡ value → value ≡ prefix ++ rest → length items ≡ len → start ≤ len → drop (len - length rest) items ≡ rest
-tail items value prefix rest start len view_is parts size within =
-    let whole : length (drop start items) ≡ length prefix + length rest = ap length (view_is ∙ parts) ∙ length-append prefix rest in
-    let offset : len - length rest ≡ start + length prefix = omega (arith, length-drop start items) in
-    ap (λ (k : ℕ). drop k items) offset ∙ sym (drop-drop (length prefix) start items) ∙ ap (drop (length prefix)) (view_is ∙ parts) ∙ drop_at prefix rest (length prefix) refl
+tail : (all value prefix rest : List ℕ) (start len : ℕ) → drop start all ≡ value → value ≡ prefix ++ rest → length all ≡ len → start ≤ len → drop (len - length rest) all ≡ rest
+tail all value prefix rest start len view_is parts size within =
+    let whole : length (drop start all) ≡ length prefix + length rest = ap length (view_is ∙ parts) ∙ length-append prefix rest in
+    let offset : len - length rest ≡ start + length prefix = omega (arith, length-drop start all) in
+    ap (λ (k : ℕ). drop k all) offset ∙ sym (drop-drop (length prefix) start all) ∙ ap (drop (length prefix)) (view_is ∙ parts) ∙ drop_at prefix rest (length prefix) refl
 
 pub returns-in_err-apdu : goal.returns-in_err-apdu
 returns-in_err-apdu c =
@@ -32,9 +32,9 @@ returns-in_err-apdu c =
     let bounds : AreBytes bytes = subst AreBytes same c.first_apdu.ensures.bytes in
     let p = err_from_is_err_and c.from_residual.result c.from_residual.ensures.1 in
     let found : ReturnsFirstApdu (Err c.in_err-apdu.field-0.0) (decode_apdu bytes) = subst (λ (b : List ℕ). ReturnsFirstApdu (Err c.in_err-apdu.field-0.0) (decode_apdu b)) same c.in_err-apdu.ensures.computes in
-    let answers : ReturnsApdu c.from_residual.result (decode_apdu bytes) = fault_answers c.in_err-apdu.field-0.0 (decode_apdu bytes) c.from_residual.result (p.1 ∙ ap (λ e. Err e) p.2) found in
-    let leaves = fault_leaves bytes c.from_residual.result p.0 bounds p.1 answers in
-    ((refl, (λ _. tt), subst (λ (new : List ℕ). LeavesBytes bytes c.from_residual.result new) (sym c.self.view_is) leaves), clauses bytes c.from_residual.result bounds answers)
+    let returned : ReturnsApdu c.from_residual.result (decode_apdu bytes) = fault_results c.in_err-apdu.field-0.0 (decode_apdu bytes) c.from_residual.result (p.1 ∙ ap (λ e. Err e) p.2) found in
+    let leaves = fault_leaves bytes c.from_residual.result p.0 bounds p.1 returned in
+    ((refl, (λ _. tt), subst (λ (new : List ℕ). LeavesBytes bytes c.from_residual.result new) (sym c.self.view_is) leaves), clauses bytes c.from_residual.result bounds returned)
 
 pub returns-in_default : goal.returns-in_default
 returns-in_default c =
@@ -42,7 +42,7 @@ returns-in_default c =
     let same = is_value c.self.inside.bytes.items c.deref.result.now bytes c.self.inside.start c.deref.ensures.value c.self.view_is in
     let bounds : AreBytes bytes = subst AreBytes same c.first_apdu.ensures.bytes in
     let found : decode_apdu bytes ≡ DecodedApdu.Incomplete = rw (← same) (rw c.in_default.is at c.in_ok-apdu.ensures.computes) in
-    ((refl, (λ _. tt), (prefix_partial bytes bounds found, c.self.view_is)), clauses bytes (Ok None) bounds found)
+    ((refl, (λ _. tt), (prefix_incomplete bytes bounds found, c.self.view_is)), clauses bytes (Ok None) bounds found)
 
 pub overflow_sub-self : goal.overflow_sub-self
 overflow_sub-self c =

@@ -7,29 +7,29 @@ use Rattle.zvt_tlv.specs.Reader.{TlvReaderValue, ReturnsTlvObject}
 use Rattle.zvt_tlv.proofs.ResultLemmas.{whole_clause, fault_clause, fault_at, goes_on, moves_on, reader_at}
 use Rattle.zvt_tlv.proofs.tlv.Tlv.next.Goals as goal
 
-failed : (old : TlvReaderValue) (at : ℕ) (rest : List ℕ) → reader_at at rest ≡ old → length rest ≢ 0 → decode_tlv_object rest ≡ None → ReturnsTlvObject (Err (fault_at at)) old
-failed old at rest view_is some none = (
-  ap (λ (p : TlvReaderValue). fault_at p.at) view_is,
+failed : (old : TlvReaderValue) (offset : ℕ) (rest : List ℕ) → reader_at offset rest ≡ old → length rest ≢ 0 → decode_tlv_object rest ≡ None → ReturnsTlvObject (Err (fault_at offset)) old
+failed old offset rest view_is some none = (
+  ap (λ (p : TlvReaderValue). fault_at p.offset) view_is,
   (λ empty. some (ap length (ap (λ (p : TlvReaderValue). p.rest) view_is ∙ empty))),
   ap (λ (p : TlvReaderValue). decode_tlv_object p.rest) (sym view_is) ∙ none,
 )
 
 pub returns-in_default-clause-whole : goal.returns-in_default-clause-whole
 returns-in_default-clause-whole c =
-    let answers = failed c.args.self.now c.self.inside.at c.self.inside.rest.now c.self.view_is (eqb-false _ _ (sym c.if-is_empty.ensures)) c.in_default.ensures in
-    whole_clause c.args.self.now (Err (fault_at c.self.inside.at)) answers
+    let result_is = failed c.args.self.now c.self.inside.offset c.self.inside.rest.now c.self.view_is (eqb-false _ _ (sym c.if-is_empty.ensures)) c.in_default.ensures in
+    whole_clause c.args.self.now (Err (fault_at c.self.inside.offset)) result_is
 
 pub returns-in_default-clause-fault : goal.returns-in_default-clause-fault
 returns-in_default-clause-fault c =
-    let answers = failed c.args.self.now c.self.inside.at c.self.inside.rest.now c.self.view_is (eqb-false _ _ (sym c.if-is_empty.ensures)) c.in_default.ensures in
-    fault_clause c.args.self.now (Err (fault_at c.self.inside.at)) answers
+    let result_is = failed c.args.self.now c.self.inside.offset c.self.inside.rest.now c.self.view_is (eqb-false _ _ (sym c.if-is_empty.ensures)) c.in_default.ensures in
+    fault_clause c.args.self.now (Err (fault_at c.self.inside.offset)) result_is
 
 pub overflow_sub-self : goal.overflow_sub-self
-overflow_sub-self c = moves_on (reader_at c.self.inside.at c.self.inside.rest.now) (value_of c.in-Some.object) c.in-Some.rest.now c.in-Some.ensures
+overflow_sub-self c = moves_on (reader_at c.self.inside.offset c.self.inside.rest.now) (value_of c.in-Some.object) c.in-Some.rest.now c.in-Some.ensures
 
 pub invariant_of-self : goal.invariant_of-self
 invariant_of-self c =
-    let shorter = moves_on (reader_at c.self.inside.at c.self.inside.rest.now) (value_of c.in-Some.object) c.in-Some.rest.now c.in-Some.ensures in
+    let shorter = moves_on (reader_at c.self.inside.offset c.self.inside.rest.now) (value_of c.in-Some.object) c.in-Some.rest.now c.in-Some.ensures in
     omega (arith, c.self.invariant)
 
 pub returns-clause-whole : goal.returns-clause-whole
@@ -46,4 +46,4 @@ pub returns-clause-computes : goal.returns-clause-computes
 returns-clause-computes c = (c.in-Some.rest.now, ap (λ (p : TlvReaderValue). decode_tlv_object p.rest) (sym c.self.view_is) ∙ c.in-Some.ensures)
 
 pub returns-clause-moves : goal.returns-clause-moves
-returns-clause-moves c = goes_on c.args.self.now c.self.inside.at c.self.inside.rest.now (value_of c.in-Some.object) c.in-Some.rest.now c.self.view_is c.in-Some.ensures
+returns-clause-moves c = goes_on c.args.self.now c.self.inside.offset c.self.inside.rest.now (value_of c.in-Some.object) c.in-Some.rest.now c.self.view_is c.in-Some.ensures

@@ -1,0 +1,88 @@
+//! Reads and sends of one connection, neither of which waits long.
+ghost use Rattle.std.specs.Prelude.{◌≡◌, length};
+ghost use Rattle.net_site.specs.Heard.{IsHeard};
+
+use gw_bytes::LONGEST_CHUNK;
+use libc::net::{POLLOUT, poll};
+use libc::types::pollfd;
+use std::io::{self, ErrorKind, Read, Write};
+use std::net::TcpStream;
+use std::os::fd::AsRawFd;
+use std::time::{Clock, Instant};
+
+/// How long a send waits in all for a socket that doesn't take its bytes, in milliseconds.
+const SEND_WAIT: u128 = 100;
+
+/// What a read brings.
+#[derive(Clone, Copy)]
+pub(crate) enum Heard {
+    Bytes(usize),
+    End,
+    Nothing,
+}
+
+/// Sets a connection so that reads and writes return at once, and that what is written is sent at once (Nagle's
+/// algorithm would hold a small write back until the peer has acknowledged the one before).
+pub(crate) fn set_up(stream: &TcpStream) -> io::Result<()> {
+    stream.set_nonblocking(true)?;
+    stream.set_nodelay(true)
+}
+
+/// One read of at most 4,096 bytes.
+///
+/// A peer that closed its sending half has ended the connection as one that closed or reset it: each message asks for a
+/// reply, and who takes no message any more reads none.
+pub(crate) fn hear(stream: &TcpStream, buf: &mut [u8; LONGEST_CHUNK]) -> Heard
+    ensures buf { length buf.new ≡ 4096 }
+    ensures count { IsHeard result }
+{
+    let mut reader = stream;
+    match reader.read(buf) {
+        Ok(0) => Heard::End,
+        Ok(count) => Heard::Bytes(count),
+        Err(error) => match error.kind() {
+            ErrorKind::WouldBlock | ErrorKind::Interrupted => Heard::Nothing,
+            _ => Heard::End,
+        },
+    }
+}
+
+/// Waits until the socket takes bytes, but not past the end of the wait that began at `start`.
+fn wait_to_send<R: Clock>(rt: &R, stream: &TcpStream, start: Instant) -> io::Result<()> {
+    let passed = start.elapsed(rt)?.as_millis();
+    if passed >= SEND_WAIT {
+        return Err(io::Error::from(ErrorKind::TimedOut));
+    }
+    let mut fds = [pollfd {
+        fd: stream.as_raw_fd(),
+        events: POLLOUT,
+        revents: 0,
+    }];
+    let _ = poll(&mut fds, (SEND_WAIT - passed) as i32);
+    Ok(())
+}
+
+/// Sends all of the bytes, or fails.
+///
+/// A socket whose buffer is full is waited for and not tried again and again: a peer may be slow to read, and a million
+/// tries keep a processor busy for a quarter of a second.
+pub(crate) fn send<R: Clock>(rt: &R, stream: &TcpStream, bytes: &[u8]) -> io::Result<()> {
+    let start = Instant::now(rt)?;
+    let mut writer = stream;
+    let mut left = bytes;
+    for _ in 0..u64::MAX {
+        if left.is_empty() {
+            return Ok(());
+        }
+        match writer.write(left) {
+            Ok(0) => break,
+            Ok(count) => left = &left[count..],
+            Err(error) => match error.kind() {
+                ErrorKind::Interrupted => {}
+                ErrorKind::WouldBlock => wait_to_send(rt, stream, start)?,
+                _ => return Err(error),
+            },
+        }
+    }
+    Err(io::Error::from(ErrorKind::WriteZero))
+}

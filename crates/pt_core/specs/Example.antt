@@ -1,0 +1,130 @@
+-- Examples of a played terminal: what it keeps and answers, what the gateway hears of it, and its last number.
+use Rattle.std.specs.Prelude.{◌≡◌, ℕ, pos, List, [], ◌∷◌, ◌++◌, length, replicate, None, Some, true, false}
+use Rattle.gw_base.specs.declared.figures.Figures.{Figures}
+use Rattle.gw_bytes.specs.Bytes.{IsPrefix}
+use Rattle.zvt_apdu.specs.Grammar.{ApduValue}
+use Rattle.zvt_bmp.specs.declared.fields.Fields.{Fields}
+use Rattle.zvt_msg.specs.declared.command.Command.TheVariants as command
+use Rattle.zvt_msg.specs.Message.{MessageValue, Ack, Status, Completion, Abort}
+use Rattle.zvt_talk.specs.declared.dialogue_kind.DialogueKind.TheVariants.{Payment}
+use Rattle.zvt_talk.specs.declared.meaning.Heard.{Heard}
+use Rattle.zvt_talk.specs.declared.meaning.Heard.TheVariants as heard
+use Rattle.zvt_talk.specs.Dialogue.{Dialogue}
+use Rattle.zvt_talk.specs.Came.{Came, Message, messages}
+use Rattle.zvt_talk.specs.Talk.{end_of}
+use Rattle.pt_core.specs.declared.book.BookEntry.{BookEntry}
+use Rattle.pt_core.specs.declared.play.Play.TheVariants as play
+use Rattle.pt_core.specs.declared.reaction.Reaction.TheVariants as reaction
+use Rattle.pt_core.specs.Book.{last_number}
+use Rattle.pt_core.specs.Table.{at_command, entries_of, messages_of}
+use Rattle.pt_core.specs.Ends.{IsTrueEnd}
+use Rattle.pt_core.specs.History.{Setting, Met, NewLink, Chunk, answered, book_after, book_of, has_cut, reaction_after, terminal_after}
+use Rattle.pt_core.specs.Honest.{AreEntriesNumbered}
+use Rattle.pt_core.specs.Exchange.{Exchange, Links, Sends, Hears, BringsEnd, HearsAnswers, placed_book}
+
+-- a terminal that approves one payment, declines one, and cuts the connection at one after it has booked it
+abbrev pub played_setting : Setting
+played_setting = record { none = 0x83; plays = play.Approve ∷ play.Decline 0x6C ∷ play.CutAfterBook ∷ [] }
+
+-- a payment of 10.99 euros, in two parts
+abbrev pub payment_begin : List ℕ
+payment_begin = 0x06 ∷ 0x01 ∷ 0x0A ∷ 0x04 ∷ 0x00 ∷ 0x00 ∷ 0x00 ∷ 0x00 ∷ 0x10 ∷ 0x99 ∷ []
+
+abbrev pub payment_rest : List ℕ
+payment_rest = 0x49 ∷ 0x09 ∷ 0x78 ∷ []
+
+-- the whole payment
+abbrev pub payment_bytes : List ℕ
+payment_bytes = payment_begin ++ payment_rest
+
+-- the payment as an APDU
+abbrev pub payment_apdu : ApduValue
+payment_apdu = record { class = 0x06; instr = 0x01; body = 0x04 ∷ 0x00 ∷ 0x00 ∷ 0x00 ∷ 0x00 ∷ 0x10 ∷ 0x99 ∷ 0x49 ∷ 0x09 ∷ 0x78 ∷ [] }
+
+-- a reversal of receipt number 1, and one of 9999, which no payment has
+abbrev pub known_reversal : List ℕ
+known_reversal = 0x06 ∷ 0x30 ∷ 0x06 ∷ 0x00 ∷ 0x00 ∷ 0x00 ∷ 0x87 ∷ 0x00 ∷ 0x01 ∷ []
+
+abbrev pub unknown_reversal : List ℕ
+unknown_reversal = 0x06 ∷ 0x30 ∷ 0x06 ∷ 0x00 ∷ 0x00 ∷ 0x00 ∷ 0x87 ∷ 0x99 ∷ 0x99 ∷ []
+
+-- what is answered to the payment: an acknowledgement, and then its status and a completion
+abbrev pub acknowledgement : List ℕ
+acknowledgement = 0x80 ∷ 0x00 ∷ 0x00 ∷ []
+
+abbrev pub approval : List ℕ
+approval = 0x04 ∷ 0x0F ∷ 0x10 ∷ 0x27 ∷ 0x00 ∷ 0x04 ∷ 0x00 ∷ 0x00 ∷ 0x00 ∷ 0x00 ∷ 0x10 ∷ 0x99 ∷ 0x0B ∷ 0x00 ∷ 0x00 ∷ 0x01 ∷ 0x87 ∷ 0x00 ∷ 0x01 ∷ 0x06 ∷ 0x0F ∷ 0x00 ∷ []
+
+-- the entry of the payment, which has this number
+abbrev pub payment_entry : ℕ → BookEntry
+payment_entry number = record { number = number; receipt = number; amount = 1099; reversal = false; approved = true }
+
+-- ---- what a terminal keeps
+
+-- A part of a payment waits, and books nothing; the whole payment is booked and answered; the second one is declined, and
+-- at the third the connection is cut, with its entry in the book.
+pub record ExampleMet : Type 0 where
+  pub part : terminal_after played_setting (Chunk payment_begin ∷ [])
+      ≡ record { account = record { none = 0x83; plays = play.Approve ∷ play.Decline 0x6C ∷ play.CutAfterBook ∷ []; book = [] }; connection = Some payment_begin }
+  pub whole : terminal_after played_setting (Chunk payment_rest ∷ Chunk payment_begin ∷ [])
+      ≡ record { account = record { none = 0x83; plays = play.Decline 0x6C ∷ play.CutAfterBook ∷ []; book = payment_entry 1 ∷ [] }; connection = Some [] }
+  pub answer : answered played_setting (Chunk payment_rest ∷ Chunk payment_begin ∷ []) ≡ acknowledgement ++ approval
+  pub three : terminal_after played_setting (Chunk payment_bytes ∷ Chunk payment_bytes ∷ Chunk payment_bytes ∷ [])
+      ≡ record { account = record { none = 0x83; plays = []; book = payment_entry 1 ∷ payment_entry 2 ∷ [] }; connection = None }
+  pub cut : has_cut played_setting (Chunk payment_bytes ∷ Chunk payment_bytes ∷ Chunk payment_bytes ∷ []) ≡ true
+
+-- ---- the book
+
+-- A payment is reversed by its receipt number; a reversal of an unknown receipt number books nothing, and is refused.
+pub record ExampleBook : Type 0 where
+  pub reversed : book_after played_setting (Chunk known_reversal ∷ Chunk payment_bytes ∷ []) ≡ payment_entry 1 ∷ record (payment_entry 2) { reversal = true } ∷ []
+  pub numbers : AreEntriesNumbered 1 (book_after played_setting (Chunk known_reversal ∷ Chunk payment_bytes ∷ []))
+  pub unknown : book_after played_setting (Chunk unknown_reversal ∷ []) ≡ []
+  pub refused : answered played_setting (Chunk unknown_reversal ∷ []) ≡ acknowledgement ++ 0x06 ∷ 0x1E ∷ 0x01 ∷ 0xB4 ∷ []
+
+-- a book of so many entries
+unfoldable pub long_book : ℕ → List BookEntry
+long_book count = replicate count (payment_entry 1)
+
+-- The entry after 999,998 others has the last number; after 999,999 a payment and a reversal are refused.
+pub record ExampleLastNumber : Type 0 where
+  pub many : length (long_book 999998) ≡ 999998
+  pub last : at_command 0x83 play.Approve (long_book 999998) (command.Authorise 1099 978)
+      ≡ reaction.Approved (record { number = 999999; receipt = 9999; amount = 1099; reversal = false; approved = true })
+  pub full : length (long_book 999999) ≡ last_number
+  pub payment : at_command 0x83 play.Approve (long_book 999999) (command.Authorise 1099 978) ≡ reaction.Aborted 0x83
+  pub reversal : at_command 0x83 play.Approve (long_book 999999) (command.Reverse (0 ∷ 0 ∷ 0 ∷ []) 1) ≡ reaction.Aborted 0x83
+
+-- ---- what is heard
+
+-- the dialogue of a payment
+abbrev pub played_dialogue : Dialogue
+played_dialogue = record { dialogue_kind = Payment; none = 0x83; answer_time = 5; command_time = 180; sent = pos 0 }
+
+-- what came in it where it is approved, and where it is declined
+abbrev pub approved_came : List Came
+approved_came = Message Ack (pos 1) ∷ Message (Status (record { result = Some 0; amount = Some 1099; trace = Some 1; receipt = Some 1; currency = None; tail = 16 })) (pos 2) ∷ Message Completion (pos 2) ∷ []
+
+abbrev pub declined_payment_came : List Came
+declined_payment_came = Message Ack (pos 1) ∷ Message (Abort (Some 0x6C)) (pos 2) ∷ []
+
+-- A second payment is declined, which is true of the book: it books nothing.
+pub record ExampleEnd : Type 0 where
+  pub answered_first : IsPrefix (messages declined_payment_came) (messages_of (reaction_after played_setting (payment_apdu ∷ []) payment_apdu))
+  pub ends : end_of played_dialogue declined_payment_came ≡ Some (heard.Declined 0x6C None)
+  pub true_end : IsTrueEnd (book_of played_setting (payment_apdu ∷ [])) (entries_of (reaction_after played_setting (payment_apdu ∷ []) payment_apdu)) (heard.Declined 0x6C None)
+
+-- the gateway links, sends a payment in two parts, and hears the acknowledgement
+abbrev pub acknowledged_exchanges : List Exchange
+acknowledged_exchanges = Hears acknowledgement ∷ Sends payment_rest ∷ Sends payment_begin ∷ Links ∷ []
+
+-- and then the approval
+abbrev pub approved_exchanges : List Exchange
+approved_exchanges = Hears approval ∷ acknowledged_exchanges
+
+-- What was heard is a prefix of what was answered; the entry has its place right after the sending of the second part; and
+-- the last hearing brings the end of the payment, with the figures of its entry.
+pub record ExampleHearing : Type 0 where
+  pub hears : HearsAnswers played_setting approved_exchanges
+  pub places : placed_book played_setting approved_exchanges ≡ record { cause = 2; place = 3; entry = payment_entry 1 } ∷ []
+  pub brings : BringsEnd played_setting approved_exchanges [] payment_apdu (heard.Approved (record { number = 1; receipt = 1; amount = 1099 })) acknowledged_exchanges

@@ -1,8 +1,0 @@
-use Rattle.sale_reply.proofs.PartLemmas.{and_then, spelled}
-use Rattle.sale_reply.proofs.CanonicalLemmas.{event_header_parts}
-use Rattle.sale_reply.proofs.write.write_event_header.Goals as goal
-
-pub returns : goal.returns
-returns c =
-    spelled (and_then c.raw.ensures (and_then c.first_text.ensures (and_then c.next_text.ensures (and_then c.next_text-2.ensures (and_then c.next_text-3.ensures (and_then c.next_text-4.ensures (and_then c.next_text-5.ensures c.raw-2.ensures)))))))
-    (cc (event_header_parts c.args.sale.now c.args.poi.now))

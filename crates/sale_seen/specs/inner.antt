@@ -1,0 +1,3 @@
+-- Definitions that serve private functions alone.
+pub mod OutcomeRead
+pub mod Spelled

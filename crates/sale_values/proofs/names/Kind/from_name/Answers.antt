@@ -1,0 +1,13 @@
+use Rattle.std.proofs.Common.{◌≡◌, ◌<◌, arith}
+use Rattle.sale_values.specs.declared.names.Kind.TheVariants.{Request, Response, Notification}
+use Rattle.sale_values.specs.Names.{kind_name}
+use Rattle.sale_values.proofs.names.Kind.from_name.Goals as goal
+
+pub returns : goal.returns
+returns c =
+    let passed : 2 < c.loop-kind.kind-index = omega arith in
+    λ kind. elim kind as (λ named. kind_name named ≡ c.args.name.now → ⊥) [
+      | Request ↦ c.loop-kind.invariant 0 (omega (arith, passed))
+      | Response ↦ c.loop-kind.invariant 1 (omega (arith, passed))
+      | Notification ↦ c.loop-kind.invariant 2 (omega (arith, passed))
+    ]

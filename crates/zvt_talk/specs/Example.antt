@@ -1,0 +1,82 @@
+-- Example dialogues: a payment, an enquiry and a display, and what single messages mean in them.
+use Rattle.std.specs.Prelude.{◌≡◌, pos, List, [], ◌∷◌, None, Some, true, false}
+use Rattle.gw_base.specs.declared.figures.Figures.{Figures}
+use Rattle.zvt_bmp.specs.declared.fields.Fields.{Fields}
+use Rattle.zvt_msg.specs.Message.{Ack, Intermediate, Line, Block, Status, Completion, Abort, Other}
+use Rattle.zvt_talk.specs.declared.dialogue_kind.DialogueKind.TheVariants.{Enquiry, Payment, Display}
+use Rattle.zvt_talk.specs.declared.meaning.Heard.TheVariants as heard
+use Rattle.zvt_talk.specs.Dialogue.{Dialogue}
+use Rattle.zvt_talk.specs.Came.{Came, Message, StopWished, messages, deadline}
+use Rattle.zvt_talk.specs.Talk.{meaning}
+use Rattle.zvt_talk.specs.Laws.{ReportsLastTransaction, ReportsNoTransaction}
+use Rattle.zvt_talk.specs.Limits.{AllNumbersFitFields, FiguresFitFields, AreAtLeastOne}
+
+-- a payment that was sent at the moment 100; its terminal has 5 seconds to answer, and 180 from one message to the next
+abbrev pub payment_dialogue : Dialogue
+payment_dialogue = record { dialogue_kind = Payment; none = 0x83; answer_time = 5; command_time = 180; sent = pos 100 }
+
+-- an enquiry that was sent then
+abbrev pub enquiry_dialogue : Dialogue
+enquiry_dialogue = record payment_dialogue { dialogue_kind = Enquiry }
+
+-- a display that was sent then
+abbrev pub display_dialogue : Dialogue
+display_dialogue = record payment_dialogue { dialogue_kind = Display }
+
+-- the terminal acknowledged the command three seconds later
+abbrev pub acknowledged_came : List Came
+acknowledged_came = Message Ack (pos 103) ∷ []
+
+-- the status of an approved transaction, with the greatest numbers that its fields hold
+abbrev pub greatest_status : Fields
+greatest_status = record { result = Some 0; amount = Some 999999999999; trace = Some 999999; receipt = Some 9999; currency = None; tail = 16 }
+
+-- these numbers
+abbrev pub greatest_figures : Figures
+greatest_figures = record { number = 999999; receipt = 9999; amount = 999999999999 }
+
+-- the terminal acknowledged, and sent this status
+abbrev pub greatest_came : List Came
+greatest_came = Message Ack (pos 103) ∷ Message (Status greatest_status) (pos 110) ∷ []
+
+-- the terminal acknowledged, and sent the status of transaction 7, which has the result 05
+abbrev pub declined_came : List Came
+declined_came = Message Ack (pos 103) ∷ Message (Status (record greatest_status { result = Some 5; trace = Some 7 })) (pos 110) ∷ []
+
+-- an acknowledgement begins the payment, with a stop where one is wished; a display is done with it
+pub record ExampleBegins : Type 0 where
+  pub without_wish : meaning payment_dialogue [] Ack ≡ heard.Begun false
+  pub with_wish : meaning payment_dialogue (StopWished ∷ []) Ack ≡ heard.Begun true
+  pub display : meaning display_dialogue [] Ack ≡ heard.Done
+
+-- after the acknowledgement the payment goes on with each of these; before it one of them leaves it unclear
+pub record ExampleGoesOn : Type 0 where
+  pub note : meaning payment_dialogue acknowledged_came (Intermediate 10) ≡ heard.Note 10
+  pub line : meaning payment_dialogue acknowledged_came (Line (72 ∷ 105 ∷ [])) ≡ heard.Line
+  pub block : meaning payment_dialogue acknowledged_came (Block []) ≡ heard.Block
+  pub status : meaning payment_dialogue acknowledged_came (Status greatest_status) ≡ heard.Seen
+  pub too_early : meaning payment_dialogue [] (Intermediate 10) ≡ heard.Unclear
+
+-- the deadline is 5 seconds after the command and 180 after each message; what is outside the table and a wish leave it
+pub record ExampleDeadlines : Type 0 where
+  pub command : deadline payment_dialogue [] ≡ pos 105
+  pub message : deadline payment_dialogue acknowledged_came ≡ pos 283
+  pub other : deadline payment_dialogue (Message Ack (pos 103) ∷ Message Other (pos 150) ∷ []) ≡ pos 283
+  pub stop_wished : deadline payment_dialogue (Message Ack (pos 103) ∷ StopWished ∷ []) ≡ pos 283
+  pub later : deadline payment_dialogue greatest_came ≡ pos 290
+
+-- the greatest numbers fit their fields, and are reported as they are
+pub record ExampleFigures : Type 0 where
+  pub read : AllNumbersFitFields (messages greatest_came)
+  pub approved : meaning payment_dialogue greatest_came Completion ≡ heard.Approved greatest_figures
+  pub reported : meaning enquiry_dialogue greatest_came Completion ≡ heard.Told 999999 (Some greatest_figures) 0
+  pub fit : FiguresFitFields greatest_figures
+  pub some : AreAtLeastOne greatest_figures
+
+-- an enquiry reports the last transaction, approved or not, or by the configured code that there is none
+pub record ExampleReports : Type 0 where
+  pub last : ReportsLastTransaction greatest_came Completion 999999 (Some greatest_figures) 0
+  pub declined : meaning enquiry_dialogue declined_came Completion ≡ heard.Told 7 None 5
+  pub none : ReportsNoTransaction enquiry_dialogue acknowledged_came (Abort (Some 0x83)) 0 None 0x83
+  pub none_reported : meaning enquiry_dialogue acknowledged_came (Abort (Some 0x83)) ≡ heard.Told 0 None 0x83
+  pub other_code : meaning enquiry_dialogue acknowledged_came (Abort (Some 0x84)) ≡ heard.Unclear
