@@ -1,0 +1,4 @@
+pub mod ApduLemmas
+pub mod FrameLemmas
+pub mod ReadLemmas
+pub mod RowLemmas

@@ -1,0 +1,5 @@
+use Rattle.gw_owes.proofs.ApduLemmas.{pt-bytes-give}
+use Rattle.gw_owes.proofs.law_pt_items.Goals as goal
+
+pub returns : goal.returns
+returns c = record { items = pt-bytes-give }

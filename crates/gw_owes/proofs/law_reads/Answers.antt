@@ -1,0 +1,5 @@
+use Rattle.gw_owes.proofs.ReadLemmas.{reads-one}
+use Rattle.gw_owes.proofs.law_reads.Goals as goal
+
+pub returns : goal.returns
+returns c = record { one = reads-one }

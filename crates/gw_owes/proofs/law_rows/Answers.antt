@@ -1,0 +1,5 @@
+use Rattle.gw_owes.proofs.RowLemmas.{rows-end, links-end}
+use Rattle.gw_owes.proofs.law_rows.Goals as goal
+
+pub returns : goal.returns
+returns c = record { rows = rows-end; links = links-end }

@@ -1,0 +1,64 @@
+-- The calls of the site that are owed, by what they mean and not by their bytes.
+use Rattle.std.specs.Prelude.{ℕ, List, [], ◌∷◌, Option, Some, None}
+use Rattle.gw_site.specs.declared.turn.Turn.{Turn}
+use Rattle.gw_site.specs.declared.turn.Turn.TheVariants.{Wrote}
+use Rattle.zvt_msg.specs.declared.command.Command.{Command}
+use Rattle.zvt_msg.specs.Message.{MessageValue}
+use Rattle.zvt_msg.specs.CommandCanonical.{canonical_command}
+use Rattle.zvt_msg.specs.MessageCanonical.{canonical_pt_message}
+use Rattle.jrn_record.specs.declared.records.Record.{Record}
+use Rattle.jrn_record.specs.Grammar.{record_body}
+use Rattle.jrn_log.specs.JournalTurns.{body_write, gate_write}
+use Rattle.gw_owes.specs.Reply.{ReplyValue}
+
+-- what goes to a terminal
+pub data Sending : Type 0 where
+  -- a command
+  Ask : Command → Sending
+  -- its message is acknowledged, with `80 00 00`
+  Acknowledge : Sending
+  -- its message is refused, with `84 83 00`
+  Refuse : Sending
+
+-- the bytes that are sent
+abbrev pub sending_bytes : Sending → List ℕ
+sending_bytes (Ask command) = canonical_command command
+sending_bytes Acknowledge = canonical_pt_message MessageValue.Ack
+sending_bytes Refuse = canonical_pt_message (MessageValue.Nack 0x83)
+
+-- a call that is owed
+pub data OwedCall : Type 0 where
+  -- send the till this
+  SendTill : ℕ → ReplyValue → OwedCall
+  -- send the terminal this
+  SendPt : ℕ → Sending → OwedCall
+  -- cut the till's connection
+  CutTill : ℕ → OwedCall
+  -- cut the terminal's connection
+  CutPt : ℕ → OwedCall
+  -- connect the terminal
+  LinkPt : ℕ → OwedCall
+  -- write the body of this record into this slot, and the closed gate after it
+  WriteBody : ℕ → Record → OwedCall
+  -- open the gate of this slot, by which this record counts
+  WriteGate : ℕ → Record → OwedCall
+  -- write the first gate of the file, closed
+  WriteFirstGate : OwedCall
+  -- sync the file
+  Sync : OwedCall
+
+-- the calls that keep a record in this slot
+abbrev pub keep_calls : ℕ → Record → List OwedCall
+keep_calls slot item = WriteBody slot item ∷ Sync ∷ WriteGate slot item ∷ Sync ∷ []
+
+-- the turn of a call that writes; every other call has none
+abbrev pub write_turn : OwedCall → Option Turn
+write_turn (SendTill till reply) = None
+write_turn (SendPt pt sending) = None
+write_turn (CutTill till) = None
+write_turn (CutPt pt) = None
+write_turn (LinkPt pt) = None
+write_turn (WriteBody slot item) = Some (body_write slot (record_body item))
+write_turn (WriteGate slot item) = Some (gate_write slot)
+write_turn WriteFirstGate = Some (Wrote 0 (0 ∷ []))
+write_turn Sync = None

@@ -1,0 +1,11 @@
+pub mod Calls
+pub mod Core
+pub mod Events
+pub mod Items
+pub mod Laws
+pub mod ReadAs
+pub mod Replies
+pub mod Reply
+pub mod Row
+pub mod Rows
+pub mod Terminals

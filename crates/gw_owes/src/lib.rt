@@ -1,0 +1,34 @@
+//! What the gateway owes: what a till's bytes are read as, calls by what they mean, what is remembered, and one row for each
+//! thing that a round has to handle.
+#![tactic(auto)]
+
+ghost use Rattle.gw_owes.specs.Laws.{EachRowEndsInOne, FindsBadLengths, LinksEndInOne, PtBytesGiveItems, ReadsOneWay, TillBytesGiveItems};
+
+mod terminal;
+
+pub use terminal::{Service, Standing, Terminal};
+
+/// A till's bytes are read one way.
+pub fn law_reads()
+    ensures one { ReadsOneWay }
+{}
+
+/// What a row owes is calls on the disk and then one other call at most, and so is what a link owes that is made or lost: after a
+/// send that fails nothing is left.
+pub fn law_rows()
+    ensures rows { EachRowEndsInOne }
+    ensures links { LinksEndInOne }
+{}
+
+/// What a till's newly heard bytes bring is, in order, an item for each message that they newly complete, by the frames of
+/// all bytes heard before and of all bytes heard with them, and then one more exactly where no frame can follow.
+pub fn law_till_items()
+    ensures items { TillBytesGiveItems }
+    ensures bad { FindsBadLengths }
+{}
+
+/// What a terminal's newly heard bytes bring is, in order, three items for each APDU that they newly complete, by the APDUs
+/// of all bytes heard before and of all bytes heard with them, and then one more exactly where the next is above the limit.
+pub fn law_pt_items()
+    ensures items { PtBytesGiveItems }
+{}

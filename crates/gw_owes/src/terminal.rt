@@ -1,0 +1,41 @@
+//! What the gateway remembers of a terminal. Definitions take these types as they are.
+use gw_base::Pt;
+use sale_values::{Header, Outputs, Period};
+use zvt_talk::Talk;
+
+/// What a terminal serves.
+#[derive(Debug, Drop)]
+pub enum Service {
+    /// A payment or a reversal, by the slot of its Intent.
+    Transaction { slot: u32 },
+    EndOfDay { header: Header, period: Period },
+    Display { header: Header, outputs: Outputs },
+}
+
+/// The standing of a terminal.
+#[derive(Debug, Drop)]
+pub enum Standing {
+    /// It is linked again at this moment; `None`: at once.
+    Unlinked { due: Option<u64> },
+    Registering,
+    Enquiring,
+    /// With its last trace number.
+    Ready { last: u32 },
+    /// With the last trace number that it was ready with.
+    Serving { service: Service, last: u32 },
+    /// The trace number before, and the one that was reported.
+    Aside { before: u32, reported: u32 },
+}
+
+/// A terminal, with its dialogue and who waits for it.
+#[derive(Drop)]
+pub struct Terminal {
+    pub pt: Pt,
+    pub standing: Standing,
+    /// The dialogue that runs.
+    pub talk: Option<Talk>,
+    /// How many Acks and Nacks are awaited: the commands sent on the link, less those heard on it; never below 0.
+    pub awaited: u32,
+    /// The till, where it is there, that asked for what is served, or for the open key that was begun in this run.
+    pub asker: Option<u64>,
+}
