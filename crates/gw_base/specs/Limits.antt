@@ -3,7 +3,7 @@ use Rattle.std.specs.Prelude.{ℕ, ◌≤◌}
 
 -- an amount in minor units: twelve digits, and not zero
 abbrev pub IsAmount : ℕ → Type 0
-IsAmount minor = (1 ≤ minor) × (minor ≤ 999999999999)
+IsAmount units = (1 ≤ units) × (units ≤ 999999999999)
 
 -- a trace number of a terminal: six digits; 0 is no number of an entry
 abbrev pub IsTrace : ℕ → Type 0

@@ -9,6 +9,8 @@ use Rattle.gw_base.specs.declared.setup.Setup.{Setup}
 pub record IsPt (pt : Pt) : Type 0 where
   pub poi : IsIdent 40 pt.poi
   pub password : (length pt.password ≡ 3) × IsBcd pt.password
+  pub config : pt.config ≤ 255
+  pub none : pt.none ≤ 255
   pub answer : (1 ≤ pt.answer) × (pt.answer ≤ 60)
   pub command : (1 ≤ pt.command) × (pt.command ≤ 3600)
 

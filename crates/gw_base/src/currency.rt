@@ -18,41 +18,18 @@ pub enum Currency {
 }
 
 impl Currency {
-    /// The currency with these three letters; `None` where this profile has none.
-    pub fn from_code(code: &[u8; 3]) -> Option<Currency>
-        ensures { MatchOption result ((c : Currency) → currency_letters c ≢ code.now) (λ c. currency_letters c ≡ code.now) }
-    {
-        match code {
-            b"EUR" => Some(Currency::Eur),
-            b"CHF" => Some(Currency::Chf),
-            b"GBP" => Some(Currency::Gbp),
-            b"USD" => Some(Currency::Usd),
-            b"DKK" => Some(Currency::Dkk),
-            b"SEK" => Some(Currency::Sek),
-            b"NOK" => Some(Currency::Nok),
-            b"PLN" => Some(Currency::Pln),
-            b"CZK" => Some(Currency::Czk),
-            _ => None,
-        }
-    }
-
-    /// The currency with this number of three digits; `None` where this profile has none.
-    pub fn from_number(number: u16) -> Option<Currency>
-        ensures { MatchOption result ((c : Currency) → currency_number c ≢ number) (λ c. currency_number c ≡ number) }
-    {
-        match number {
-            978 => Some(Currency::Eur),
-            756 => Some(Currency::Chf),
-            826 => Some(Currency::Gbp),
-            840 => Some(Currency::Usd),
-            208 => Some(Currency::Dkk),
-            752 => Some(Currency::Sek),
-            578 => Some(Currency::Nok),
-            985 => Some(Currency::Pln),
-            203 => Some(Currency::Czk),
-            _ => None,
-        }
-    }
+    /// The currencies, in the order of their declaration.
+    pub const ALL: [Currency; 9] = [
+        Currency::Eur,
+        Currency::Chf,
+        Currency::Gbp,
+        Currency::Usd,
+        Currency::Dkk,
+        Currency::Sek,
+        Currency::Nok,
+        Currency::Pln,
+        Currency::Czk,
+    ];
 
     /// The three letters.
     pub fn code(self) -> [u8; 3]
@@ -86,6 +63,30 @@ impl Currency {
             Currency::Pln => 985,
             Currency::Czk => 203,
         }
+    }
+
+    /// The currency with these three letters; `None` where this profile has none.
+    pub fn from_code(code: &[u8; 3]) -> Option<Currency>
+        ensures { MatchOption result ((c : Currency) → currency_letters c ≢ code.now) (λ c. currency_letters c ≡ code.now) }
+    {
+        for currency in Currency::ALL {
+            if currency.code() == *code {
+                return Some(currency);
+            }
+        }
+        None
+    }
+
+    /// The currency with this number of three digits; `None` where this profile has none.
+    pub fn from_number(number: u16) -> Option<Currency>
+        ensures { MatchOption result ((c : Currency) → currency_number c ≢ number) (λ c. currency_number c ≡ number) }
+    {
+        for currency in Currency::ALL {
+            if currency.number() == number {
+                return Some(currency);
+            }
+        }
+        None
     }
 }
 

@@ -54,6 +54,17 @@ impl<const N: usize> Ident<N> {
         Some(Ident { cells, len })
     }
 
+    /// The identifier of bytes that are known to be one, such as a constant's.
+    pub fn known(bytes: &[u8]) -> Ident<N>
+        requires { IsIdent N bytes.now }
+        ensures { result ≡ bytes.now }
+    {
+        match Ident::of(bytes) {
+            Some(ident) => ident,
+            None => unreachable!(),
+        }
+    }
+
     /// The bytes.
     pub fn as_bytes(&self) -> &[u8]
         ensures value { result.now ≡ self.now }

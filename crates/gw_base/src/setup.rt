@@ -35,8 +35,9 @@ impl Pt {
     pub fn is_within_limits(&self) -> bool
         ensures { IsTrue result ↔ IsPt self.now }
     {
-        // The proof takes the limits of an identifier from this call.
+        // The proof takes the limits of an identifier and of the two bytes from these calls and copies.
         let _poi = self.poi.as_bytes();
+        let (_config, _none) = (self.config, self.none);
         self.password
             .iter()
             .all(|byte| byte / 16 <= 9 && byte % 16 <= 9)

@@ -1,8 +1,8 @@
-mod FormLemmas
-mod TableLemmas
-mod Exits
-mod NameLemmas
 mod DocumentLemmas
-mod Offsets
-mod Bounds
-mod ExampleLemmas
+mod ExitLemmas
+mod FirstFaultLemmas
+mod FormLemmas
+mod LimitLemmas
+mod NameLemmas
+mod OffsetLemmas
+mod TableLemmas

@@ -26,23 +26,23 @@ AreUniqueUpTo pts i = repeated_after (pois (take i pts)) (pois (drop i pts)) ≡
 
 pois_from : (pts : List Pt) (i : ℕ) (pt : Pt) → i < length pts → pt ≡ get_or pts i pt
     → pois (drop i pts) ≡ pt.poi ∷ pois (drop (i + 1) pts)
-pois_from pts i pt within at = rw (drop_more pts i pt within, ← at)
+pois_from pts i pt within there = rw (drop_more pts i pt within, ← there)
 
 pub repeated_here : (pts : List Pt) (i : ℕ) (pt : Pt) → i < length pts → pt ≡ get_or pts i pt
     → list_any (λ other. bytes_eq pt.poi other.poi) (take i pts) ≡ true → AreUniqueUpTo pts i
     → Some pt.poi ≡ repeated_after [] (pois pts)
-repeated_here pts i pt within at found so_far =
+repeated_here pts i pt within there found so_far =
     let test : list_any (bytes_eq pt.poi) (pois (take i pts)) ≡ true = any-map (bytes_eq pt.poi) (λ other. other.poi) (take i pts) ∙ found in
-    rw (pois_from pts i pt within at, test) at so_far
+    rw (pois_from pts i pt within there, test) at so_far
 
 pub unique_one_more : (pts : List Pt) (i : ℕ) (pt : Pt) → i < length pts → pt ≡ get_or pts i pt
     → list_any (λ other. bytes_eq pt.poi other.poi) (take i pts) ≡ false → AreUniqueUpTo pts i
     → AreUniqueUpTo pts (i + 1)
-unique_one_more pts i pt within at none so_far =
+unique_one_more pts i pt within there none so_far =
     let test : list_any (bytes_eq pt.poi) (pois (take i pts)) ≡ false = any-map (bytes_eq pt.poi) (λ other. other.poi) (take i pts) ∙ none in
     let longer : pois (take (i + 1) pts) ≡ pois (take i pts) ++ pt.poi ∷ [] =
-    rw (take_more pts i pt within, ← at, map-append) in
-    rw longer (rw (pois_from pts i pt within at, test) at so_far)
+    rw (take_more pts i pt within, ← there, map-append) in
+    rw longer (rw (pois_from pts i pt within there, test) at so_far)
 
 -- ---- keys
 

@@ -40,13 +40,13 @@ pub record IsReadUpTo (values : List Value) (i : ℕ) (pts : List Pt) : Type 0 w
 tables_from : (values : List Value) (i : ℕ) (value : Value) (table : Members) → i < length values
     → value ≡ get_or values i value → as_table (view value) ≡ Some table
     → tables_of (drop i values) ≡ table ∷ tables_of (drop (i + 1) values)
-tables_from values i value table within at is = tables_of-drop values i value within ∙ rw (← at, is)
+tables_from values i value table within there is = tables_of-drop values i value within ∙ rw (← there, is)
 
 pub read_one : (values : List Value) (i : ℕ) (value : Value) (table : Members) (pts : List Pt) (pt : Pt) → i < length values
     → value ≡ get_or values i value → as_table (view value) ≡ Some table → terminal_fault table ≡ None → IsPtOf table pt
     → IsReadUpTo values i pts → IsReadUpTo values (i + 1) (pts ++ pt ∷ [])
-read_one values i value table pts pt within at is sound reads so_far =
-    let here = tables_from values i value table within at is in
+read_one values i value table pts pt within there is sound reads so_far =
+    let here = tables_from values i value table within there is in
     record {
       read = λ rest more. rw append_assoc (so_far.read (pt ∷ rest) (rw here (reads, more)));
       fault = rw (here, sound) at so_far.fault;
@@ -54,9 +54,9 @@ read_one values i value table pts pt within at is sound reads so_far =
 
 pub pass_one : (values : List Value) (i : ℕ) (value : Value) (pts : List Pt) → i < length values
     → value ≡ get_or values i value → as_table (view value) ≡ None → IsReadUpTo values i pts → IsReadUpTo values (i + 1) pts
-pass_one values i value pts within at is so_far =
+pass_one values i value pts within there is so_far =
     let same : tables_of (drop i values) ≡ tables_of (drop (i + 1) values) =
-    tables_of-drop values i value within ∙ rw (← at, is) in
+    tables_of-drop values i value within ∙ rw (← there, is) in
     record {
       read = λ rest more. so_far.read rest (rw same more);
       fault = rw same at so_far.fault;
@@ -65,8 +65,8 @@ pass_one values i value pts within at is so_far =
 pub fault_at_one : (values : List Value) (i : ℕ) (value : Value) (table : Members) (pts : List Pt) (fault : ConfigFault)
     → i < length values → value ≡ get_or values i value → as_table (view value) ≡ Some table
     → terminal_fault table ≡ Some fault → IsReadUpTo values i pts → each_fault (tables_of values) ≡ Some fault
-fault_at_one values i value table pts fault within at is here so_far =
-    sym so_far.fault ∙ rw (tables_from values i value table within at is, here)
+fault_at_one values i value table pts fault within there is here so_far =
+    sym so_far.fault ∙ rw (tables_from values i value table within there is, here)
 
 -- all values were read
 pub all_read : (values : List Value) (i : ℕ) (pts : List Pt) → length values ≤ i → IsReadUpTo values i pts

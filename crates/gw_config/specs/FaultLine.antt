@@ -7,7 +7,7 @@ use Rattle.gw_config.specs.declared.fault.ConfigFault.TheVariants.{Long, NotToml
 -- the line without its end
 abbrev pub fault_line : ConfigFault → List ℕ
 fault_line Long = codes "config long"
-fault_line (NotToml at) = codes "config not-toml " ++ decimal at
+fault_line (NotToml offset) = codes "config not-toml " ++ decimal offset
 fault_line (Missing key) = codes "config missing " ++ key
 fault_line (Wrong key) = codes "config wrong " ++ key
 fault_line (Twice poi) = codes "config twice " ++ poi

@@ -18,13 +18,23 @@ first_some (x ∷ xs) = option_or x (first_some xs)
 
 -- ---- keys by their forms
 
--- the first fault of a terminal's keys
-abbrev pub terminal_fault : Members → Option ConfigFault
-terminal_fault table =
-    first_some (key_fault terminal_prefix poi_key table ∷ key_fault terminal_prefix address_key table
+-- what is wrong with each key of the document, in the order of its table
+abbrev pub document_faults : Members → List (Option ConfigFault)
+document_faults table =
+    key_fault [] listen_key table ∷ key_fault [] journal_key table ∷ key_fault [] name_key table ∷ key_fault [] line_key table
+    ∷ key_fault [] wait_key table ∷ key_fault [] slots_key table ∷ key_fault [] terminal_key table ∷ []
+
+-- what is wrong with each key of a terminal, in the order of its table
+abbrev pub terminal_faults : Members → List (Option ConfigFault)
+terminal_faults table =
+    key_fault terminal_prefix poi_key table ∷ key_fault terminal_prefix address_key table
     ∷ key_fault terminal_prefix currency_key table ∷ key_fault terminal_prefix password_key table
     ∷ key_fault terminal_prefix config_key table ∷ key_fault terminal_prefix none_key table
-    ∷ key_fault terminal_prefix answer_key table ∷ key_fault terminal_prefix command_key table ∷ [])
+    ∷ key_fault terminal_prefix answer_key table ∷ key_fault terminal_prefix command_key table ∷ []
+
+-- the first fault of a terminal's keys
+abbrev pub terminal_fault : Members → Option ConfigFault
+terminal_fault table = first_some (terminal_faults table)
 
 -- the first fault of the keys of these terminals, one terminal after the other
 abbrev pub each_fault : List Members → Option ConfigFault
@@ -91,12 +101,10 @@ unknown_faults document terminals =
 abbrev pub terminals_of : Members → List Members
 terminals_of table = unwrap_or (key_value terminal_key table) []
 
--- the first fault of a table
+-- the first fault of a table: its keys come before its terminals, and these before unknown keys
 abbrev pub table_fault : Members → Option ConfigFault
 table_fault table =
-    first_some (key_fault [] listen_key table ∷ key_fault [] journal_key table ∷ key_fault [] name_key table
-    ∷ key_fault [] line_key table ∷ key_fault [] wait_key table ∷ key_fault [] slots_key table
-    ∷ key_fault [] terminal_key table ∷ terminals_fault (terminals_of table)
+    first_some (document_faults table ++ terminals_fault (terminals_of table)
     ∷ unknown_faults table (terminals_of table) ∷ [])
 
 -- the first fault of what may be a table; the offset in text that is no TOML isn't fixed, and is given as 0
@@ -116,7 +124,7 @@ fault_in bytes =
 -- a fault, with 0 for the offset in text that is no TOML
 abbrev pub without_offset : ConfigFault → ConfigFault
 without_offset Long = Long
-without_offset (NotToml at) = NotToml 0
+without_offset (NotToml offset) = NotToml 0
 without_offset (Missing key) = Missing key
 without_offset (Wrong key) = Wrong key
 without_offset (Twice poi) = Twice poi
@@ -125,7 +133,7 @@ without_offset Memory = Memory
 -- the offset of a fault lies within the bytes, where it has one
 abbrev pub IsInsideOf : List ℕ → ConfigFault → Type 0
 IsInsideOf bytes Long = Unit {0}
-IsInsideOf bytes (NotToml at) = at ≤ length bytes
+IsInsideOf bytes (NotToml offset) = offset ≤ length bytes
 IsInsideOf bytes (Missing key) = Unit {0}
 IsInsideOf bytes (Wrong key) = Unit {0}
 IsInsideOf bytes (Twice poi) = Unit {0}

@@ -58,7 +58,7 @@ six_digits value =
 -- the values of an array, in their order
 abbrev pub array_values : Items → List Data
 array_values no_items = []
-array_values (item value items) = value ∷ array_values items
+array_values (item value others) = value ∷ array_values others
 
 -- 1 to 32 tables, where each of these values is one
 abbrev pub tables_among : List Data → Option (List Members)

@@ -1,5 +1,7 @@
+pub mod Example
 pub mod FaultLine
 pub mod Faults
+pub mod FirstFault
 pub mod Form
 pub mod Grammar
 pub mod Keys

@@ -4,6 +4,7 @@
 mod document;
 mod fault;
 mod form;
+mod laws;
 mod section;
 mod terminal;
 mod unique;
@@ -11,6 +12,7 @@ mod unknown;
 
 pub use document::read_setup;
 pub use fault::ConfigFault;
+pub use laws::{law_examples, law_first_fault};
 
 #[cfg(test)]
 mod tests;

@@ -288,11 +288,12 @@ fn currencies(rt: HostRuntime) -> Result<(), Fail> {
     Ok(())
 }
 
-/// Texts at their limits and one byte beyond.
+/// Texts at their limits and one byte beyond: of one byte, of the most, and of one more.
 #[test]
 fn lengths(rt: HostRuntime) -> Result<(), Fail> {
     let alloc = rt.alloc();
     for (count, name, listen, journal) in [
+        (1, "accepted", "accepted", "accepted"),
         (40, "accepted", "accepted", "accepted"),
         (41, "config wrong name", "accepted", "accepted"),
         (255, "config wrong name", "accepted", "accepted"),
@@ -329,11 +330,12 @@ fn lengths(rt: HostRuntime) -> Result<(), Fail> {
     Ok(())
 }
 
-/// Texts of a terminal at their limits and one byte beyond.
+/// Texts of a terminal at their limits and one byte beyond: of one byte, of the most, and of one more.
 #[test]
 fn terminal_lengths(rt: HostRuntime) -> Result<(), Fail> {
     let alloc = rt.alloc();
     for (count, poi, address) in [
+        (1, "accepted", "accepted"),
         (40, "accepted", "accepted"),
         (41, "config wrong terminal.poi", "accepted"),
         (255, "config wrong terminal.poi", "accepted"),

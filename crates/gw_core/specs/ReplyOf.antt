@@ -1,4 +1,4 @@
--- The replies of the code, beside those of the rules.
+-- The replies of the code, beside those that are owed.
 use Rattle.std.specs.Prelude.{◌≡◌, ◌≤◌, ℕ, List, length, Option, Some, None, IfSome}
 use Rattle.json_text.specs.Canonical.{canonical}
 use Rattle.sale_values.specs.declared.request.SaleRequest.{SaleRequest}
@@ -6,23 +6,36 @@ use Rattle.sale_values.specs.declared.request.SaleRequest.TheVariants.{Login, Lo
 use Rattle.sale_reply.specs.declared.reply.SaleReply.{SaleReply}
 use Rattle.sale_reply.specs.Limits.{IsPrintRequest}
 use Rattle.sale_reply.specs.Reply.{tree_of}
-use Rattle.gw_rules.specs.Reply.{Reply, reply_tree}
-use Rattle.gw_rules.specs.Replies.{RepliesTo}
+use Rattle.gw_owes.specs.Reply.{ReplyValue, reply_value_tree}
+use Rattle.gw_owes.specs.ReadAs.{ReadAs, IsReadAs}
+use Rattle.gw_owes.specs.Row.{Known}
+use Rattle.gw_owes.specs.Replies.{reply_to}
 
 -- the message has the tree of the reply, and is no print request, whose lines may have any length
-abbrev pub IsSameReply : SaleReply → Reply → Type 0
-IsSameReply given reply = (tree_of given ≡ reply_tree reply) × (IsPrintRequest given → ⊥)
+abbrev pub IsSameReply : SaleReply → ReplyValue → Type 0
+IsSameReply given reply = (tree_of given ≡ reply_value_tree reply) × (IsPrintRequest given → ⊥)
 
 -- the code has this reply, or none where there is none
-abbrev pub AreSameReplies : Option SaleReply → Option Reply → Type 0
+abbrev pub AreSameReplies : Option SaleReply → Option ReplyValue → Type 0
 AreSameReplies None None = Unit {0}
 AreSameReplies None (Some reply) = ⊥
 AreSameReplies (Some given) None = ⊥
 AreSameReplies (Some given) (Some reply) = IsSameReply given reply
 
--- what is given is the reply to the message, by a gateway of this name at this moment
-abbrev pub IsReplyTo : List ℕ → ℕ → List ℕ → Option SaleReply → Type 0
-IsReplyTo name moment message given = (reply : Option Reply) × RepliesTo name moment message reply × AreSameReplies given reply
+-- a gateway of this name knows this at this moment
+pub record IsKnownAt (name : List ℕ) (moment : ℕ) (known : Known) : Type 0 where
+  pub name_is : known.setup.name ≡ name
+  pub moment_is : known.moment ≡ moment
+
+-- what is given is the reply to what was read, whatever else a gateway of this name knows at this moment
+abbrev pub IsReplyToRead : List ℕ → ℕ → ReadAs → Option SaleReply → Type 0
+IsReplyToRead name moment as_read given = (known : Known) → IsKnownAt name moment known → AreSameReplies given (reply_to known as_read)
+
+-- the message is read as one thing, and what is given is the reply to that
+pub record IsReplyTo (name : List ℕ) (moment : ℕ) (message : List ℕ) (given : Option SaleReply) : Type 0 where
+  pub as_read : ReadAs
+  pub read : IsReadAs message as_read
+  pub replied : IsReplyToRead name moment as_read given
 
 -- what is given fits a frame
 abbrev pub HasRoom : Option SaleReply → Type 0

@@ -1,19 +1,18 @@
 //! Refusals, in the shape of each category's reply.
-ghost use Rattle.std.specs.Prelude.{◌≡◌, ◌≤◌, ◌<◌, [], ◌∷◌, ◌++◌, length, Some, None, pos, map, if◌then◌else◌};
+ghost use Rattle.std.specs.Prelude.{◌≡◌, ◌≤◌, [], ◌∷◌, length, pos, map, IfOk};
 ghost use Rattle.gw_base.specs.Moment.{moment_of};
-ghost use Rattle.gw_base.specs.Ident.{IsIdent};
-ghost use Rattle.gw_rules.specs.Reply.{Displayed, Printed, Reject};
+ghost use Rattle.gw_owes.specs.Reply.{Display as DisplayValue, Print as PrintValue, Reject};
 ghost use Rattle.gw_core.specs.ReplyOf.{IsSameReply, AreSameReplies};
-ghost use Rattle.gw_rules.specs.Replies.{is_device as sent_by_device, reply_header as header_of_reply, refusal as refusal_of, malformed as malformed_at, refused as refused_for, asks_response as some_asks, refused_output, malformed_reply, reject as reject_of_rules, no_output};
+ghost use Rattle.gw_owes.specs.Replies.{has_device_class, header_of_reply, failure, format_failure, failure_reply, is_response_required, output_not_shown, display_failure, reply_to_malformed, reject_event, malformed_output};
 
-use arrayvec::ArrayVec;
 use gw_base::{Condition, Ident, to_moment};
-use sale_reply::{Detail, SaleReply, Shown, Verdict};
+use sale_reply::{Detail, OutputResults, SaleReply, Shown, Verdict};
 use sale_values::{Class, Header, Kind, Output};
+use std::alloc::{AllocError, Global};
 
 /// Whether a category's replies have class `Device` and the request's `DeviceID`.
 fn is_device(category: &[u8]) -> bool
-    ensures { result ≡ sent_by_device category.now }
+    ensures { result ≡ has_device_class category.now }
 {
     category == b"Display".as_slice() || category == b"Print".as_slice()
 }
@@ -40,7 +39,7 @@ pub(crate) fn reply_header(header: &Header) -> Header
 
 /// Refused for this reason.
 pub(crate) fn refusal(condition: Condition) -> Verdict
-    ensures { result ≡ refusal_of condition }
+    ensures { result ≡ failure condition }
 {
     Verdict {
         condition: Some(condition),
@@ -50,7 +49,7 @@ pub(crate) fn refusal(condition: Condition) -> Verdict
 
 /// Refused for the form of the member at this path.
 fn malformed(path: Ident<100>) -> Verdict
-    ensures { result ≡ malformed_at path }
+    ensures { result ≡ format_failure path }
 {
     Verdict {
         condition: Some(Condition::MessageFormat),
@@ -60,7 +59,7 @@ fn malformed(path: Ident<100>) -> Verdict
 
 /// A refusal in a response object alone.
 pub(crate) fn refused(header: &Header, condition: Condition) -> SaleReply<'static>
-    ensures { IsSameReply result (refused_for header.now condition) }
+    ensures { IsSameReply result (failure_reply header.now condition) }
 {
     SaleReply::Plain {
         header: reply_header(header),
@@ -85,75 +84,63 @@ pub(crate) fn reject(
     }
 }
 
-/// The identifier of a text that is one.
-fn constant<const N: usize>(text: &str) -> Ident<N>
-    requires { IsIdent N text.now }
-    ensures { result ≡ text.now }
-{
-    match Ident::of(text.as_bytes()) {
-        Some(ident) => ident,
-        None => unreachable!(),
-    }
-}
-
 /// The event that a message without a readable header is rejected, under the gateway's name.
 pub(crate) fn reject_without_header(
     name: &Ident<40>,
     now: i64,
     detail: Detail,
 ) -> SaleReply<'static>
-    ensures { IsSameReply result (reject_of_rules name.now (moment_of now) detail) }
+    ensures { IsSameReply result (reject_event name.now (moment_of now) detail) }
 {
-    reject(&constant("0"), name, now, detail)
+    reject(&Ident::known(b"0"), name, now, detail)
 }
 
 /// Whether some output asks for a response.
 fn asks_response(outputs: &[Output]) -> bool
-    ensures { result ≡ some_asks outputs.now }
+    ensures { result ≡ is_response_required outputs.now }
 {
     outputs.iter().any(|output| output.required)
 }
 
-/// Adds an output that no terminal shows.
-fn push_not_shown(shown: &mut ArrayVec<Shown, 16>, output: &Output)
-    requires { length shown.now.items < 16 }
-    ensures { shown.new.items ≡ shown.old.items ++ refused_output output.now ∷ [] }
+/// The result of an output for which there is this verdict.
+fn output_result(output: &Output, verdict: Verdict) -> Shown
+    ensures { result ≡ record { device = output.now.device; qualify = output.now.qualify; verdict = verdict } }
 {
-    let verdict = Verdict {
-        condition: Some(Condition::UnavailableDevice),
-        path: None,
-    };
-    shown.push(Shown {
+    Shown {
         device: output.device,
         qualify: output.qualify,
         verdict,
-    });
+    }
 }
 
 /// The result of each output: no terminal shows one.
-fn none_shown(outputs: &[Output]) -> ArrayVec<Shown, 16>
-    requires { length outputs.now ≤ 16 }
-    ensures { result.items ≡ map refused_output outputs.now }
+fn none_shown(alloc: Global, outputs: &[Output]) -> Result<Vec<Shown>, AllocError>
+    ensures { IfOk result (λ shown. shown.items ≡ map output_not_shown outputs.now) }
 {
-    let mut shown = ArrayVec::new();
+    let mut shown = Vec::new(alloc);
     for output in outputs {
-        push_not_shown(&mut shown, output);
+        let verdict = refusal(Condition::UnavailableDevice);
+        shown.push(output_result(output, verdict))?;
     }
-    shown
+    Ok(shown)
 }
 
 /// The reply to a Display, where an output asks for a response.
-pub(crate) fn display_reply(header: &Header, outputs: &[Output]) -> Option<SaleReply<'static>>
+pub(crate) fn display_reply(
+    alloc: Global,
+    header: &Header,
+    outputs: &[Output],
+) -> Result<Option<SaleReply<'static>>, AllocError>
     requires { length outputs.now ≤ 16 }
-    ensures { AreSameReplies result (if some_asks outputs.now then Some (Displayed (header_of_reply header.now) (map refused_output outputs.now)) else None) }
+    ensures { IfOk result (λ given. AreSameReplies given (display_failure header.now outputs.now)) }
 {
     if !asks_response(outputs) {
-        return None;
+        return Ok(None);
     }
-    Some(SaleReply::Display {
+    Ok(Some(SaleReply::Display {
         header: reply_header(header),
-        outputs: none_shown(outputs),
-    })
+        outputs: OutputResults::new(none_shown(alloc, outputs)?),
+    }))
 }
 
 /// The reply to a Print.
@@ -162,7 +149,7 @@ pub(crate) fn printed(
     qualifier: &Ident<40>,
     verdict: Verdict,
 ) -> SaleReply<'static>
-    ensures { IsSameReply result (Printed (header_of_reply header.now) qualifier.now verdict) }
+    ensures { IsSameReply result (PrintValue (header_of_reply header.now) qualifier.now verdict) }
 {
     SaleReply::Print {
         header: reply_header(header),
@@ -172,39 +159,48 @@ pub(crate) fn printed(
 }
 
 /// The reply to a Display with a member that is absent or of another form: one output for all.
-fn malformed_display(header: &Header, path: Ident<100>) -> SaleReply<'static>
-    ensures { IsSameReply result (Displayed (header_of_reply header.now) (no_output path ∷ [])) }
+fn malformed_display(
+    alloc: Global,
+    header: &Header,
+    path: Ident<100>,
+) -> Result<SaleReply<'static>, AllocError>
+    ensures { IfOk result (λ given. IsSameReply given (DisplayValue (header_of_reply header.now) (malformed_output path ∷ []))) }
 {
     // The outputs may be what is malformed, so none of their names can be repeated.
-    let mut outputs = ArrayVec::new();
+    let mut outputs = Vec::new(alloc);
     outputs.push(Shown {
-        device: constant("CustomerDisplay"),
-        qualify: constant("Display"),
+        device: Ident::known(b"CustomerDisplay"),
+        qualify: Ident::known(b"Display"),
         verdict: malformed(path),
-    });
-    SaleReply::Display {
+    })?;
+    Ok(SaleReply::Display {
         header: reply_header(header),
-        outputs,
-    }
+        outputs: OutputResults::new(outputs),
+    })
 }
 
 /// The reply to a body in which the member at this path is absent or of another form.
-pub(crate) fn malformed_body(now: i64, header: &Header, path: Ident<100>) -> SaleReply<'static>
-    ensures { IsSameReply result (malformed_reply (moment_of now) header.now path) }
+pub(crate) fn malformed_body(
+    alloc: Global,
+    now: i64,
+    header: &Header,
+    path: Ident<100>,
+) -> Result<SaleReply<'static>, AllocError>
+    ensures { IfOk result (λ given. IsSameReply given (reply_to_malformed (moment_of now) header.now path)) }
 {
     let category = header.category.as_bytes();
     // nexo has no response to an Abort.
     if category == b"Abort".as_slice() {
-        return reject(&header.sale, &header.poi, now, Detail::Body(path));
+        return Ok(reject(&header.sale, &header.poi, now, Detail::Body(path)));
     }
     if category == b"Display".as_slice() {
-        return malformed_display(header, path);
+        return malformed_display(alloc, header, path);
     }
     if category == b"Print".as_slice() {
-        return printed(header, &constant("Document"), malformed(path));
+        return Ok(printed(header, &Ident::known(b"Document"), malformed(path)));
     }
-    SaleReply::Plain {
+    Ok(SaleReply::Plain {
         header: reply_header(header),
         verdict: malformed(path),
-    }
+    })
 }

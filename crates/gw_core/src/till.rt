@@ -1,13 +1,14 @@
 //! The reply to a message of a till.
-ghost use Rattle.std.specs.Prelude.{◌⊎◌, ◌≤◌, Option, IfOk, length};
+ghost use Rattle.std.specs.Prelude.{◌≡◌, ◌≤◌, ℕ, List, Some, IfOk, length};
 ghost use Rattle.gw_base.specs.Moment.{moment_of};
+ghost use Rattle.json_text.specs.Grammar.{Spells};
 ghost use Rattle.json_text.specs.ValueOf.{value_of};
 ghost use Rattle.sale_reply.specs.declared.reply.Detail.TheVariants.{Json as JsonDetail};
 ghost use Rattle.json_text.specs.Canonical.{canonical};
 ghost use Rattle.sale_reply.specs.Limits.{IsPrintRequest};
 ghost use Rattle.sale_reply.specs.Reply.{tree_of};
-ghost use Rattle.gw_rules.specs.Reply.{Reply};
-ghost use Rattle.gw_rules.specs.Replies.{RepliesToMessage, RepliesToFault, request_reply, fault_reply, reject as reject_of_rules};
+ghost use Rattle.gw_owes.specs.Row.{Known};
+ghost use Rattle.gw_owes.specs.Replies.{reply_to_request as reply_owed_to_request, reply_to_fault as reply_owed_to_fault, reject_event};
 ghost use Rattle.gw_core.specs.ReplyOf.{IsSameReply, AreSameReplies, IsReplyTo, HasFewOutputs, HasRoom};
 
 use crate::refusal::{
@@ -20,39 +21,50 @@ use sale_reply::{Detail, SaleReply, is_within_limits, law_size};
 use std::alloc::{AllocError, Global};
 
 /// The reply to a request: no terminal is configured, no payment is known and none waits.
-fn reply_to_request(now: i64, header: &Header, request: &SaleRequest) -> Option<SaleReply<'static>>
+fn reply_to_request(
+    alloc: Global,
+    now: i64,
+    header: &Header,
+    request: &SaleRequest,
+) -> Result<Option<SaleReply<'static>>, AllocError>
     requires { HasFewOutputs request.now }
-    ensures { AreSameReplies result (request_reply (moment_of now) header.now request.now) }
+    ensures { (known : Known) → known.moment ≡ moment_of now → IfOk result (λ given. AreSameReplies given (reply_owed_to_request known header.now request.now)) }
 {
     match request {
         // A reply of class Device has a body of its own, also where it refuses.
-        SaleRequest::Display(outputs) => display_reply(header, outputs.as_slice()),
+        SaleRequest::Display(outputs) => display_reply(alloc, header, outputs.as_slice()),
         SaleRequest::Print(qualifier) => {
             let verdict = refusal(Condition::UnavailableDevice);
-            Some(printed(header, qualifier, verdict))
+            Ok(Some(printed(header, qualifier, verdict)))
         }
-        SaleRequest::Abort(_) => Some(reject(&header.sale, &header.poi, now, Detail::Abort)),
-        SaleRequest::Status(_) => Some(refused(header, Condition::NotFound)),
+        SaleRequest::Abort(_) => Ok(Some(reject(&header.sale, &header.poi, now, Detail::Abort))),
+        SaleRequest::Status(_) => Ok(Some(refused(header, Condition::NotFound))),
         SaleRequest::Login
         | SaleRequest::Logout
         | SaleRequest::Payment(_)
         | SaleRequest::Reversal(_)
         | SaleRequest::Reconciliation(_)
-        | SaleRequest::Diagnosis => Some(refused(header, Condition::UnavailableDevice)),
+        | SaleRequest::Diagnosis => Ok(Some(refused(header, Condition::UnavailableDevice))),
     }
 }
 
 /// The reply to a tree that is no message, by its first fault.
-fn reply_to_fault(name: &Ident<40>, now: i64, fault: SaleFault) -> SaleReply<'static>
-    ensures { IsSameReply result (fault_reply name.now (moment_of now) fault) }
+fn reply_to_fault(
+    alloc: Global,
+    name: &Ident<40>,
+    now: i64,
+    fault: SaleFault,
+) -> Result<Option<SaleReply<'static>>, AllocError>
+    ensures { IfOk result (λ given. AreSameReplies given (Some (reply_owed_to_fault name.now (moment_of now) fault))) }
 {
-    match fault {
+    let reply = match fault {
         SaleFault::NoHeader { path } => reject_without_header(name, now, Detail::Header(path)),
         SaleFault::Missing { header, path } | SaleFault::Wrong { header, path } => {
-            malformed_body(now, &header, path)
+            malformed_body(alloc, now, &header, path)?
         }
         SaleFault::Unserved { header } => refused(&header, Condition::UnavailableService),
-    }
+    };
+    Ok(Some(reply))
 }
 
 /// The reply to a tree.
@@ -62,19 +74,19 @@ fn reply_to_tree(
     now: i64,
     json: &Json,
 ) -> Result<Option<SaleReply<'static>>, AllocError>
-    ensures { IfOk result (λ given. (reply : Option Reply) × (RepliesToMessage (moment_of now) (value_of json.now) reply ⊎ RepliesToFault name.now (moment_of now) (value_of json.now) reply) × AreSameReplies given reply) }
+    ensures { (message : List ℕ) → Spells (value_of json.now) message → IfOk result (λ given. IsReplyTo name.now (moment_of now) message given) }
 {
     match read_message(alloc, json) {
-        Ok(Incoming::Request(header, request)) => Ok(reply_to_request(now, &header, &request)),
+        Ok(Incoming::Request(header, request)) => reply_to_request(alloc, now, &header, &request),
         Ok(Incoming::Silent) => Ok(None),
-        Err(MessageError::Fault(fault)) => Ok(Some(reply_to_fault(name, now, fault))),
+        Err(MessageError::Fault(fault)) => reply_to_fault(alloc, name, now, fault),
         Err(MessageError::Memory) => Err(AllocError),
     }
 }
 
 /// The reply to bytes that are no text.
 fn reply_to_no_text(name: &Ident<40>, now: i64, fault: JsonFault) -> SaleReply<'static>
-    ensures { IsSameReply result (reject_of_rules name.now (moment_of now) (JsonDetail fault)) }
+    ensures { IsSameReply result (reject_event name.now (moment_of now) (JsonDetail fault)) }
 {
     reject_without_header(name, now, Detail::Json(fault))
 }

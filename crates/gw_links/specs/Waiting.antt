@@ -27,7 +27,7 @@ of_seat seat lines = filter (λ waiting. waiting.item.seat == seat) lines
 abbrev pub at_terminal : ℕ → List Waiting → List Waiting
 at_terminal terminal lines = filter (λ waiting. waiting.item.terminal == terminal) lines
 
--- those from the first on whose deadline is later than this moment
+-- Inner: those from the first on whose deadline is later than this moment
 abbrev pub later_than : ℤ → List Waiting → List Waiting
 later_than moment [] = []
 later_than moment (waiting ∷ rest) =

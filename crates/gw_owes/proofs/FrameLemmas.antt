@@ -49,7 +49,7 @@ short-prefix bytes prefix rest e = let l : length bytes ≡ length prefix + leng
 
 -- less than a frame waits
 pub unfinished-waits : (bytes : List ℕ) → IsIncompleteFrame bytes → HasNoFrame bytes
-unfinished-waits bytes (inl short) = record {
+unfinished-waits bytes (inl few) = record {
   prefixes = λ prefix rest e. no_frame prefix (λ well_formed size. let l = short-prefix bytes prefix rest e in omega arith);
 }
 unfinished-waits bytes (inr (message, well_formed, more, some, is)) = record { prefixes = prefixes }
@@ -64,7 +64,7 @@ unfinished-waits bytes (inr (message, well_formed, more, some, is)) = record { p
 
     prefixes : (prefix rest : List ℕ) → bytes ≡ prefix ++ rest → is_frame prefix ≡ false
     prefixes prefix rest e = elim (cases_lt (length prefix) 4) [
-      | inl short ↦ no_frame prefix (λ l size. omega arith)
+      | inl few ↦ no_frame prefix (λ l size. omega arith)
       | inr fits ↦
           let whole : frame message ≡ prefix ++ (rest ++ more) = is ∙ ap (λ b. b ++ more) e ∙ append_assoc prefix rest more in
           let n : spelled_length prefix ≡ length message = spelled prefix (length message) (prefix-begins (frame message) prefix (rest ++ more) (length message) whole fits begins) in
@@ -76,7 +76,7 @@ unfinished-waits bytes (inr (message, well_formed, more, some, is)) = record { p
 pub bad-waits : (bytes : List ℕ) → BeginsWithBadLength bytes → HasNoFrame bytes
 bad-waits bytes (n, begins, malformed) = record {
   prefixes = λ prefix rest e. elim (cases_lt (length prefix) 4) [
-    | inl short ↦ no_frame prefix (λ l size. omega arith)
+    | inl few ↦ no_frame prefix (λ l size. omega arith)
     | inr fits ↦
         let same : spelled_length prefix ≡ n = spelled prefix n (prefix-begins bytes prefix rest n e fits begins) in
         no_frame prefix (λ l size. malformed (subst IsPayloadLength same l))
@@ -91,12 +91,12 @@ tested_well_formed n h = let p = and_parts (nat_lt 0 n) (nat_le n 65536) h in (l
 
 unfinished-framed : (bytes : List ℕ) → IsIncompleteFrame bytes → has_bad_length bytes ≡ false
 unfinished-framed bytes h = elim (cases_lt (length bytes) 4) [
-  | inl short ↦ and_left (nat_le 4 (length bytes)) _ (lt-leb 4 (length bytes) short)
+  | inl few ↦ and_left (nat_le 4 (length bytes)) _ (lt-leb 4 (length bytes) few)
   | inr fits ↦ long_framed h fits
 ]
   where
     long_framed : IsIncompleteFrame bytes → 4 ≤ length bytes → has_bad_length bytes ≡ false
-    long_framed (inl short) fits = absurd (omega arith)
+    long_framed (inl few) fits = absurd (omega arith)
     long_framed (inr (message, well_formed, more, some, is)) fits =
         let begins : BeginsWithLength (frame message) (length message) = message_begins (frame message) message [] well_formed (sym (append-nil (frame message))) in
         let n : spelled_length bytes ≡ length message = spelled bytes (length message) (prefix-begins (frame message) bytes more (length message) is fits begins) in

@@ -9,7 +9,7 @@ use Rattle.sale_reply.specs.declared.reply.GlobalStatus.{GlobalStatus}
 use Rattle.sale_reply.specs.declared.reply.Shown.{Shown}
 use Rattle.sale_reply.specs.declared.reply.Told.{Told as ResultBody}
 use Rattle.sale_reply.specs.declared.reply.Verdict.{Verdict}
-use Rattle.sale_reply.specs.Reply.{response_tree, device_request, plain_body, verdict_tree, result_body, status_body, diagnosis_body, display_body, print_body, display_request_body, event_tree}
+use Rattle.sale_reply.specs.Reply.{response_tree, device_request, plain_body, verdict_tree, result_body, status_body, diagnosis_body, display_body, print_body, display_request_body, print_request_body, event_tree}
 
 -- a reply, a device request or an event
 pub data ReplyValue : Type 0 where
@@ -27,6 +27,8 @@ pub data ReplyValue : Type 0 where
   Print : MessageHeader → List ℕ → Verdict → ReplyValue
   -- a device request that shows an intermediate status
   DisplayRequest : MessageHeader → ℕ → ReplyValue
+  -- a device request that prints lines of a terminal
+  PrintRequest : MessageHeader → List (List ℕ) → ReplyValue
   -- the event that a message was rejected: SaleID, POIID, moment and why
   Reject : List ℕ → List ℕ → ℤ → Detail → ReplyValue
 
@@ -39,6 +41,7 @@ reply_value_tree (Diagnosis header status) = response_tree header (diagnosis_bod
 reply_value_tree (Display header outputs) = response_tree header (display_body outputs)
 reply_value_tree (Print header qualifier verdict) = response_tree header (print_body qualifier verdict)
 reply_value_tree (DisplayRequest header code) = device_request header (display_request_body code)
+reply_value_tree (PrintRequest header lines) = device_request header (print_request_body lines)
 reply_value_tree (Reject sale poi moment detail) = event_tree sale poi moment detail
 
 -- the bytes that are sent: the frame of the message's canonical spelling

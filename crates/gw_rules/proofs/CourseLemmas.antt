@@ -1,12 +1,15 @@
--- Courses one after the other, and the outside along a course.
+-- Courses one after another, and the outside along a course.
 use Rattle.std.proofs.Common.{◌≡◌, List, [], ◌∷◌, ◌++◌, refl, sym, ◌∙◌, ap}
 use Rattle.std.specs.Prelude.{true, false, map}
 use Rattle.gw_site.specs.Outside.{outside_after, outside_from, outside_of}
 use Rattle.gw_site.specs.declared.turn.Turn.{Turn}
 use Rattle.gw_site.specs.declared.turn.Turn.TheVariants.{Start, OpenFailed, Polled, Opened, HeardTill, Closed, HeardPt, Lost, Stopped, Linked, LinkFailed, SentTill, SentPt, CutTill, CutPt, Wrote, Synced, DiskFailed, Crash}
-use Rattle.gw_rules.specs.Scene.{View}
-use Rattle.gw_rules.specs.View.{Move, Begin, Take, after, after_turn, view_from, at_first}
-use Rattle.gw_rules.specs.Lawful.{IsCourse, turns_of, Stands, IsQuiet}
+use Rattle.gw_owes.specs.Items.{RoundItem}
+use Rattle.gw_rules.specs.Lawful.{IsCourse, turns_of, Stands}
+use Rattle.gw_rules.specs.Scene.{Scene}
+use Rattle.gw_rules.specs.Stage.{busy}
+use Rattle.gw_rules.specs.TurnSort.{IsQuiet}
+use Rattle.gw_rules.specs.View.{View, Move, Begin, Read, Make, begin, after, after_turn, view_from, at_first}
 
 pub view_from-append : (v : View) (xs ys : List Move) → view_from v (xs ++ ys) ≡ view_from (view_from v xs) ys
 view_from-append v [] ys = refl
@@ -22,20 +25,21 @@ course-prefix v (x ∷ xs) ys h = (h.0, course-prefix (after v x) xs ys h.1)
 
 pub turns_of-append : (xs ys : List Move) → turns_of (xs ++ ys) ≡ turns_of xs ++ turns_of ys
 turns_of-append [] ys = refl
-turns_of-append (Begin calls ∷ xs) ys = turns_of-append xs ys
-turns_of-append (Take turn ∷ xs) ys = ap (λ l. turn ∷ l) (turns_of-append xs ys)
+turns_of-append (Begin ∷ xs) ys = turns_of-append xs ys
+turns_of-append (Read as_read ∷ xs) ys = turns_of-append xs ys
+turns_of-append (Make turn ∷ xs) ys = ap (λ l. turn ∷ l) (turns_of-append xs ys)
 
--- the course of these turns alone
-abbrev pub takes : List Turn → List Move
-takes turns = map Take turns
+-- the course that makes these turns alone
+abbrev pub makes : List Turn → List Move
+makes turns = map Make turns
 
-pub turns_of-takes : (turns : List Turn) → turns_of (takes turns) ≡ turns
-turns_of-takes [] = refl
-turns_of-takes (turn ∷ turns) = ap (λ l. turn ∷ l) (turns_of-takes turns)
+pub turns_of-makes : (turns : List Turn) → turns_of (makes turns) ≡ turns
+turns_of-makes [] = refl
+turns_of-makes (turn ∷ turns) = ap (λ l. turn ∷ l) (turns_of-makes turns)
 
-pub takes-append : (xs ys : List Turn) → takes (xs ++ ys) ≡ takes xs ++ takes ys
-takes-append [] ys = refl
-takes-append (x ∷ xs) ys = ap (λ l. Take x ∷ l) (takes-append xs ys)
+pub makes-append : (xs ys : List Turn) → makes (xs ++ ys) ≡ makes xs ++ makes ys
+makes-append [] ys = refl
+makes-append (x ∷ xs) ys = ap (λ l. Make x ∷ l) (makes-append xs ys)
 
 pub quiet-append : (xs ys : List Turn) → IsQuiet xs → IsQuiet ys → IsQuiet (xs ++ ys)
 quiet-append [] ys h k = k
@@ -54,34 +58,45 @@ stands-more log v moves s h = record {
   view_is = view_from-append at_first s.course moves ∙ ap (λ w. view_from w moves) s.view_is;
 }
 
+-- an item that begins leaves the outside as it is
+pub begin-outside : (scene : Scene) (items : List RoundItem) → (begin scene items).scene.outside ≡ scene.outside
+begin-outside scene [] = refl
+begin-outside scene (item ∷ items) = refl
+
+-- and the poll has brought nothing more
+pub begin-stage : (scene : Scene) (items : List RoundItem) → (begin scene items).scene.stage ≡ busy scene.stage
+begin-stage scene [] = refl
+begin-stage scene (item ∷ items) = refl
+
 -- the outside of the view moves with each turn
-after_outside : (v : View) (turn : Turn) → (after_turn v turn).scene.outside ≡ outside_after v.scene.outside turn
-after_outside v (Start setup) = refl
-after_outside v OpenFailed = refl
-after_outside v (Polled now) = refl
-after_outside v (Opened till) = refl
-after_outside v (HeardTill till bytes) = refl
-after_outside v (Closed till) = refl
-after_outside v (HeardPt pt bytes) = refl
-after_outside v (Lost pt) = refl
-after_outside v Stopped = refl
-after_outside v (Linked pt) = refl
-after_outside v (LinkFailed pt) = refl
-after_outside v (SentTill till bytes true) = refl
-after_outside v (SentTill till bytes false) = refl
-after_outside v (SentPt pt bytes true) = refl
-after_outside v (SentPt pt bytes false) = refl
-after_outside v (CutTill till) = refl
-after_outside v (CutPt pt) = refl
-after_outside v (Wrote at bytes) = refl
-after_outside v Synced = refl
-after_outside v DiskFailed = refl
-after_outside v (Crash file) = refl
+pub after-outside : (v : View) (turn : Turn) → (after_turn v turn).scene.outside ≡ outside_after v.scene.outside turn
+after-outside v (Start setup) = refl
+after-outside v OpenFailed = refl
+after-outside v (Polled now) = refl
+after-outside v (Opened till) = refl
+after-outside v (HeardTill till bytes) = refl
+after-outside v (Closed till) = refl
+after-outside v (HeardPt pt bytes) = refl
+after-outside v (Lost pt) = refl
+after-outside v Stopped = refl
+after-outside v (Linked pt) = refl
+after-outside v (LinkFailed pt) = refl
+after-outside v (SentTill till bytes true) = refl
+after-outside v (SentTill till bytes false) = refl
+after-outside v (SentPt pt bytes true) = refl
+after-outside v (SentPt pt bytes false) = refl
+after-outside v (CutTill till) = refl
+after-outside v (CutPt pt) = refl
+after-outside v (Wrote offset bytes) = refl
+after-outside v Synced = refl
+after-outside v DiskFailed = refl
+after-outside v (Crash file) = refl
 
 outside_from-moves : (v : View) (moves : List Move) → (view_from v moves).scene.outside ≡ outside_from v.scene.outside (turns_of moves)
 outside_from-moves v [] = refl
-outside_from-moves v (Begin calls ∷ moves) = outside_from-moves (after v (Begin calls)) moves
-outside_from-moves v (Take turn ∷ moves) = outside_from-moves (after_turn v turn) moves ∙ ap (λ o. outside_from o (turns_of moves)) (after_outside v turn)
+outside_from-moves v (Begin ∷ moves) = outside_from-moves (after v Begin) moves ∙ ap (λ o. outside_from o (turns_of moves)) (begin-outside v.scene v.items)
+outside_from-moves v (Read as_read ∷ moves) = outside_from-moves (after v (Read as_read)) moves
+outside_from-moves v (Make turn ∷ moves) = outside_from-moves (after_turn v turn) moves ∙ ap (λ o. outside_from o (turns_of moves)) (after-outside v turn)
 
 -- the outside of a log is that of its view
 pub stands-outside : (log : List Turn) (v : View) → Stands log v → v.scene.outside ≡ outside_of log

@@ -3,14 +3,15 @@ use Rattle.std.proofs.Common.{◌≡◌, List, [], ◌∷◌, ◌++◌, refl, sy
 use Rattle.std.specs.Prelude.{Bool, true, false, Some, Ok, Err}
 use Rattle.gw_base.specs.Setup.{IsSetup}
 use Rattle.gw_base.specs.declared.setup.Setup.{Setup}
-use Rattle.gw_site.specs.declared.turn.Turn.{Turn}
-use Rattle.gw_site.specs.declared.turn.Turn.TheVariants.{Start, OpenFailed, Crash}
 use Rattle.gw_site.specs.Observed.{Observed, GrowsWhole, AddedWhole}
 use Rattle.gw_site.specs.Turns.{OpenTurns}
-use Rattle.gw_rules.specs.Scene.{View, Resting, Broken}
-use Rattle.gw_rules.specs.View.{Move, Take, view_from, after_turn}
-use Rattle.gw_rules.specs.Lawful.{IsCourse, turns_of, Stands, IsClear, IsQuiet}
+use Rattle.gw_site.specs.declared.turn.Turn.{Turn}
+use Rattle.gw_site.specs.declared.turn.Turn.TheVariants.{Start, OpenFailed, Crash}
+use Rattle.gw_rules.specs.Lawful.{IsCourse, turns_of, Stands, IsClear}
+use Rattle.gw_rules.specs.Stage.{Resting}
 use Rattle.gw_rules.specs.Triple.{Triple, Ran, RunTriple, IsStarted, IsBegun, IsRun, JustBegun}
+use Rattle.gw_rules.specs.TurnSort.{IsQuiet}
+use Rattle.gw_rules.specs.View.{View, Move, Make, view_from, after_turn}
 use Rattle.gw_rules.proofs.CourseLemmas.{quiet-append, stands-more, stands-outside}
 
 -- a call of a site whose turns are allowed and have this shape
@@ -62,27 +63,24 @@ open-runs old new Call Shape Q grows none step = record {
   origin = grows.origin;
 }
 
-resting-clear : Resting ≡ Broken → ⊥
-resting-clear e = cc
-
 started-leads : (E : Type 0) (setup : Setup) → IsSetup setup → (before turns : List Turn) (v : View) → Stands before v → IsClear v → OpenTurns {E = E} setup (Ok tt) before turns → RunLeads turns v (IsBegun setup) (JustBegun setup)
 started-leads E setup formed before turns v stands clear (inl e) = record {
-  moves = Take (Start setup) ∷ [];
+  moves = Make (Start setup) ∷ [];
   turns_are = sym e;
   lawful = ((clear, formed), tt);
   shape = inr ([], tt, inl e);
   some = λ n. (let h : Start setup ∷ [] ≡ [] = sym e ∙ n in absurd cc);
-  owed = ((after_turn v (Start setup)).scene, refl, record { setup_is = refl; stage = refl; tills = refl; polls = refl });
+  owed = ((after_turn v (Start setup)).scene, refl, record { setup_is = refl; stage = refl; tills = refl; links = refl; polls = refl; core_is = refl });
 }
 started-leads E setup formed before turns v stands clear (inr x) =
     let v2 = after_turn v (Crash x.0) in
     record {
-      moves = Take (Crash x.0) ∷ Take (Start setup) ∷ [];
-      turns_are = sym x.2;
-      lawful = (rw (stands-outside before v stands) x.1, ((resting-clear, formed), tt));
-      shape = inr ([], tt, inr (x.0, x.2));
-      some = λ n. (let h : Crash x.0 ∷ Start setup ∷ [] ≡ [] = sym x.2 ∙ n in absurd cc);
-      owed = ((after_turn v2 (Start setup)).scene, refl, record { setup_is = refl; stage = refl; tills = refl; polls = refl });
+      moves = Make (Crash x.0) ∷ Make (Start setup) ∷ [];
+      turns_are = sym x.3;
+      lawful = ((rw (stands-outside before v stands) x.1, x.2), ((refl, formed), tt));
+      shape = inr ([], tt, inr (x.0, x.3));
+      some = λ n. (let h : Crash x.0 ∷ Start setup ∷ [] ≡ [] = sym x.3 ∙ n in absurd cc);
+      owed = ((after_turn v2 (Start setup)).scene, refl, record { setup_is = refl; stage = refl; tills = refl; links = refl; polls = refl; core_is = refl });
     }
 
 -- a run begins
@@ -92,7 +90,7 @@ opened-runs E setup old new formed grows = open-runs old new _ _ _ grows (inl re
 -- a run doesn't begin
 pub failed-runs : {E : Type 0} (f : E) (setup : Setup) (old new : Observed) → GrowsWhole old new (OpenTurns setup (Err f)) → RunTriple old new (IsRun setup) (λ v. v.scene.stage ≡ Resting)
 failed-runs f setup old new grows = open-runs old new _ _ _ grows (inl refl) (λ before turns v stands clear call. record {
-  moves = Take OpenFailed ∷ [];
+  moves = Make OpenFailed ∷ [];
   turns_are = sym call;
   lawful = (clear, tt);
   shape = inr (inl call);

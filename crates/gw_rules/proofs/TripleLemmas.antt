@@ -1,17 +1,22 @@
 -- The triple: one call after the other, weaker conditions, facts that stay, and what a single call keeps.
-use Rattle.std.proofs.Common.{◌≡◌, List, [], ◌∷◌, ◌++◌, refl, sym, ◌∙◌, ap, append_assoc, append-nil}
-use Rattle.std.specs.Prelude.{Bool, true, false, Option, Some, None}
-use Rattle.gw_site.specs.declared.turn.Turn.{Turn}
+use Rattle.std.proofs.Common.{◌≡◌, List, [], ◌∷◌, ◌++◌, refl, sym, ◌∙◌, ap, subst, append_assoc, append-nil}
+use Rattle.std.specs.Prelude.{ℕ, Bool, true, false, not, Option, Some, None}
 use Rattle.gw_site.specs.Observed.{Observed, Grows, Added}
-use Rattle.gw_rules.specs.Scene.{View, Call, Item}
-use Rattle.gw_rules.specs.View.{Begin, view_from, begun}
-use Rattle.gw_rules.specs.Lawful.{IsCourse, turns_of, Stands, IsQuiet, BeginsItem}
-use Rattle.gw_rules.specs.Triple.{Extends, Triple}
-use Rattle.gw_rules.proofs.CourseLemmas.{view_from-append, course-append, course-prefix, turns_of-append, takes, turns_of-takes, takes-append, quiet-append, quiet-prefix, stands-more}
+use Rattle.gw_site.specs.Outside.{is_connected}
+use Rattle.gw_site.specs.declared.turn.Turn.{Turn}
+use Rattle.gw_owes.specs.Items.{RoundItem, Message, Asked}
+use Rattle.gw_owes.specs.ReadAs.{ReadAs, IsReadAs}
+use Rattle.gw_rules.specs.Lawful.{may_begin, Allowed, IsCourse, turns_of, Stands}
+use Rattle.gw_rules.specs.Scene.{Scene, row_at}
+use Rattle.gw_rules.specs.Stage.{is_round}
+use Rattle.gw_rules.specs.Triple.{Extends, Triple, Owing}
+use Rattle.gw_rules.specs.TurnSort.{IsQuiet}
+use Rattle.gw_rules.specs.View.{View, Move, Begin, Read, after, view_from, begun, at_item}
+use Rattle.gw_rules.proofs.CourseLemmas.{view_from-append, course-append, course-prefix, turns_of-append, makes, turns_of-makes, makes-append, quiet-append, quiet-prefix, stands-more}
 
 -- what a call may do is lawful from a view on, and leads to Q
 pub record Leads (Call : List Turn → Type 0) (v : View) (Q : View → Type 0) : Type 0 where
-  pub each : (turns : List Turn) → Call turns → IsCourse v (takes turns) × IsQuiet turns × Q (view_from v (takes turns))
+  pub each : (turns : List Turn) → Call turns → IsCourse v (makes turns) × IsQuiet turns × Q (view_from v (makes turns))
 
 pub nothing-extends : (before : List Turn) (v : View) (new : Observed) (Q : View → Type 0) → new.log ≡ Some before → (new.dark ≡ false → Q v) → Extends before v new Q
 nothing-extends before v new Q l q = record { moves = []; log_is = rw append-nil l; lawful = tt; quiet = tt; owed = q }
@@ -95,26 +100,26 @@ keeps-some a b P Q w k = record {
 }
 
 extends-by : (before turns added : List Turn) (v : View) (new : Observed) (Q : View → Type 0) (d n : Bool) → new.dark ≡ n → Added d n turns added → new.log ≡ Some (before ++ added) →
-    (d ≡ false → IsCourse v (takes turns) × IsQuiet turns × Q (view_from v (takes turns))) → Extends before v new Q
+    (d ≡ false → IsCourse v (makes turns) × IsQuiet turns × Q (view_from v (makes turns))) → Extends before v new Q
 extends-by before turns added v new Q true true n_is a l step = nothing-extends before v new Q (l ∙ ap (λ t. Some (before ++ t)) a ∙ ap Some (append-nil before)) (λ e. absurd (let h : true ≡ false = sym n_is ∙ e in cc))
 extends-by before turns added v new Q true false n_is a l step = absurd a
 extends-by before turns added v new Q false true n_is a l step =
     let s = step refl in
-    let e : takes turns ≡ takes added ++ takes a.0 = ap takes a.1 ∙ takes-append added a.0 in
+    let e : makes turns ≡ makes added ++ makes a.0 = ap makes a.1 ∙ makes-append added a.0 in
     record {
-      moves = takes added;
-      log_is = rw turns_of-takes l;
-      lawful = course-prefix v (takes added) (takes a.0) (rw e at s.0);
-      quiet = rw turns_of-takes (quiet-prefix added a.0 (rw a.1 at s.1));
+      moves = makes added;
+      log_is = rw turns_of-makes l;
+      lawful = course-prefix v (makes added) (makes a.0) (rw e at s.0);
+      quiet = rw turns_of-makes (quiet-prefix added a.0 (rw a.1 at s.1));
       owed = λ e. absurd (let h : true ≡ false = sym n_is ∙ e in cc);
     }
 extends-by before turns added v new Q false false n_is a l step =
     let s = step refl in
     record {
-      moves = takes turns;
-      log_is = rw (turns_of-takes, ← a) l;
+      moves = makes turns;
+      log_is = rw (turns_of-makes, ← a) l;
       lawful = s.0;
-      quiet = rw turns_of-takes s.1;
+      quiet = rw turns_of-makes s.1;
       owed = λ e. s.2;
     }
 
@@ -140,19 +145,38 @@ call-keeps old new Call P Q grows step = record {
   origin = grows.origin;
 }
 
-begin-observed : (s : Observed) (P : View → Type 0) (calls : List Call) (Q : View → Type 0) → ((v : View) → P v → (item : Item) × (items : List Item) × BeginsItem v item items calls × Q (begun v calls)) →
-    (d : Bool) → s.dark ≡ d → (before : List Turn) (v : View) → s.log ≡ Some before → (s.dark ≡ false → P v) → Extends before v s Q
-begin-observed s P calls Q step true d before v e p = nothing-extends before v s Q e (λ f. absurd (let h : true ≡ false = sym d ∙ f in cc))
-begin-observed s P calls Q step false d before v e p =
-    let b = step v (p d) in
-    record { moves = Begin calls ∷ []; log_is = rw append-nil e; lawful = ((b.0, b.1, b.2), tt); quiet = tt; owed = λ f. b.3 }
+-- ---- moves that make no call
 
--- the first item begins, which makes no call of the site
-pub begin-keeps : (s : Observed) (P : View → Type 0) (calls : List Call) (Q : View → Type 0) → ((v : View) → P v → (item : Item) × (items : List Item) × BeginsItem v item items calls × Q (begun v calls)) → Triple s s P Q
-begin-keeps s P calls Q step = record {
-  observed = λ before v e stands p. begin-observed s P calls Q step s.dark refl before v e p;
+quiet-observed : (s : Observed) (P : View → Type 0) (move : Move) (Q : View → Type 0) → ((v : View) → P v → Allowed v move × Q (after v move)) → turns_of (move ∷ []) ≡ [] →
+    (d : Bool) → s.dark ≡ d → (before : List Turn) (v : View) → s.log ≡ Some before → (s.dark ≡ false → P v) → Extends before v s Q
+quiet-observed s P move Q step none true d before v e p = nothing-extends before v s Q e (λ f. absurd (let h : true ≡ false = sym d ∙ f in cc))
+quiet-observed s P move Q step none false d before v e p =
+    let b = step v (p d) in
+    record { moves = move ∷ []; log_is = rw none (rw append-nil e); lawful = (b.0, tt); quiet = rw none tt; owed = λ f. b.1 }
+
+-- a move that makes no turn
+pub quiet-keeps : (s : Observed) (P : View → Type 0) (move : Move) (Q : View → Type 0) → ((v : View) → P v → Allowed v move × Q (after v move)) → turns_of (move ∷ []) ≡ [] → Triple s s P Q
+quiet-keeps s P move Q step none = record {
+  observed = λ before v e stands p. quiet-observed s P move Q step none s.dark refl before v e p;
   unobserved = λ e. e;
   stays = λ e. e;
   still = λ e. refl;
   origin = refl;
 }
+
+-- the first item begins: its row is owed
+pub begin-keeps : (s : Observed) (scene : Scene) (item : RoundItem) (items : List RoundItem) → is_round scene.stage ≡ true → may_begin scene (item ∷ items) ≡ true →
+    Triple s s (Owing scene [] (item ∷ items)) (λ v. v ≡ begun scene (row_at scene item) items)
+begin-keeps s scene item items round first = quiet-keeps s (Owing scene [] (item ∷ items)) Begin (λ v. v ≡ begun scene (row_at scene item) items) step refl
+  where
+    step : (v : View) → Owing scene [] (item ∷ items) v → Allowed v Begin × (after v Begin ≡ begun scene (row_at scene item) items)
+    step v e = subst (λ w. Allowed w Begin × (after w Begin ≡ begun scene (row_at scene item) items)) (sym e) (record { idle = record { round = round; calls = refl }; first = first }, refl)
+
+-- a message of a till that is there is read
+pub read-keeps : (s : Observed) (scene : Scene) (till : ℕ) (bytes : List ℕ) (as_read : ReadAs) (items : List RoundItem) → is_round scene.stage ≡ true → is_connected scene.outside.tills till ≡ true → IsReadAs bytes as_read →
+    Triple s s (Owing scene [] (Message till bytes ∷ items)) (Owing (at_item scene) [] (Asked till as_read ∷ items))
+read-keeps s scene till bytes as_read items round there reads = quiet-keeps s (Owing scene [] (Message till bytes ∷ items)) (Read as_read) (Owing (at_item scene) [] (Asked till as_read ∷ items)) step refl
+  where
+    step : (v : View) → Owing scene [] (Message till bytes ∷ items) v → Allowed v (Read as_read) × Owing (at_item scene) [] (Asked till as_read ∷ items) (after v (Read as_read))
+    step v e = subst (λ w. Allowed w (Read as_read) × Owing (at_item scene) [] (Asked till as_read ∷ items) (after w (Read as_read))) (sym e)
+        (record { idle = record { round = round; calls = refl }; waits = ap not there; bytes = bytes; message = refl; reads = reads }, refl)

@@ -1,19 +1,26 @@
--- Example logs: the log of a script in which a till asks for a status, and two that one turn makes unlawful.
-use Rattle.std.specs.Prelude.{◌≡◌, ℕ, pos, true, List, [], ◌∷◌, ◌++◌, Some, None, codes}
+-- Example logs, lawful and unlawful.
+use Rattle.std.specs.Prelude.{◌≡◌, ℕ, suc, zero, ◌+◌, pos, true, false, List, [], ◌∷◌, ◌++◌, take, Some, None, codes}
 use Rattle.sale_frame.specs.Grammar.{frame}
-use Rattle.gw_site.specs.declared.turn.Turn.{Turn}
-use Rattle.gw_site.specs.declared.turn.Turn.TheVariants.{Start, Polled, Opened, HeardTill, SentTill, Stopped}
 use Rattle.gw_base.specs.declared.condition.Condition.TheVariants.{NotFound}
+use Rattle.gw_base.specs.declared.setup.Setup.{Setup}
+use Rattle.gw_site.specs.declared.turn.Turn.{Turn}
+use Rattle.gw_site.specs.declared.turn.Turn.TheVariants.{Start, Polled, Opened, HeardTill, SentTill, CutTill, Stopped, Synced, DiskFailed, Crash}
+use Rattle.sale_values.specs.declared.header.Header.{Header}
 use Rattle.sale_values.specs.declared.names.Class.TheVariants.{Service}
-use Rattle.sale_values.specs.declared.names.Kind.TheVariants.{Response}
-use Rattle.gw_rules.specs.Reply.{Reply, Plain}
-use Rattle.gw_rules.specs.Scene.{Tell}
-use Rattle.gw_rules.specs.Replies.{refusal}
-use Rattle.gw_rules.specs.View.{Move, Begin, Take, at_first}
-use Rattle.gw_rules.specs.Lawful.{IsCourse, turns_of, IsLawful}
-use Rattle.gw_rules.specs.Script.{script_setup}
-use Rattle.gw_rules.specs.Plays.{IsLogOf}
-use Rattle.gw_rules.specs.LogText.{log_text}
+use Rattle.sale_values.specs.declared.names.Kind.TheVariants as kinds
+use Rattle.sale_values.specs.declared.request.SaleRequest.TheVariants as requests
+use Rattle.gw_owes.specs.Calls.{WriteFirstGate, Sync}
+use Rattle.gw_owes.specs.ReadAs.{ReadAs, Request}
+use Rattle.gw_owes.specs.Reply.{ReplyValue}
+use Rattle.gw_owes.specs.Replies.{failure_reply}
+use Rattle.gw_rules.specs.Lawful.{AllowedTurn, IsCourse, turns_of, IsLawful}
+use Rattle.gw_rules.specs.View.{View, Move, Begin, Read, Make, after_turn, started, at_first}
+
+-- ---- the setup and the messages
+
+-- a gateway without terminals
+abbrev pub example_setup : Setup
+example_setup = record { name = codes "GATEWAY"; listen = []; journal = []; line = 0; wait = 60; slots = 1000000; terminals = [] }
 
 -- a till asks for the status of the payment with ServiceID 9
 unfoldable pub status_request : List ℕ
@@ -23,36 +30,27 @@ status_request = codes "{\"SaleToPOIRequest\":{\"MessageHeader\":{\"ProtocolVers
 unfoldable pub status_reply : List ℕ
 status_reply = codes "{\"SaleToPOIResponse\":{\"MessageHeader\":{\"ProtocolVersion\":\"3.0\",\"MessageClass\":\"Service\",\"MessageCategory\":\"TransactionStatus\",\"MessageType\":\"Response\",\"ServiceID\":\"1\",\"SaleID\":\"S1\",\"POIID\":\"T1\"},\"TransactionStatusResponse\":{\"Response\":{\"Result\":\"Failure\",\"ErrorCondition\":\"NotFound\"}}}}"
 
--- this reply as plain data
-abbrev pub not_found : Reply
-not_found = Plain (record { class = Service; category = codes "TransactionStatus"; kind = Response; service = Some (codes "1"); device = None; sale = codes "S1"; poi = codes "T1" }) (refusal NotFound)
+-- a till confirms a device request, which gets no reply
+unfoldable pub silent_message : List ℕ
+silent_message = codes "{\"SaleToPOIResponse\":{\"MessageHeader\":{\"ProtocolVersion\":\"3.0\",\"MessageClass\":\"Device\",\"MessageCategory\":\"Display\",\"MessageType\":\"Response\",\"ServiceID\":\"1\",\"DeviceID\":\"1\",\"SaleID\":\"S1\",\"POIID\":\"T1\"}}}"
 
--- these lines, each with its end
-abbrev pub joined_lines : List (List ℕ) → List ℕ
-joined_lines [] = []
-joined_lines (line ∷ lines) = line ++ (10 ∷ joined_lines lines)
+-- the header of the request
+abbrev pub status_header : Header
+status_header = record { class = Service; category = codes "TransactionStatus"; kind = kinds.Request; service = Some (codes "1"); device = None; sale = codes "S1"; poi = codes "T1" }
 
--- the script: the till opens, and says the request
-abbrev pub status_script : List ℕ
-status_script = joined_lines (codes "open 1" ∷ (codes "say 1 " ++ status_request) ∷ [])
+-- the request as it is read
+abbrev pub status_asked : ReadAs
+status_asked = Request status_header (requests.Status (Some (record { service = codes "9"; sale = None; poi = None })))
 
--- its log: the till opens, says the request and gets the reply
-abbrev pub status_log : List Turn
-status_log = Start (script_setup None) ∷ Polled (pos 0) ∷ Opened 1 ∷ Polled (pos 0) ∷ HeardTill 1 (frame status_request) ∷ SentTill 1 (frame status_reply) true ∷ Polled (pos 0) ∷ Stopped ∷ []
+-- the reply as plain data
+abbrev pub not_found : ReplyValue
+not_found = failure_reply status_header NotFound
 
--- the text of the log
-abbrev pub status_log_text : List ℕ
-status_log_text = joined_lines (codes "start" ∷ codes "at 0" ∷ codes "open 1" ∷ codes "at 0" ∷ (codes "till 1 in '" ++ status_request) ∷ (codes "till 1 out '" ++ status_reply) ∷ codes "at 0" ∷ codes "stop" ∷ [])
+-- ---- what is claimed of a log
 
--- the moves of the log: the request begins once it was heard, and owes the reply
-abbrev pub status_course : List Move
-status_course =
-    Take (Start (script_setup None)) ∷ Take (Polled (pos 0)) ∷ Take (Opened 1) ∷ Take (Polled (pos 0)) ∷ Take (HeardTill 1 (frame status_request))
-    ∷ Begin (Tell 1 not_found ∷ []) ∷ Take (SentTill 1 (frame status_reply) true) ∷ Take (Polled (pos 0)) ∷ Take Stopped ∷ []
-
--- the course is lawful, and takes the turns of the log
+-- the course is lawful, and makes the turns of the log
 pub record IsCourseAlong (log : List Turn) (course : List Move) : Type 0 where
-  pub takes : turns_of course ≡ log
+  pub turns : turns_of course ≡ log
   pub lawful : IsCourse at_first course
 
 -- the log is lawful, and with this turn after it it isn't
@@ -60,25 +58,32 @@ pub record IsUnlawfulAfter (log : List Turn) (turn : Turn) : Type 0 where
   pub before : IsLawful log
   pub with_turn : ¬ IsLawful (log ++ turn ∷ [])
 
--- the till has opened, and said nothing
-abbrev pub opened_log : List Turn
-opened_log = Start (script_setup None) ∷ Polled (pos 0) ∷ Opened 1 ∷ []
+-- ---- a request and its reply
 
--- the till has said the request
+-- a till has opened, and said nothing
+abbrev pub opened_log : List Turn
+opened_log = Start example_setup ∷ Polled (pos 0) ∷ Opened 1 ∷ []
+
+-- it has said these bytes
+abbrev pub heard_log : List ℕ → List Turn
+heard_log bytes = Start example_setup ∷ Polled (pos 0) ∷ Opened 1 ∷ Polled (pos 0) ∷ HeardTill 1 bytes ∷ []
+
+-- it has said the request
 abbrev pub asked_log : List Turn
-asked_log = Start (script_setup None) ∷ Polled (pos 0) ∷ Opened 1 ∷ Polled (pos 0) ∷ HeardTill 1 (frame status_request) ∷ []
+asked_log = heard_log (frame status_request)
 
 -- the request gets its reply
+abbrev pub status_log : List Turn
+status_log = asked_log ++ SentTill 1 (frame status_reply) true ∷ Polled (pos 0) ∷ Stopped ∷ []
+
+-- the moves of the log: the request is read and begins once it was heard, and owes the reply
+abbrev pub status_course : List Move
+status_course =
+    Make (Start example_setup) ∷ Make (Polled (pos 0)) ∷ Make (Opened 1) ∷ Make (Polled (pos 0)) ∷ Make (HeardTill 1 (frame status_request)) ∷ Read status_asked ∷ Begin ∷ Make (SentTill 1 (frame status_reply) true) ∷ Make (Polled (pos 0)) ∷ Make Stopped ∷ []
+
+-- this is its course
 abbrev pub StatusIsLawful : Type 0
 StatusIsLawful = IsCourseAlong status_log status_course
-
--- the log is that of the script
-abbrev pub StatusIsOfScript : Type 0
-StatusIsOfScript = IsLogOf status_script status_log
-
--- and has this text
-abbrev pub StatusHasText : Type 0
-StatusHasText = log_text status_log ≡ status_log_text
 
 -- no reply is sent where none is owed
 abbrev pub UnaskedReply : Type 0
@@ -87,3 +92,104 @@ UnaskedReply = IsUnlawfulAfter opened_log (SentTill 1 (frame status_reply) true)
 -- no poll comes where a reply is owed
 abbrev pub PollBeforeReply : Type 0
 PollBeforeReply = IsUnlawfulAfter asked_log (Polled (pos 0))
+
+-- where the send of the reply fails, the till is cut
+abbrev pub failed_send_log : List Turn
+failed_send_log = asked_log ++ SentTill 1 (take 5 (frame status_reply)) false ∷ CutTill 1 ∷ Polled (pos 0) ∷ Stopped ∷ []
+
+-- it is lawful
+abbrev pub FailedSendIsLawful : Type 0
+FailedSendIsLawful = IsLawful failed_send_log
+
+-- no poll comes before that cut
+abbrev pub PollBeforeCut : Type 0
+PollBeforeCut = IsUnlawfulAfter (asked_log ++ SentTill 1 (take 5 (frame status_reply)) false ∷ []) (Polled (pos 0))
+
+-- a message that gets no reply: the next poll comes at once
+abbrev pub silent_log : List Turn
+silent_log = heard_log (frame silent_message) ++ Polled (pos 0) ∷ Stopped ∷ []
+
+-- it is lawful
+abbrev pub SilentIsLawful : Type 0
+SilentIsLawful = IsLawful silent_log
+
+-- a frame of no bytes after a good one: the request gets its reply, and then the till is cut
+abbrev pub bad_frame_log : List Turn
+bad_frame_log = heard_log (frame status_request ++ 0 ∷ 0 ∷ 0 ∷ 0 ∷ []) ++ SentTill 1 (frame status_reply) true ∷ CutTill 1 ∷ Polled (pos 0) ∷ Stopped ∷ []
+
+-- it is lawful
+abbrev pub BadFrameIsLawful : Type 0
+BadFrameIsLawful = IsLawful bad_frame_log
+
+-- ---- too many tills
+
+-- so many tills open, one after the other, from this number on
+abbrev pub tills_open : ℕ → ℕ → List Turn
+tills_open first zero = []
+tills_open first (suc count) = Polled (pos 0) ∷ Opened first ∷ tills_open (first + 1) count
+
+-- the 65th till is cut
+abbrev pub crowded_log : List Turn
+crowded_log = Start example_setup ∷ (tills_open 1 65 ++ CutTill 65 ∷ Polled (pos 0) ∷ Stopped ∷ [])
+
+-- it is lawful
+abbrev pub CrowdedIsLawful : Type 0
+CrowdedIsLawful = IsLawful crowded_log
+
+-- no poll comes before that cut
+abbrev pub PollWhileCrowded : Type 0
+PollWhileCrowded = IsUnlawfulAfter (Start example_setup ∷ tills_open 1 65) (Polled (pos 0))
+
+-- ---- runs and power failures
+
+-- a run begins in the middle of another: nobody is there, and numbers begin anew
+abbrev pub restarted_log : List Turn
+restarted_log = asked_log ++ Start example_setup ∷ Polled (pos 0) ∷ Opened 1 ∷ Polled (pos 0) ∷ Stopped ∷ []
+
+-- it is lawful
+abbrev pub RestartedIsLawful : Type 0
+RestartedIsLawful = IsLawful restarted_log
+
+-- the power fails, and leaves the file as it was: nothing was ever written
+abbrev pub crashed_log : List Turn
+crashed_log = asked_log ++ Crash [] ∷ Start example_setup ∷ Polled (pos 0) ∷ Stopped ∷ []
+
+-- it is lawful
+abbrev pub CrashedIsLawful : Type 0
+CrashedIsLawful = IsLawful crashed_log
+
+-- it leaves no byte that was never written
+abbrev pub CrashLeavesNoOther : Type 0
+CrashLeavesNoOther = IsUnlawfulAfter asked_log (Crash (165 ∷ []))
+
+-- ---- the disk
+
+-- no call on the disk fails where a run opens no journal
+abbrev pub NothingToLookAt : Type 0
+NothingToLookAt = IsUnlawfulAfter (Start example_setup ∷ []) DiskFailed
+
+-- nor where its event has come
+abbrev pub NothingToLookAtLater : Type 0
+NothingToLookAtLater = IsUnlawfulAfter opened_log DiskFailed
+
+-- a run opens a journal, whose file is empty
+abbrev pub opening_view : View
+opening_view = started at_first.scene example_setup (record { calls = Sync ∷ WriteFirstGate ∷ Sync ∷ []; refused = false })
+
+-- a run opens a journal, whose file is refused
+abbrev pub refused_view : View
+refused_view = started at_first.scene example_setup (record { calls = Sync ∷ []; refused = true })
+
+-- while the file is looked at, after the first sync, a look may fail, and it may before the sync in its place
+pub record LookMayFail (v : View) : Type 0 where
+  pub synced : AllowedTurn v Synced
+  pub at_sync : AllowedTurn v DiskFailed
+  pub looking : AllowedTurn (after_turn v Synced) DiskFailed
+
+-- refused or not
+abbrev pub LooksMayFail : Type 0
+LooksMayFail = LookMayFail opening_view × LookMayFail refused_view
+
+-- a run whose file is refused makes no poll
+abbrev pub RefusedIsNotPolled : Type 0
+RefusedIsNotPolled = ¬ AllowedTurn (after_turn refused_view Synced) (Polled (pos 0))

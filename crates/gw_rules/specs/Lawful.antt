@@ -1,35 +1,50 @@
 -- Which logs are lawful: each turn is the outcome of what is owed, an event that the site may bring, a start, or a power failure.
-use Rattle.std.specs.Prelude.{◌≡◌, ◌≢◌, ◌⊎◌, ◌≤◌, ℕ, Bool, true, false, List, [], ◌∷◌, length}
+use Rattle.std.specs.Prelude.{◌≡◌, ◌⊎◌, ◌≤◌, ℕ, Bool, true, false, not, List, [], ◌∷◌, length, Option, Some, None}
 use Rattle.gw_base.specs.Setup.{IsSetup}
+use Rattle.gw_bytes.specs.Bytes.{AreBytes, IsPrefix}
 use Rattle.gw_site.specs.Outside.{is_connected}
 use Rattle.gw_site.specs.Image.{Image}
-use Rattle.gw_bytes.specs.Bytes.{IsPrefix}
 use Rattle.gw_site.specs.Turns.{IsCount}
 use Rattle.gw_site.specs.declared.turn.Turn.{Turn}
 use Rattle.gw_site.specs.declared.turn.Turn.TheVariants.{Start, OpenFailed, Polled, Opened, HeardTill, Closed, HeardPt, Lost, Stopped, Linked, LinkFailed, SentTill, SentPt, CutTill, CutPt, Wrote, Synced, DiskFailed, Crash}
-use Rattle.gw_rules.specs.Reply.{Reply, reply_bytes}
-use Rattle.gw_rules.specs.Scene.{Till, Pt, Call, Tell, Order, Cut, Link, Write, Sync, Item, Opening, AtPoll, Broken, View, IsRunning}
-use Rattle.gw_rules.specs.Owes.{Owes}
-use Rattle.gw_rules.specs.View.{Move, Begin, Take, after, view_from, at_first}
+use Rattle.gw_owes.specs.Calls.{Sending, sending_bytes, OwedCall, SendTill, SendPt, LinkPt, Sync, write_turn, CutTill as OwedCutTill, CutPt as OwedCutPt}
+use Rattle.gw_owes.specs.Items.{RoundItem, Crowded, Message, Asked, Unframed, Gone, Greet, Handle, NextWaiting, Oversized, LinkLost, Late, Overdue, Due}
+use Rattle.gw_owes.specs.ReadAs.{ReadAs, IsReadAs}
+use Rattle.gw_owes.specs.Reply.{ReplyValue, reply_value_bytes}
+use Rattle.gw_rules.specs.Scene.{Scene}
+use Rattle.gw_rules.specs.Stage.{AtPoll, is_round, is_running, is_looking, is_broken}
+use Rattle.gw_rules.specs.View.{View, Move, Begin, Read, Make, after, view_from, at_first}
+
+-- ---- turns
+
+-- what is heard at once: 1 to 4,096 bytes
+pub record IsChunk (chunk : List ℕ) : Type 0 where
+  pub count : IsCount (length chunk)
+  pub bytes : AreBytes chunk
 
 -- no call on the disk has failed since the last power failure
 abbrev pub IsClear : View → Type 0
-IsClear v = v.scene.stage ≢ Broken
+IsClear v = is_broken v.scene.stage ≡ false
+
+-- the first of these calls
+abbrev pub first_call : List OwedCall → Option OwedCall
+first_call [] = None
+first_call (call ∷ calls) = Some call
 
 -- the first call that is owed
-abbrev pub IsNext : View → Call → Type 0
-IsNext v call = (calls : List Call) × (v.calls ≡ call ∷ calls)
+abbrev pub IsNext : View → OwedCall → Type 0
+IsNext v call = first_call v.calls ≡ Some call
 
--- nothing is owed, and a run goes on: the site may be polled
+-- the run goes on and nothing is owed: the site may be polled
 pub record MayPoll (v : View) : Type 0 where
-  pub running : IsRunning v.scene.stage
+  pub running : is_running v.scene.stage ≡ true
   pub calls : v.calls ≡ []
   pub items : v.items ≡ []
 
--- an event of a line that is open, right after a poll
-pub record ComesOf (v : View) (open_line : Bool) : Type 0 where
+-- an event of a connection that is open, right after a poll
+pub record ComesOf (v : View) (connected : Bool) : Type 0 where
   pub polled : v.scene.stage ≡ AtPoll
-  pub open_is : open_line ≡ true
+  pub connected_is : connected ≡ true
 
 -- the turn may come next
 abbrev pub AllowedTurn : View → Turn → Type 0
@@ -37,46 +52,97 @@ AllowedTurn v (Start setup) = IsClear v × IsSetup setup
 AllowedTurn v OpenFailed = IsClear v
 AllowedTurn v (Polled now) = MayPoll v
 AllowedTurn v (Opened till) = (v.scene.stage ≡ AtPoll) × (v.scene.outside.next_till ≤ till)
-AllowedTurn v (HeardTill till bytes) = ComesOf v (is_connected v.scene.outside.tills till) × IsCount (length bytes)
+AllowedTurn v (HeardTill till bytes) = ComesOf v (is_connected v.scene.outside.tills till) × IsChunk bytes
 AllowedTurn v (Closed till) = ComesOf v (is_connected v.scene.outside.tills till)
-AllowedTurn v (HeardPt pt bytes) = ComesOf v (is_connected v.scene.outside.links pt) × IsCount (length bytes)
+AllowedTurn v (HeardPt pt bytes) = ComesOf v (is_connected v.scene.outside.links pt) × IsChunk bytes
 AllowedTurn v (Lost pt) = ComesOf v (is_connected v.scene.outside.links pt)
 AllowedTurn v Stopped = v.scene.stage ≡ AtPoll
-AllowedTurn v (Linked pt) = IsNext v (Link pt)
-AllowedTurn v (LinkFailed pt) = IsNext v (Link pt)
-AllowedTurn v (SentTill till bytes true) = (reply : Reply) × IsNext v (Tell till reply) × (bytes ≡ reply_bytes reply)
-AllowedTurn v (SentTill till bytes false) = (reply : Reply) × IsNext v (Tell till reply) × IsPrefix bytes (reply_bytes reply)
-AllowedTurn v (SentPt pt bytes true) = IsNext v (Order pt bytes)
-AllowedTurn v (SentPt pt bytes false) = (whole : List ℕ) × IsNext v (Order pt whole) × IsPrefix bytes whole
-AllowedTurn v (CutTill till) = IsNext v (Cut (Till till))
-AllowedTurn v (CutPt pt) = IsNext v (Cut (Pt pt))
-AllowedTurn v (Wrote at bytes) = IsNext v (Write at bytes)
+AllowedTurn v (Linked pt) = IsNext v (LinkPt pt)
+AllowedTurn v (LinkFailed pt) = IsNext v (LinkPt pt)
+AllowedTurn v (SentTill till bytes true) = (reply : ReplyValue) × IsNext v (SendTill till reply) × (bytes ≡ reply_value_bytes reply)
+AllowedTurn v (SentTill till bytes false) = (reply : ReplyValue) × IsNext v (SendTill till reply) × IsPrefix bytes (reply_value_bytes reply)
+AllowedTurn v (SentPt pt bytes true) = (sending : Sending) × IsNext v (SendPt pt sending) × (bytes ≡ sending_bytes sending)
+AllowedTurn v (SentPt pt bytes false) = (sending : Sending) × IsNext v (SendPt pt sending) × IsPrefix bytes (sending_bytes sending)
+AllowedTurn v (CutTill till) = IsNext v (OwedCutTill till)
+AllowedTurn v (CutPt pt) = IsNext v (OwedCutPt pt)
+AllowedTurn v (Wrote offset bytes) = (call : OwedCall) × IsNext v call × (write_turn call ≡ Some (Wrote offset bytes))
 AllowedTurn v Synced = IsNext v Sync
-AllowedTurn v DiskFailed = (v.scene.stage ≡ Opening) ⊎ (IsNext v Sync ⊎ (v.scene.wrote ≡ true))
-AllowedTurn v (Crash file) = Image v.scene.outside file
+AllowedTurn v DiskFailed = IsNext v Sync ⊎ (is_looking v.scene.stage ≡ true)
+AllowedTurn v (Crash file) = Image v.scene.outside file × AreBytes file
 
--- the first item begins where no call is owed, and owes these calls
-pub record BeginsItem (v : View) (item : Item) (items : List Item) (calls : List Call) : Type 0 where
-  pub running : IsRunning v.scene.stage
-  pub idle : v.calls ≡ []
-  pub first : v.items ≡ item ∷ items
-  pub owes : Owes v.scene item calls
+-- ---- items
+
+-- the first item may begin: there is one, and it is no message of a till that is there, since that is read first
+abbrev pub may_begin : Scene → List RoundItem → Bool
+may_begin scene [] = false
+may_begin scene (Crowded till ∷ items) = true
+may_begin scene (Message till bytes ∷ items) = not (is_connected scene.outside.tills till)
+may_begin scene (Asked till as_read ∷ items) = true
+may_begin scene (Unframed till ∷ items) = true
+may_begin scene (Gone till ∷ items) = true
+may_begin scene (Greet pt apdu ∷ items) = true
+may_begin scene (Handle pt apdu ∷ items) = true
+may_begin scene (NextWaiting pt ∷ items) = true
+may_begin scene (Oversized pt ∷ items) = true
+may_begin scene (LinkLost pt ∷ items) = true
+may_begin scene (Late pt ∷ items) = true
+may_begin scene (Overdue key ∷ items) = true
+may_begin scene (Due pt ∷ items) = true
+
+-- the bytes of the first item, where it is a message
+abbrev pub first_message : List RoundItem → Option (List ℕ)
+first_message [] = None
+first_message (Crowded till ∷ items) = None
+first_message (Message till bytes ∷ items) = Some bytes
+first_message (Asked till as_read ∷ items) = None
+first_message (Unframed till ∷ items) = None
+first_message (Gone till ∷ items) = None
+first_message (Greet pt apdu ∷ items) = None
+first_message (Handle pt apdu ∷ items) = None
+first_message (NextWaiting pt ∷ items) = None
+first_message (Oversized pt ∷ items) = None
+first_message (LinkLost pt ∷ items) = None
+first_message (Late pt ∷ items) = None
+first_message (Overdue key ∷ items) = None
+first_message (Due pt ∷ items) = None
+
+-- a round goes on, and no call is owed
+pub record IsIdle (v : View) : Type 0 where
+  pub round : is_round v.scene.stage ≡ true
+  pub calls : v.calls ≡ []
+
+-- the first item begins
+pub record Begins (v : View) : Type 0 where
+  pub idle : IsIdle v
+  pub first : may_begin v.scene v.items ≡ true
+
+-- the first item is a message of a till that is there, and is read as this
+pub record IsRead (v : View) (as_read : ReadAs) : Type 0 where
+  pub idle : IsIdle v
+  pub waits : may_begin v.scene v.items ≡ false
+  pub bytes : List ℕ
+  pub message : first_message v.items ≡ Some bytes
+  pub reads : IsReadAs bytes as_read
+
+-- ---- courses
 
 -- the move may come next
 abbrev pub Allowed : View → Move → Type 0
-Allowed v (Begin calls) = (item : Item) × (items : List Item) × BeginsItem v item items calls
-Allowed v (Take turn) = AllowedTurn v turn
+Allowed v Begin = Begins v
+Allowed v (Read as_read) = IsRead v as_read
+Allowed v (Make turn) = AllowedTurn v turn
 
 -- each move of the course is allowed where it comes
 abbrev pub IsCourse : View → List Move → Type 0
 IsCourse v [] = Unit {0}
 IsCourse v (move ∷ moves) = Allowed v move × IsCourse (after v move) moves
 
--- the turns that a course takes
+-- the turns that a course makes
 abbrev pub turns_of : List Move → List Turn
 turns_of [] = []
-turns_of (Begin calls ∷ moves) = turns_of moves
-turns_of (Take turn ∷ moves) = turn ∷ turns_of moves
+turns_of (Begin ∷ moves) = turns_of moves
+turns_of (Read as_read ∷ moves) = turns_of moves
+turns_of (Make turn ∷ moves) = turn ∷ turns_of moves
 
 -- the log is that of a course, and this is the view at its end
 pub record Stands (log : List Turn) (v : View) : Type 0 where
@@ -88,30 +154,3 @@ pub record Stands (log : List Turn) (v : View) : Type 0 where
 -- the log is lawful: a course leads along it
 abbrev pub IsLawful : List Turn → Type 0
 IsLawful log = (v : View) × Stands log v
-
--- the turn is between runs: a run begins, or doesn't begin, or the power fails
-abbrev pub is_between : Turn → Bool
-is_between (Start setup) = true
-is_between OpenFailed = true
-is_between (Polled now) = false
-is_between (Opened till) = false
-is_between (HeardTill till bytes) = false
-is_between (Closed till) = false
-is_between (HeardPt pt bytes) = false
-is_between (Lost pt) = false
-is_between Stopped = false
-is_between (Linked pt) = false
-is_between (LinkFailed pt) = false
-is_between (SentTill till bytes ok) = false
-is_between (SentPt pt bytes ok) = false
-is_between (CutTill till) = false
-is_between (CutPt pt) = false
-is_between (Wrote at bytes) = false
-is_between Synced = false
-is_between DiskFailed = false
-is_between (Crash file) = true
-
--- no run begins in these turns, and no power fails
-abbrev pub IsQuiet : List Turn → Type 0
-IsQuiet [] = Unit {0}
-IsQuiet (turn ∷ turns) = (is_between turn ≡ false) × IsQuiet turns

@@ -1,75 +1,101 @@
--- Laws of what is owed, of lawful logs and of the logs of scripts.
-use Rattle.std.specs.Prelude.{◌≡◌, ◌↔◌, ◌<◌, ◌≤◌, ℕ, true, List, [], ◌∷◌, ◌++◌, map, Ok}
-use Rattle.std.specs.List.{AllByRecursion}
-use Rattle.gw_bytes.specs.Bytes.{AreBytes}
-use Rattle.hex.specs.Hex.{encode_lower}
-use Rattle.sale_frame.specs.Grammar.{IsPayload, IsIncompleteFrame, BeginsWithBadLength, Frames, frame}
+-- Laws of lawful logs.
+use Rattle.std.specs.Prelude.{◌≡◌, ℕ, ℤ, true, List, [], ◌∷◌, ◌++◌, Some}
 use Rattle.gw_base.specs.Setup.{IsSetup}
 use Rattle.gw_base.specs.declared.setup.Setup.{Setup}
-use Rattle.gw_site.specs.Outside.{outside_of}
+use Rattle.gw_bytes.specs.Bytes.{AreBytes, IsPrefix}
 use Rattle.gw_site.specs.Image.{Image}
-use Rattle.gw_bytes.specs.Bytes.{IsPrefix}
+use Rattle.gw_site.specs.Outside.{Outside, heard_on, outside_of}
 use Rattle.gw_site.specs.declared.turn.Turn.{Turn}
-use Rattle.gw_site.specs.declared.turn.Turn.TheVariants.{Start, Crash}
-use Rattle.gw_rules.specs.Scene.{Item, Message, Unframed}
-use Rattle.gw_rules.specs.Owes.{heard_items, is_unframed}
-use Rattle.gw_rules.specs.Lawful.{IsLawful}
-use Rattle.gw_rules.specs.Script.{Script, script_of}
-use Rattle.gw_rules.specs.Plays.{IsLogOf}
-use Rattle.gw_rules.specs.LogText.{till_bytes_text}
-use Rattle.gw_rules.specs.ByLines.{GoesByScript, HasEventsOf}
+use Rattle.gw_site.specs.declared.turn.Turn.TheVariants.{Start, Polled, HeardTill, HeardPt, CutTill, Crash}
+use Rattle.sale_frame.specs.Grammar.{BeginsWithBadLength, Frames}
+use Rattle.zvt_apdu.specs.Grammar.{ApduValue}
+use Rattle.zvt_apdu.specs.Stream.{SpellsApdus}
+use Rattle.gw_owes.specs.Events.{items_due}
+use Rattle.gw_owes.specs.Items.{RoundItem}
+use Rattle.gw_owes.specs.Laws.{ends_in_one, BringsFrames, BringsApdus}
+use Rattle.gw_rules.specs.Lawful.{AllowedTurn, IsCourse, turns_of, Stands, IsLawful}
+use Rattle.gw_rules.specs.Lean.{IsLean}
+use Rattle.gw_rules.specs.TurnSort.{AreOfRound}
+use Rattle.gw_rules.specs.View.{View, Move, after_turn, at_first}
 
--- The test of a rest finds exactly the bad ones.
-abbrev pub FindsBad : Type 0
-FindsBad = (rest : List ℕ) → AreBytes rest → is_unframed rest ≡ true ↔ BeginsWithBadLength rest
+-- ---- one course
 
--- The items of a till's newly heard bytes: one for each message that they newly complete, in order, and then one more exactly where what is left is bad. After a bad rest no message is completed.
-pub record OwesNew (till : ℕ) (before all : List (List ℕ)) (rest left : List ℕ) (items : List Item) : Type 0 where
-  pub new : List (List ℕ)
-  pub last : List Item
-  pub completed : all ≡ before ++ new
-  pub items_are : items ≡ map (Message till) new ++ last
-  pub bad : BeginsWithBadLength left → last ≡ Unframed till ∷ []
-  pub unfinished : IsIncompleteFrame left → last ≡ []
-  pub none_after_bad : BeginsWithBadLength rest → new ≡ []
+-- a course along the log in which nothing begins unless a turn of its run follows
+pub record IsLeanCourse (log : List Turn) (moves : List Move) : Type 0 where
+  pub turns_are : turns_of moves ≡ log
+  pub lawful : IsCourse at_first moves
+  pub lean : IsLean moves
 
--- What bytes owe is said by the frames of all bytes heard before them and of all bytes heard with them.
-abbrev pub HeardOwes : Type 0
-HeardOwes = (till : ℕ) (heard chunk : List ℕ) (before all : List (List ℕ)) (rest left : List ℕ) → AreBytes (heard ++ chunk) → Frames heard before rest → Frames (heard ++ chunk) all left → OwesNew till before all rest left (heard_items till heard chunk)
+-- along the log there is exactly one such course
+pub record HasOneLeanCourse (log : List Turn) : Type 0 where
+  pub moves : List Move
+  pub is_course : IsLeanCourse log moves
+  pub one : (other : List Move) → IsLeanCourse log other → other ≡ moves
 
--- after a lawful log, a power failure that leaves one of its images, and a start with a setup within the limits, are lawful
-abbrev pub RestartIsLawful : Type 0
-RestartIsLawful = (log : List Turn) (file : List ℕ) (setup : Setup) → IsLawful log → Image (outside_of log) file → IsSetup setup → IsLawful (log ++ Crash file ∷ Start setup ∷ [])
+-- along each lawful log
+abbrev pub EachHasOneLeanCourse : Type 0
+EachHasOneLeanCourse = (log : List Turn) → IsLawful log → HasOneLeanCourse log
+
+-- ---- prefixes, and what may follow
 
 -- each prefix of a lawful log is lawful
 abbrev pub PrefixIsLawful : Type 0
 PrefixIsLawful = (prefix log : List Turn) → IsPrefix prefix log → IsLawful log → IsLawful prefix
 
--- a script has one log at most
-abbrev pub OneLog : Type 0
-OneLog = (script : List ℕ) (log other : List Turn) → IsLogOf script log → IsLogOf script other → log ≡ other
+-- after a lawful log, a power failure that leaves one of its images, and a start with a setup within the limits, are lawful
+abbrev pub RestartIsLawful : Type 0
+RestartIsLawful =
+    (log : List Turn) (file : List ℕ) (setup : Setup) → IsLawful log → Image (outside_of log) file → AreBytes file → IsSetup setup → IsLawful (log ++ Crash file ∷ Start setup ∷ [])
 
--- the log of a script is exactly a lawful log that goes by the script's lines
-abbrev pub LogGoesByLines : Type 0
-LogGoesByLines = (text : List ℕ) (script : Script) (log : List Turn) → script_of text ≡ Ok script → IsLogOf text log ↔ (IsLawful log × GoesByScript script log)
+-- the setup of a run of a lawful log lies within the limits
+abbrev pub SetupIsWithinLimits : Type 0
+SetupIsWithinLimits = (log : List Turn) (v : View) (setup : Setup) → Stands log v → v.scene.setup ≡ Some setup → IsSetup setup
 
--- its events and polls are those of the lines that aren't skipped, in their order
-abbrev pub LogHasEvents : Type 0
-LogHasEvents = (text : List ℕ) (script : Script) (log : List Turn) → script_of text ≡ Ok script → IsLogOf text log → HasEventsOf script.lines log
+-- what is owed at once at the end of a lawful log is calls on the disk, and then one other call at most: a send that fails is the last
+abbrev pub CallsEndInOne : Type 0
+CallsEndInOne = (log : List Turn) (v : View) → Stands log v → ends_in_one v.calls ≡ true
 
--- and only a text that is a script has a log
-abbrev pub LogHasScript : Type 0
-LogHasScript = (text : List ℕ) (log : List Turn) → IsLogOf text log → (script : Script) × (script_of text ≡ Ok script)
+-- ---- what newly heard bytes bring
 
--- a message of a till that the text of a log shows as it is: spaces and visible ASCII alone
-pub record IsPrintableMessage (message : List ℕ) : Type 0 where
-  pub is_message : IsPayload message
-  pub printable : AllByRecursion (λ byte. (32 ≤ byte) × (byte ≤ 126)) message
+-- what was heard of a till and of a terminal is bytes
+pub record HeardAreBytes (o : Outside) : Type 0 where
+  pub tills : (till : ℕ) → AreBytes (heard_on o.tills till)
+  pub links : (pt : ℕ) → AreBytes (heard_on o.links pt)
 
--- its frame is shown as `'` and the message
-abbrev pub ShowsFrame : Type 0
-ShowsFrame = (message : List ℕ) → IsPrintableMessage message → till_bytes_text (frame message) ≡ 39 ∷ message
+-- after each lawful log
+abbrev pub EachHeardIsBytes : Type 0
+EachHeardIsBytes = (log : List Turn) → IsLawful log → HeardAreBytes (outside_of log)
 
--- bytes that are no such frame are shown in hexadecimal
-abbrev pub ShowsBytes : Type 0
-ShowsBytes = (bytes : List ℕ) → AreBytes bytes → ((message : List ℕ) → IsPrintableMessage message → ¬ (bytes ≡ frame message)) → till_bytes_text bytes ≡ encode_lower bytes
+-- no call is owed, and the items are these, and then what may be due
+pub record BringsItems (v : View) (Are : List RoundItem → Type 0) : Type 0 where
+  pub items : List RoundItem
+  pub are : Are items
+  pub calls_are : v.calls ≡ []
+  pub items_are : v.items ≡ items ++ items_due v.scene.core
+
+-- what a till's bytes bring after a lawful log is said by the frames of all that was heard of it before, and of all with them
+abbrev pub TillBytesBring : Type 0
+TillBytesBring =
+    (log : List Turn) (v : View) (till : ℕ) (chunk : List ℕ) (before all : List (List ℕ)) (rest left : List ℕ) → Stands log v → AllowedTurn v (HeardTill till chunk)
+    → Frames (heard_on (outside_of log).tills till) before rest → Frames (heard_on (outside_of log).tills till ++ chunk) all left
+    → BringsItems (after_turn v (HeardTill till chunk)) (BringsFrames till before all rest left)
+
+-- What a terminal's bytes bring is said by the APDUs of all that was heard of it before, and of all with them. It goes by views, since no lawful log links a terminal yet.
+abbrev pub PtBytesBring : Type 0
+PtBytesBring =
+    (v : View) (pt : ℕ) (chunk : List ℕ) (before all : List ApduValue) (rest left : List ℕ) → AreBytes (heard_on v.scene.outside.links pt) → AllowedTurn v (HeardPt pt chunk)
+    → SpellsApdus (heard_on v.scene.outside.links pt) before rest → SpellsApdus (heard_on v.scene.outside.links pt ++ chunk) all left
+    → BringsItems (after_turn v (HeardPt pt chunk)) (BringsApdus pt before all rest left)
+
+-- ---- a bad frame
+
+-- the till is cut in these turns
+abbrev pub IsCutIn : ℕ → List Turn → Type 0
+IsCutIn till turns = (first : List Turn) × (rest : List Turn) × (turns ≡ first ++ CutTill till ∷ rest)
+
+-- in a lawful log, after bytes with which what was heard of a till ends in bytes that begin no frame, the till is cut before the next poll
+abbrev pub BadFrameCuts : Type 0
+BadFrameCuts =
+    (before inside rest : List Turn) (till : ℕ) (chunk : List ℕ) (now : ℤ) (messages : List (List ℕ)) (left : List ℕ)
+    → IsLawful (before ++ HeardTill till chunk ∷ (inside ++ Polled now ∷ rest)) → AreOfRound inside
+    → Frames (heard_on (outside_of before).tills till ++ chunk) messages left → BeginsWithBadLength left → IsCutIn till inside

@@ -1,85 +1,51 @@
--- What the gateway has before it: the outside, the run, the calls that it owes and the items still to come.
-use Rattle.std.specs.Prelude.{ℕ, Bool, List, Option}
+-- What the gateway has before it: the outside, how far the run is, what it remembers, and its records.
+use Rattle.std.specs.Prelude.{ℕ, List, [], ◌++◌, Option, Some, None, option_to_list}
 use Rattle.gw_base.specs.declared.setup.Setup.{Setup}
 use Rattle.gw_site.specs.Outside.{Outside}
-use Rattle.gw_rules.specs.Reply.{Reply}
+use Rattle.jrn_record.specs.declared.records.Record.{Record}
+use Rattle.gw_owes.specs.Core.{Core}
+use Rattle.gw_owes.specs.Items.{RoundItem}
+use Rattle.gw_owes.specs.Row.{Known, Row, becoming}
+use Rattle.gw_owes.specs.Rows.{row_of}
+use Rattle.gw_owes.specs.Terminals.{link_made, link_lost}
+use Rattle.gw_rules.specs.Stage.{Stage}
 
--- who is at the other end of a connection: a till or a terminal, by its number
-pub data ConnectionOf : Type 0 where
-  Till : ℕ → ConnectionOf
-  Pt : ℕ → ConnectionOf
-
--- a call of the site that is owed, by what it says and not by its bytes
-pub data Call : Type 0 where
-  -- send the till this reply
-  Tell : ℕ → Reply → Call
-  -- send these bytes to the terminal
-  Order : ℕ → List ℕ → Call
-  -- cut the connection
-  Cut : ConnectionOf → Call
-  -- connect the terminal
-  Link : ℕ → Call
-  -- write these bytes at this offset of the file
-  Write : ℕ → List ℕ → Call
-  -- sync the file
-  Sync : Call
-
--- what a turn has to handle
-pub data Item : Type 0 where
-  -- a till that has opened while as many are there as may be
-  Crowded : ℕ → Item
-  -- a whole message of a till
-  Message : ℕ → List ℕ → Item
-  -- bytes of a till that begin no frame
-  Unframed : ℕ → Item
-
--- how far the run is
-pub data Stage : Type 0 where
-  -- there is no run
-  Resting : Stage
-  -- the journal is opened, and the run goes on
-  Opening : Stage
-  -- the journal is opened, and refused once its calls are made
-  Refusing : Stage
-  -- the site was polled, and its event may come
-  AtPoll : Stage
-  -- an event is handled
-  Serving : Stage
-  -- the run has ended
-  Over : Stage
-  -- a call on the disk has failed
-  Broken : Stage
-
--- the outside, the setup of the run, how far the run is, whether the last turn was a write, and the polls of the run
+-- what a log has led to, but for what is owed
 pub record Scene : Type 0 where
   pub outside : Outside
+  -- of the run; none where there is no run
   pub setup : Option Setup
   pub stage : Stage
-  pub wrote : Bool
+  -- how many polls the run has made
   pub polls : ℕ
+  -- what is remembered
+  pub core : Core
+  -- the records of the stable file's open slots, oldest first
+  pub kept : List Record
+  -- the record whose gate was written and not synced; it outlives a start without a power failure
+  pub flight : Option Record
 
--- the scene, the calls that are owed now, in order, and the items that come after them
-pub record View : Type 0 where
-  pub scene : Scene
-  pub calls : List Call
-  pub items : List Item
+-- the records of the file as it is
+abbrev pub records_of : Scene → List Record
+records_of scene = scene.kept ++ option_to_list scene.flight
 
--- a run goes on
-abbrev pub IsRunning : Stage → Type 0
-IsRunning Resting = ⊥
-IsRunning Opening = Unit {0}
-IsRunning Refusing = ⊥
-IsRunning AtPoll = Unit {0}
-IsRunning Serving = Unit {0}
-IsRunning Over = ⊥
-IsRunning Broken = ⊥
+-- what is known in a run with this setup
+abbrev pub known_in : Scene → Setup → Known
+known_in scene setup = record { setup = setup; core = scene.core; kept = scene.kept; moment = scene.outside.moment }
 
--- once anything follows a poll but its event, there is none
-abbrev pub busy : Stage → Stage
-busy Resting = Resting
-busy Opening = Opening
-busy Refusing = Refusing
-busy AtPoll = Serving
-busy Serving = Serving
-busy Over = Over
-busy Broken = Broken
+-- what is owed by what is known; where there is no run, nothing
+abbrev pub row_in : Scene → (Known → Row) → Option Setup → Row
+row_in scene row None = becoming scene.core []
+row_in scene row (Some setup) = row (known_in scene setup)
+
+-- what an item owes as it begins in this scene
+abbrev pub row_at : Scene → RoundItem → Row
+row_at scene item = row_in scene (λ known. row_of scene.outside.tills known item) scene.setup
+
+-- what a link that is made leaves and owes in this scene
+abbrev pub link_made_at : Scene → ℕ → Row
+link_made_at scene pt = row_in scene (λ known. link_made known pt) scene.setup
+
+-- what a link that is lost leaves and owes in this scene
+abbrev pub link_lost_at : Scene → ℕ → Row
+link_lost_at scene pt = row_in scene (λ known. link_lost known pt) scene.setup

@@ -1,14 +1,19 @@
 -- Inner: the contract of whatever drives a site: a triple over the view, from before its calls to after them.
-use Rattle.std.specs.Prelude.{◌≡◌, ◌⊎◌, ℕ, ℤ, map, filter, not, Result, Ok, Err, true, false, List, [], ◌∷◌, ◌++◌, Some, None}
+use Rattle.std.specs.Prelude.{◌≡◌, ◌⊎◌, ℕ, ℤ, map, Result, Ok, Err, true, false, List, [], ◌∷◌, ◌++◌, Some, None}
 use Rattle.gw_base.specs.declared.setup.Setup.{Setup}
 use Rattle.gw_site.specs.Observed.{Observed}
 use Rattle.gw_site.specs.declared.turn.Turn.{Turn}
 use Rattle.gw_site.specs.declared.turn.Turn.TheVariants.{Start, OpenFailed, Polled, SentTill, Crash}
 use Rattle.gw_site.specs.Turns.{event_turns, IsPromised}
 use Rattle.gw_site.specs.declared.site.What.{What}
-use Rattle.gw_rules.specs.Scene.{Till, Call, Cut, Item, Opening, Scene, View}
-use Rattle.gw_rules.specs.View.{Move, Take, view_from, called, sends_on}
-use Rattle.gw_rules.specs.Lawful.{IsCourse, turns_of, Stands, IsClear, IsQuiet}
+use Rattle.gw_owes.specs.Calls.{OwedCall, CutTill}
+use Rattle.gw_owes.specs.Core.{new_core}
+use Rattle.gw_owes.specs.Items.{RoundItem}
+use Rattle.gw_rules.specs.Lawful.{IsCourse, turns_of, Stands, IsClear}
+use Rattle.gw_rules.specs.Scene.{Scene}
+use Rattle.gw_rules.specs.Stage.{Opening}
+use Rattle.gw_rules.specs.TurnSort.{IsQuiet}
+use Rattle.gw_rules.specs.View.{View, Move, Make, view_from, called}
 
 -- the log goes on from this view by allowed moves, none of which begins a run or fails the power; where the site isn't dark then, Q holds of the view
 pub record Extends (before : List Turn) (v : View) (new : Observed) (Q : View → Type 0) : Type 0 where
@@ -27,17 +32,17 @@ pub record Triple (old new : Observed) (P Q : View → Type 0) : Type 0 where
   pub origin : new.origin ≡ old.origin
 
 -- the view has this scene, these calls and these items
-abbrev pub Owing : Scene → List Call → List Item → View → Type 0
+abbrev pub Owing : Scene → List OwedCall → List RoundItem → View → Type 0
 Owing scene calls items v = v ≡ record { scene = scene; calls = calls; items = items }
 
--- after a reply was sent to a till: the calls after it are owed, or where the send failed and took these bytes, the cut of the connection and then those of them that don't send on it
-abbrev pub Sent : {E : Type 0} → Result (Unit {0}) E → Scene → ℕ → List ℕ → List Call → List Item → View → Type 0
-Sent (Ok done) scene till bytes calls items v = Owing (called scene (SentTill till bytes true) false) calls items v
-Sent (Err failed) scene till bytes calls items v = (taken : List ℕ) × Owing (called scene (SentTill till taken false) false) (Cut (Till till) ∷ filter (λ call. not (sends_on (Till till) call)) calls) items v
+-- after the reply that is owed last was sent to a till: nothing is owed before these items, or where the send failed and took these bytes, the cut of the connection
+abbrev pub Sent : {E : Type 0} → Result (Unit {0}) E → Scene → ℕ → List ℕ → List RoundItem → View → Type 0
+Sent (Ok done) scene till bytes items v = Owing (called scene (SentTill till bytes true)) [] items v
+Sent (Err failed) scene till bytes items v = (taken : List ℕ) × Owing (called scene (SentTill till taken false)) (CutTill till ∷ []) items v
 
 -- the view after a poll and its event
 abbrev pub event_view : Scene → ℤ → What → List ℕ → View
-event_view scene now what buf = view_from (record { scene = scene; calls = []; items = [] }) (map Take (Polled now ∷ event_turns what buf))
+event_view scene now what buf = view_from (record { scene = scene; calls = []; items = [] }) (map Make (Polled now ∷ event_turns what buf))
 
 -- after a poll and its event, which was promised
 abbrev pub AtEvent : Scene → ℤ → What → List ℕ → View → Type 0
@@ -46,9 +51,11 @@ AtEvent scene now what buf v = (v ≡ event_view scene now what buf) × IsPromis
 -- a run with this setup has just begun
 pub record IsNewRun (setup : Setup) (scene : Scene) : Type 0 where
   pub setup_is : scene.setup ≡ Some setup
-  pub stage : scene.stage ≡ Opening
+  pub stage : scene.stage ≡ Opening false
   pub tills : scene.outside.tills ≡ []
+  pub links : scene.outside.links ≡ []
   pub polls : scene.polls ≡ 0
+  pub core_is : scene.core ≡ new_core setup
 
 -- and nothing is owed yet
 abbrev pub JustBegun : Setup → View → Type 0

@@ -7,19 +7,20 @@ use Rattle.gw_site.specs.Observed.{Observed}
 use Rattle.gw_site.specs.Outside.{Outside, outside_after, nothing_yet}
 use Rattle.gw_site.specs.declared.turn.Turn.{Turn}
 use Rattle.gw_site.specs.declared.turn.Turn.TheVariants.{Start, Stopped}
-use Rattle.gw_rules.specs.Scene.{View, Resting, Broken}
-use Rattle.gw_rules.specs.Lawful.{IsClear, IsQuiet, Stands}
-use Rattle.gw_rules.specs.View.{at_first}
+use Rattle.gw_rules.specs.TurnSort.{IsQuiet}
+use Rattle.gw_rules.specs.Lawful.{IsClear, Stands}
+use Rattle.gw_rules.specs.View.{View, at_first}
 use Rattle.gw_rules.specs.Triple.{IsRun, RunTriple, Ran}
-use Rattle.gw_rules.specs.LogText.{log_text}
-use Rattle.gw_rules.specs.Plays.{Play, Plays, PlaysFrom, PlaysRead, PlaysLines, play_after, begins, IsOneRun, IsRunRead, IsRunWith, IsStopped}
-use Rattle.gw_rules.specs.Script.{PlayedLine, Script, script_of, script_setup}
-use Rattle.gw_rules.proofs.EndLemmas.{over-ends, polls-most}
+use Rattle.gw_script.specs.LogText.{log_text}
+use Rattle.gw_script.specs.Plays.{Play, Plays, PlaysFrom, PlaysRead, PlaysLines, play_after, begins}
+use Rattle.gw_run.specs.ScriptLog.{IsOneRun, IsRunRead, IsRunWith, IsStopped}
+use Rattle.gw_script.specs.Script.{PlayedLine, Script, script_of, script_setup}
+use Rattle.gw_run.proofs.EndLemmas.{over-ends, polls-most}
 use Rattle.gw_rules.proofs.PrefixLemmas.{prefix-lawful}
 use Rattle.gw_run.specs.Top.{IsAtMostOneRun, IsInput, Writes, tail_of}
 use Rattle.gw_run.specs.Replay.{GivesName, IsFresh, IsPlayOf, WritesTail, IsReportedEnd, IsPlayEnd, NamesLine, PlayOut, PlayWritten}
-use Rattle.gw_run.specs.Round.{EndedBy}
-use Rattle.gw_run.specs.declared.engine.Ended.TheVariants.{Done}
+use Rattle.gw_dispatch.specs.RunEnd.{EndedBy}
+use Rattle.gw_dispatch.specs.declared.engine.Ended.TheVariants.{Done}
 use Rattle.gw_run.specs.declared.ending.Ending.{Ending}
 use Rattle.gw_run.specs.declared.ending.Ending.TheVariants.{Played, Words, Long, Line as AtLine, Input, Memory, OutputFailed}
 
@@ -164,7 +165,7 @@ observed-play-end ending result h (inr (inl (memory, names))) = rw memory tt
 observed-play-end ending result h (inr (inr failed)) = rw failed tt
 
 first-clear : IsClear at_first
-first-clear e = let n : Resting ≡ Broken = e in cc
+first-clear = refl
 
 first-stands : Stands [] at_first
 first-stands = record { course = []; log_is = refl; lawful = tt; view_is = refl }

@@ -2,7 +2,7 @@
 use Rattle.std.proofs.Common.{◌≡◌, ℕ, ◌≤◌, List, length, refl, sym, ◌∙◌, ap, arith, inl, inr}
 use Rattle.std.specs.Prelude.{◌⊎◌, Option, Some, None, Ok, Err}
 use Rattle.gw_bytes.specs.Bytes.{IsPrefix}
-use Rattle.gw_rules.specs.Script.{Script, script_limit, script_of}
+use Rattle.gw_script.specs.Script.{Script, script_limit, script_of}
 use Rattle.gw_run.specs.Top.{Stream, Cause, HasRisen, IfBytesObserved, IsAccepted, IsReadWhole, IsScript, IsScriptLeft, Writes, WritesPrefix, Written, status_of, tail_of}
 use Rattle.gw_run.specs.Replay.{IsInputFault, IsInputRead, IsPlayEnd, WritesTail, IsReportedEnd, NamesLine, PlayOut}
 use Rattle.gw_run.specs.declared.ending.Ending.{Ending}

@@ -12,7 +12,7 @@ use Rattle.std.specs.Str.{IsUtf8}
 use Rattle.sale_frame.specs.Decode.{is_frame}
 use Rattle.gw_bytes.specs.Bytes.{IsPrefix}
 use Rattle.gw_site.specs.declared.turn.Turn.{Turn}
-use Rattle.gw_rules.specs.LogText.{is_space_or_visible, is_shown_frame, turn_text, log_text}
+use Rattle.gw_script.specs.LogText.{is_space_or_visible, is_printable_frame, turn_text, log_text}
 use Rattle.gw_run.specs.LogWritten.{Adds, LogWritten}
 use Rattle.gw_run.specs.declared.text.Unwritten.{Unwritten}
 use Rattle.gw_run.specs.declared.text.Unwritten.TheVariants.{Memory, Sink}
@@ -113,9 +113,9 @@ pub text_of : {E : Type 0} (message : List ℕ) (r : Result (Bor (List ℕ)) E) 
 text_of message (Ok text) Cause printable h = ap Some h.0
 text_of message (Err e) Cause printable h = absurd (h.0 (IsUtf8-from_ascii message (printable_ascii message printable)))
 
--- a shown frame, from its parts
-pub shown_from : (bytes message : List ℕ) → Some message ≡ (if is_frame bytes then Some (drop 4 bytes) else None) → list_all is_space_or_visible message ≡ true → Some message ≡ (if is_shown_frame bytes then Some (drop 4 bytes) else None)
-shown_from bytes message e printable =
+-- a printable frame, from its parts
+pub printable_from : (bytes message : List ℕ) → Some message ≡ (if is_frame bytes then Some (drop 4 bytes) else None) → list_all is_space_or_visible message ≡ true → Some message ≡ (if is_printable_frame bytes then Some (drop 4 bytes) else None)
+printable_from bytes message e printable =
     let frame = found_frame (is_frame bytes) bytes message e in
     let all = rw frame.1 at printable in
     rw (frame.0, all) (ap Some frame.1)

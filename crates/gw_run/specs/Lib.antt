@@ -1,11 +1,11 @@
+pub mod Example
+pub mod Laws
 pub mod LogWritten
-pub mod NextMessage
 pub mod Player
 pub mod PlayerMet
 pub mod PlayerTills
 pub mod PlaysProp
 pub mod Replay
-pub mod Round
+pub mod ScriptLog
 pub mod ScriptRead
-pub mod Tills
 pub mod Top

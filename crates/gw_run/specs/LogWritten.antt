@@ -2,7 +2,7 @@
 use Rattle.std.specs.Prelude.{◌≡◌, ℕ, List, ◌++◌, Option, Some, Result, Ok, Err}
 use Rattle.gw_bytes.specs.Bytes.{IsPrefix}
 use Rattle.gw_site.specs.declared.turn.Turn.{Turn}
-use Rattle.gw_rules.specs.LogText.{log_text}
+use Rattle.gw_script.specs.LogText.{log_text}
 use Rattle.gw_run.specs.declared.text.Unwritten.{Unwritten}
 use Rattle.gw_run.specs.declared.text.Unwritten.TheVariants.{Memory, Sink}
 

@@ -5,8 +5,8 @@ use Rattle.gw_site.specs.Outside.{Outside}
 use Rattle.gw_site.specs.Turns.{IsPromised, IsWithinBuf, event_turns}
 use Rattle.gw_site.specs.declared.turn.Turn.{Turn}
 use Rattle.gw_site.specs.declared.turn.Turn.TheVariants.{Stopped}
-use Rattle.gw_rules.specs.Script.{Event}
-use Rattle.gw_rules.specs.Plays.{applies, brings}
+use Rattle.gw_script.specs.Script.{Event}
+use Rattle.gw_script.specs.Plays.{applies, brings}
 use Rattle.gw_run.specs.declared.player.next_event.Brought.{Brought}
 
 -- the turns of the event that a poll has met, or of the end

@@ -4,11 +4,11 @@ use Rattle.gw_site.specs.Outside.{Connection, Outside, new_connection, nothing_y
 use Rattle.gw_site.specs.declared.site.What.{What}
 use Rattle.gw_site.specs.declared.site.What.TheVariants.{TillOpened, TillBytes, TillClosed, PtBytes, PtClosed, Nothing, Stopped}
 
--- the numbers of these lines
+-- Inner: the numbers of these lines
 abbrev pub numbers_of : List Connection → List ℕ
 numbers_of lines = map (λ (line : Connection). line.number) lines
 
--- the least number with which a till may open, where this one opened last
+-- Inner: the least number with which a till may open, where this one opened last
 abbrev pub next_after : Option ℕ → ℕ
 next_after None = 0
 next_after (Some till) = till + 1

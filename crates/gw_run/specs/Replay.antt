@@ -5,8 +5,9 @@ use Rattle.gw_bytes.specs.Bytes.{IsPrefix}
 use Rattle.gw_site.specs.Observed.{Observed}
 use Rattle.gw_site.specs.declared.turn.Turn.{Turn}
 use Rattle.gw_rules.specs.Lawful.{IsLawful}
-use Rattle.gw_rules.specs.Script.{PlayedLine, script_of, script_limit}
-use Rattle.gw_rules.specs.Plays.{Plays, IsStopped}
+use Rattle.gw_script.specs.Script.{PlayedLine, script_of, script_limit}
+use Rattle.gw_script.specs.Plays.{Plays}
+use Rattle.gw_run.specs.ScriptLog.{IsStopped}
 use Rattle.gw_run.specs.Top.{Stream, Cause, Written, Writes, IsAccepted, IsAtMostOneRun, IsInput, IsReadWithin, IsScriptTooLong, tail_of}
 use Rattle.gw_run.specs.declared.ending.Ending.{Ending}
 use Rattle.gw_run.specs.declared.ending.Ending.TheVariants.{Played, Words, Long, Line as AtLine, Input, Memory, OutputFailed}

@@ -5,9 +5,10 @@ use Rattle.gw_site.specs.Failures.{Rose}
 use Rattle.gw_bytes.specs.Bytes.{IsPrefix}
 use Rattle.gw_site.specs.declared.turn.Turn.{Turn}
 use Rattle.gw_rules.specs.Lawful.{IsLawful}
-use Rattle.gw_rules.specs.Script.{Script, script_of, script_limit}
-use Rattle.gw_rules.specs.Plays.{Plays, IsLogOf, IsOneRun}
-use Rattle.gw_rules.specs.LogText.{log_text}
+use Rattle.gw_script.specs.Script.{Script, script_of, script_limit}
+use Rattle.gw_script.specs.Plays.{Plays}
+use Rattle.gw_run.specs.ScriptLog.{IsLogOf, IsOneRun}
+use Rattle.gw_script.specs.LogText.{log_text}
 use Rattle.gw_run.specs.declared.ending.Ending.{Ending}
 use Rattle.gw_run.specs.declared.ending.Ending.TheVariants.{Played, Words, Long, Line as AtLine, Input, Memory, OutputFailed}
 

@@ -2,18 +2,18 @@
 #![tactic(auto)]
 
 mod ending;
-mod engine;
 mod last_lines;
+mod laws;
 mod line;
 mod player;
 mod program;
 mod replay;
 mod script;
 mod text;
-mod tills;
 
 pub use ending::Ending;
 pub use gw_rules::law_crash;
+pub use laws::{law_one_log, law_plays, law_status};
 pub use program::top;
 pub use text::{Unwritten, write_log};
 

@@ -2,20 +2,20 @@
 ghost use Rattle.std.specs.Prelude.{◌≡◌, ◌≢◌, ◌⊎◌, ◌≤◌, true, List, ℕ, Ok, IsTrue};
 ghost use Rattle.gw_site.specs.Failures.{Rose};
 ghost use Rattle.gw_site.specs.Observed.{IfObserved};
-ghost use Rattle.gw_rules.specs.Script.{default_name, script_of, script_setup};
+ghost use Rattle.gw_script.specs.Script.{default_name, script_of, script_setup};
 ghost use Rattle.gw_run.specs.LogWritten.{Adds};
 ghost use Rattle.gw_run.specs.Player.{player_observed};
 ghost use Rattle.gw_run.specs.Replay.{GivesName, IsFresh, IsPlayEnd, IsPlayOf, PlayWritten};
 ghost use Rattle.gw_run.specs.ScriptRead.{script_value};
 
 use crate::ending::Ending;
-use crate::engine::{Ended, run_once};
 use crate::last_lines::write_last_lines;
 use crate::line::Script;
 use crate::player::Player;
 use crate::text::{Unwritten, write_log};
 use gw_base::{Ident, Pts, Setup, Text};
 use gw_bytes::MOST_SLOTS;
+use gw_dispatch::{Ended, run};
 use gw_site::{Sink, Turn};
 use std::alloc::Global;
 
@@ -46,7 +46,7 @@ fn run_script(alloc: Global, name: Option<Ident<40>>, player: &mut Player) -> bo
     ensures log { (script : List ℕ) → GivesName script name → IsFresh (player_observed player.old) script → IfObserved (player_observed player.new) (IsPlayOf script result) }
 {
     let setup = script_setup(alloc, name);
-    let ended = run_once(alloc, &setup, player, u64::MAX);
+    let ended = run(alloc, &setup, player, u64::MAX);
     player.played();
     match ended {
         Ended::Done => !player.is_dark(),

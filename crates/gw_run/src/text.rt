@@ -5,7 +5,7 @@ ghost use Rattle.std.specs.List.{list_all};
 ghost use Rattle.hex.specs.Hex.{encode_lower};
 ghost use Rattle.gw_site.specs.Failures.{Rose};
 ghost use Rattle.gw_site.specs.declared.turn.Turn.TheVariants.{SentTill, SentPt};
-ghost use Rattle.gw_rules.specs.LogText.{is_space_or_visible, is_shown_frame, till_bytes_text, taken, log_text, turn_text};
+ghost use Rattle.gw_script.specs.LogText.{is_space_or_visible, is_printable_frame, till_bytes_text, taken, log_text, turn_text};
 ghost use Rattle.gw_run.specs.LogWritten.{Adds, LogWritten};
 
 use gw_base::Bytes;
@@ -58,8 +58,8 @@ fn are_printable(bytes: &[u8]) -> bool
 }
 
 /// The message of one whole frame, where it is printable ASCII.
-fn shown_message(bytes: &[u8]) -> Option<&str>
-    ensures { option_copied result ≡ (if is_shown_frame bytes.now then Some (drop 4 bytes.now) else None) }
+fn printable_message(bytes: &[u8]) -> Option<&str>
+    ensures { option_copied result ≡ (if is_printable_frame bytes.now then Some (drop 4 bytes.now) else None) }
 {
     let message = framed_message(bytes)?;
     if are_printable(message) {
@@ -78,10 +78,10 @@ fn push_hex(alloc: Global, lines: &mut String, bytes: &[u8]) -> Result<(), Alloc
 }
 
 /// Appends bytes of a till.
-fn push_shown(alloc: Global, lines: &mut String, bytes: &[u8]) -> Result<(), AllocError>
+fn push_till_bytes(alloc: Global, lines: &mut String, bytes: &[u8]) -> Result<(), AllocError>
     ensures { OnOk result (string_bytes lines.new ≡ string_bytes lines.old ++ till_bytes_text bytes.now) }
 {
-    match shown_message(bytes) {
+    match printable_message(bytes) {
         Some(message) => write!(lines, "'{message}"),
         None => push_hex(alloc, lines, bytes),
     }
@@ -111,7 +111,7 @@ fn push_sent_till(
 {
     write!(lines, "till {till} out ")?;
     if ok {
-        push_shown(alloc, lines, bytes.as_slice())
+        push_till_bytes(alloc, lines, bytes.as_slice())
     } else {
         push_taken(alloc, lines, bytes.as_slice())
     }
@@ -146,7 +146,7 @@ fn push_turn(alloc: Global, lines: &mut String, turn: &Turn) -> Result<(), Alloc
         Turn::Opened { till } => write!(lines, "open {till}"),
         Turn::HeardTill { till, bytes } => {
             write!(lines, "till {till} in ")?;
-            push_shown(alloc, lines, bytes.as_slice())
+            push_till_bytes(alloc, lines, bytes.as_slice())
         }
         Turn::Closed { till } => write!(lines, "close {till}"),
         Turn::HeardPt { pt, bytes } => {

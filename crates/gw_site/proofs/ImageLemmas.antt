@@ -13,16 +13,16 @@ pub record Sound (o : Outside) : Type 0 where
   pub within : length o.stable ≤ length o.file
   pub same : (offset : ℕ) → offset < length o.stable → is_covered o.written offset ≡ false → get_or o.file offset 0 ≡ get_or o.stable offset 0
 
-inside_covered : (range : Range) (offset : ℕ) → range.from ≤ offset → offset < range.from + range.size → covers offset range ≡ true
-inside_covered range offset le lt = and_from (nat_le range.from offset) (nat_lt offset (range.from + range.size)) (le-leb range.from offset le) (lt-ltb offset (range.from + range.size) lt)
+inside_covered : (range : Range) (offset : ℕ) → range.offset ≤ offset → offset < range.offset + range.size → covers offset range ≡ true
+inside_covered range offset le lt = and_from (nat_le range.offset offset) (nat_lt offset (range.offset + range.size)) (le-leb range.offset offset le) (lt-ltb offset (range.offset + range.size) lt)
 
 wrote_same : (o : Outside) (start : ℕ) (bytes : List ℕ) → Sound o → (offset : ℕ) → offset < length o.stable →
-    is_covered (record { from = start; size = length bytes } ∷ o.written) offset ≡ false → get_or (overwrite o.file start bytes) offset 0 ≡ get_or o.stable offset 0
+    is_covered (record { offset = start; size = length bytes } ∷ o.written) offset ≡ false → get_or (overwrite o.file start bytes) offset 0 ≡ get_or o.stable offset 0
 wrote_same o start bytes sound offset lt clean =
     elim (cases_lt offset start) [ inl below ↦ over_below o.file start bytes offset below ∙ older | inr le ↦ elim (cases_lt offset (start + length bytes)) [ inl inside ↦ absurd (both_ways (covers offset range) parts.0 (inside_covered range offset le inside)) | inr above ↦ over_above o.file start bytes offset above ∙ older ] ]
   where
     range : Range
-    range = record { from = start; size = length bytes }
+    range = record { offset = start; size = length bytes }
 
     parts : (covers offset range ≡ false) × (is_covered o.written offset ≡ false)
     parts = or_parts (covers offset range) (is_covered o.written offset) clean

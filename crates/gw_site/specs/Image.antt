@@ -5,7 +5,7 @@ use Rattle.gw_site.specs.Outside.{Outside, Range}
 
 -- the range covers this offset
 abbrev pub covers : ℕ → Range → Bool
-covers offset range = nat_le range.from offset && nat_lt offset (range.from + range.size)
+covers offset range = nat_le range.offset offset && nat_lt offset (range.offset + range.size)
 
 -- some range covers this offset
 abbrev pub is_covered : List Range → ℕ → Bool

@@ -12,7 +12,7 @@ pub record Connection : Type 0 where
 
 -- a range of bytes of the file, from an offset on
 pub record Range : Type 0 where
-  pub from : ℕ
+  pub offset : ℕ
   pub size : ℕ
 
 -- the outside after a log
@@ -83,7 +83,7 @@ outside_after o (SentTill till bytes ok) = o
 outside_after o (SentPt pt bytes ok) = o
 outside_after o (CutTill till) = record o { tills = without o.tills till }
 outside_after o (CutPt pt) = record o { links = without o.links pt }
-outside_after o (Wrote offset bytes) = record o { file = overwrite o.file offset bytes; written = record { from = offset; size = length bytes } ∷ o.written }
+outside_after o (Wrote offset bytes) = record o { file = overwrite o.file offset bytes; written = record { offset = offset; size = length bytes } ∷ o.written }
 outside_after o Synced = record o { stable = o.file; written = [] }
 outside_after o DiskFailed = o
 outside_after o (Crash file) = record (no_run o) { file = file; stable = file; written = [] }

@@ -2,7 +2,7 @@
 use Rattle.std.specs.Prelude.{◌≡◌, ◌⊎◌, ℕ, ◌<◌, ◌≤◌, List, [], ◌∷◌, take, true, false, Result, Ok, Err}
 use Rattle.gw_site.specs.Outside.{Outside, is_connected, outside_of}
 use Rattle.gw_site.specs.Image.{Image}
-use Rattle.gw_bytes.specs.Bytes.{IsPrefix}
+use Rattle.gw_bytes.specs.Bytes.{AreBytes, IsPrefix}
 use Rattle.gw_base.specs.declared.setup.Setup.{Setup}
 use Rattle.gw_site.specs.declared.turn.Turn.{Turn}
 use Rattle.gw_site.specs.declared.turn.Turn.TheVariants.{Start, OpenFailed, Polled, Opened, HeardTill, Closed, HeardPt, Lost, Stopped, Linked, LinkFailed, SentTill, SentPt, Wrote, Synced, DiskFailed, Crash}
@@ -10,9 +10,9 @@ use Rattle.gw_site.specs.declared.site.Polled.{Polled as PollResult}
 use Rattle.gw_site.specs.declared.site.What.{What}
 use Rattle.gw_site.specs.declared.site.What.TheVariants.{TillOpened, TillBytes, TillClosed, PtBytes, PtClosed, Nothing, Stopped as StoppedEvent}
 
--- opening: a start, or the power failure before it, which leaves an image of the log before, and a start; or a failure
+-- opening: a start, or the power failure before it, which leaves an image of the log before, in bytes, and a start; or a failure
 abbrev pub OpenTurns : {E : Type 0} → Setup → Result (Unit {0}) E → List Turn → List Turn → Type 0
-OpenTurns setup (Ok done) before turns = (turns ≡ Start setup ∷ []) ⊎ ((file : List ℕ) × Image (outside_of before) file × (turns ≡ Crash file ∷ Start setup ∷ []))
+OpenTurns setup (Ok done) before turns = (turns ≡ Start setup ∷ []) ⊎ ((file : List ℕ) × Image (outside_of before) file × AreBytes file × (turns ≡ Crash file ∷ Start setup ∷ []))
 OpenTurns setup (Err failed) before turns = turns ≡ OpenFailed ∷ []
 
 -- the turn of an event, where it has one

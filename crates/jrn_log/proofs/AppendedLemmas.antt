@@ -17,11 +17,11 @@ use Rattle.jrn_log.proofs.AppendLemmas.{PrefixesLeave, whole_prefixes, body_pref
 -- an append's turns are those of its two writes
 pub keep_then : {E : Type 0} (result : Result (Unit {0}) E) (slot offset : ℕ) (body bytes : List ℕ) (p q : List Turn) → offset ≡ 256 * slot → bytes ≡ body ++ 0 ∷ [] →
     p ≡ Wrote (offset + 1) bytes ∷ Synced ∷ [] → WroteSyncedTurns offset (165 ∷ []) result q → AppendTurns slot body result (p ++ q)
-keep_then (Ok done) slot offset body bytes p q at s e f = rw (e, f, s, at) refl
-keep_then (Err failed) slot offset body bytes p q at s e f = inr (rw (e, f, s, at) refl)
+keep_then (Ok done) slot offset body bytes p q is s e f = rw (e, f, s, is) refl
+keep_then (Err failed) slot offset body bytes p q is s e f = inr (rw (e, f, s, is) refl)
 
 pub keep_fails : {E : Type 0} (failed : E) (slot offset : ℕ) (body bytes : List ℕ) (p : List Turn) → offset ≡ 256 * slot → bytes ≡ body ++ 0 ∷ [] → p ≡ Wrote (offset + 1) bytes ∷ DiskFailed ∷ [] → AppendTurns {T = Unit {0}} slot body (Err failed) p
-keep_fails failed slot offset body bytes p at s e = inl (rw (e, s, at) refl)
+keep_fails failed slot offset body bytes p is s e = inl (rw (e, s, is) refl)
 
 append_prefixes : {T E : Type 0} (o : Outside) (bodies : List (List ℕ)) (body : List ℕ) (result : Result T E) (turns : List Turn) → Rest o bodies → length body ≡ 255 → AppendTurns (length bodies) body result turns → PrefixesLeave o bodies body turns
 append_prefixes o bodies body (Ok given) turns r e t = rw t (whole_prefixes o bodies body r e)

@@ -67,7 +67,7 @@ body_can o bodies body r e c file image = elim (body_leaves o bodies body [] r f
     none (turn ∷ first) rest e = cc
 
     kept : get_or file (256 * length bodies) 0 ≡ get_or o.stable (256 * length bodies) 0
-    kept = image.kept (256 * length bodies) r.gate (rw (below_free (record { from = 256 * length bodies + 1; size = length (body ++ 0 ∷ []) }) (256 * length bodies) (omega arith), r.clean) refl)
+    kept = image.kept (256 * length bodies) r.gate (rw (below_free (record { offset = 256 * length bodies + 1; size = length (body ++ 0 ∷ []) }) (256 * length bodies) (omega arith), r.clean) refl)
 
     fits : FitsSlots (length file) (length bodies) (get_or file (256 * length bodies) 0)
     fits =
@@ -104,7 +104,7 @@ gate_can o bodies body r e c file image = elim (gate_leaves o bodies body (gate_
     next : get_or file (256 * length bodies + 256) 0 ≡ 0
     next =
         let h = body_file o bodies body r e in
-        image.kept (256 * length bodies + 256) h.room (rw (above_free (record { from = 256 * length bodies; size = 1 }) (256 * length bodies + 256) (omega arith)) refl) ∙ h.next
+        image.kept (256 * length bodies + 256) h.room (rw (above_free (record { offset = 256 * length bodies; size = 1 }) (256 * length bodies + 256) (omega arith)) refl) ∙ h.next
 
     new : FitsSlots (length file) (length (bodies ++ body ∷ [])) (get_or file (256 * length (bodies ++ body ∷ [])) 0)
     new =

@@ -36,12 +36,12 @@ pub rest_leaves : (o : Outside) (bodies : List (List ℕ)) (body : List ℕ) (ma
 rest_leaves o bodies body made r file image = inl (old_image o bodies file r.slots r.gate r.closed (λ i le. rw r.clean refl) image)
 
 -- an offset below a range isn't covered by it
-pub below_free : (range : Range) (offset : ℕ) → offset < range.from → covers offset range ≡ false
-below_free range offset lt = rw (lt-leb range.from offset lt) refl
+pub below_free : (range : Range) (offset : ℕ) → offset < range.offset → covers offset range ≡ false
+below_free range offset lt = rw (lt-leb range.offset offset lt) refl
 
 -- nor is one above it
-pub above_free : (range : Range) (offset : ℕ) → range.from + range.size ≤ offset → covers offset range ≡ false
-above_free range offset le = rw (lt-leb (suc offset) (range.from + range.size) (omega arith)) (and_false (nat_le range.from offset))
+pub above_free : (range : Range) (offset : ℕ) → range.offset + range.size ≤ offset → covers offset range ≡ false
+above_free range offset le = rw (lt-leb (suc offset) (range.offset + range.size) (omega arith)) (and_false (nat_le range.offset offset))
   where
     and_false : (b : Bool) → (b && false) ≡ false
     and_false true = refl
@@ -105,11 +105,11 @@ gate_closed file new old bodies body s h g closed =
     still_slots file old bodies s (omega arith) (λ i lt. g.same i (omega arith) (λ q. omega (arith, q)) ∙ h.below i (omega arith)) closed
 
 -- different in the gate alone: a file that a power failure leaves while the gate is written
-image_but_gate : (o : Outside) (offset : ℕ) (file : List ℕ) → o.written ≡ record { from = offset; size = 1 } ∷ [] → Image o file → SameButGate file o.stable offset
+image_but_gate : (o : Outside) (offset : ℕ) (file : List ℕ) → o.written ≡ record { offset = offset; size = 1 } ∷ [] → Image o file → SameButGate file o.stable offset
 image_but_gate o offset file w image = record { same = λ i lt ne. image.kept i lt (rw w (rw (free i ne) refl)); long = image.no_shorter }
   where
-    free : (i : ℕ) → (i ≡ offset → ⊥) → covers i (record { from = offset; size = 1 }) ≡ false
-    free i ne = elim (cases_lt i offset) [ inl lt ↦ below_free (record { from = offset; size = 1 }) i lt | inr ge ↦ above_free (record { from = offset; size = 1 }) i (let n : i ≢ offset = ne in omega arith) ]
+    free : (i : ℕ) → (i ≡ offset → ⊥) → covers i (record { offset = offset; size = 1 }) ≡ false
+    free i ne = elim (cases_lt i offset) [ inl lt ↦ below_free (record { offset = offset; size = 1 }) i lt | inr ge ↦ above_free (record { offset = offset; size = 1 }) i (let n : i ≢ offset = ne in omega arith) ]
 
 -- and the file with the gate written
 over_but_gate : (file : List ℕ) (offset : ℕ) → SameButGate (overwrite file offset (165 ∷ [])) file offset
@@ -138,7 +138,7 @@ pub body_leaves : (o : Outside) (bodies : List (List ℕ)) (body : List ℕ) (ma
 body_leaves o bodies body made r file image = inl (old_image (after_body o (length bodies) body) bodies file r.slots r.gate r.closed free image)
   where
     free : (i : ℕ) → i ≤ 256 * length bodies → is_covered (after_body o (length bodies) body).written i ≡ false
-    free i le = rw (below_free (record { from = 256 * length bodies + 1; size = length (body ++ 0 ∷ []) }) i (omega arith), r.clean) refl
+    free i le = rw (below_free (record { offset = 256 * length bodies + 1; size = length (body ++ 0 ∷ []) }) i (omega arith), r.clean) refl
 
 pub body_sync_rest : (o : Outside) (bodies : List (List ℕ)) (body : List ℕ) → Rest o bodies → length body ≡ 255 → Rest (after_body_sync o (length bodies) body) bodies
 body_sync_rest o bodies body r e =

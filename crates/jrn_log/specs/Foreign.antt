@@ -34,7 +34,7 @@ BeginningLeaves = LeavesJournals []
 abbrev pub OpeningLeavesJournals : Type 0
 OpeningLeavesJournals = (log made rest : List Turn) → CanBeJournal (outside_of log).file → first_gate (length (outside_of log).file) ≡ made ++ rest → LeavesJournals (log ++ Synced ∷ made)
 
--- after its last turn the file ends as between calls
+-- after an opening's last turn the file ends as between calls
 abbrev pub OpeningEndsClosed : Type 0
 OpeningEndsClosed = (log : List Turn) (bodies : List (List ℕ)) → CanBeJournal (outside_of log).file → AreSlots (outside_of log).file bodies →
     EndsClosed (outside_of (log ++ Synced ∷ first_gate (length (outside_of log).file))).file (length bodies)
@@ -53,12 +53,12 @@ abbrev pub AppendEndsClosed : Type 0
 AppendEndsClosed = (log : List Turn) (bodies : List (List ℕ)) (body : List ℕ) → IsAtRest log (length bodies) → AreKept log bodies → EndsClosed (outside_of log).file (length bodies) → length body ≡ 255 →
     EndsClosed (outside_of (log ++ append_turns (length bodies) body)).file (length bodies + 1)
 
--- the same at each turn of an append in which the disk failed
+-- an append in which the disk failed, to a log at rest whose file ends as between calls: at each of its turns, whatever a power failure leaves a journal can have left
 abbrev pub FailedAppendLeavesJournals : Type 0
 FailedAppendLeavesJournals = (log : List Turn) (bodies : List (List ℕ)) (body : List ℕ) (made rest : List Turn) → IsAtRest log (length bodies) → AreKept log bodies → EndsClosed (outside_of log).file (length bodies) → length body ≡ 255 →
     FailedAppendTurns (length bodies) body (made ++ rest) → LeavesJournals (log ++ made)
 
--- and at each turn of an opening in which the disk failed, after a log that leaves what a journal can have left
+-- an opening in which the disk failed, after a log that leaves what a journal can have left: at each of its turns, whatever a power failure leaves a journal can have left
 abbrev pub FailedOpeningLeavesJournals : Type 0
 FailedOpeningLeavesJournals = (log made rest : List Turn) → LeavesJournals log → FailedTurns (outside_of log).file (made ++ rest) → LeavesJournals (log ++ made)
 
@@ -70,10 +70,10 @@ CrashLeavesJournals = (log : List Turn) (file : List ℕ) → LeavesJournals log
 abbrev pub LeavesDisk : Turn → Type 0
 LeavesDisk turn = (o : Outside) → ((outside_after o turn).file ≡ o.file) × ((outside_after o turn).stable ≡ o.stable) × ((outside_after o turn).written ≡ o.written)
 
--- a turn that leaves the disk changes nothing of that
+-- a turn that leaves the disk as it is: whatever a power failure leaves after it a journal can have left, where that was so before it
 abbrev pub OthersLeaveJournals : Type 0
 OthersLeaveJournals = (log : List Turn) (turn : Turn) → LeavesDisk turn → LeavesJournals log → LeavesJournals (log ++ turn ∷ [])
 
--- and where this is so, a journal can have left the file itself
+-- where a journal can have left whatever a power failure leaves, it can have left the file itself
 abbrev pub FileIsJournals : Type 0
 FileIsJournals = (log : List Turn) → LeavesJournals log → CanBeJournal (outside_of log).file

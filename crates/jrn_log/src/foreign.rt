@@ -2,12 +2,14 @@
 ghost use Rattle.std.specs.Prelude.{◌↔◌, IsTrue};
 ghost use Rattle.jrn_log.specs.Foreign.{AppendEndsClosed, AppendLeavesJournals, BeginningLeaves, CrashLeavesJournals, FailedAppendLeavesJournals, FailedOpeningLeavesJournals, FileIsJournals, FitsSlots, OpeningEndsClosed, OpeningLeavesJournals, OthersLeaveJournals};
 
+use crate::layout::SLOT_SIZE;
+
 /// Whether openings, appends and power failures can leave a file of so many bytes, of which so many slots are open and
 /// the gate after them is this byte, `00` past the file's end.
 pub fn can_be_journal(length: u64, slots: u32, gate: u8) -> bool
     ensures { IsTrue result ↔ FitsSlots length slots gate }
 {
-    let end = 256 * (u64::from(slots) + 1);
+    let end = SLOT_SIZE as u64 * (u64::from(slots) + 1);
     length <= end + 1 && (length <= 1 || length > end || gate == 0)
 }
 

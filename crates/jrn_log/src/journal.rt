@@ -11,8 +11,9 @@ ghost use Rattle.jrn_log.specs.Images.{AppendImages, OpeningImages};
 ghost use Rattle.jrn_log.specs.inner.FileReader.{IsFileRead, TurnsAfterLength, SyncedLengthTurns};
 
 use crate::fault::{AppendFault, OpenFault};
+use crate::layout::{CLOSED, SLOT_SIZE};
 use crate::read::read_bodies;
-use crate::write::{CLOSED, keep_body, write_synced};
+use crate::write::{keep_body, write_synced};
 use gw_base::Bodies;
 use gw_site::{Failed, Site};
 use std::alloc::Global;
@@ -59,7 +60,7 @@ fn sized_bodies<S: Site>(
     ensures disk { result ≡ Err OpenFault.Disk → Rose (S.observed site.old).faults (S.observed site.new).faults }
     ensures later { (S.observed site.old).faults ≤ (S.observed site.new).faults }
 {
-    if size > 256 * u64::from(slots) + 1 {
+    if size > SLOT_SIZE as u64 * u64::from(slots) + 1 {
         return Err(OpenFault::TooLong { length: size });
     }
     if size <= 1 {

@@ -6,6 +6,7 @@ ghost use Rattle.jrn_log.specs.Laws.{EachHasSlots, SlotsAreOne, DecodedAreSlots,
 mod fault;
 mod foreign;
 mod journal;
+mod layout;
 mod read;
 mod slots;
 mod write;

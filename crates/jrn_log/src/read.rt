@@ -6,7 +6,7 @@ ghost use Rattle.gw_site.specs.Observed.{Grows, IfObserved};
 ghost use Rattle.jrn_log.specs.inner.FileReader.{BeginsWithSlots, AreSlotsTaken, IsChunkRead, AreBodiesRead, ReadTurns};
 
 use crate::fault::OpenFault;
-use crate::write::OPEN;
+use crate::layout::{BODY_SIZE, OPEN, SLOT_SIZE, SLOTS_OF_CHUNK};
 use gw_base::Bodies;
 use gw_site::{Failed, Site};
 use std::alloc::Global;
@@ -40,10 +40,10 @@ pub(crate) fn take_slot(
         return Ok(Taken::End);
     }
     let count = bodies.len();
-    if 256 * (count as u64 + 1) >= size {
+    if SLOT_SIZE as u64 * (count as u64 + 1) >= size {
         return Err(OpenFault::Cut { slot: count as u32 });
     }
-    let mut body = [0; 255];
+    let mut body = [0; BODY_SIZE];
     body.copy_from_slice(&slot[1..]);
     match bodies.push(body) {
         Ok(()) => Ok(Taken::More),
@@ -66,8 +66,9 @@ fn take_slots(
     ensures taken { (file : List ℕ) → size ≡ length file → chunk.now ≡ file_part file (256 * length bodies.old.items) 4096
         → BeginsWithSlots file bodies.old.items → AreSlotsTaken file bodies.new.items result }
 {
-    for index in 0..16usize {
-        match take_slot(bodies, &chunk[256 * index..256 * index + 256], size) {
+    for index in 0..SLOTS_OF_CHUNK {
+        let offset = SLOT_SIZE * index;
+        match take_slot(bodies, &chunk[offset..offset + SLOT_SIZE], size) {
             Ok(Taken::More) => {}
             Ok(Taken::End) => return Ok(Taken::End),
             Err(fault) => return Err(fault),
@@ -94,8 +95,8 @@ fn read_chunk<S: Site>(
     ensures disk { result ≡ Err OpenFault.Disk → Rose (S.observed site.old).faults (S.observed site.new).faults }
     ensures later { (S.observed site.old).faults ≤ (S.observed site.new).faults }
 {
-    let mut chunk = [0; 4096];
-    match site.read_at(256 * bodies.len() as u64, &mut chunk) {
+    let mut chunk = [0; SLOT_SIZE * SLOTS_OF_CHUNK];
+    match site.read_at(SLOT_SIZE as u64 * bodies.len() as u64, &mut chunk) {
         Ok(()) => take_slots(bodies, &chunk, size),
         Err(Failed) => Err(OpenFault::Disk),
     }

@@ -6,6 +6,7 @@ ghost use Rattle.jrn_log.specs.Opening.{IsExactlyTooLong, IsExactlyTruncated};
 ghost use Rattle.jrn_log.specs.inner.FileReader.{AreBodiesRead};
 
 use crate::fault::OpenFault;
+use crate::layout::SLOT_SIZE;
 use crate::read::{Taken, take_slot};
 use gw_base::Bodies;
 use std::alloc::Global;
@@ -20,7 +21,7 @@ pub fn read_slots(alloc: Global, slots: u32, file: &[u8]) -> Result<Bodies, Open
     ensures memory { result ≢ Err OpenFault.Disk }
 {
     let length = file.len() as u64;
-    if length > 256 * u64::from(slots) + 1 {
+    if length > SLOT_SIZE as u64 * u64::from(slots) + 1 {
         return Err(OpenFault::TooLong { length });
     }
     if length <= 1 {
@@ -38,7 +39,7 @@ fn bodies_in(alloc: Global, file: &[u8]) -> Result<Bodies, OpenFault>
 {
     let size = file.len() as u64;
     let mut bodies = Vec::new(alloc);
-    for slot in 0..(file.len() - 1) / 256 + 1 {
+    for slot in 0..(file.len() - 1) / SLOT_SIZE + 1 {
         match take_slot(&mut bodies, &slot_at(file, slot), size) {
             Ok(Taken::More) => {}
             Ok(Taken::End) => return Ok(Bodies::new(bodies)),
@@ -53,8 +54,8 @@ fn slot_at(file: &[u8], slot: usize) -> [u8; 256]
     requires { 256 * slot < length file.now }
     ensures { result ≡ file_part file.now (256 * slot) 256 }
 {
-    let mut bytes = [0; 256];
-    read_part(file, 256 * slot as u64, &mut bytes);
+    let mut bytes = [0; SLOT_SIZE];
+    read_part(file, (SLOT_SIZE * slot) as u64, &mut bytes);
     bytes
 }
 

@@ -5,13 +5,8 @@ ghost use Rattle.gw_site.specs.Observed.{Grows};
 ghost use Rattle.jrn_log.specs.JournalTurns.{AppendTurns};
 ghost use Rattle.jrn_log.specs.inner.FileReader.{WroteSyncedTurns};
 
+use crate::layout::{BODY_SIZE, CLOSED, OPEN, SLOT_SIZE};
 use gw_site::{Failed, Site};
-
-/// The gate of an open slot.
-pub(crate) const OPEN: u8 = 0xA5;
-
-/// The gate of a closed slot.
-pub(crate) const CLOSED: u8 = 0x00;
 
 /// Writes bytes at an offset, and syncs.
 pub(crate) fn write_synced<S: Site>(site: &mut S, offset: u64, bytes: &[u8]) -> Result<(), Failed>
@@ -28,8 +23,8 @@ pub(crate) fn write_synced<S: Site>(site: &mut S, offset: u64, bytes: &[u8]) -> 
 fn body_and_gate(body: &[u8; 255]) -> [u8; 256]
     ensures { result ≡ body.now ++ 0 ∷ [] }
 {
-    let mut bytes = [CLOSED; 256];
-    bytes[..255].copy_from_slice(body);
+    let mut bytes = [CLOSED; SLOT_SIZE];
+    bytes[..BODY_SIZE].copy_from_slice(body);
     bytes
 }
 
@@ -42,7 +37,7 @@ pub(crate) fn keep_body<S: Site>(site: &mut S, slot: u32, body: &[u8; 255]) -> R
     ensures turns { Grows (S.observed site.old) (S.observed site.new) (AppendTurns slot body.now result) }
     ensures cause { HasCause (S.observed site.old).faults (S.observed site.new).faults result }
 {
-    let offset = 256 * u64::from(slot);
+    let offset = SLOT_SIZE as u64 * u64::from(slot);
     match write_synced(site, offset + 1, &body_and_gate(body)) {
         Ok(()) => write_synced(site, offset, &[OPEN]),
         Err(Failed) => Err(Failed),

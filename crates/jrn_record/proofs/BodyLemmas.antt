@@ -7,8 +7,8 @@ use Rattle.jrn_record.specs.Table.{Agree, FieldRange}
 
 -- the fields of a table follow one another, from one offset to the other
 abbrev pub IsRun : ℕ → List FieldRange → ℕ → Type 0
-IsRun at [] end = at ≡ end
-IsRun at (there ∷ table) end = (there.offset ≡ at) × IsRun (at + there.size) table end
+IsRun offset [] end = offset ≡ end
+IsRun offset (there ∷ table) end = (there.offset ≡ offset) × IsRun (offset + there.size) table end
 
 -- fields that agree with all of a body make it up
 pub joined-agree : (spelled : List (List ℕ)) (table : List FieldRange) (offset end : ℕ) (body : List ℕ) → length spelled ≡ length table

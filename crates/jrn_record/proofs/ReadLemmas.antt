@@ -100,7 +100,7 @@ pub intent_fault : (body : List ℕ) (count reported : ℕ) (draft : TheIntent) 
     → IsIntent draft → Agree count (intent_fields draft) intent_table body → 1 ∷ [] ≡ body_field body (field 0 1)
     → ((i : TheIntent) → IsIntent i → Agree (suc count) (intent_fields i) intent_table body → ⊥)
     → IsFirstRecordFault intent_table body reported
-intent_fault body count reported draft inside offset is agrees kind none = record {
+intent_fault body count reported draft inside offset is agrees first_byte none = record {
   count = count;
   inside = inside;
   offset = offset;
@@ -110,15 +110,15 @@ intent_fault body count reported draft inside offset is agrees kind none = recor
   where
     other : (the_record : Record) → IsRecord the_record → Agree (suc count) (record_fields the_record) intent_table body → ⊥
     other (Intent i) is a = none i is a
-    other (Outcome o) is a = first_differs 2 1 (body_field body (field 0 1)) (λ e. omega arith) a.0 kind
-    other (Settled s) is a = first_differs 3 1 (body_field body (field 0 1)) (λ e. omega arith) a.0 kind
+    other (Outcome o) is a = first_differs 2 1 (body_field body (field 0 1)) (λ e. omega arith) a.0 first_byte
+    other (Settled s) is a = first_differs 3 1 (body_field body (field 0 1)) (λ e. omega arith) a.0 first_byte
 
 pub outcome_fault : (body : List ℕ) (count reported : ℕ) (draft : TheOutcome) → count < 9
     → reported ≡ get_or (map (λ there. there.offset) outcome_table) count 0
     → IsOutcome draft → Agree count (outcome_fields draft) outcome_table body → 2 ∷ [] ≡ body_field body (field 0 1)
     → ((o : TheOutcome) → IsOutcome o → Agree (suc count) (outcome_fields o) outcome_table body → ⊥)
     → IsFirstRecordFault outcome_table body reported
-outcome_fault body count reported draft inside offset is agrees kind none = record {
+outcome_fault body count reported draft inside offset is agrees first_byte none = record {
   count = count;
   inside = inside;
   offset = offset;
@@ -127,16 +127,16 @@ outcome_fault body count reported draft inside offset is agrees kind none = reco
 }
   where
     other : (the_record : Record) → IsRecord the_record → Agree (suc count) (record_fields the_record) outcome_table body → ⊥
-    other (Intent i) is a = first_differs 1 2 (body_field body (field 0 1)) (λ e. omega arith) a.0 kind
+    other (Intent i) is a = first_differs 1 2 (body_field body (field 0 1)) (λ e. omega arith) a.0 first_byte
     other (Outcome o) is a = none o is a
-    other (Settled s) is a = first_differs 3 2 (body_field body (field 0 1)) (λ e. omega arith) a.0 kind
+    other (Settled s) is a = first_differs 3 2 (body_field body (field 0 1)) (λ e. omega arith) a.0 first_byte
 
 pub settled_fault : (body : List ℕ) (count reported : ℕ) (draft : TheSettled) → count < 8
     → reported ≡ get_or (map (λ there. there.offset) settled_table) count 0
     → IsSettled draft → Agree count (settled_fields draft) settled_table body → 3 ∷ [] ≡ body_field body (field 0 1)
     → ((s : TheSettled) → IsSettled s → Agree (suc count) (settled_fields s) settled_table body → ⊥)
     → IsFirstRecordFault settled_table body reported
-settled_fault body count reported draft inside offset is agrees kind none = record {
+settled_fault body count reported draft inside offset is agrees first_byte none = record {
   count = count;
   inside = inside;
   offset = offset;
@@ -145,8 +145,8 @@ settled_fault body count reported draft inside offset is agrees kind none = reco
 }
   where
     other : (the_record : Record) → IsRecord the_record → Agree (suc count) (record_fields the_record) settled_table body → ⊥
-    other (Intent i) is a = first_differs 1 3 (body_field body (field 0 1)) (λ e. omega arith) a.0 kind
-    other (Outcome o) is a = first_differs 2 3 (body_field body (field 0 1)) (λ e. omega arith) a.0 kind
+    other (Intent i) is a = first_differs 1 3 (body_field body (field 0 1)) (λ e. omega arith) a.0 first_byte
+    other (Outcome o) is a = first_differs 2 3 (body_field body (field 0 1)) (λ e. omega arith) a.0 first_byte
     other (Settled s) is a = none s is a
 
 -- what the exit of a `?` hands on

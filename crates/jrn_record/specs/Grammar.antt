@@ -82,7 +82,7 @@ record_fields (Settled settled) = settled_fields settled
 -- the fields, one after the other
 abbrev pub joined : List (List ℕ) → List ℕ
 joined [] = []
-joined (field ∷ fields) = field ++ joined fields
+joined (field ∷ rest) = field ++ joined rest
 
 -- the body of a record
 abbrev pub record_body : Record → List ℕ

@@ -74,7 +74,7 @@ HasReason false (Some condition) = 1 ≤ reason_code condition
 -- each field of an Outcome lies within its limits
 pub record IsOutcome (outcome : TheOutcome) : Type 0 where
   pub slot : outcome.slot < 2 ^ 32
-  pub number : IsPresentAs outcome.approved (λ number. (1 ≤ number) × IsTrace number) outcome.number
+  pub number : IsPresentAs outcome.approved (λ trace. (1 ≤ trace) × IsTrace trace) outcome.number
   pub receipt : IsPresentAs outcome.approved (λ receipt. (0 ≤ receipt) × IsReceipt receipt) outcome.receipt
   pub amount : IsPresentAs outcome.approved IsAmount outcome.amount
   pub condition : HasReason outcome.approved outcome.condition

@@ -48,10 +48,10 @@ table_at body =
 
 -- a record and a body agree on their first fields, so many of them
 abbrev pub Agree : ℕ → List (List ℕ) → List FieldRange → List ℕ → Type 0
-Agree zero fields table body = Unit {0}
+Agree zero spelled table body = Unit {0}
 Agree (suc count) [] table body = ⊥
-Agree (suc count) (field ∷ fields) [] body = ⊥
-Agree (suc count) (field ∷ fields) (there ∷ table) body = (field ≡ body_field body there) × Agree count fields table body
+Agree (suc count) (field ∷ spelled) [] body = ⊥
+Agree (suc count) (field ∷ spelled) (there ∷ table) body = (field ≡ body_field body there) × Agree count spelled table body
 
 -- the offset of the first field that no record spells: some record agrees with the body on the fields
 -- before it, and none on these and the one at the offset

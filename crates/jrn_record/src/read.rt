@@ -81,7 +81,7 @@ fn read_outcome(body: &[u8; 255]) -> Result<Outcome, RecordFault>
 {
     let approved = read_approval(body)?;
     let slot = slot_at(body, OUTCOME_SLOT);
-    let number = read_number(
+    let trace = read_number(
         body,
         OUTCOME_NUMBER,
         TRACE_SIZE,
@@ -111,7 +111,7 @@ fn read_outcome(body: &[u8; 255]) -> Result<Outcome, RecordFault>
     Ok(Outcome {
         approved,
         slot,
-        number: number as u32,
+        number: trace as u32,
         receipt: receipt as u16,
         amount,
         condition,

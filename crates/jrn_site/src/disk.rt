@@ -86,7 +86,7 @@ fn written_after(turn: &Turn, offset: usize, before: bool) -> bool
 
 /// Whether an offset is one of so many from another on.
 fn is_within(start: usize, size: usize, offset: usize) -> bool
-    ensures { result ≡ covers offset (record { from = start; size = size }) }
+    ensures { result ≡ covers offset (record { offset = start; size = size }) }
 {
     start <= offset && offset - start < size
 }

@@ -3,6 +3,8 @@
 #![tactic(auto)]
 
 mod disk;
+#[cfg(test)]
+mod failing;
 mod site;
 
 pub use site::{DiskSite, ImageKind};

@@ -175,7 +175,7 @@ impl DiskSite {
     }
 
     /// A call fails, and the site is dark from now on.
-    fn fail(&mut self) -> Failed
+    pub(crate) fn fail(&mut self) -> Failed
         ensures rose { Rose self.old.faults self.new.faults }
         ensures later { self.old.faults ≤ self.new.faults }
         ensures dark { self.new.dark ≡ true }

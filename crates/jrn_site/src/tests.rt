@@ -4,6 +4,7 @@ ghost use Rattle.jrn_log.specs.Journal.{StandsFor};
 ghost use Rattle.jrn_site.specs.Disk.{observed_of};
 
 use super::*;
+use crate::failing::{DiskCall, FailingSite};
 use jrn_log::{AppendFault, Journal, OpenFault};
 use std::alloc::Global;
 use std::test::Fail;
@@ -153,6 +154,34 @@ fn a_first_opening_reads_nothing(rt: HostRuntime) -> Result<(), Fail> {
             (is_opened, site.log().len()),
             (opened, turns + 1),
             "{} bytes, {calls} calls",
+            file.len()
+        );
+    }
+    Ok(())
+}
+
+#[test]
+fn a_first_opening_asks_for_the_length_after_the_sync(rt: HostRuntime) -> Result<(), Fail> {
+    // The file, the call that fails, whether the journal was opened, and the turns that were added. With at most one byte
+    // nothing is read, so a read that would fail is never made; the length is asked for after the sync, whatever the file is.
+    let rows: [(&[u8], DiskCall, bool, usize); 6] = [
+        (b"", DiskCall::Read, true, 3),
+        (b"\xA5", DiskCall::Read, true, 3),
+        (b"\x00\x00", DiskCall::Read, false, 1),
+        (b"", DiskCall::Length, false, 1),
+        (b"\xA5", DiskCall::Length, false, 1),
+        (b"\x00\x00", DiskCall::Length, false, 1),
+    ];
+    for (file, fails, opened, turns) in rows {
+        let mut site = FailingSite {
+            site: DiskSite::holding(rt.alloc(), file)?,
+            fails,
+        };
+        let is_opened = Journal::open(rt.alloc(), &mut site, 3).is_ok();
+        assert_eq!(rt;
+            (is_opened, site.site.log().len()),
+            (opened, turns + 1),
+            "{} bytes, {fails:?}",
             file.len()
         );
     }

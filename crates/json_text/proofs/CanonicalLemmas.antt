@@ -10,7 +10,7 @@ use Rattle.std.proofs.lemmas.List.{append-nil}
 use Rattle.std.proofs.lemmas.List.Concat.{flat_map-append}
 use Rattle.std.proofs.lemmas.Bool.{lt-ltb, le-ltb, cases_lt}
 use Rattle.std.proofs.lemmas.Bool.Decides.{nat_tests}
-use Rattle.json_text.specs.Tree.{Tree, null, boolean, number, string, array, object, Items, no_items, item, Members, no_members, member}
+use Rattle.json_text.specs.Tree.{Tree, null, boolean, number, string, array, object, Elements, no_elements, element, Members, no_members, member}
 use Rattle.json_text.specs.Number.{IsNumberText}
 use Rattle.json_text.specs.Character.{IsCharacter, unescaped, short, unit, AreCharacters, hex_value}
 use Rattle.json_text.specs.Grammar.{skip, Value, First, More, FirstMember, MoreMembers, IsMember, IsQuoted, Spells, profile}
@@ -199,15 +199,15 @@ mutual
   value_written d (array xs) h n = (h.0, (canonical_first xs ++ n, refl, first_written (suc d) xs h.1 n))
   value_written d (object ms) h n = (h.0, (λ e. h.1), (canonical_first_member ms ++ n, refl, first_member_written (suc d) ms h.2 n))
 
-  first_written : (d : ℕ) (xs : Items) → AreSpellable d xs → (n : List ℕ) → First profile d xs (canonical_first xs ++ n) n
-  first_written d no_items h n = refl
-  first_written d (item x rest) h n =
+  first_written : (d : ℕ) (xs : Elements) → AreSpellable d xs → (n : List ℕ) → First profile d xs (canonical_first xs ++ n) n
+  first_written d no_elements h n = refl
+  first_written d (element x rest) h n =
       let m = canonical_more rest ++ n in
       (m, at_value d x m ((canonical x ++ canonical_more rest) ++ n) h.0 (append_assoc (canonical x) (canonical_more rest) n) (value_written d x h.0 m), more_written d rest h.1 n)
 
-  more_written : (d : ℕ) (xs : Items) → AreSpellable d xs → (n : List ℕ) → More profile d xs (canonical_more xs ++ n) n
-  more_written d no_items h n = refl
-  more_written d (item x rest) h n =
+  more_written : (d : ℕ) (xs : Elements) → AreSpellable d xs → (n : List ℕ) → More profile d xs (canonical_more xs ++ n) n
+  more_written d no_elements h n = refl
+  more_written d (element x rest) h n =
       let m = canonical_more rest ++ n in (
         (canonical x ++ canonical_more rest) ++ n,
         m,
@@ -261,13 +261,13 @@ mutual
   value_spellable d (array xs) b r h = (h.0, first_spellable (suc d) xs h.1.0 r h.1.2)
   value_spellable d (object ms) b r h = (h.0, h.1 refl, first_member_spellable (suc d) ms h.2.0 r h.2.2)
 
-  first_spellable : (d : ℕ) (xs : Items) (b r : List ℕ) → First profile d xs b r → AreSpellable d xs
-  first_spellable d no_items b r h = tt
-  first_spellable d (item x rest) b r h = (value_spellable d x (skip b) h.0 h.1, more_spellable d rest h.0 r h.2)
+  first_spellable : (d : ℕ) (xs : Elements) (b r : List ℕ) → First profile d xs b r → AreSpellable d xs
+  first_spellable d no_elements b r h = tt
+  first_spellable d (element x rest) b r h = (value_spellable d x (skip b) h.0 h.1, more_spellable d rest h.0 r h.2)
 
-  more_spellable : (d : ℕ) (xs : Items) (b r : List ℕ) → More profile d xs b r → AreSpellable d xs
-  more_spellable d no_items b r h = tt
-  more_spellable d (item x rest) b r h = (value_spellable d x (skip h.0) h.1 h.3, more_spellable d rest h.1 r h.4)
+  more_spellable : (d : ℕ) (xs : Elements) (b r : List ℕ) → More profile d xs b r → AreSpellable d xs
+  more_spellable d no_elements b r h = tt
+  more_spellable d (element x rest) b r h = (value_spellable d x (skip h.0) h.1 h.3, more_spellable d rest h.1 r h.4)
 
   first_member_spellable : (d : ℕ) (ms : Members) (b r : List ℕ) → FirstMember profile d ms b r → HaveSpellable d ms
   first_member_spellable d no_members b r h = tt

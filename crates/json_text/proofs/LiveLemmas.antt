@@ -4,8 +4,8 @@ use Rattle.std.specs.Char.{encode_utf8}
 use Rattle.std.specs.Str.{encode_utf8_all}
 use Rattle.std.proofs.lemmas.Str.{encode_ascii}
 use Rattle.std.proofs.lemmas.Bool.{cases_lt}
-use Rattle.json_text.specs.Tree.{Tree, null, number, string, array, object, no_items, item, no_members, member}
-use Rattle.json_text.specs.ValueOf.{items_onto, members_onto}
+use Rattle.json_text.specs.Tree.{Tree, null, number, string, array, object, no_elements, element, no_members, member}
+use Rattle.json_text.specs.ValueOf.{elements_onto, members_onto}
 use Rattle.json_text.specs.MemberNames.{pair_names}
 use Rattle.json_text.specs.Character.{unescaped, short, AreCharacters, AreHex, IsUnit, IsLow, of_pair}
 use Rattle.json_text.specs.Grammar.{Rules, Allows, AreDistinct, IsNew}
@@ -56,7 +56,7 @@ IsLive R p st = (b : List ℕ) × (v : Tree) × Rest R p st b v
 
 pub after_live : (R : Rules) (st : List Level) (x : Tree) → AreSound st → IsLive R (after x) st
 after_live R [] x s = ([], x, (refl, refl))
-after_live R (in_list done ∷ st) x s = let below = after_live R st (array (items_onto done (item x no_items))) s in (93 ∷ below.0, below.1, (no_items, below.0, refl, below.2))
+after_live R (in_list done ∷ st) x s = let below = after_live R st (array (elements_onto done (element x no_elements))) s in (93 ∷ below.0, below.1, (no_elements, below.0, refl, below.2))
 after_live R (in_object done k ∷ st) x s =
     let below = after_live R st (object (members_onto done (member k x no_members))) s.1 in
     (125 ∷ below.0, below.1, (no_members, below.0, refl, λ strict. s.0, below.2))
@@ -65,7 +65,7 @@ pub value_live : (R : Rules) (st : List Level) → AreSound st → IsLive R valu
 value_live R st s = let a = after_live R st null s in (110 ∷ 117 ∷ 108 ∷ 108 ∷ a.0, a.1, record { tree = null; rest = a.0; valued = refl; after = a.2 })
 
 pub first_element_live : (R : Rules) (st : List Level) → AreSound st → IsLive R first_element st
-first_element_live R st s = let a = after_live R st (array no_items) s in (93 ∷ a.0, a.1, (no_items, a.0, refl, a.2))
+first_element_live R st s = let a = after_live R st (array no_elements) s in (93 ∷ a.0, a.1, (no_elements, a.0, refl, a.2))
 
 pub first_name_live : (R : Rules) (st : List Level) → AreSound st → IsLive R first_name st
 first_name_live R st s = let a = after_live R st (object no_members) s in (125 ∷ a.0, a.1, (no_members, a.0, refl, λ strict. tt, a.2))

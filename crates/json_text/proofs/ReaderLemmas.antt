@@ -4,8 +4,8 @@ use Rattle.std.specs.Prelude.{MatchResult, string_bytes}
 use Rattle.std.specs.Char.{encode_utf8}
 use Rattle.std.proofs.lemmas.List.{map-append}
 use Rattle.std.proofs.lemmas.Str.{encode_ascii}
-use Rattle.json_text.specs.Tree.{Tree, number, string, array, object, no_items, no_members, names}
-use Rattle.json_text.specs.ValueOf.{value_of, items_onto, members_onto}
+use Rattle.json_text.specs.Tree.{Tree, number, string, array, object, no_elements, no_members, names}
+use Rattle.json_text.specs.ValueOf.{value_of, elements_onto, members_onto}
 use Rattle.json_text.specs.Number.{IsNumberText}
 use Rattle.json_text.specs.MemberNames.{has_name, pair_names}
 use Rattle.json_text.specs.Grammar.{Rules, is_space}
@@ -106,8 +106,8 @@ element_space o c e = stays first_element o c c modes.FirstElement first_element
 
 pub empty_list : (o : Vec OpenLevel Global) (v : Vec Json Global) (c : ℕ) → c ≡ 93 → v.items ≡ [] → StepsOn first_element (levels o.items) c (state o (modes.After (jsons.List v)))
 empty_list o v c e none =
-    stays first_element o c 93 (modes.After (jsons.List v)) (after (array no_items)) e
-    (ap after (view-List v ∙ ap (λ (x : List Json). array (items_onto (map value_of x) no_items)) none)) tt (λ R le. values.closes_empty R (levels o.items)) refl
+    stays first_element o c 93 (modes.After (jsons.List v)) (after (array no_elements)) e
+    (ap after (view-List v ∙ ap (λ (x : List Json). array (elements_onto (map value_of x) no_elements)) none)) tt (λ R le. values.closes_empty R (levels o.items)) refl
 
 pub first_result : {U : Type 0} (r : Result U StepError) (t : State) (old new : List OpenLevel) (v : Vec Json Global) (c : ℕ) → is_space c ≡ false → c ≢ 93 → new ≡ old ++ open_levels.List v ∷ [] → v.items ≡ []
     → MatchResult r (λ _. StepsOn value (levels new) c t) (Fails value (levels new) c) → MatchResult r (λ _. StepsOn first_element (levels old) c t) (Fails first_element (levels old) c)
@@ -132,8 +132,8 @@ next_element o new elements done j c e f g =
 pub list_closes : (o : Vec OpenLevel Global) (elements done : Vec Json Global) (j : Json) (c : ℕ) → c ≡ 93 → elements.items ≡ done.items ++ j ∷ [] → StepsOn (after (value_of j)) (in_list (map value_of done.items) ∷ levels o.items) c (state o (modes.After (jsons.List elements)))
 list_closes o elements done j c e f =
     subst (λ (x : ℕ). StepsOn (after (value_of j)) (in_list (map value_of done.items) ∷ levels o.items) x (state o (modes.After (jsons.List elements)))) (sym e)
-    (steps_to (after (value_of j)) (in_list (map value_of done.items) ∷ levels o.items) 93 (state o (modes.After (jsons.List elements))) (after (array (items_onto (map value_of done.items ++ value_of j ∷ []) no_items))) (levels o.items)
-    (ap after (view-List elements ∙ ap (λ (x : List Tree). array (items_onto x no_items)) (list_view elements.items done.items j f))) refl tt
+    (steps_to (after (value_of j)) (in_list (map value_of done.items) ∷ levels o.items) 93 (state o (modes.After (jsons.List elements))) (after (array (elements_onto (map value_of done.items ++ value_of j ∷ []) no_elements))) (levels o.items)
+    (ap after (view-List elements ∙ ap (λ (x : List Tree). array (elements_onto x no_elements)) (list_view elements.items done.items j f))) refl tt
     (λ R le. values.closes_list R (map value_of done.items) (value_of j) (levels o.items)) refl)
 
 pub no_element : (x : Tree) (done : List Tree) (st : List Level) (c : ℕ) → is_space c ≡ false → c ≢ 44 → c ≢ 93 → FailsAt (after x) (in_list done ∷ st) c kinds.NotJson

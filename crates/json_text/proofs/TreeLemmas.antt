@@ -2,18 +2,18 @@
 use Rattle.std.proofs.Common.{◌≡◌, ℕ, List, [], ◌∷◌, map, refl, sym, ap, ◌∙◌, Vec, Global, rules, Option, Some, None, Bool, true, false, bytes_eq, option_map, true≢false, ◌↔◌}
 use Rattle.std.specs.Prelude.{IsNone, if◌then◌else◌}
 use Rattle.std.proofs.lemmas.Slice.Eq.{bytes_eq-Decides}
-use Rattle.json_text.specs.Tree.{Tree, null, boolean, number, string, array, object, no_items, Members, no_members, member, items_list, array_of, names, member_names_of, member_of, get_of}
+use Rattle.json_text.specs.Tree.{Tree, null, boolean, number, string, array, object, no_elements, Members, no_members, member, elements_list, array_of, names, member_names_of, member_of, get_of}
 use Rattle.json_text.specs.Grammar.{IsNew}
-use Rattle.json_text.specs.ValueOf.{value_of, items_onto, members_onto}
+use Rattle.json_text.specs.ValueOf.{value_of, elements_onto, members_onto}
 use Rattle.json_text.specs.declared.tree.Json.{Json, the_lemmas}
 use Rattle.json_text.specs.declared.tree.Json.TheViews as jsons
 use Rattle.json_text.specs.declared.tree.Json.TheVariants as variants
 
-pub items_list-items_onto : (xs : List Tree) → items_list (items_onto xs no_items) ≡ xs
-items_list-items_onto [] = refl
-items_list-items_onto (x ∷ xs) = ap (λ (l : List Tree). x ∷ l) (items_list-items_onto xs)
+pub elements_list-elements_onto : (xs : List Tree) → elements_list (elements_onto xs no_elements) ≡ xs
+elements_list-elements_onto [] = refl
+elements_list-elements_onto (x ∷ xs) = ap (λ (l : List Tree). x ∷ l) (elements_list-elements_onto xs)
 
-pub view-List : (v : Vec Json Global) → value_of (jsons.List v) ≡ array (items_onto (map value_of v.items) no_items)
+pub view-List : (v : Vec Json Global) → value_of (jsons.List v) ≡ array (elements_onto (map value_of v.items) no_elements)
 view-List v = search (rules, the_lemmas)
 
 pub view-Object : (v : Vec (List ℕ × Json) Global) → value_of (jsons.Object v) ≡ object (members_onto (map (λ m. (m.0, value_of m.1)) v.items) no_members)
@@ -27,7 +27,7 @@ view-Str text = search (rules, the_lemmas)
 
 pub array_of-view : (j : Json) (v : Vec Json Global) → j ≡ jsons.List v → Some (map value_of v.items) ≡ array_of (value_of j)
 array_of-view j v e =
-    sym (ap (λ (j : Json). array_of (value_of j)) e ∙ ap array_of (view-List v) ∙ ap (λ (l : List Tree). Some l) (items_list-items_onto (map value_of v.items)))
+    sym (ap (λ (j : Json). array_of (value_of j)) e ∙ ap array_of (view-List v) ∙ ap (λ (l : List Tree). Some l) (elements_list-elements_onto (map value_of v.items)))
 
 -- ---- members
 

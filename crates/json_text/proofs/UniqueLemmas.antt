@@ -3,7 +3,7 @@ use Rattle.std.proofs.Common.{◌≡◌, ℕ, suc, ◌+◌, ◌*◌, List, [], �
 use Rattle.std.specs.Char.{encode_utf8, InScalarRange}
 use Rattle.std.specs.Str.{encode_utf8_all}
 use Rattle.std.proofs.lemmas.Str.{encode_same}
-use Rattle.json_text.specs.Tree.{Tree, null, boolean, number, string, array, object, Items, no_items, item, Members, no_members, member}
+use Rattle.json_text.specs.Tree.{Tree, null, boolean, number, string, array, object, Elements, no_elements, element, Members, no_members, member}
 use Rattle.json_text.specs.Number.{AreDigits, IsDigits, IsInt, IsFrac, IsSigned, IsExp, IsMagnitude, IsNumberText}
 use Rattle.json_text.specs.inner.NumberLeft.{IsNumberByte}
 use Rattle.json_text.specs.Character.{IsCharacter, unescaped, short, unit, pair, IsUnescaped, IsUnit, IsPair, AreHex, IsHigh, AreCharacters, of_pair, short_escape}
@@ -226,9 +226,9 @@ ends (c ∷ b) h = λ o. by (is_space c) refl h o
     by true e h o = let s = space_is c e in omega (arith, s)
     by false e h o = let m : IsMark (c ∷ b) = rw e at h in omega (arith, m)
 
-more_ends : (R : Rules) (d : ℕ) (xs : Items) (b r : List ℕ) → More R d xs b r → IsEnd b
-more_ends R d no_items b r h = ends b (subst (λ (l : List ℕ). IsMark l) (sym h) (inr (inl refl)))
-more_ends R d (item x xs) b r h = ends b (subst (λ (l : List ℕ). IsMark l) (sym h.2) (inl refl))
+more_ends : (R : Rules) (d : ℕ) (xs : Elements) (b r : List ℕ) → More R d xs b r → IsEnd b
+more_ends R d no_elements b r h = ends b (subst (λ (l : List ℕ). IsMark l) (sym h) (inr (inl refl)))
+more_ends R d (element x xs) b r h = ends b (subst (λ (l : List ℕ). IsMark l) (sym h.2) (inl refl))
 
 more_members_end : (R : Rules) (d : ℕ) (ms : Members) (b r : List ℕ) → MoreMembers R d ms b r → IsEnd b
 more_members_end R d no_members b r h = ends b (subst (λ (l : List ℕ). IsMark l) (sym h) (inr (inr refl)))
@@ -254,7 +254,7 @@ is_string : (R : Rules) (d : ℕ) (y : Tree) (b r : List ℕ) → Value R d y (3
 is_string R d (string t) b r h = (t, refl, subst (λ (l : List ℕ). IsQuoted t l r) (sym (tail_is _ _ _ _ h.1)) h.2)
 is_string R d y b r h = absurd (omega (arith, value_starts R d y 34 b r h))
 
-is_array : (R : Rules) (d : ℕ) (y : Tree) (b r : List ℕ) → Value R d y (91 ∷ b) r → (ys : Items) × (y ≡ array ys) × First R (suc d) ys b r
+is_array : (R : Rules) (d : ℕ) (y : Tree) (b r : List ℕ) → Value R d y (91 ∷ b) r → (ys : Elements) × (y ≡ array ys) × First R (suc d) ys b r
 is_array R d (array ys) b r h = (ys, refl, subst (λ (l : List ℕ). First R (suc d) ys l r) (sym (tail_is _ _ _ _ h.1.1)) h.1.2)
 is_array R d y b r h = absurd (omega (arith, value_starts R d y 91 b r h))
 
@@ -269,8 +269,8 @@ is_number R d y b r q (c ∷ s) n e h =
     let o = no_other R d y c (s ++ r) q (number_head c s n) (subst (λ (l : List ℕ). Value R d y l q) e h) in
     (o.0, o.1, o.2, e ∙ o.3)
 
-cell : (x y : Tree) (xs ys : Items) → x ≡ y → xs ≡ ys → item x xs ≡ item y ys
-cell x y xs ys e f = ap (λ (z : Tree). item z xs) e ∙ ap (λ (zs : Items). item y zs) f
+cell : (x y : Tree) (xs ys : Elements) → x ≡ y → xs ≡ ys → element x xs ≡ element y ys
+cell x y xs ys e f = ap (λ (z : Tree). element z xs) e ∙ ap (λ (zs : Elements). element y zs) f
 
 member_cell : (k l : List ℕ) (x y : Tree) (ms ns : Members) → k ≡ l → x ≡ y → ms ≡ ns → member k x ms ≡ member l y ns
 member_cell k l x y ms ns e f g = ap (λ (z : List ℕ). member z x ms) e ∙ ap (λ (z : Tree). member l z ms) f ∙ ap (λ (zs : Members). member l y zs) g
@@ -309,20 +309,20 @@ mutual
       let t = first_member_same R (suc d) ms i.0 h.2.0 r q h.2.2 i.2 in
       (ap object t.0 ∙ sym i.1, t.1)
 
-  first_same : (R : Rules) (d : ℕ) (xs ys : Items) (b r q : List ℕ) → First R d xs b r → First R d ys b q → (xs ≡ ys) × (r ≡ q)
-  first_same R d no_items no_items b r q h g = (refl, tail_is _ _ _ _ (sym h ∙ g))
-  first_same R d no_items (item y ys) b r q h g = absurd (no_bracket R d y r g.0 (subst (λ (l : List ℕ). Value R d y l g.0) h g.1))
-  first_same R d (item x xs) no_items b r q h g = absurd (no_bracket R d x q h.0 (subst (λ (l : List ℕ). Value R d x l h.0) g h.1))
-  first_same R d (item x xs) (item y ys) b r q h g =
+  first_same : (R : Rules) (d : ℕ) (xs ys : Elements) (b r q : List ℕ) → First R d xs b r → First R d ys b q → (xs ≡ ys) × (r ≡ q)
+  first_same R d no_elements no_elements b r q h g = (refl, tail_is _ _ _ _ (sym h ∙ g))
+  first_same R d no_elements (element y ys) b r q h g = absurd (no_bracket R d y r g.0 (subst (λ (l : List ℕ). Value R d y l g.0) h g.1))
+  first_same R d (element x xs) no_elements b r q h g = absurd (no_bracket R d x q h.0 (subst (λ (l : List ℕ). Value R d x l h.0) g h.1))
+  first_same R d (element x xs) (element y ys) b r q h g =
       let s = value_same R d x y (skip b) h.0 g.0 h.1 g.1 (more_ends R d xs h.0 r h.2) (more_ends R d ys g.0 q g.2) in
       let t = more_same R d xs ys h.0 r q h.2 (subst (λ (l : List ℕ). More R d ys l q) (sym s.1) g.2) in
       (cell x y xs ys s.0 t.0, t.1)
 
-  more_same : (R : Rules) (d : ℕ) (xs ys : Items) (b r q : List ℕ) → More R d xs b r → More R d ys b q → (xs ≡ ys) × (r ≡ q)
-  more_same R d no_items no_items b r q h g = (refl, tail_is _ _ _ _ (sym h ∙ g))
-  more_same R d no_items (item y ys) b r q h g = absurd (omega (arith, head_is _ _ _ _ (sym h ∙ g.2)))
-  more_same R d (item x xs) no_items b r q h g = absurd (omega (arith, head_is _ _ _ _ (sym g ∙ h.2)))
-  more_same R d (item x xs) (item y ys) b r q h g =
+  more_same : (R : Rules) (d : ℕ) (xs ys : Elements) (b r q : List ℕ) → More R d xs b r → More R d ys b q → (xs ≡ ys) × (r ≡ q)
+  more_same R d no_elements no_elements b r q h g = (refl, tail_is _ _ _ _ (sym h ∙ g))
+  more_same R d no_elements (element y ys) b r q h g = absurd (omega (arith, head_is _ _ _ _ (sym h ∙ g.2)))
+  more_same R d (element x xs) no_elements b r q h g = absurd (omega (arith, head_is _ _ _ _ (sym g ∙ h.2)))
+  more_same R d (element x xs) (element y ys) b r q h g =
       let e = tail_is _ _ _ _ (sym g.2 ∙ h.2) in
       let s = value_same R d x y (skip h.0) h.1 g.1 h.3 (subst (λ (l : List ℕ). Value R d y (skip l) g.1) e g.3) (more_ends R d xs h.1 r h.4) (more_ends R d ys g.1 q g.4) in
       let t = more_same R d xs ys h.1 r q h.4 (subst (λ (l : List ℕ). More R d ys l q) (sym s.1) g.4) in

@@ -1,7 +1,7 @@
 -- The steps outside of strings and numbers: what begins a value, literals, lists.
 use Rattle.std.proofs.Common.{◌≡◌, ◌≢◌, ℕ, suc, ◌<◌, ◌≤◌, List, [], ◌∷◌, ◌++◌, length, true, false, refl, sym, ap, subst, arith, inl, inr, ◌⊎◌}
-use Rattle.json_text.specs.Tree.{Tree, null, boolean, number, string, array, object, Items, no_items, item}
-use Rattle.json_text.specs.ValueOf.{items_onto}
+use Rattle.json_text.specs.Tree.{Tree, null, boolean, number, string, array, object, Elements, no_elements, element}
+use Rattle.json_text.specs.ValueOf.{elements_onto}
 use Rattle.json_text.specs.Number.{IsNumberText}
 use Rattle.std.specs.Str.{encode_utf8_all}
 use Rattle.json_text.specs.Character.{AreCharacters}
@@ -13,9 +13,9 @@ use Rattle.json_text.proofs.ListLemmas.{head_is, tail_is, not_nil}
 use Rattle.json_text.proofs.NumberLemmas.{number_head, number_nil, number_state_live}
 use Rattle.json_text.proofs.ScanLemmas.{no_space}
 
-pub items_onto_append : (done : List Tree) (x : Tree) (xs : Items) → items_onto (done ++ x ∷ []) xs ≡ items_onto done (item x xs)
-items_onto_append [] x xs = refl
-items_onto_append (t ∷ ts) x xs = ap (item t) (items_onto_append ts x xs)
+pub elements_onto_append : (done : List Tree) (x : Tree) (xs : Elements) → elements_onto (done ++ x ∷ []) xs ≡ elements_onto done (element x xs)
+elements_onto_append [] x xs = refl
+elements_onto_append (t ∷ ts) x xs = ap (element t) (elements_onto_append ts x xs)
 
 -- ---- the first byte of a value
 
@@ -164,76 +164,76 @@ deep_list R d x b n le h = omega (arith, value_starts R d x 91 b n h)
 pub too_deep_list : (R : Rules) (st : List Level) → R.limit ≤ length st → IsDead R value st 91
 too_deep_list R st le b v h = deep_list R (length st) h.tree b h.rest le h.valued
 
-comma_on : (R : Rules) (done : List Tree) (x : Tree) (st : List Level) (b : List ℕ) (v : Tree) (xs : Items) (n : List ℕ) → More R (suc (length st)) xs (44 ∷ b) n → After R st (array (items_onto done (item x xs))) n v → Rest R value (in_list (done ++ x ∷ []) ∷ st) b v
-comma_on R done x st b v no_items n h a = absurd (omega (arith, head_is _ _ _ _ h))
-comma_on R done x st b v (item y ys) n h a = record {
+comma_on : (R : Rules) (done : List Tree) (x : Tree) (st : List Level) (b : List ℕ) (v : Tree) (xs : Elements) (n : List ℕ) → More R (suc (length st)) xs (44 ∷ b) n → After R st (array (elements_onto done (element x xs))) n v → Rest R value (in_list (done ++ x ∷ []) ∷ st) b v
+comma_on R done x st b v no_elements n h a = absurd (omega (arith, head_is _ _ _ _ h))
+comma_on R done x st b v (element y ys) n h a = record {
   tree = y;
   rest = h.1;
   valued = subst (λ (t : List ℕ). Value R (suc (length st)) y (skip t) h.1) (sym (tail_is _ _ _ _ h.2)) h.3;
-  after = (ys, n, h.4, rw (items_onto_append done x (item y ys)) a);
+  after = (ys, n, h.4, rw (elements_onto_append done x (element y ys)) a);
 }
 
 pub next_element : (R : Rules) (done : List Tree) (x : Tree) (st : List Level) → LeadsTo R (after x) (in_list done ∷ st) 44 value (in_list (done ++ x ∷ []) ∷ st)
 next_element R done x st = record {
   on = λ b v h. comma_on R done x st b v h.0 h.1 h.2 h.3;
-  back = λ b v h. let a = h.after in (item h.tree a.0, a.1, (b, h.rest, refl, h.valued, a.2), rw (items_onto_append done x (item h.tree a.0)) at a.3);
+  back = λ b v h. let a = h.after in (element h.tree a.0, a.1, (b, h.rest, refl, h.valued, a.2), rw (elements_onto_append done x (element h.tree a.0)) at a.3);
 }
 
-bracket_on : (R : Rules) (done : List Tree) (x : Tree) (st : List Level) (b : List ℕ) (v : Tree) (xs : Items) (n : List ℕ) → More R (suc (length st)) xs (93 ∷ b) n → After R st (array (items_onto done (item x xs))) n v → After R st (array (items_onto (done ++ x ∷ []) no_items)) b v
-bracket_on R done x st b v no_items n h a = rw (items_onto_append done x no_items) (subst (λ (t : List ℕ). After R st (array (items_onto done (item x no_items))) t v) (sym (tail_is _ _ _ _ h)) a)
-bracket_on R done x st b v (item y ys) n h a = absurd (omega (arith, head_is _ _ _ _ h.2))
+bracket_on : (R : Rules) (done : List Tree) (x : Tree) (st : List Level) (b : List ℕ) (v : Tree) (xs : Elements) (n : List ℕ) → More R (suc (length st)) xs (93 ∷ b) n → After R st (array (elements_onto done (element x xs))) n v → After R st (array (elements_onto (done ++ x ∷ []) no_elements)) b v
+bracket_on R done x st b v no_elements n h a = rw (elements_onto_append done x no_elements) (subst (λ (t : List ℕ). After R st (array (elements_onto done (element x no_elements))) t v) (sym (tail_is _ _ _ _ h)) a)
+bracket_on R done x st b v (element y ys) n h a = absurd (omega (arith, head_is _ _ _ _ h.2))
 
-pub closes_list : (R : Rules) (done : List Tree) (x : Tree) (st : List Level) → LeadsTo R (after x) (in_list done ∷ st) 93 (after (array (items_onto (done ++ x ∷ []) no_items))) st
-closes_list R done x st = record { on = λ b v h. bracket_on R done x st b v h.0 h.1 h.2 h.3; back = λ b v h. (no_items, b, refl, rw (items_onto_append done x no_items) at h) }
+pub closes_list : (R : Rules) (done : List Tree) (x : Tree) (st : List Level) → LeadsTo R (after x) (in_list done ∷ st) 93 (after (array (elements_onto (done ++ x ∷ []) no_elements))) st
+closes_list R done x st = record { on = λ b v h. bracket_on R done x st b v h.0 h.1 h.2 h.3; back = λ b v h. (no_elements, b, refl, rw (elements_onto_append done x no_elements) at h) }
 
 pub no_bracket : (R : Rules) (d : ℕ) (x : Tree) (b r : List ℕ) → Value R d x (93 ∷ b) r → ⊥
 no_bracket R d null b r h = omega (arith, value_starts R d null 93 b r h)
 no_bracket R d x b r h = omega (arith, value_starts R d x 93 b r h)
 
-first_off : (R : Rules) (st : List Level) (b : List ℕ) (v : Tree) (xs : Items) (n : List ℕ) → First R (suc (length st)) xs (93 ∷ b) n → After R st (array xs) n v → After R st (array no_items) b v
-first_off R st b v no_items n h a = subst (λ (t : List ℕ). After R st (array no_items) t v) (sym (tail_is _ _ _ _ h)) a
-first_off R st b v (item x ys) n h a = absurd (no_bracket R (suc (length st)) x b h.0 h.1)
+first_off : (R : Rules) (st : List Level) (b : List ℕ) (v : Tree) (xs : Elements) (n : List ℕ) → First R (suc (length st)) xs (93 ∷ b) n → After R st (array xs) n v → After R st (array no_elements) b v
+first_off R st b v no_elements n h a = subst (λ (t : List ℕ). After R st (array no_elements) t v) (sym (tail_is _ _ _ _ h)) a
+first_off R st b v (element x ys) n h a = absurd (no_bracket R (suc (length st)) x b h.0 h.1)
 
-pub closes_empty : (R : Rules) (st : List Level) → LeadsTo R first_element st 93 (after (array no_items)) st
-closes_empty R st = record { on = λ b v h. first_off R st b v h.0 h.1 h.2 h.3; back = λ b v h. (no_items, b, refl, h) }
+pub closes_empty : (R : Rules) (st : List Level) → LeadsTo R first_element st 93 (after (array no_elements)) st
+closes_empty R st = record { on = λ b v h. first_off R st b v h.0 h.1 h.2 h.3; back = λ b v h. (no_elements, b, refl, h) }
 
 -- where the list isn't closed at once, its first element comes
 pub first_on : (R : Rules) (st : List Level) (c : ℕ) → is_space c ≡ false → c ≢ 93 → (b : List ℕ) (v : Tree) → Rest R first_element st (c ∷ b) v → Rest R value (in_list [] ∷ st) (c ∷ b) v
 first_on R st c solid ne b v h = on h.0 h.2 h.3
   where
-    on : (xs : Items) → First R (suc (length st)) xs (c ∷ b) h.1 → After R st (array xs) h.1 v → Rest R value (in_list [] ∷ st) (c ∷ b) v
-    on no_items f a = absurd (ne (head_is _ _ _ _ (rw solid at f)))
-    on (item x xs) f a = record { tree = x; rest = f.0; valued = f.1; after = (xs, h.1, f.2, a) }
+    on : (xs : Elements) → First R (suc (length st)) xs (c ∷ b) h.1 → After R st (array xs) h.1 v → Rest R value (in_list [] ∷ st) (c ∷ b) v
+    on no_elements f a = absurd (ne (head_is _ _ _ _ (rw solid at f)))
+    on (element x xs) f a = record { tree = x; rest = f.0; valued = f.1; after = (xs, h.1, f.2, a) }
 
 pub first_back : (R : Rules) (st : List Level) (c : ℕ) (b : List ℕ) (v : Tree) → Rest R value (in_list [] ∷ st) (c ∷ b) v → Rest R first_element st (c ∷ b) v
-first_back R st c b v h = let a = h.after in (item h.tree a.0, a.1, (h.rest, h.valued, a.2), a.3)
+first_back R st c b v h = let a = h.after in (element h.tree a.0, a.1, (h.rest, h.valued, a.2), a.3)
 
 pub space_first_element : (R : Rules) (st : List Level) (c : ℕ) → is_space c ≡ true → LeadsTo R first_element st c first_element st
 space_first_element R st c e = record { on = λ b v h. (h.0, h.1, on h.0 h.1 b h.2, h.3); back = λ b v h. (h.0, h.1, off h.0 h.1 b h.2, h.3) }
   where
-    on : (xs : Items) (n b : List ℕ) → First R (suc (length st)) xs (c ∷ b) n → First R (suc (length st)) xs b n
-    on no_items n b h = rw e at h
-    on (item x xs) n b h = rw e at h
+    on : (xs : Elements) (n b : List ℕ) → First R (suc (length st)) xs (c ∷ b) n → First R (suc (length st)) xs b n
+    on no_elements n b h = rw e at h
+    on (element x xs) n b h = rw e at h
 
-    off : (xs : Items) (n b : List ℕ) → First R (suc (length st)) xs b n → First R (suc (length st)) xs (c ∷ b) n
-    off no_items n b h = rw e h
-    off (item x xs) n b h = rw e h
+    off : (xs : Elements) (n b : List ℕ) → First R (suc (length st)) xs b n → First R (suc (length st)) xs (c ∷ b) n
+    off no_elements n b h = rw e h
+    off (element x xs) n b h = rw e h
 
-pub space_more : (R : Rules) (d : ℕ) (c : ℕ) → is_space c ≡ true → (xs : Items) (b n : List ℕ) → (More R d xs (c ∷ b) n → More R d xs b n) × (More R d xs b n → More R d xs (c ∷ b) n)
-space_more R d c e no_items b n = (λ h. rw e at h, λ h. rw e h)
-space_more R d c e (item x xs) b n = (λ h. rw e at h, λ h. rw e h)
+pub space_more : (R : Rules) (d : ℕ) (c : ℕ) → is_space c ≡ true → (xs : Elements) (b n : List ℕ) → (More R d xs (c ∷ b) n → More R d xs b n) × (More R d xs b n → More R d xs (c ∷ b) n)
+space_more R d c e no_elements b n = (λ h. rw e at h, λ h. rw e h)
+space_more R d c e (element x xs) b n = (λ h. rw e at h, λ h. rw e h)
 
-pub more_dead : (R : Rules) (d : ℕ) (c : ℕ) (b : List ℕ) (xs : Items) (n : List ℕ) → is_space c ≡ false → c ≢ 44 → c ≢ 93 → More R d xs (c ∷ b) n → ⊥
-more_dead R d c b no_items n solid comma close h = close (head_is _ _ _ _ (rw solid at h))
-more_dead R d c b (item x xs) n solid comma close h = comma (head_is _ _ _ _ (rw solid at h.2))
+pub more_dead : (R : Rules) (d : ℕ) (c : ℕ) (b : List ℕ) (xs : Elements) (n : List ℕ) → is_space c ≡ false → c ≢ 44 → c ≢ 93 → More R d xs (c ∷ b) n → ⊥
+more_dead R d c b no_elements n solid comma close h = close (head_is _ _ _ _ (rw solid at h))
+more_dead R d c b (element x xs) n solid comma close h = comma (head_is _ _ _ _ (rw solid at h.2))
 
-pub more_nil : (R : Rules) (d : ℕ) (xs : Items) (n : List ℕ) → More R d xs [] n → ⊥
-more_nil R d no_items n h = not_nil 93 _ h
-more_nil R d (item x xs) n h = not_nil 44 _ h.2
+pub more_nil : (R : Rules) (d : ℕ) (xs : Elements) (n : List ℕ) → More R d xs [] n → ⊥
+more_nil R d no_elements n h = not_nil 93 _ h
+more_nil R d (element x xs) n h = not_nil 44 _ h.2
 
-pub first_element_nil : (R : Rules) (d : ℕ) (xs : Items) (n : List ℕ) → First R d xs [] n → ⊥
-first_element_nil R d no_items n h = not_nil 93 _ h
-first_element_nil R d (item x xs) n h = value_nil R d x h.0 h.1
+pub first_element_nil : (R : Rules) (d : ℕ) (xs : Elements) (n : List ℕ) → First R d xs [] n → ⊥
+first_element_nil R d no_elements n h = not_nil 93 _ h
+first_element_nil R d (element x xs) n h = value_nil R d x h.0 h.1
 
 -- ---- no other byte
 

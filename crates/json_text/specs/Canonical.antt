@@ -1,7 +1,7 @@
 -- The canonical spelling: the one text that is written of a tree.
 use Rattle.std.specs.Prelude.{◌≡◌, ℕ, ◌/◌, ◌%◌, List, [], ◌∷◌, ◌++◌, Bool, true, false, flat_map, nat_lt, ◌==◌, ◌||◌, if◌then◌else◌}
 use Rattle.std.specs.Char.{digit_char}
-use Rattle.json_text.specs.Tree.{Tree, null, boolean, number, string, array, object, Items, no_items, item, Members, no_members, member}
+use Rattle.json_text.specs.Tree.{Tree, null, boolean, number, string, array, object, Elements, no_elements, element, Members, no_members, member}
 use Rattle.json_text.specs.Grammar.{literal_null, literal_true, literal_false}
 
 -- one byte of a string: quotation mark and backslash after a backslash, a control character by its
@@ -27,14 +27,14 @@ abbrev mutual
   canonical (object ms) = 123 ∷ canonical_first_member ms
 
   -- after the opening bracket
-  pub canonical_first : Items → List ℕ
-  canonical_first no_items = 93 ∷ []
-  canonical_first (item x rest) = canonical x ++ canonical_more rest
+  pub canonical_first : Elements → List ℕ
+  canonical_first no_elements = 93 ∷ []
+  canonical_first (element x rest) = canonical x ++ canonical_more rest
 
   -- after an element
-  pub canonical_more : Items → List ℕ
-  canonical_more no_items = 93 ∷ []
-  canonical_more (item x rest) = 44 ∷ (canonical x ++ canonical_more rest)
+  pub canonical_more : Elements → List ℕ
+  canonical_more no_elements = 93 ∷ []
+  canonical_more (element x rest) = 44 ∷ (canonical x ++ canonical_more rest)
 
   -- after the opening brace
   pub canonical_first_member : Members → List ℕ
@@ -47,9 +47,9 @@ abbrev mutual
   canonical_more_members (member name x rest) = 44 ∷ (canonical_string name ++ (58 ∷ (canonical x ++ canonical_more_members rest)))
 
 -- Inner: the elements that follow: true where they are the first after the bracket
-abbrev pub canonical_items : Bool → Items → List ℕ
-canonical_items true xs = canonical_first xs
-canonical_items false xs = canonical_more xs
+abbrev pub canonical_elements : Bool → Elements → List ℕ
+canonical_elements true xs = canonical_first xs
+canonical_elements false xs = canonical_more xs
 
 -- Inner: the members that follow: true where they are the first after the brace
 abbrev pub canonical_members : Bool → Members → List ℕ

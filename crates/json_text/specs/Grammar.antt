@@ -1,7 +1,7 @@
 -- The relation of a tree and its texts (RFC 8259).
 use Rattle.std.specs.Prelude.{◌≡◌, ◌≢◌, ℕ, suc, ◌<◌, ◌||◌, ◌==◌, List, [], ◌∷◌, ◌++◌, Bool, true, false, cond}
 use Rattle.std.specs.Str.{encode_utf8_all}
-use Rattle.json_text.specs.Tree.{Tree, null, boolean, number, string, array, object, Items, no_items, item, Members, no_members, member, names}
+use Rattle.json_text.specs.Tree.{Tree, null, boolean, number, string, array, object, Elements, no_elements, element, Members, no_members, member, names}
 use Rattle.json_text.specs.Number.{IsNumberText}
 use Rattle.json_text.specs.Character.{AreCharacters}
 
@@ -73,14 +73,14 @@ abbrev mutual
   Value R d (object ms) b r = (d < R.limit) × Allows R (names ms) × ((m : List ℕ) × (b ≡ 123 ∷ m) × FirstMember R (suc d) ms m r)
 
   -- after the opening bracket
-  pub First : Rules → ℕ → Items → List ℕ → List ℕ → Type 0
-  First R d no_items b r = skip b ≡ 93 ∷ r
-  First R d (item x rest) b r = (n : List ℕ) × Value R d x (skip b) n × More R d rest n r
+  pub First : Rules → ℕ → Elements → List ℕ → List ℕ → Type 0
+  First R d no_elements b r = skip b ≡ 93 ∷ r
+  First R d (element x rest) b r = (n : List ℕ) × Value R d x (skip b) n × More R d rest n r
 
   -- after an element
-  pub More : Rules → ℕ → Items → List ℕ → List ℕ → Type 0
-  More R d no_items b r = skip b ≡ 93 ∷ r
-  More R d (item x rest) b r = (m : List ℕ) × (n : List ℕ) × (skip b ≡ 44 ∷ m) × Value R d x (skip m) n × More R d rest n r
+  pub More : Rules → ℕ → Elements → List ℕ → List ℕ → Type 0
+  More R d no_elements b r = skip b ≡ 93 ∷ r
+  More R d (element x rest) b r = (m : List ℕ) × (n : List ℕ) × (skip b ≡ 44 ∷ m) × Value R d x (skip m) n × More R d rest n r
 
   -- after the opening brace
   pub FirstMember : Rules → ℕ → Members → List ℕ → List ℕ → Type 0

@@ -1,4 +1,4 @@
--- The names of an object's members, as a test computes with them.
+-- Inner: the names of an object's members, as a test computes with them.
 use Rattle.std.specs.Prelude.{ℕ, List, [], ◌∷◌, Bool, true, false, not, ◌&&◌, ◌||◌, bytes_eq, map}
 
 -- whether the name is among these

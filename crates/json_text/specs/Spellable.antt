@@ -1,7 +1,7 @@
 -- Which trees have a text.
 use Rattle.std.specs.Prelude.{ℕ, suc, ◌<◌}
 use Rattle.std.specs.Str.{IsUtf8}
-use Rattle.json_text.specs.Tree.{Tree, null, boolean, number, string, array, object, Items, no_items, item, Members, no_members, member, names}
+use Rattle.json_text.specs.Tree.{Tree, null, boolean, number, string, array, object, Elements, no_elements, element, Members, no_members, member, names}
 use Rattle.json_text.specs.Number.{IsNumberText}
 use Rattle.json_text.specs.Grammar.{AreDistinct, profile}
 
@@ -17,9 +17,9 @@ abbrev mutual
   IsSpellableAt d (object ms) = (d < profile.limit) × AreDistinct (names ms) × HaveSpellable (suc d) ms
 
   -- each element is
-  pub AreSpellable : ℕ → Items → Type 0
-  AreSpellable d no_items = Unit {0}
-  AreSpellable d (item x rest) = IsSpellableAt d x × AreSpellable d rest
+  pub AreSpellable : ℕ → Elements → Type 0
+  AreSpellable d no_elements = Unit {0}
+  AreSpellable d (element x rest) = IsSpellableAt d x × AreSpellable d rest
 
   -- each member has a name and a value that are
   pub HaveSpellable : ℕ → Members → Type 0

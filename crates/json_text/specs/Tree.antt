@@ -8,13 +8,13 @@ mutual
     boolean : Bool → Tree
     number : List ℕ → Tree
     string : List ℕ → Tree
-    array : Items → Tree
+    array : Elements → Tree
     object : Members → Tree
 
   -- the elements of an array, in order
-  pub data Items : Type 0 where
-    no_items : Items
-    item : Tree → Items → Items
+  pub data Elements : Type 0 where
+    no_elements : Elements
+    element : Tree → Elements → Elements
 
   -- the members of an object, in order, each with its name
   pub data Members : Type 0 where
@@ -27,9 +27,9 @@ names no_members = []
 names (member name value rest) = name ∷ names rest
 
 -- the elements as a list
-abbrev pub items_list : Items → List Tree
-items_list no_items = []
-items_list (item x rest) = x ∷ items_list rest
+abbrev pub elements_list : Elements → List Tree
+elements_list no_elements = []
+elements_list (element x rest) = x ∷ elements_list rest
 
 -- the value of the first member of this name
 abbrev pub member_of : List ℕ → Members → Option Tree
@@ -87,7 +87,7 @@ array_of null = None
 array_of (boolean b) = None
 array_of (number text) = None
 array_of (string text) = None
-array_of (array xs) = Some (items_list xs)
+array_of (array xs) = Some (elements_list xs)
 array_of (object ms) = None
 
 -- the members, where the tree is an object

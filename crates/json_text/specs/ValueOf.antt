@@ -1,13 +1,13 @@
 -- The tree that a `Json` is.
 use Rattle.std.specs.Prelude.{ℕ, List, [], ◌∷◌, map}
-use Rattle.json_text.specs.Tree.{Tree, null, boolean, number, string, array, object, Items, no_items, item, Members, no_members, member}
+use Rattle.json_text.specs.Tree.{Tree, null, boolean, number, string, array, object, Elements, no_elements, element, Members, no_members, member}
 use Rattle.json_text.specs.declared.tree.Json.{Json, fold-Json}
 use Rattle.json_text.specs.declared.tree.Json.TheOpen.{Json-F}
 
 -- these elements, and then the others
-abbrev pub items_onto : List Tree → Items → Items
-items_onto [] rest = rest
-items_onto (x ∷ xs) rest = item x (items_onto xs rest)
+abbrev pub elements_onto : List Tree → Elements → Elements
+elements_onto [] rest = rest
+elements_onto (x ∷ xs) rest = element x (elements_onto xs rest)
 
 -- these members, and then the others
 abbrev pub members_onto : List (List ℕ × Tree) → Members → Members
@@ -20,7 +20,7 @@ value_step Json-F.Null = null
 value_step (Json-F.Bool b) = boolean b
 value_step (Json-F.Number text) = number text
 value_step (Json-F.Str text) = string text
-value_step (Json-F.List v) = array (items_onto v.items no_items)
+value_step (Json-F.List v) = array (elements_onto v.items no_elements)
 value_step (Json-F.Object v) = object (members_onto v.items no_members)
 
 -- the tree that a `Json` is

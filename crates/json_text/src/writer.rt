@@ -1,8 +1,8 @@
 //! The canonical spelling of a tree.
 ghost use Rattle.std.specs.Prelude.{◌≡◌, ℕ, List, ◌∷◌, ◌++◌, ◌<◌, map, flat_map, OnOk, OnErr};
 ghost use Rattle.gw_bytes.specs.Bytes.{IsPrefix};
-ghost use Rattle.json_text.specs.Tree.{Tree, no_items};
-ghost use Rattle.json_text.specs.ValueOf.{value_of, items_onto, members_value};
+ghost use Rattle.json_text.specs.Tree.{Tree, no_elements};
+ghost use Rattle.json_text.specs.ValueOf.{value_of, elements_onto, members_value};
 ghost use Rattle.json_text.specs.Grammar.{Spells};
 ghost use Rattle.json_text.specs.Canonical.{AppendsPrefix, canonical, canonical_first, canonical_first_member, canonical_string, canonical_byte};
 
@@ -61,7 +61,7 @@ fn write_value(tree: &Json, out: &mut Vec<u8>) -> Result<(), AllocError>
 /// Appends the elements of an array, with commas between them, and the closing bracket.
 #[cycle(values)]
 fn write_elements(elements: &[Json], out: &mut Vec<u8>) -> Result<(), AllocError>
-    ensures ok { OnOk result (out.new.items ≡ out.old.items ++ canonical_first (items_onto (map value_of elements.now) no_items)) }
+    ensures ok { OnOk result (out.new.items ≡ out.old.items ++ canonical_first (elements_onto (map value_of elements.now) no_elements)) }
     ensures grows { IsPrefix out.old.items out.new.items }
 {
     for (i, element) in elements.iter().enumerate() {

@@ -1,2 +1,4 @@
-pub mod Heard
+-- The definitions of this crate.
 pub mod Holding
+pub mod Link
+pub mod inner

@@ -1,6 +1,6 @@
 //! Reads and sends of one connection, neither of which waits long.
 ghost use Rattle.std.specs.Prelude.{◌≡◌, length};
-ghost use Rattle.net_site.specs.Heard.{IsHeard};
+ghost use Rattle.net_site.specs.inner.Received.{HasCount};
 
 use gw_bytes::LONGEST_CHUNK;
 use libc::net::{POLLOUT, poll};
@@ -15,10 +15,10 @@ const SEND_WAIT: u128 = 100;
 
 /// What a read brings.
 #[derive(Clone, Copy)]
-pub(crate) enum Heard {
+pub(crate) enum Received {
     Bytes(usize),
     End,
-    Nothing,
+    NotYet,
 }
 
 /// Sets a connection so that reads and writes return at once, and that what is written is sent at once (Nagle's
@@ -32,17 +32,17 @@ pub(crate) fn set_up(stream: &TcpStream) -> io::Result<()> {
 ///
 /// A peer that closed its sending half has ended the connection as one that closed or reset it: each message asks for a
 /// reply, and who takes no message any more reads none.
-pub(crate) fn hear(stream: &TcpStream, buf: &mut [u8; LONGEST_CHUNK]) -> Heard
+pub(crate) fn hear(stream: &TcpStream, buf: &mut [u8; LONGEST_CHUNK]) -> Received
     ensures buf { length buf.new ≡ 4096 }
-    ensures count { IsHeard result }
+    ensures count { HasCount result }
 {
     let mut reader = stream;
     match reader.read(buf) {
-        Ok(0) => Heard::End,
-        Ok(count) => Heard::Bytes(count),
+        Ok(0) => Received::End,
+        Ok(count) => Received::Bytes(count),
         Err(error) => match error.kind() {
-            ErrorKind::WouldBlock | ErrorKind::Interrupted => Heard::Nothing,
-            _ => Heard::End,
+            ErrorKind::WouldBlock | ErrorKind::Interrupted => Received::NotYet,
+            _ => Received::End,
         },
     }
 }

@@ -1,10 +1,13 @@
 //! The disk: one file. Once a call on it has failed, every later call fails.
 ghost use Rattle.std.specs.Prelude.{◌≡◌, length, true, false, IsErr, OnErr, OnOk, None, IfOk};
+ghost use Rattle.net_site.specs.Holding.{IsUsable, failed_disk};
+ghost use Rattle.net_site.specs.inner.Uses.{IsUseOf};
 
 use crate::file;
 use std::alloc::{AllocError, Global};
 use std::fs::File;
 use std::io::{self, ErrorKind};
+use std::marker::Model;
 use std::rt::Files;
 
 /// The most bytes of a path (Linux's PATH_MAX, without the 0 at its end).
@@ -18,13 +21,25 @@ const PATH: usize = 4095;
 pub(crate) struct Disk {
     opened: Option<File>,
     path: String,
-    pub(crate) failed: bool,
+    failed: bool,
+}
+
+impl Model for Disk {
+    ghost use Rattle.std.specs.Prelude.{is_some};
+    ghost use Rattle.net_site.specs.Holding.{DiskState};
+
+    ghost Value = { DiskState };
+
+    ghost view = { λ disk. record {
+      is_open = is_some disk.opened;
+      failed = disk.failed;
+    } };
 }
 
 impl Disk {
     /// No file yet, with room for a path.
     pub(crate) fn new(alloc: Global) -> Result<Disk, AllocError>
-        ensures { IfOk result (λ disk. disk.failed ≡ false) }
+        ensures { IfOk result (λ disk. disk ≡ record { is_open = false; failed = false }) }
     {
         let path = String::with_capacity(alloc, PATH)?;
         Ok(Disk {
@@ -36,7 +51,7 @@ impl Disk {
 
     /// Closes the file, which gives its lock up.
     pub(crate) fn close(&mut self)
-        ensures { self.new.failed ≡ self.old.failed }
+        ensures { self.new ≡ record self.old { is_open = false } }
     {
         self.opened = None;
     }
@@ -44,6 +59,7 @@ impl Disk {
     /// Opens the file at this path. It fails where a call on the disk has failed before.
     pub(crate) fn open<R: Files<File = File>>(&mut self, rt: &R, path: &str) -> io::Result<()>
         ensures same { self.new.failed ≡ self.old.failed }
+        ensures file { OnOk result (self.new.is_open ≡ true) }
         ensures failed { self.old.failed ≡ true → IsErr result }
     {
         if self.failed || path.len() > PATH {
@@ -57,7 +73,7 @@ impl Disk {
 
     /// The file, where it is open and no call on it has failed.
     fn file(&self) -> io::Result<&File>
-        ensures { self.now.failed ≡ true → IsErr result }
+        ensures { OnOk result (IsUsable self.now) }
     {
         if self.failed {
             return Err(io::Error::from(ErrorKind::BrokenPipe));
@@ -69,7 +85,7 @@ impl Disk {
     }
 
     fn read_length(&self) -> io::Result<u64>
-        ensures { self.now.failed ≡ true → IsErr result }
+        ensures { OnOk result (IsUsable self.now) }
     {
         match self.file() {
             Ok(file) => Ok(file.metadata()?.len()),
@@ -78,7 +94,7 @@ impl Disk {
     }
 
     fn read(&self, offset: u64, buf: &mut [u8]) -> io::Result<()>
-        ensures failed { self.now.failed ≡ true → IsErr result }
+        ensures usable { OnOk result (IsUsable self.now) }
         ensures size { length buf.new ≡ length buf.old }
     {
         match self.file() {
@@ -88,7 +104,7 @@ impl Disk {
     }
 
     fn write<R: Files<File = File>>(&self, rt: &R, offset: u64, bytes: &[u8]) -> io::Result<()>
-        ensures { self.now.failed ≡ true → IsErr result }
+        ensures { OnOk result (IsUsable self.now) }
     {
         match self.file() {
             Ok(file) => file::write_named(rt, file, self.path.as_str(), offset, bytes),
@@ -97,7 +113,7 @@ impl Disk {
     }
 
     fn write_back(&self) -> io::Result<()>
-        ensures { self.now.failed ≡ true → IsErr result }
+        ensures { OnOk result (IsUsable self.now) }
     {
         match self.file() {
             Ok(file) => file.sync_data(),
@@ -108,8 +124,8 @@ impl Disk {
     /// Remembers a failure.
     fn noted<T>(&mut self, done: io::Result<T>) -> io::Result<T>
         ensures same { result ≡ done }
-        ensures ok { OnOk result (self.new.failed ≡ self.old.failed) }
-        ensures err { OnErr result (self.new.failed ≡ true) }
+        ensures ok { OnOk result (self.new ≡ self.old) }
+        ensures err { OnErr result (self.new ≡ failed_disk self.old) }
     {
         if done.is_err() {
             self.failed = true;
@@ -119,8 +135,7 @@ impl Disk {
 
     /// The file's length.
     pub(crate) fn length(&mut self) -> io::Result<u64>
-        ensures ok { OnOk result ((self.old.failed ≡ false) × (self.new.failed ≡ false)) }
-        ensures err { OnErr result (self.new.failed ≡ true) }
+        ensures { IsUseOf self.old self.new result }
     {
         let done = self.read_length();
         self.noted(done)
@@ -128,8 +143,7 @@ impl Disk {
 
     /// Fills the buffer from an offset on, with zeros past the file's end.
     pub(crate) fn read_at(&mut self, offset: u64, buf: &mut [u8]) -> io::Result<()>
-        ensures ok { OnOk result ((self.old.failed ≡ false) × (self.new.failed ≡ false)) }
-        ensures err { OnErr result (self.new.failed ≡ true) }
+        ensures uses { IsUseOf self.old self.new result }
         ensures size { length buf.new ≡ length buf.old }
     {
         let done = self.read(offset, buf);
@@ -143,8 +157,7 @@ impl Disk {
         offset: u64,
         bytes: &[u8],
     ) -> io::Result<()>
-        ensures ok { OnOk result ((self.old.failed ≡ false) × (self.new.failed ≡ false)) }
-        ensures err { OnErr result (self.new.failed ≡ true) }
+        ensures { IsUseOf self.old self.new result }
     {
         let done = self.write(rt, offset, bytes);
         self.noted(done)
@@ -152,8 +165,7 @@ impl Disk {
 
     /// Writes what is cached to the disk.
     pub(crate) fn sync(&mut self) -> io::Result<()>
-        ensures ok { OnOk result ((self.old.failed ≡ false) × (self.new.failed ≡ false)) }
-        ensures err { OnErr result (self.new.failed ≡ true) }
+        ensures { IsUseOf self.old self.new result }
     {
         let done = self.write_back();
         self.noted(done)

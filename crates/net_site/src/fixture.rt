@@ -24,7 +24,8 @@ pub(crate) fn is_child(rt: &HostRuntime) -> bool {
     env::var(rt, "NET_SITE_CHILD").is_ok()
 }
 
-fn terminal(rt: &HostRuntime, number: usize, address: SocketAddr) -> Result<Pt, Fail> {
+/// A terminal at this address, which may be no address.
+pub(crate) fn terminal_at(rt: &HostRuntime, number: usize, address: &str) -> Result<Pt, Fail> {
     let poi = format!(in rt.alloc(); "T{number}")?;
     Ok(Pt {
         poi: Ident::of(poi.as_str().as_bytes()).ok_or("an identifier")?,
@@ -47,7 +48,8 @@ pub(crate) fn setup(
 ) -> Result<Setup, Fail> {
     let mut terminals = Vec::new(rt.alloc());
     for (number, address) in far.iter().enumerate() {
-        terminals.push(terminal(rt, number, *address)?)?;
+        let address = format!(in rt.alloc(); "{address}")?;
+        terminals.push(terminal_at(rt, number, address.as_str())?)?;
     }
     Ok(Setup {
         name: Ident::of(b"GATEWAY").ok_or("an identifier")?,

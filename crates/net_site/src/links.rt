@@ -1,10 +1,11 @@
 //! The links to terminals. A connection that isn't made in time goes on being made while the gateway does other work.
 ghost use Rattle.std.specs.Prelude.{◌≡◌, ◌<◌, ◌≤◌, [], ◌++◌, ◌∷◌, All, length, vec_capacity, slice_set, true, false, IfOk, OnErr, OnOk, Bool};
 ghost use Rattle.gw_site.specs.Turns.{IsWithinBuf};
-ghost use Rattle.net_site.specs.Heard.{is_up};
-ghost use Rattle.net_site.specs.Holding.{LinkHears, IsLinked};
+ghost use Rattle.net_site.specs.Link.{is_up};
+ghost use Rattle.net_site.specs.inner.Received.{LinkHears};
+ghost use Rattle.net_site.specs.Holding.{IsLinked};
 
-use crate::connection::{self, Heard};
+use crate::connection::{self, Received};
 use gw_base::Pt;
 use gw_bytes::{LONGEST_CHUNK, MOST_TERMINALS};
 use gw_site::What;
@@ -46,7 +47,7 @@ pub(crate) struct Links {
 
 impl Model for Links {
     ghost use Rattle.std.specs.Prelude.{List, map, Bool};
-    ghost use Rattle.net_site.specs.Heard.{is_up};
+    ghost use Rattle.net_site.specs.Link.{is_up};
 
     ghost Value = { List Bool };
 
@@ -140,8 +141,8 @@ impl Links {
         Ok(())
     }
 
-    /// Lets links wait anew.
-    pub(crate) fn rest(&mut self)
+    /// Gives links their time to wait anew.
+    pub(crate) fn wait_anew(&mut self)
         ensures { self.new ≡ self.old }
     {
         self.patience = WAIT;
@@ -224,9 +225,9 @@ impl Links {
         };
         let pt = at as u16;
         match connection::hear(stream, buf) {
-            Heard::Nothing => What::Nothing,
-            Heard::Bytes(count) => What::PtBytes(pt, count),
-            Heard::End => {
+            Received::NotYet => What::Nothing,
+            Received::Bytes(count) => What::PtBytes(pt, count),
+            Received::End => {
                 self.put(at, Link::Down);
                 What::PtClosed(pt)
             }

@@ -2,7 +2,7 @@
 ghost use Rattle.std.specs.Prelude.{◌≡◌, ◌↔◌, ◌≤◌, All, length, [], None, true, false, IfOk, IsErr, OnOk, OnErr, Contains, slice_set};
 ghost use Rattle.gw_site.specs.Failures.{HasCause, faults_after};
 ghost use Rattle.gw_site.specs.Turns.{IsWithinBuf};
-ghost use Rattle.net_site.specs.Holding.{AllGone, Brings, IsLinked, Links as LinksTo, OpensSite, UsesDisk, without_till};
+ghost use Rattle.net_site.specs.Holding.{AllGone, Brings, IsLinked, MakesLink, OpensSite, UsesDisk, closed, without_till};
 
 use crate::disk::Disk;
 use crate::file;
@@ -40,7 +40,7 @@ pub struct NetSite<R: Drop> {
     rt: R,
     listener: Option<TcpListener>,
     /// Whether the listener is left out of the next poll.
-    resting: bool,
+    skips_listener: bool,
     tills: Tills,
     links: Links,
     disk: Disk,
@@ -57,13 +57,15 @@ pub struct NetSite<R: Drop> {
 
 impl<R: Drop> Model for NetSite<R> {
     ghost use Rattle.net_site.specs.Holding.{Holding};
+    ghost use Rattle.std.specs.Prelude.{is_some};
 
     ghost Value = { Holding };
 
     ghost view = { λ site. record {
       tills = site.tills;
       links = site.links;
-      disk_failed = site.disk.failed;
+      listens = is_some site.listener;
+      disk = site.disk;
       faults = site.faults;
     } };
 }
@@ -109,7 +111,7 @@ fn listen<R: Net<Listener = TcpListener, Stream = TcpStream>>(
 impl<R: Drop> NetSite<R> {
     /// A site on which nothing is open yet.
     pub fn new(rt: R, alloc: Global) -> Result<NetSite<R>, AllocError>
-        ensures { IfOk result (λ site. site ≡ record { tills = record { connected = []; last = 0 }; links = []; disk_failed = false; faults = 0 }) }
+        ensures { IfOk result (λ site. site ≡ record { tills = record { connected = []; last = 0 }; links = []; listens = false; disk = record { is_open = false; failed = false }; faults = 0 }) }
     {
         let tills = Tills::new(alloc)?;
         let links = Links::new(alloc)?;
@@ -118,7 +120,7 @@ impl<R: Drop> NetSite<R> {
         Ok(NetSite {
             rt,
             listener: None,
-            resting: false,
+            skips_listener: false,
             tills,
             links,
             disk,
@@ -147,7 +149,7 @@ impl<R: Drop> NetSite<R> {
 
     /// Closes all connections, the listener and the file.
     fn close(&mut self)
-        ensures { self.new ≡ record self.old { tills = record self.old.tills { connected = [] }; links = [] } }
+        ensures { self.new ≡ closed self.old }
     {
         self.listener = None;
         self.tills.clear();
@@ -161,10 +163,10 @@ impl<R: Drop> NetSite<R> {
         requires { AllGone self.old }
         ensures gone { AllGone self.new }
         ensures numbers { self.new.tills ≡ self.old.tills }
-        ensures disk { self.new.disk_failed ≡ self.old.disk_failed }
+        ensures failed { self.new.disk.failed ≡ self.old.disk.failed }
         ensures faults { self.new.faults ≡ self.old.faults }
-        ensures kept { is_open ≡ true → self.new.links ≡ self.old.links }
-        ensures none { is_open ≡ false → self.new.links ≡ [] }
+        ensures kept { is_open ≡ true → self.new ≡ self.old }
+        ensures closed { is_open ≡ false → self.new ≡ closed self.old }
     {
         if !is_open {
             self.close();
@@ -177,7 +179,7 @@ impl<R: Drop> NetSite<R> {
     /// connection that can't be taken, again and again.
     fn listening(&self) -> i32 {
         match &self.listener {
-            Some(listener) if !self.resting && self.tills.has_room() => listener.as_raw_fd(),
+            Some(listener) if !self.skips_listener && self.tills.has_room() => listener.as_raw_fd(),
             _ => -1,
         }
     }
@@ -215,7 +217,7 @@ impl<R: Drop> NetSite<R> {
         ensures { self.new ≡ self.old }
     {
         self.asked[LISTENER] = asked(self.listening());
-        self.resting = false;
+        self.skips_listener = false;
         poll(&mut self.asked, WAIT) > 0
     }
 
@@ -224,17 +226,13 @@ impl<R: Drop> NetSite<R> {
         ensures brings { Brings self.old self.new result }
         ensures count { IsWithinBuf result }
     {
-        let opened = match &self.listener {
-            Some(listener) => self.tills.accept(listener),
-            None => None,
-        };
-        match opened {
-            Some(till) => What::TillOpened(till),
-            None => {
-                self.resting = true;
-                What::Nothing
-            }
+        if let Some(listener) = &self.listener
+            && let Some(till) = self.tills.accept(listener)
+        {
+            return What::TillOpened(till);
         }
+        self.skips_listener = true;
+        What::Nothing
     }
 
     /// What there is at an index.
@@ -298,10 +296,12 @@ impl<
         requires { self.old.links ≡ [] }
         ensures tills { self.new.tills ≡ self.old.tills }
         ensures links { All (λ up. up ≡ false) self.new.links }
-        ensures disk { self.new.disk_failed ≡ self.old.disk_failed }
+        ensures disk { self.new.disk.failed ≡ self.old.disk.failed }
         ensures faults { self.new.faults ≡ self.old.faults }
         ensures terminals { OnOk result (length self.new.links ≡ length setup.now.terminals) }
-        ensures failed { self.old.disk_failed ≡ true → IsErr result }
+        ensures listens { OnOk result (self.new.listens ≡ true) }
+        ensures file { OnOk result (self.new.disk.is_open ≡ true) }
+        ensures failed { self.old.disk.failed ≡ true → IsErr result }
     {
         file::take_standard(&self.rt, &mut self.standard)?;
         self.disk.open(&self.rt, setup.journal.as_str())?;
@@ -318,7 +318,7 @@ impl<R: Net<Listener = TcpListener, Stream = TcpStream> + Files<File = File> + C
     fn open(&mut self, setup: &Setup) -> Result<(), Failed>
         ensures opens { OpensSite setup.now self.old self.new result }
         ensures cause { HasCause self.old.faults self.new.faults result }
-        ensures failed { self.old.disk_failed ≡ true → IsErr result }
+        ensures failed { self.old.disk.failed ≡ true → IsErr result }
     {
         self.close();
         let done = self.start(setup);
@@ -331,7 +331,7 @@ impl<R: Net<Listener = TcpListener, Stream = TcpStream> + Files<File = File> + C
         ensures buf { length buf.new ≡ 4096 }
         ensures count { IsWithinBuf result.what }
     {
-        self.links.rest();
+        self.links.wait_anew();
         let what = self.ask(buf);
         self.ask_anew(what);
         self.now = moment(&self.rt, self.now);
@@ -360,7 +360,7 @@ impl<R: Net<Listener = TcpListener, Stream = TcpStream> + Files<File = File> + C
     }
 
     fn link_pt(&mut self, pt: u16) -> Result<(), Failed>
-        ensures links { LinksTo self.old self.new pt result }
+        ensures links { MakesLink self.old self.new pt result }
         ensures cause { HasCause self.old.faults self.new.faults result }
     {
         let done = self.links.make(&self.rt, pt);

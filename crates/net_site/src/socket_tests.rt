@@ -1,6 +1,9 @@
 //! Tests of the sockets, over loopback.
 use crate::NetSite;
-use crate::fixture::{address, brings, brings_bytes, check, is_child, opened, path, read};
+use crate::fixture::{
+    address, brings, brings_bytes, check, is_child, open, opened, path, read, setup, terminal_at,
+};
+use gw_base::Pts;
 use gw_bytes::{LONGEST_CHUNK, MOST_TERMINALS};
 use gw_site::{Site, What};
 use libc::net::listen;
@@ -9,7 +12,7 @@ use std::io::Write;
 use std::net::{Shutdown, SocketAddr, TcpListener, TcpStream};
 use std::os::fd::AsRawFd;
 use std::test::Fail;
-use std::time::{Duration, Instant};
+use std::time::{Clock, Duration, Instant};
 
 fn a_till(
     rt: &HostRuntime,
@@ -65,6 +68,27 @@ fn a_second_link(site: &mut NetSite<&HostRuntime>, listener: &TcpListener) -> Re
     drop(second);
     brings(site, What::PtClosed(0), "the second ends")?;
     check(site.link_pt(1).is_err(), "there is no other terminal")
+}
+
+/// An address is an IP address and a port: to look a name up could take seconds.
+#[test]
+fn names_are_no_addresses(rt: HostRuntime) -> Result<(), Fail> {
+    if is_child(&rt) {
+        return Ok(());
+    }
+    let journal = path(&rt, "names")?;
+    let near = format!(in rt.alloc(); "{}", address(&rt, 47014))?;
+    let far = [address(&rt, 47015)];
+    let mut site = NetSite::new(&rt, rt.alloc())?;
+    for listen_at in ["localhost:47014", "127.0.0.1", ""] {
+        let other = setup(&rt, listen_at, journal.as_str(), &far)?;
+        check(!open(&mut site, &other)?, "a name to listen at")?;
+    }
+    let mut named = setup(&rt, near.as_str(), journal.as_str(), &[])?;
+    named.terminals = Pts::new(vec![in rt.alloc(); terminal_at(&rt, 1, "localhost:47015")?]?);
+    check(!open(&mut site, &named)?, "a terminal's name")?;
+    fs::remove_file(&rt, journal.as_str())?;
+    Ok(())
 }
 
 #[test]
@@ -176,12 +200,23 @@ fn peers_that_misbehave(rt: HostRuntime) -> Result<(), Fail> {
     Ok(())
 }
 
-/// The others wait, and the poll does too: it doesn't return at once for them.
+/// The moment, in seconds.
+fn seconds(rt: &HostRuntime) -> Result<i64, Fail> {
+    Ok(i64::try_from(rt.since_1970()?.as_secs()).unwrap_or(i64::MAX))
+}
+
+/// The others wait, and the poll does too: it doesn't return at once for them. Its moment is that of the clock.
 fn four_quiet_polls(rt: &HostRuntime, site: &mut NetSite<&HostRuntime>) -> Result<(), Fail> {
     let mut buf = [0; 4096];
     let start = Instant::now(rt)?;
     for _ in 0..4 {
-        check(site.poll(&mut buf).what == What::Nothing, "nothing comes")?;
+        let before = seconds(rt)?;
+        let polled = site.poll(&mut buf);
+        check(polled.what == What::Nothing, "nothing comes")?;
+        check(
+            before <= polled.now && polled.now <= seconds(rt)?,
+            "the moment is the clock's",
+        )?;
     }
     check(
         start.elapsed(rt)? >= Duration::from_millis(150),

@@ -1,10 +1,10 @@
 //! The connections of tills.
 ghost use Rattle.std.specs.Prelude.{◌≡◌, ◌<◌, ◌≤◌, ◌+◌, [], length, vec_capacity, IfSome, OnErr, IfOk, None, Contains};
 ghost use Rattle.gw_site.specs.Turns.{IsWithinBuf};
-ghost use Rattle.net_site.specs.Heard.{connections_without};
-ghost use Rattle.net_site.specs.Holding.{TillHears, with_next, without_till};
+ghost use Rattle.net_site.specs.inner.Received.{TillHears, connections_without};
+ghost use Rattle.net_site.specs.Holding.{with_next, without_till};
 
-use crate::connection::{self, Heard};
+use crate::connection::{self, Received};
 use gw_bytes::{LONGEST_CHUNK, MOST_TILLS};
 use gw_site::What;
 use std::alloc::{AllocError, Global};
@@ -117,9 +117,9 @@ impl Tills {
         };
         let till = connection.till;
         match connection::hear(&connection.stream, buf) {
-            Heard::Nothing => What::Nothing,
-            Heard::Bytes(count) => What::TillBytes(till, count),
-            Heard::End => {
+            Received::NotYet => What::Nothing,
+            Received::Bytes(count) => What::TillBytes(till, count),
+            Received::End => {
                 self.close(till);
                 What::TillClosed(till)
             }

@@ -88,7 +88,7 @@ command_fits none chosen book class (Some (command.Enquire password)) fits digit
 command_fits none chosen book class (Some (command.Reverse password receipt)) fits digits = reversal_fits (is_full book) (last_payment receipt book) book refl (last_payment_fits receipt book fits)
 command_fits none chosen book class (Some (command.EndOfDay password)) fits digits = record { reported = refl; booked = refl }
 command_fits none chosen book class (Some command.Stop) fits digits = record { reported = refl; booked = refl }
-command_fits none chosen book class (Some (command.Show lines)) fits digits = record { reported = refl; booked = refl }
+command_fits none chosen book class (Some (command.Show display_lines)) fits digits = record { reported = refl; booked = refl }
 
 -- what `law_commands` says of a command that was decoded
 abbrev pub Digits : Type 0

@@ -263,7 +263,7 @@ command_truly tail own chosen book (command.EndOfDay password) which none stop_w
     let P : DialogueKind → Type 0 = λ k. Truly tail k none stop_wished book reaction.Completed in
     subst P (kind_is EndOfDay which e) (two_end EndOfDay none stop_wished book [] Ack Completion (λ _. tt) (λ _. refl))
 command_truly tail own chosen book command.Stop which none stop_wished e = absurd (no_kind which e)
-command_truly tail own chosen book (command.Show lines) which none stop_wished e =
+command_truly tail own chosen book (command.Show display_lines) which none stop_wished e =
     let P : DialogueKind → Type 0 = λ k. Truly tail k none stop_wished book reaction.Acknowledged in
     subst P (kind_is Display which e) (one_ends Display none stop_wished book [] Ack (λ _. refl))
 
@@ -327,7 +327,7 @@ whole_answer tail own chosen book (command.EndOfDay password) which e goes_on =
     let P : DialogueKind → Type 0 = λ k. has_ended k (Ack ∷ Completion ∷ []) ≡ true in
     subst P (kind_is EndOfDay which e) refl
 whole_answer tail own chosen book command.Stop which e goes_on = absurd (no_kind which e)
-whole_answer tail own chosen book (command.Show lines) which e goes_on =
+whole_answer tail own chosen book (command.Show display_lines) which e goes_on =
     let P : DialogueKind → Type 0 = λ k. has_ended k (Ack ∷ []) ≡ true in
     subst P (kind_is Display which e) refl
 

@@ -1,5 +1,5 @@
 -- The examples of a played terminal, by computing.
-use Rattle.std.proofs.Common.{◌≡◌, ℕ, ◌+◌, cond, leb, List, [], ◌∷◌, length, refl, ap, ◌∙◌, arith}
+use Rattle.std.proofs.Common.{◌≡◌, ℕ, ◌+◌, ◌≤◌, cond, leb, List, [], ◌∷◌, ◌++◌, length, refl, ap, ◌∙◌, arith}
 use Rattle.std.specs.Prelude.{◌%◌, false, true}
 use Rattle.std.proofs.lemmas.List.{length-replicate}
 use Rattle.zvt_apdu.specs.DecodeStream.{decode_apdus, decode_apdus_within}
@@ -12,8 +12,8 @@ use Rattle.pt_core.specs.declared.play.Play.TheVariants as play
 use Rattle.pt_core.specs.declared.reaction.Reaction.{Reaction}
 use Rattle.pt_core.specs.declared.reaction.Reaction.TheVariants as reaction
 use Rattle.pt_core.specs.Table.{at_command}
-use Rattle.pt_core.specs.Exchange.{Hears}
-use Rattle.pt_core.specs.Example.{ExampleBook, ExampleEnd, ExampleHearing, ExampleLastNumber, ExampleMet, acknowledgement, approval, approved_came, long_book, payment_entry, played_dialogue}
+use Rattle.pt_core.specs.Exchange.{Hears, Links}
+use Rattle.pt_core.specs.Example.{ExampleBook, ExampleEnd, ExampleHearing, ExampleLastTrace, ExampleMet, ExampleSharedCause, acknowledgement, approval, approved_came, known_reversal, long_book, payment_bytes, payment_entry, played_dialogue}
 
 pub example_met : ExampleMet
 unfolding decode_apdus decode_apdus_within decode_command
@@ -31,6 +31,7 @@ pub example_hearing : ExampleHearing
 unfolding decode_apdus decode_apdus_within decode_command decode_pt_message decode_status decode_status_within decode_status_field decode_field_value
 example_hearing = record {
   hears = (([], refl), ((approval, refl), tt));
+  all_heard = refl;
   places = refl;
   brings = record {
     after = [];
@@ -49,7 +50,17 @@ example_hearing = record {
   };
 }
 
--- ---- the last number
+two_more : (before all : ℕ) → before ≡ 0 → all ≡ 2 → before + 2 ≤ all
+two_more before all is_before is_all = omega arith
+
+pub example_shared_cause : ExampleSharedCause
+unfolding decode_apdus decode_apdus_within decode_command
+example_shared_cause = record {
+  places = refl;
+  completes = record { after = []; bytes = payment_bytes ++ known_reversal; before = Links ∷ []; parts = refl; position = refl; two = two_more _ _ refl refl };
+}
+
+-- ---- the last trace number
 
 long_length : (count : ℕ) → length (long_book count) ≡ count
 unfolding long_book
@@ -67,8 +78,8 @@ payment_at count = ap payment_with (long_length count)
 reversal_choice : (count n : ℕ) (other : Reaction) → n ≡ count → leb 999999 count ≡ true → cond (leb 999999 n) (reaction.Aborted 0x83) other ≡ reaction.Aborted 0x83
 reversal_choice count n other is full = ap (λ (k : ℕ). cond (leb 999999 k) (reaction.Aborted 0x83) other) is ∙ ap (λ b. cond b (reaction.Aborted 0x83) other) full
 
-pub example_last_number : ExampleLastNumber
-example_last_number = record {
+pub example_last_trace : ExampleLastTrace
+example_last_trace = record {
   many = long_length 999998;
   last = payment_at 999998;
   full = long_length 999999;

@@ -52,7 +52,7 @@ booked none chosen book class (Some (command.Enquire password)) = enquired none 
 booked none chosen book class (Some (command.Reverse password receipt)) = reversed (is_full book) (last_payment receipt book) book password receipt refl refl
 booked none chosen book class (Some (command.EndOfDay password)) = tt
 booked none chosen book class (Some command.Stop) = tt
-booked none chosen book class (Some (command.Show lines)) = tt
+booked none chosen book class (Some (command.Show display_lines)) = tt
 
 -- ---- the numbers of a book
 

@@ -1,13 +1,14 @@
 pub mod AnswerLemmas
 pub mod BookLemmas
+pub mod CauseLemmas
 pub mod EndLemmas
 pub mod ExampleLemmas
 pub mod GrowthLemmas
 pub mod HearingLemmas
 pub mod HistoryLemmas
 pub mod HonestLemmas
-pub mod Kept
+pub mod KeptLemmas
 pub mod PlaceLemmas
 pub mod PrefixLemmas
-pub mod Progress
+pub mod ProgressLemmas
 pub mod SplitLemmas

@@ -11,15 +11,15 @@ fits_status entry = nat_lt entry.number 1000000 && (nat_lt entry.receipt 10000 &
 abbrev pub all_fit : List BookEntry → Bool
 all_fit book = list_all fits_status book
 
--- the last number of an entry: the greatest trace number
-abbrev pub last_number : ℕ
-last_number = 999999
+-- the last trace number of an entry, the greatest of six digits
+abbrev pub last_trace : ℕ
+last_trace = 999999
 
 -- a book holds as many entries, and takes no more
 abbrev pub is_full : List BookEntry → Bool
-is_full book = nat_le last_number (length book)
+is_full book = nat_le last_trace (length book)
 
--- The entry that a book takes next. Entries are numbered from 1, and the receipt number is the number modulo 10,000.
+-- The entry that a book takes next. Entries are numbered from 1, and the receipt number is the trace number modulo 10,000.
 abbrev pub next_entry : List BookEntry → ℕ → Bool → BookEntry
 next_entry book amount reversal = record {
   number = length book + 1;

@@ -13,12 +13,12 @@ entry_figures entry = record { number = entry.number; receipt = entry.receipt; a
 
 -- the last entry of the book is reported, or that there is none
 abbrev pub IsReported : Option BookEntry → ℕ → Option Figures → Type 0
-IsReported None number approved = (number ≡ 0) × (approved ≡ None)
-IsReported (Some entry) number approved = (number ≡ entry.number) × (approved ≡ Some (entry_figures entry))
+IsReported None trace approved = (trace ≡ 0) × (approved ≡ None)
+IsReported (Some entry) trace approved = (trace ≡ entry.number) × (approved ≡ Some (entry_figures entry))
 
 -- The end of a dialogue is true of the book before its command and of what the command books: approved, it books the
 -- entry with these figures; declined or done, it books nothing, and declined no number is reported; reported, that is the last
--- entry.
+-- entry. Each entry is approved (`FollowsEntry`), so that it isn't said again here.
 abbrev pub IsTrueEnd : List BookEntry → List BookEntry → Heard → Type 0
 IsTrueEnd book booked (heard.Begun stop) = Unit {0}
 IsTrueEnd book booked (heard.Note code) = Unit {0}
@@ -27,7 +27,7 @@ IsTrueEnd book booked heard.Block = Unit {0}
 IsTrueEnd book booked heard.Seen = Unit {0}
 IsTrueEnd book booked (heard.Approved figures) = (entry : BookEntry) × (booked ≡ entry ∷ []) × (figures ≡ entry_figures entry)
 IsTrueEnd book booked heard.Done = booked ≡ []
-IsTrueEnd book booked (heard.Told number approved code) = IsReported (last_book_entry book) number approved
-IsTrueEnd book booked (heard.Declined code number) = (booked ≡ []) × (number ≡ None)
+IsTrueEnd book booked (heard.Told trace approved code) = IsReported (last_book_entry book) trace approved
+IsTrueEnd book booked (heard.Declined code trace) = (booked ≡ []) × (trace ≡ None)
 IsTrueEnd book booked heard.Unclear = Unit {0}
 IsTrueEnd book booked heard.Stray = Unit {0}

@@ -1,4 +1,4 @@
--- Examples of a played terminal: what it keeps and answers, what the gateway hears of it, and its last number.
+-- Examples of a played terminal: what it keeps and answers, what the gateway hears of it, and its last trace number.
 use Rattle.std.specs.Prelude.{◌≡◌, ℕ, pos, List, [], ◌∷◌, ◌++◌, length, replicate, None, Some, true, false}
 use Rattle.gw_base.specs.declared.figures.Figures.{Figures}
 use Rattle.gw_bytes.specs.Bytes.{IsPrefix}
@@ -15,12 +15,12 @@ use Rattle.zvt_talk.specs.Talk.{end_of}
 use Rattle.pt_core.specs.declared.book.BookEntry.{BookEntry}
 use Rattle.pt_core.specs.declared.play.Play.TheVariants as play
 use Rattle.pt_core.specs.declared.reaction.Reaction.TheVariants as reaction
-use Rattle.pt_core.specs.Book.{last_number}
+use Rattle.pt_core.specs.Book.{last_trace}
 use Rattle.pt_core.specs.Table.{at_command, entries_of, messages_of}
 use Rattle.pt_core.specs.Ends.{IsTrueEnd}
 use Rattle.pt_core.specs.History.{Setting, Met, NewLink, Chunk, answered, book_after, book_of, has_cut, reaction_after, terminal_after}
 use Rattle.pt_core.specs.Honest.{AreEntriesNumbered}
-use Rattle.pt_core.specs.Exchange.{Exchange, Links, Sends, Hears, BringsEnd, HearsAnswers, placed_book}
+use Rattle.pt_core.specs.Exchange.{Exchange, Links, Sends, Hears, BringsEnd, CompletesTwo, HearsAnswers, heard_on_link, met_of, placed_book}
 
 -- a terminal that approves one payment, declines one, and cuts the connection at one after it has booked it
 abbrev pub played_setting : Setting
@@ -55,9 +55,9 @@ acknowledgement = 0x80 ∷ 0x00 ∷ 0x00 ∷ []
 abbrev pub approval : List ℕ
 approval = 0x04 ∷ 0x0F ∷ 0x10 ∷ 0x27 ∷ 0x00 ∷ 0x04 ∷ 0x00 ∷ 0x00 ∷ 0x00 ∷ 0x00 ∷ 0x10 ∷ 0x99 ∷ 0x0B ∷ 0x00 ∷ 0x00 ∷ 0x01 ∷ 0x87 ∷ 0x00 ∷ 0x01 ∷ 0x06 ∷ 0x0F ∷ 0x00 ∷ []
 
--- the entry of the payment, which has this number
+-- the entry of the payment, which has this trace number
 abbrev pub payment_entry : ℕ → BookEntry
-payment_entry number = record { number = number; receipt = number; amount = 1099; reversal = false; approved = true }
+payment_entry trace = record { number = trace; receipt = trace; amount = 1099; reversal = false; approved = true }
 
 -- ---- what a terminal keeps
 
@@ -86,12 +86,12 @@ pub record ExampleBook : Type 0 where
 unfoldable pub long_book : ℕ → List BookEntry
 long_book count = replicate count (payment_entry 1)
 
--- The entry after 999,998 others has the last number; after 999,999 a payment and a reversal are refused.
-pub record ExampleLastNumber : Type 0 where
+-- The entry after 999,998 others has the last trace number; after 999,999 a payment and a reversal are refused.
+pub record ExampleLastTrace : Type 0 where
   pub many : length (long_book 999998) ≡ 999998
   pub last : at_command 0x83 play.Approve (long_book 999998) (command.Authorise 1099 978)
       ≡ reaction.Approved (record { number = 999999; receipt = 9999; amount = 1099; reversal = false; approved = true })
-  pub full : length (long_book 999999) ≡ last_number
+  pub full : length (long_book 999999) ≡ last_trace
   pub payment : at_command 0x83 play.Approve (long_book 999999) (command.Authorise 1099 978) ≡ reaction.Aborted 0x83
   pub reversal : at_command 0x83 play.Approve (long_book 999999) (command.Reverse (0 ∷ 0 ∷ 0 ∷ []) 1) ≡ reaction.Aborted 0x83
 
@@ -122,9 +122,20 @@ acknowledged_exchanges = Hears acknowledgement ∷ Sends payment_rest ∷ Sends 
 abbrev pub approved_exchanges : List Exchange
 approved_exchanges = Hears approval ∷ acknowledged_exchanges
 
--- What was heard is a prefix of what was answered; the entry has its place right after the sending of the second part; and
--- the last hearing brings the end of the payment, with the figures of its entry.
+-- What was heard is a prefix of what was answered, and at the end the whole of it; the entry has its place right after the
+-- sending of the second part; and the last hearing brings the end of the payment, with the figures of its entry.
 pub record ExampleHearing : Type 0 where
   pub hears : HearsAnswers played_setting approved_exchanges
+  pub all_heard : heard_on_link approved_exchanges ≡ answered played_setting (met_of approved_exchanges)
   pub places : placed_book played_setting approved_exchanges ≡ record { cause = 2; place = 3; entry = payment_entry 1 } ∷ []
   pub brings : BringsEnd played_setting approved_exchanges [] payment_apdu (heard.Approved (record { number = 1; receipt = 1; amount = 1099 })) acknowledged_exchanges
+
+-- the gateway links, and sends two commands at once, a payment and its reversal
+abbrev pub double_exchanges : List Exchange
+double_exchanges = Sends (payment_bytes ++ known_reversal) ∷ Links ∷ []
+
+-- One sending completes both, and is the cause of both entries.
+pub record ExampleSharedCause : Type 0 where
+  pub places : placed_book played_setting double_exchanges
+      ≡ record { cause = 1; place = 2; entry = payment_entry 1 } ∷ record { cause = 1; place = 2; entry = record (payment_entry 2) { reversal = true } } ∷ []
+  pub completes : CompletesTwo played_setting double_exchanges 1

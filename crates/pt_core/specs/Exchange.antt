@@ -1,5 +1,5 @@
 -- What the gateway does on the connection of a played terminal, what it hears there, and the book with its places.
-use Rattle.std.specs.Prelude.{◌≡◌, ℕ, ◌+◌, ◌≤◌, List, [], ◌∷◌, ◌++◌, length, drop, map, Option, None, Some, Result, Ok, Err, All}
+use Rattle.std.specs.Prelude.{◌≡◌, ℕ, ◌+◌, ◌≤◌, List, [], ◌≢◌, ◌∷◌, ◌++◌, length, drop, map, slice_get, Option, None, Some, Result, Ok, Err, All}
 use Rattle.std.specs.List.{filter_map}
 use Rattle.gw_bytes.specs.Bytes.{IsPrefix}
 use Rattle.zvt_apdu.specs.Grammar.{ApduValue}
@@ -14,7 +14,7 @@ use Rattle.zvt_talk.specs.Dialogue.{Dialogue, dialogue_kind_of}
 use Rattle.zvt_talk.specs.Came.{Came, messages}
 use Rattle.zvt_talk.specs.Talk.{end_of}
 use Rattle.pt_core.specs.declared.book.BookEntry.{BookEntry}
-use Rattle.pt_core.specs.Book.{last_number}
+use Rattle.pt_core.specs.Book.{last_trace}
 use Rattle.pt_core.specs.Table.{entries_of}
 use Rattle.pt_core.specs.Ends.{IsTrueEnd}
 use Rattle.pt_core.specs.History.{Setting, Met, NewLink, Chunk, all_handled, answered, answers_to, book_after, book_of, earlier, handled, reaction_after, requests}
@@ -100,6 +100,21 @@ pub record HasTrueCause (setting : Setting) (exchanges : List Exchange) (placed 
   pub caused : IsCausedBy (book_of setting first) (decode_command apdu) placed.entry
   pub follows : FollowsEntry (book_of setting first) placed.entry
 
+-- the sending at this position completes at least two requests
+pub record CompletesTwo (setting : Setting) (exchanges : List Exchange) (cause : ℕ) : Type 0 where
+  -- the exchanges after the sending, its bytes, and those before it
+  pub after : List Exchange
+  pub bytes : List ℕ
+  pub before : List Exchange
+  pub parts : exchanges ≡ after ++ Sends bytes ∷ before
+  pub position : cause ≡ length before
+  pub two : length (all_handled setting (met_of before)) + 2 ≤ length (all_handled setting (Chunk bytes ∷ met_of before))
+
+-- two entries of different numbers have one cause only where that sending completes at least two requests
+abbrev pub HasOwnCauses : Setting → List Exchange → List PlacedEntry → Type 0
+HasOwnCauses setting exchanges book = (one other : ℕ) (entry another : PlacedEntry) → slice_get book one ≡ Some entry → slice_get book other ≡ Some another
+    → entry.entry.number ≢ another.entry.number → entry.cause ≡ another.cause → CompletesTwo setting exchanges entry.cause
+
 -- ---- what is heard of one command
 
 -- the message that an APDU is, where it is one
@@ -151,15 +166,27 @@ pub record IsTrueHearing (setting : Setting) (before : List Exchange) (first : L
 
 -- ---- honest
 
--- A book with its places is honest for its connection.
+-- A book with its places is honest for its connection: no entry without a command of the gateway, none after a new link, one
+-- entry a command, numbers that rise, and ends that are true. Where it says more or less than is asked of any terminal:
+-- - A cause is the sending that completes the command, since parts of a command may be sent apart; whoever sends a command whole
+--   has its own sending for a cause. A sending that completes several commands causes an entry for each that books one, and
+--   two entries have one cause only there (`own_causes`).
+-- - A played terminal begins with an empty book, so that no entry is without a cause.
+-- - The place is right after the cause, which leaves no room for a new link between them, and each entry of a command is in the
+--   book before a hearing that brings the command's end (`book_then`).
+-- - Numbers rise by one and begin at 1.
+-- - Ends are true of the book before the command and of what the command books. Declined: it books nothing, also later,
+--   and no trace number is reported, so that there is none to be an entry's. Reported: the last entry, and each entry is approved.
 pub record IsHonestForConnection (setting : Setting) (exchanges : List Exchange) : Type 0 where
   -- it is the book of the terminal
   pub book : map (λ placed. placed.entry) (placed_book setting exchanges) ≡ book_after setting (met_of exchanges)
   -- each entry has its cause, with no new link between that and its place
   pub causes : All (HasTrueCause setting exchanges) (placed_book setting exchanges)
-  -- the numbers rise from 1 to at most 999,999
+  -- two entries have one cause only where a sending completes several requests
+  pub own_causes : HasOwnCauses setting exchanges (placed_book setting exchanges)
+  -- the trace numbers rise from 1 to at most 999,999
   pub numbers : AreEntriesNumbered 1 (book_after setting (met_of exchanges))
-  pub few : length (book_after setting (met_of exchanges)) ≤ last_number
+  pub few : length (book_after setting (met_of exchanges)) ≤ last_trace
   -- each end of a dialogue is true of the entries before the hearing that brings it
   pub ends : (first : List ApduValue) (apdu : ApduValue) (end : Heard) (before : List Exchange)
       → BringsEnd setting exchanges first apdu end before → IsTrueHearing setting before (handled_first setting exchanges first) apdu end

@@ -3,7 +3,7 @@ use Rattle.std.specs.Prelude.{◌≡◌, ℕ, ◌+◌, ◌<◌, List, [], ◌∷
 use Rattle.zvt_msg.specs.declared.command.Command.{Command}
 use Rattle.zvt_msg.specs.declared.command.Command.TheVariants as command
 use Rattle.pt_core.specs.declared.book.BookEntry.{BookEntry}
-use Rattle.pt_core.specs.Book.{last_number, last_payment}
+use Rattle.pt_core.specs.Book.{last_trace, last_payment}
 use Rattle.pt_core.specs.History.{Setting, Met, book_after}
 
 -- The command causes the entry: an authorisation of its amount, or a reversal of the last payment with the receipt
@@ -16,7 +16,7 @@ Causes book (command.Reverse password receipt) entry = (entry.reversal ≡ true)
     × (paid : BookEntry) × (last_payment receipt book ≡ Some paid) × (entry.amount ≡ paid.amount)
 Causes book (command.EndOfDay password) entry = ⊥
 Causes book command.Stop entry = ⊥
-Causes book (command.Show lines) entry = ⊥
+Causes book (command.Show display_lines) entry = ⊥
 
 -- an APDU that spells this command, if it spells one, causes the entry
 abbrev pub IsCausedBy : List BookEntry → Option Command → BookEntry → Type 0
@@ -27,7 +27,7 @@ IsCausedBy book (Some command) entry = Causes book command entry
 pub record FollowsEntry (book : List BookEntry) (entry : BookEntry) : Type 0 where
   pub number : entry.number ≡ length book + 1
   pub approved : entry.approved ≡ true
-  pub room : length book < last_number
+  pub room : length book < last_trace
 
 -- a request books nothing, or the one entry that it causes
 abbrev pub Books : List BookEntry → Option Command → List BookEntry → Type 0
@@ -37,8 +37,8 @@ Books book command (entry ∷ other ∷ more) = ⊥
 
 -- the entries have the numbers from this one on, one after another
 abbrev pub AreEntriesNumbered : ℕ → List BookEntry → Type 0
-AreEntriesNumbered number [] = Unit {0}
-AreEntriesNumbered number (entry ∷ book) = (entry.number ≡ number) × AreEntriesNumbered (number + 1) book
+AreEntriesNumbered trace [] = Unit {0}
+AreEntriesNumbered trace (entry ∷ book) = (entry.number ≡ trace) × AreEntriesNumbered (trace + 1) book
 
 -- what is met more adds to the book, and takes nothing back
 abbrev pub BookGrows : Setting → List Met → Met → Type 0

@@ -41,7 +41,7 @@ at_command none play book (command.Enquire password) = enquiry none (last_book_e
 at_command none play book (command.Reverse password receipt) = if is_full book then reaction.Aborted 0x83 else reversal (last_payment receipt book) book
 at_command none play book (command.EndOfDay password) = reaction.Completed
 at_command none play book command.Stop = reaction.Silent
-at_command none play book (command.Show lines) = reaction.Acknowledged
+at_command none play book (command.Show display_lines) = reaction.Acknowledged
 
 -- an APDU that spells no command: an acknowledgement or a refusal by the till, or a command that isn't known
 abbrev pub at_other : ℕ → Reaction
@@ -102,7 +102,7 @@ entries_of (reaction.Aborted code) = []
 entries_of (reaction.Booked entry) = entry ∷ []
 entries_of reaction.Dropped = []
 
--- an entry that is reported fits a status
+-- Inner: an entry that is reported fits a status
 abbrev pub reported_fits : Reaction → Bool
 reported_fits reaction.Silent = true
 reported_fits reaction.Acknowledged = true
@@ -137,4 +137,4 @@ is_authorisation (Some (command.Enquire password)) = false
 is_authorisation (Some (command.Reverse password receipt)) = false
 is_authorisation (Some (command.EndOfDay password)) = false
 is_authorisation (Some command.Stop) = false
-is_authorisation (Some (command.Show lines)) = false
+is_authorisation (Some (command.Show display_lines)) = false

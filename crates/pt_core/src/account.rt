@@ -1,6 +1,6 @@
 //! What a played terminal keeps beside its connection, while it serves requests.
 ghost use Rattle.std.specs.Prelude.{◌≤◌, vec_len, IsTrue};
-ghost use Rattle.pt_core.specs.Book.{all_fit, last_number};
+ghost use Rattle.pt_core.specs.Book.{all_fit, last_trace};
 
 use crate::book::BookEntry;
 use crate::play::Plays;
@@ -15,5 +15,5 @@ pub(crate) struct Account<'a> {
     pub(crate) used: usize,
     pub(crate) entries: Vec<BookEntry>,
     ghost fit: { IsTrue (all_fit entries.items) },
-    ghost few: { vec_len entries ≤ last_number },
+    ghost few: { vec_len entries ≤ last_trace },
 }

@@ -1,6 +1,6 @@
 //! The book of a played terminal.
 ghost use Rattle.std.specs.Prelude.{◌≡◌, ◌≤◌, ◌∷◌, [], ◌++◌, vec_len, IsTrue};
-ghost use Rattle.pt_core.specs.Book.{all_fit, is_payment_with, last_number};
+ghost use Rattle.pt_core.specs.Book.{all_fit, is_payment_with, last_trace};
 
 use std::alloc::Global;
 use std::marker::Model;
@@ -40,20 +40,20 @@ impl Model for Book {
     ghost use Rattle.std.specs.Prelude.{List, IsTrue, ◌≤◌};
     ghost use Rattle.std.specs.Vec.{vec_len};
     ghost use Rattle.pt_core.specs.declared.book.BookEntry.{BookEntry};
-    ghost use Rattle.pt_core.specs.Book.{all_fit, last_number};
+    ghost use Rattle.pt_core.specs.Book.{all_fit, last_trace};
 
     ghost Value = { List BookEntry };
 
     ghost view = { λ book. book.entries.items };
 
-    ghost invariant = { λ book. (IsTrue (all_fit book.entries.items)) × (vec_len book.entries ≤ last_number) };
+    ghost invariant = { λ book. (IsTrue (all_fit book.entries.items)) × (vec_len book.entries ≤ last_trace) };
 }
 
 impl Book {
     /// The book of these entries.
     pub(crate) fn of(entries: Vec<BookEntry>) -> Book
         requires fit { IsTrue (all_fit entries.items) }
-        requires few { vec_len entries ≤ last_number }
+        requires few { vec_len entries ≤ last_trace }
         ensures { result ≡ entries.items }
     {
         Book { entries }
@@ -63,7 +63,7 @@ impl Book {
     pub(crate) fn take(&mut self, alloc: Global) -> Vec<BookEntry>
         ensures entries { result.items ≡ self.old }
         ensures fit { IsTrue (all_fit result.items) }
-        ensures few { vec_len result ≤ last_number }
+        ensures few { vec_len result ≤ last_trace }
     {
         mem::replace(&mut self.entries, Vec::new(alloc))
     }

@@ -44,7 +44,8 @@ impl Account<'_> {
         Ok(cut)
     }
 
-    /// The same where there is room for every answer.
+    /// Serves the requests that these bytes complete, as `hear` does, where there is room for every answer and every entry. It is
+    /// apart from it so that no memory is asked for once a byte is heard.
     fn hear_chunks(&mut self, reader: &mut ApduReader, bytes: &[u8], out: &mut Vec<u8>) -> bool
         requires waits { decode_apdu reader.old ≡ DecodedApdu.Incomplete }
         requires answer_room { vec_len out.old + 32 * length bytes.now ≤ vec_capacity out.old }

@@ -8,10 +8,10 @@ ghost use Rattle.zvt_talk.specs.declared.meaning.Heard.{Heard};
 ghost use Rattle.zvt_talk.specs.Dialogue.{Dialogue, dialogue_kind_of};
 ghost use Rattle.zvt_talk.specs.Came.{Came, messages};
 ghost use Rattle.zvt_talk.specs.Talk.{end_of};
-ghost use Rattle.pt_core.specs.Book.{last_number};
+ghost use Rattle.pt_core.specs.Book.{last_trace};
 ghost use Rattle.pt_core.specs.Table.{entries_of, messages_of};
 ghost use Rattle.pt_core.specs.Ends.{IsTrueEnd};
-ghost use Rattle.pt_core.specs.Example.{ExampleMet, ExampleBook, ExampleLastNumber, ExampleEnd, ExampleHearing};
+ghost use Rattle.pt_core.specs.Example.{ExampleMet, ExampleBook, ExampleLastTrace, ExampleEnd, ExampleHearing, ExampleSharedCause};
 ghost use Rattle.pt_core.specs.Exchange.{Exchange, AreOnOneLink, HearsAnswers, IsHonestForConnection, answered_first, heard_on_link, met_of};
 ghost use Rattle.pt_core.specs.Serving.{heard_by_terminal, next_terminal};
 ghost use Rattle.pt_core.specs.History.{Setting, Met, NewLink, Chunk, answered, book_after, book_of, has_cut, reaction_after, requests, terminal_after};
@@ -54,7 +54,7 @@ pub fn law_book()
         → book_after setting (NewLink ∷ met) ≡ book_after setting met }
     ensures grows { (setting : Setting) (met : List Met) (what : Met) → BookGrows setting met what }
     ensures numbers { (setting : Setting) (met : List Met) → AreEntriesNumbered 1 (book_after setting met) }
-    ensures few { (setting : Setting) (met : List Met) → length (book_after setting met) ≤ last_number }
+    ensures few { (setting : Setting) (met : List Met) → length (book_after setting met) ≤ last_trace }
 {
     law_met();
 }
@@ -71,8 +71,9 @@ pub fn law_ends()
 
 /// The book with its places is honest for the connection, whatever the gateway links, sends and hears, in whatever chunks,
 /// where each time what it has heard on the link is a prefix of what the terminal had answered on it: each entry is caused
-/// by the sending that completes its command, and has its place right after that; the numbers rise; and each end of a
-/// dialogue is true of the entries that were in the book before the hearing that brings it.
+/// by the sending that completes its command, and has its place right after that; two entries have one cause only where a
+/// sending completes several requests; the numbers rise; and each end of a dialogue is true of the entries that were in the
+/// book before the hearing that brings it.
 pub fn law_honest()
     ensures { (setting : Setting) (exchanges : List Exchange) → HearsAnswers setting exchanges → IsHonestForConnection setting exchanges }
 {
@@ -92,12 +93,13 @@ pub fn law_all_heard()
         → drop (length (answered_first setting (after ++ before) (requests (met_of before)))) (heard_on_link (after ++ before)) ≡ heard_on_link after }
 {}
 
-/// Examples of the laws, which are computed: what a terminal keeps and answers, what it books and refuses, its last number,
-/// and a payment that is heard in two parts.
+/// Examples of the laws, which are computed: what a terminal keeps and answers, what it books and refuses, its last trace number,
+/// a payment that is heard in two parts, and one sending that is the cause of two entries.
 pub fn law_examples()
     ensures met { ExampleMet }
     ensures book { ExampleBook }
-    ensures last_number { ExampleLastNumber }
+    ensures last_trace { ExampleLastTrace }
     ensures end { ExampleEnd }
     ensures hearing { ExampleHearing }
+    ensures shared_cause { ExampleSharedCause }
 {}

@@ -3,7 +3,6 @@
 #![tactic(auto)]
 
 mod account;
-mod answer;
 mod book;
 mod hearing;
 mod laws;
@@ -12,11 +11,10 @@ mod reaction;
 mod requests;
 mod terminal;
 
-pub use answer::Answer;
 pub use book::{Book, BookEntry};
 pub use laws::{law_all_heard, law_book, law_ends, law_examples, law_honest, law_met};
 pub use play::{Play, Plays};
-pub use terminal::Terminal;
+pub use terminal::{Answer, Terminal};
 
 #[cfg(test)]
 mod tests;

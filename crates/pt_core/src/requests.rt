@@ -3,7 +3,7 @@ ghost use Rattle.std.specs.Prelude.{◌≡◌, ◌≤◌, ◌+◌, ◌-◌, ◌<
 ghost use Rattle.zvt_apdu.specs.Grammar.{value_of};
 ghost use Rattle.zvt_msg.specs.CommandGrammar.{HasCommandDigits};
 ghost use Rattle.zvt_msg.specs.CommandDecode.{decode_command};
-ghost use Rattle.pt_core.specs.Book.{all_fit, fits_status, is_full, last_book_entry, last_number, last_payment, next_entry};
+ghost use Rattle.pt_core.specs.Book.{all_fit, fits_status, is_full, last_book_entry, last_trace, last_payment, next_entry};
 ghost use Rattle.pt_core.specs.Table.{at_command, at_other, bytes_of, by_command, cuts, enquiry, entries_of, is_authorisation, payment, reversal, reported_fits};
 ghost use Rattle.pt_core.specs.Serving.{account_after, first_play, reaction_by};
 ghost use Rattle.pt_core.specs.inner.Results.{account_value};
@@ -17,13 +17,13 @@ use gw_bytes::{GREATEST_RECEIPT, GREATEST_TRACE};
 use zvt_apdu::Apdu;
 use zvt_msg::{Command, law_commands, read_command};
 
-/// The last number of an entry: the greatest trace number.
-const LAST_NUMBER: usize = GREATEST_TRACE as usize;
+/// The last trace number of an entry.
+const LAST_TRACE: usize = GREATEST_TRACE as usize;
 
 /// How many receipt numbers there are, with 0.
 const RECEIPTS: u32 = GREATEST_RECEIPT as u32 + 1;
 
-/// The code of a payment or a reversal after the last number.
+/// The code of a payment or a reversal after the last trace number.
 const FULL: u8 = 0x83;
 
 /// The code of a reversal of no payment.
@@ -60,7 +60,7 @@ impl Account<'_> {
         ensures reaction { result ≡ by_command self.now.none (first_play (account_value self.now).plays) self.now.entries.items class command.now }
         ensures reported { IsTrue (reported_fits result) }
         ensures booked { IsTrue (all_fit (entries_of result)) }
-        ensures few { vec_len self.now.entries + length (entries_of result) ≤ last_number }
+        ensures few { vec_len self.now.entries + length (entries_of result) ≤ last_trace }
     {
         match command {
             None if class == 0x80 || class == 0x84 => Reaction::Silent,
@@ -74,7 +74,7 @@ impl Account<'_> {
         ensures reaction { result ≡ at_command self.now.none (first_play (account_value self.now).plays) self.now.entries.items command.now }
         ensures reported { IsTrue (reported_fits result) }
         ensures booked { IsTrue (all_fit (entries_of result)) }
-        ensures few { vec_len self.now.entries + length (entries_of result) ≤ last_number }
+        ensures few { vec_len self.now.entries + length (entries_of result) ≤ last_trace }
     {
         match command {
             Command::Register { .. } | Command::EndOfDay { .. } => Reaction::Completed,
@@ -91,9 +91,9 @@ impl Account<'_> {
         ensures reaction { result ≡ (if is_full self.now.entries.items then Reaction.Aborted 0x83 else payment (first_play (account_value self.now).plays) self.now.entries.items amount) }
         ensures reported { IsTrue (reported_fits result) }
         ensures booked { IsTrue (all_fit (entries_of result)) }
-        ensures few { vec_len self.now.entries + length (entries_of result) ≤ last_number }
+        ensures few { vec_len self.now.entries + length (entries_of result) ≤ last_trace }
     {
-        if self.entries.len() >= LAST_NUMBER {
+        if self.entries.len() >= LAST_TRACE {
             return Reaction::Aborted(FULL);
         }
         match self.play() {
@@ -108,9 +108,9 @@ impl Account<'_> {
         ensures reaction { result ≡ (if is_full self.now.entries.items then Reaction.Aborted 0x83 else reversal (last_payment receipt self.now.entries.items) self.now.entries.items) }
         ensures reported { IsTrue (reported_fits result) }
         ensures booked { IsTrue (all_fit (entries_of result)) }
-        ensures few { vec_len self.now.entries + length (entries_of result) ≤ last_number }
+        ensures few { vec_len self.now.entries + length (entries_of result) ≤ last_trace }
     {
-        if self.entries.len() >= LAST_NUMBER {
+        if self.entries.len() >= LAST_TRACE {
             return Reaction::Aborted(FULL);
         }
         match last_payment(&self.entries, receipt) {
@@ -123,7 +123,7 @@ impl Account<'_> {
         ensures reaction { result ≡ enquiry self.now.none (last_book_entry self.now.entries.items) }
         ensures reported { IsTrue (reported_fits result) }
         ensures booked { IsTrue (all_fit (entries_of result)) }
-        ensures few { vec_len self.now.entries + length (entries_of result) ≤ last_number }
+        ensures few { vec_len self.now.entries + length (entries_of result) ≤ last_trace }
     {
         match self.entries.last() {
             None => Reaction::Aborted(self.none),
@@ -144,15 +144,15 @@ impl Account<'_> {
 
     /// The entry that follows the last one.
     fn next_entry(&self, amount: u64, reversal: bool) -> BookEntry
-        requires few { vec_len self.now.entries < last_number }
+        requires few { vec_len self.now.entries < last_trace }
         requires amount { amount < 1000000000000 }
         ensures entry { result ≡ next_entry self.now.entries.items amount reversal }
         ensures fits { IsTrue (fits_status result) }
     {
-        let number = self.entries.len() as u32 + 1;
+        let trace = self.entries.len() as u32 + 1;
         BookEntry {
-            number,
-            receipt: (number % RECEIPTS) as u16,
+            number: trace,
+            receipt: (trace % RECEIPTS) as u16,
             amount,
             reversal,
             approved: true,
@@ -175,7 +175,7 @@ impl Account<'_> {
     fn book(&mut self, entry: Option<BookEntry>)
         requires room { vec_len self.old.entries < vec_capacity self.old.entries }
         requires fits { IfSome entry (λ entry. IsTrue (fits_status entry)) }
-        requires few { IfSome entry (λ entry. vec_len self.old.entries < last_number) }
+        requires few { IfSome entry (λ entry. vec_len self.old.entries < last_trace) }
         ensures entries { self.new.entries.items ≡ self.old.entries.items ++ option_to_list entry }
         ensures none { self.new.none ≡ self.old.none }
         ensures plays { self.new.plays ≡ self.old.plays }
@@ -189,7 +189,7 @@ impl Account<'_> {
     }
 }
 
-/// The index of the next play; it stays the same where none is left.
+/// The index of the next play; it stays where none is left.
 fn next_index(used: usize, plays: &Vec<Play>) -> usize
     ensures { drop result plays.now.items ≡ drop 1 (drop used plays.now.items) }
 {

@@ -5,7 +5,6 @@ ghost use Rattle.pt_core.specs.Serving.{heard_by_terminal, next_terminal};
 ghost use Rattle.pt_core.specs.History.{Setting, Met, NewLink, Chunk, answered, book_after, has_cut, terminal_after};
 
 use crate::account::Account;
-use crate::answer::Answer;
 use crate::book::Book;
 use crate::laws::law_met;
 use crate::play::Plays;
@@ -13,6 +12,15 @@ use gw_base::{Bytes, Pt};
 use std::alloc::{AllocError, Global};
 use std::marker::Model;
 use zvt_apdu::ApduReader;
+
+/// What the terminal answers to the bytes of one call.
+#[derive(Clone, Debug, Drop)]
+pub struct Answer {
+    /// What it sends, perhaps nothing.
+    pub bytes: Bytes,
+    /// Whether it cuts the connection after that.
+    pub cut: bool,
+}
 
 /// A terminal that answers each whole command at once.
 ///
@@ -67,7 +75,7 @@ impl Terminal {
         ensures added { (setting : Setting) (met : List Met) → self.old ≡ terminal_after setting met
             → self.new ≡ terminal_after setting (NewLink ∷ met) }
 
-        // The same by what is kept alone.
+        // The account stays, and nothing waits on the new link.
         ensures link { self.new ≡ record self.old { connection = Some [] } }
     {
         law_met();
@@ -88,7 +96,7 @@ impl Terminal {
             → has_cut setting (Chunk bytes.now ∷ met) ≡ (has_cut setting met || answer.cut)) }
         ensures err { OnErr result (self.new ≡ self.old) }
 
-        // The same by what is kept alone.
+        // What is kept and answered, by what was kept before and the bytes.
         ensures next { IfOk result (λ answer. self.new ≡ next_terminal self.old bytes.now) }
         ensures bytes { IfOk result (λ answer. answer.bytes ≡ (heard_by_terminal self.old self.old.connection bytes.now).bytes) }
         ensures cuts { IfOk result (λ answer. answer.cut ≡ (heard_by_terminal self.old self.old.connection bytes.now).cut) }
@@ -137,7 +145,7 @@ impl Terminal {
         ensures booked { (setting : Setting) (met : List Met) → self.now ≡ terminal_after setting met
             → result.now ≡ book_after setting met }
 
-        // The same by what is kept alone.
+        // It is the account's.
         ensures kept { result.now ≡ self.now.account.book }
     {
         &self.book

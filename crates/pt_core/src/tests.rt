@@ -1,5 +1,5 @@
 //! Tests: what a played terminal answers to a stream of commands, and what its book holds then.
-use crate::{Play, Plays, Terminal};
+use crate::{BookEntry, Play, Plays, Terminal};
 use gw_base::{Currency, Ident, Pt, Text};
 use std::alloc::{AllocError, Global};
 use std::process::Abort;
@@ -97,6 +97,38 @@ const ROWS: [Row; 24] = [
     (b"\x06\x99\x00", b"", false),
 ];
 
+/// The book after them: three payments, and a reversal of the first.
+const BOOK: [BookEntry; 4] = [
+    BookEntry {
+        number: 1,
+        receipt: 1,
+        amount: 1_099,
+        reversal: false,
+        approved: true,
+    },
+    BookEntry {
+        number: 2,
+        receipt: 2,
+        amount: 1_099,
+        reversal: true,
+        approved: true,
+    },
+    BookEntry {
+        number: 3,
+        receipt: 3,
+        amount: 500,
+        reversal: false,
+        approved: true,
+    },
+    BookEntry {
+        number: 4,
+        receipt: 4,
+        amount: 1_099,
+        reversal: false,
+        approved: true,
+    },
+];
+
 fn setup(alloc: Global, rt: &impl Abort) -> Result<Pt, AllocError> {
     Ok(Pt {
         poi: Ident::of(b"T1").expect(rt, "a POIID"),
@@ -133,7 +165,6 @@ fn rows(rt: HostRuntime) -> Result<(), Fail> {
         );
         assert_eq!(rt; answer.cut, *cut, "row {row}");
     }
-    let entries = terminal.book().as_slice();
-    assert_eq!(rt; entries.len(), 4);
+    assert!(rt; terminal.book().as_slice() == BOOK.as_slice());
     Ok(())
 }

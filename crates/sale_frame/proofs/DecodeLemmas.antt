@@ -11,7 +11,7 @@ use Rattle.std.specs.List.{AllByRecursion, fold}
 use Rattle.std.specs.Int.{w32, to_be_bytes, from_be_bytes}
 use Rattle.gw_bytes.specs.Bytes.{AreBytes}
 use Rattle.gw_bytes.proofs.ByteLemmas.{each_byte}
-use Rattle.sale_frame.specs.Grammar.{IsPayloadLength, IsPayload, frame, IsFrame, frames, BeginsWithLength, IsIncompleteFrame, IsFrameRest, Frames}
+use Rattle.sale_frame.specs.Grammar.{IsPayloadLength, IsPayload, frame, IsFrame, frames, BeginsWithLength, BeginsWithPayload, IsIncompleteFrame, IsFrameRest, Frames}
 use Rattle.sale_frame.specs.Decode.{DecodedFrames, spelled_length, is_frame, with_byte, decode_after, decode_frames, with_messages}
 use Rattle.sale_frame.proofs.StreamLemmas.{one_reading}
 use Rattle.sale_frame.proofs.FrameLemmas.{spelled, message_begins, length-frame, prefix_is_shorter, shorter_is_prefix, lengthened}
@@ -103,6 +103,48 @@ frames_found bytes small = (
   λ test. let framed = is_framed bytes small test in (drop 4 bytes, framed.0, framed.1),
   λ found. subst (λ b. is_frame b ≡ true) (sym found.2) (frame_passes found.0 found.1),
 )
+
+is_no : (b : Bool) → (b ≡ true → ⊥) → b ≡ false
+is_no true never = absurd (never refl)
+is_no false never = refl
+
+-- bytes of another length than the one that they begin with are no frame
+pub no_frame : (bytes : List ℕ) (n : ℕ) → BeginsWithLength bytes n → (IsPayloadLength n → length bytes ≡ 4 + n → ⊥) → is_frame bytes ≡ false
+no_frame bytes n begins other = is_no (is_frame bytes) (λ test.
+    let tested : IsPayloadLength (spelled_length bytes) × (length bytes ≡ 4 + spelled_length bytes) = frame_tested bytes test in
+    let same : spelled_length bytes ≡ n = spelled bytes n begins in
+    other (subst IsPayloadLength same tested.0) (tested.1 ∙ ap (λ k. 4 + k) same))
+
+-- nor are those that are less than a frame
+pub no_frame_yet : (bytes : List ℕ) → IsIncompleteFrame bytes → is_frame bytes ≡ false
+no_frame_yet bytes incomplete = is_no (is_frame bytes) (λ test.
+    let tested : IsPayloadLength (spelled_length bytes) × (length bytes ≡ 4 + spelled_length bytes) = frame_tested bytes test in
+    begun bytes incomplete (omega (arith, tested.1)) tested.1)
+  where
+    begun : (bytes : List ℕ) → IsIncompleteFrame bytes → 4 ≤ length bytes → length bytes ≡ 4 + spelled_length bytes → ⊥
+    begun bytes (inl less) fits size = absurd (omega arith)
+    begun bytes (inr (message, possible, more, some, is)) fits size =
+        let all : BeginsWithLength (bytes ++ more) (length message) = message_begins (bytes ++ more) message [] possible (sym is ∙ sym (append-nil (frame message))) in
+        let begins : BeginsWithLength bytes (length message) = (all.0, sym (take-append-le 4 bytes more fits) ∙ all.1) in
+        let shorter = prefix_is_shorter bytes (length message) (inr (message, possible, more, some, is)) begins in
+        let same : spelled_length bytes ≡ length message = spelled bytes (length message) begins in
+        absurd (omega (arith, shorter.1, size, same))
+
+-- the frame of a message is one, and the message follows its length
+pub whole_frame : (bytes message : List ℕ) → BeginsWithPayload bytes message → 4 + length message ≡ length bytes → (is_frame bytes ≡ true) × (drop 4 bytes ≡ message)
+whole_frame bytes message (possible, left, is) size =
+    let none : left ≡ [] = no_more left (omega (arith, size, ap length is, length-frame message left)) in
+    let same : bytes ≡ frame message = is ∙ ap (λ rest. frame message ++ rest) none ∙ append-nil (frame message) in
+    (subst (λ b. is_frame b ≡ true) (sym same) (frame_passes message possible), ap (drop 4) same)
+  where
+    no_more : (left : List ℕ) → length left ≡ 0 → left ≡ []
+    no_more [] e = refl
+    no_more (_ ∷ _) e = absurd (omega arith)
+
+-- bytes that begin with a message's frame and are longer are none
+pub no_whole_frame : (bytes message : List ℕ) → BeginsWithPayload bytes message → (4 + length message ≡ length bytes → ⊥) → is_frame bytes ≡ false
+no_whole_frame bytes message (possible, left, is) longer =
+    no_frame bytes (length message) (message_begins bytes message left possible is) (λ _ size. longer (sym size))
 
 frames-append : (messages : List (List ℕ)) (message : List ℕ) → frames (messages ++ message ∷ []) ≡ frames messages ++ frame message
 frames-append messages message = flat_map-append frame messages (message ∷ []) ∙ ap (λ s. frames messages ++ s) (append-nil (frame message))

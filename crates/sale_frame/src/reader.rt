@@ -143,9 +143,10 @@ impl FrameReader {
 pub fn framed_message(bytes: &[u8]) -> Option<&[u8]>
     ensures message { option_copied result ≡ (if is_frame bytes.now then Some (drop 4 bytes.now) else None) }
 {
-    let (length, message) = bytes.split_first_chunk::<FRAME_LENGTH_SIZE>()?;
-    let length = u32::from_be_bytes(*length);
-    if length == 0 || length > LONGEST_PAYLOAD || length as usize != message.len() {
+    let Ok(Some(message)) = message_at(bytes) else {
+        return None;
+    };
+    if FRAME_LENGTH_SIZE + message.len() != bytes.len() {
         return None;
     }
     Some(message)

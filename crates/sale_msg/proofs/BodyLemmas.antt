@@ -5,7 +5,7 @@ use Rattle.std.specs.Option.{option_and_then, option_to_list, is_some}
 use Rattle.std.proofs.lemmas.List.Elements.{All-nil, All-cons, All-head, All-tail}
 use Rattle.gw_base.specs.Ident.{IsIdent}
 use Rattle.gw_base.specs.Limits.{IsAmount}
-use Rattle.json_text.specs.Tree.{Tree, string_of, numeral_of, array, array_of, object, items_list, no_members}
+use Rattle.json_text.specs.Tree.{Tree, string_of, numeral_of, array, array_of, object, elements_list, no_members}
 use Rattle.sale_values.specs.Names.{period_name}
 use Rattle.sale_values.specs.declared.header.Header.{Header}
 use Rattle.sale_values.specs.declared.names.Class.{Class as ClassType}
@@ -24,7 +24,7 @@ use Rattle.sale_msg.specs.Flaw.{AreMet, IsMet, MayBeAbsent}
 use Rattle.sale_msg.specs.Path.{amount_at, text_at, tree_at}
 use Rattle.sale_msg.specs.Table.{abort_rows, output_rows, payment_rows, reversal_rows, rows_of, service_row, status_reference_rows}
 use Rattle.sale_msg.specs.Grammar.{Asks, HasBody, IsTillMessage, IsOutput, IsPayment, IsReference, IsReferenceAt, IsReversal, HeaderHolds, listed, outputs_in, parts_of, texts_of}
-use Rattle.sale_msg.specs.Canonical.{body_object, output_items, display_output_tree, reference_members, request_tree, text_items}
+use Rattle.sale_msg.specs.Canonical.{body_object, output_elements, display_output_tree, reference_members, request_tree, text_elements}
 use Rattle.sale_values.specs.MemberShapes.{text_member}
 use Rattle.sale_msg.specs.declared.category.Category.TheVariants as categories
 use Rattle.sale_msg.specs.declared.table.Form.TheVariants as forms
@@ -70,7 +70,7 @@ service_again body header request h t =
 -- ---- facts
 
 currency_fact : (tree : Tree) (path reported text : List ℕ)
-    → IsMet (record { at = path; path = reported; presence = Required; form = forms.Currency }) tree
+    → IsMet (record { within = path; path = reported; presence = Required; form = forms.Currency }) tree
     → text_at path tree ≡ Some text → TextHasForm forms.Currency text
 unfolding IsMet
 currency_fact tree path reported text h e = text_fact forms.Currency (tree_at path tree) text (MayBeAbsent Required tree) h e
@@ -315,12 +315,12 @@ element_has_text : (text : List ℕ) → text_at (codes "Text") (object (text_me
 unfolding tree_at
 element_has_text text = refl
 
-texts_have : (texts : List (List ℕ)) → All HasTextMember (items_list (text_items texts))
+texts_have : (texts : List (List ℕ)) → All HasTextMember (elements_list (text_elements texts))
 texts_have [] = All-nil HasTextMember
 texts_have (text ∷ texts) =
-    All-cons HasTextMember (object (text_member (codes "Text") text no_members)) (items_list (text_items texts)) (ap is_some (element_has_text text)) (texts_have texts)
+    All-cons HasTextMember (object (text_member (codes "Text") text no_members)) (elements_list (text_elements texts)) (ap is_some (element_has_text text)) (texts_have texts)
 
-texts_are : (texts : List (List ℕ)) → texts_of (items_list (text_items texts)) ≡ texts
+texts_are : (texts : List (List ℕ)) → texts_of (elements_list (text_elements texts)) ≡ texts
 texts_are [] = refl
 texts_are (text ∷ texts) = rw (element_has_text text) (ap (λ (l : List (List ℕ)). text ∷ l) (texts_are texts))
 
@@ -352,25 +352,25 @@ output_read device qualify required (Some texts) =
     record { device = refl; qualify = refl; required = refl; texts = ap (λ (l : List (List ℕ)). Some l) (texts_are texts) }
 
 outputs_met_again : (parts : List Tree) (outputs : List Output) → All (AreMet output_rows) parts → AllZip IsOutput parts outputs
-    → All (AreMet output_rows) (items_list (output_items outputs))
+    → All (AreMet output_rows) (elements_list (output_elements outputs))
 outputs_met_again [] [] m z = All-nil (AreMet output_rows)
 outputs_met_again [] (o ∷ os) m z = elim z [ ]
 outputs_met_again (p ∷ ps) [] m z = elim z [ ]
 outputs_met_again (p ∷ ps) (o ∷ os) m z =
     let facts = output_facts p o (All-head (AreMet output_rows) p ps m) z.0 in
-    All-cons (AreMet output_rows) (display_output_tree o) (items_list (output_items os)) (output_met o.device o.qualify o.required o.texts facts)
+    All-cons (AreMet output_rows) (display_output_tree o) (elements_list (output_elements os)) (output_met o.device o.qualify o.required o.texts facts)
     (outputs_met_again ps os (All-tail (AreMet output_rows) p ps m) z.1)
 
-outputs_read : (outputs : List Output) → AllZip IsOutput (items_list (output_items outputs)) outputs
+outputs_read : (outputs : List Output) → AllZip IsOutput (elements_list (output_elements outputs)) outputs
 outputs_read [] = tt
 outputs_read (o ∷ os) = (output_read o.device o.qualify o.required o.texts, outputs_read os)
 
-outputs_objects : (outputs : List Output) → All IsJsonObject (items_list (output_items outputs))
+outputs_objects : (outputs : List Output) → All IsJsonObject (elements_list (output_elements outputs))
 unfolding display_output_tree
 outputs_objects [] = All-nil IsJsonObject
-outputs_objects (o ∷ os) = All-cons IsJsonObject (display_output_tree o) (items_list (output_items os)) refl (outputs_objects os)
+outputs_objects (o ∷ os) = All-cons IsJsonObject (display_output_tree o) (elements_list (output_elements os)) refl (outputs_objects os)
 
-outputs_count : (parts : List Tree) (outputs : List Output) → AllZip IsOutput parts outputs → length (items_list (output_items outputs)) ≡ length parts
+outputs_count : (parts : List Tree) (outputs : List Output) → AllZip IsOutput parts outputs → length (elements_list (output_elements outputs)) ≡ length parts
 outputs_count [] [] z = refl
 outputs_count [] (o ∷ os) z = elim z [ ]
 outputs_count (p ∷ ps) [] z = elim z [ ]
@@ -398,15 +398,15 @@ unfolding IsMet
 display_count body m = parts_count (tree_at (codes "DisplayRequest.DisplayOutput") body) m.1.0
 
 display_there : (header : Header) (outputs : List Output)
-    → tree_at (codes "DisplayRequest.DisplayOutput") (body_object header (requests.Display outputs)) ≡ Some (array (output_items outputs))
+    → tree_at (codes "DisplayRequest.DisplayOutput") (body_object header (requests.Display outputs)) ≡ Some (array (output_elements outputs))
 unfolding tree_at
 display_there header outputs = refl
 
 display_parts : (header : Header) (outputs : List Output)
-    → parts_of categories.Display (body_object header (requests.Display outputs)) ≡ items_list (output_items outputs)
+    → parts_of categories.Display (body_object header (requests.Display outputs)) ≡ elements_list (output_elements outputs)
 display_parts header outputs = ap outputs_in (display_there header outputs)
 
-display_met : (header : Header) (outputs : List Output) → IsOutputList (array (output_items outputs))
+display_met : (header : Header) (outputs : List Output) → IsOutputList (array (output_elements outputs))
     → AreMet (rows_of categories.Display) (body_object header (requests.Display outputs))
 unfolding tree_at IsMet
 display_met header outputs h = (refl, (h, tt))
@@ -417,8 +417,8 @@ display_again body header outputs h z =
     let parts = parts_of categories.Display body in
     let count = display_count body h.members in
     let same = outputs_count parts outputs z in
-    let low : 1 ≤ length (items_list (output_items outputs)) = omega (arith, same, count.low) in
-    let high : length (items_list (output_items outputs)) ≤ 16 = omega (arith, same, count.high) in
+    let low : 1 ≤ length (elements_list (output_elements outputs)) = omega (arith, same, count.low) in
+    let high : length (elements_list (output_elements outputs)) ≤ 16 = omega (arith, same, count.high) in
     let P : List Tree → Type 0 = λ l. All (AreMet output_rows) l in
     let Q : List Tree → Type 0 = λ l. AllZip IsOutput l outputs in
     record {

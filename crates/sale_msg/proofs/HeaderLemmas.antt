@@ -30,13 +30,13 @@ text_fact form (Some value) text P h e =
     let Q : Option (List ℕ) → Type 0 = λ o. MatchOption o ⊥ (TextHasForm form) in subst Q e h
 
 pub ident_fact : (path reported : List ℕ) (presence : Presence) (most : ℕ) (tree : Tree) (text : List ℕ)
-    → IsMet (record { at = path; path = reported; presence = presence; form = forms.Ident most }) tree
+    → IsMet (record { within = path; path = reported; presence = presence; form = forms.Ident most }) tree
     → text_at path tree ≡ Some text → IsIdent most text
 unfolding IsMet
 ident_fact path reported presence most tree text h e = text_fact (forms.Ident most) (tree_at path tree) text (MayBeAbsent presence tree) h e
 
 pub letters_fact : (path reported : List ℕ) (presence : Presence) (tree : Tree) (text : List ℕ)
-    → IsMet (record { at = path; path = reported; presence = presence; form = forms.Letters }) tree
+    → IsMet (record { within = path; path = reported; presence = presence; form = forms.Letters }) tree
     → text_at path tree ≡ Some text → TextHasForm forms.Letters text
 unfolding IsMet
 letters_fact path reported presence tree text h e = text_fact forms.Letters (tree_at path tree) text (MayBeAbsent presence tree) h e
@@ -65,7 +65,7 @@ absent_fact body header h e =
     by (inr n) = inr (sym h.values.kind ∙ n)
 
 pub kind_fact : (path reported : List ℕ) (presence : Presence) (tree : Tree) (text : List ℕ)
-    → IsMet (record { at = path; path = reported; presence = presence; form = forms.RequestKind }) tree
+    → IsMet (record { within = path; path = reported; presence = presence; form = forms.RequestKind }) tree
     → text_at path tree ≡ Some text → TextHasForm forms.RequestKind text
 unfolding IsMet
 kind_fact path reported presence tree text h e = text_fact forms.RequestKind (tree_at path tree) text (MayBeAbsent presence tree) h e

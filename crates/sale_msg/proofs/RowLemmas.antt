@@ -15,12 +15,12 @@ use Rattle.sale_msg.specs.declared.flaw.Flaw.TheVariants as flaws
 
 -- ---- one row
 
-pub met_absent : (row : MemberRow) (tree : Tree) → None ≡ tree_at row.at tree → MayBeAbsent row.presence tree → IsMet row tree
+pub met_absent : (row : MemberRow) (tree : Tree) → None ≡ tree_at row.within tree → MayBeAbsent row.presence tree → IsMet row tree
 unfolding IsMet
 met_absent row tree e h =
     let P : Option Tree → Type 0 = λ found. MatchOption found (MayBeAbsent row.presence tree) (HasForm row.form) in subst P e h
 
-pub met_there : (row : MemberRow) (tree value : Tree) → Some value ≡ tree_at row.at tree → HasForm row.form value → IsMet row tree
+pub met_there : (row : MemberRow) (tree value : Tree) → Some value ≡ tree_at row.within tree → HasForm row.form value → IsMet row tree
 unfolding IsMet
 met_there row tree value e h =
     let P : Option Tree → Type 0 = λ found. MatchOption found (MayBeAbsent row.presence tree) (HasForm row.form) in subst P e h
@@ -29,12 +29,12 @@ abbrev FlawOf : MemberRow → Tree → Flaw → Option Tree → Type 0
 FlawOf row tree flaw found = MatchOption found ((¬ MayBeAbsent row.presence tree) × (flaw ≡ flaws.Missing row.path))
     (λ value. (¬ HasForm row.form value) × (flaw ≡ flaws.Wrong row.path))
 
-pub flaw_absent : (row : MemberRow) (tree : Tree) (path : List ℕ) → None ≡ tree_at row.at tree → (¬ MayBeAbsent row.presence tree)
+pub flaw_absent : (row : MemberRow) (tree : Tree) (path : List ℕ) → None ≡ tree_at row.within tree → (¬ MayBeAbsent row.presence tree)
     → path ≡ row.path → IsFlaw row tree (flaws.Missing path)
 unfolding IsFlaw
 flaw_absent row tree path e h p = subst (FlawOf row tree (flaws.Missing path)) e (h, ap flaws.Missing p)
 
-pub flaw_there : (row : MemberRow) (tree value : Tree) (path : List ℕ) → Some value ≡ tree_at row.at tree → (¬ HasForm row.form value)
+pub flaw_there : (row : MemberRow) (tree value : Tree) (path : List ℕ) → Some value ≡ tree_at row.within tree → (¬ HasForm row.form value)
     → path ≡ row.path → IsFlaw row tree (flaws.Wrong path)
 unfolding IsFlaw
 flaw_there row tree value path e h p = subst (FlawOf row tree (flaws.Wrong path)) e (h, ap flaws.Wrong p)
@@ -75,9 +75,9 @@ leads_end rows tree rest e h = let P : List MemberRow → Type 0 = λ l. AreMet 
 -- ---- what follows from rows that are met
 
 -- a member that meets its row is of its form where it is there
-pub met_may_hold : (row : MemberRow) (tree : Tree) → IsMet row tree → MayHoldAt row.at row.form tree
+pub met_may_hold : (row : MemberRow) (tree : Tree) → IsMet row tree → MayHoldAt row.within row.form tree
 unfolding IsMet
-met_may_hold row tree h = by (tree_at row.at tree) h
+met_may_hold row tree h = by (tree_at row.within tree) h
   where
     by : (found : Option Tree) → MatchOption found (MayBeAbsent row.presence tree) (HasForm row.form)
         → MatchOption found (Unit {0}) (HasForm row.form)
@@ -125,19 +125,19 @@ each_end rows rest trees e h =
 
 -- ---- rows of one member by two paths
 
-pub required_there : (at path : List ℕ) (form : Form) (tree : Tree)
-    → IsMet (record { at = at; path = path; presence = Required; form = form }) tree → None ≡ tree_at at tree → ⊥
+pub required_there : (within path : List ℕ) (form : Form) (tree : Tree)
+    → IsMet (record { within = within; path = path; presence = Required; form = form }) tree → None ≡ tree_at within tree → ⊥
 unfolding IsMet
-required_there at path form tree h e = let P : Option Tree → Type 0 = λ o. MatchOption o ⊥ (HasForm form) in subst P (sym e) h
+required_there within path form tree h e = let P : Option Tree → Type 0 = λ o. MatchOption o ⊥ (HasForm form) in subst P (sym e) h
 
-pub required_as : (at path other reported : List ℕ) (form : Form) (tree part : Tree)
-    → IsMet (record { at = at; path = path; presence = Required; form = form }) tree → tree_at at tree ≡ tree_at other part
-    → IsMet (record { at = other; path = reported; presence = Required; form = form }) part
+pub required_as : (within path other reported : List ℕ) (form : Form) (tree part : Tree)
+    → IsMet (record { within = within; path = path; presence = Required; form = form }) tree → tree_at within tree ≡ tree_at other part
+    → IsMet (record { within = other; path = reported; presence = Required; form = form }) part
 unfolding IsMet
-required_as at path other reported form tree part h e = let P : Option Tree → Type 0 = λ o. MatchOption o ⊥ (HasForm form) in subst P e h
+required_as within path other reported form tree part h e = let P : Option Tree → Type 0 = λ o. MatchOption o ⊥ (HasForm form) in subst P e h
 
-pub optional_as : (at path other reported : List ℕ) (form : Form) (tree part : Tree)
-    → IsMet (record { at = at; path = path; presence = Optional; form = form }) tree → tree_at at tree ≡ tree_at other part
-    → IsMet (record { at = other; path = reported; presence = Optional; form = form }) part
+pub optional_as : (within path other reported : List ℕ) (form : Form) (tree part : Tree)
+    → IsMet (record { within = within; path = path; presence = Optional; form = form }) tree → tree_at within tree ≡ tree_at other part
+    → IsMet (record { within = other; path = reported; presence = Optional; form = form }) part
 unfolding IsMet
-optional_as at path other reported form tree part h e = let P : Option Tree → Type 0 = λ o. MatchOption o (Unit {0}) (HasForm form) in subst P e h
+optional_as within path other reported form tree part h e = let P : Option Tree → Type 0 = λ o. MatchOption o (Unit {0}) (HasForm form) in subst P e h

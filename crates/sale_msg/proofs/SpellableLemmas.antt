@@ -25,7 +25,7 @@ use Rattle.sale_values.proofs.ObjectLemmas.{object_at, only_at, optional_have}
 use Rattle.sale_values.proofs.MoneyLemmas.{money_number}
 use Rattle.sale_values.proofs.Utf8Lemmas.{ascii_utf8, period_utf8}
 use Rattle.sale_msg.specs.Grammar.{Asks, IsTillMessage, IsOutput, IsPayment, IsReference, IsReferenceAt, IsReversal, HeaderHolds, parts_of}
-use Rattle.sale_msg.specs.Canonical.{body_members, body_name, body_object, output_items, display_output_tree, payment_members, payment_data, reference_members, referring_members, request_tree, reversal_members, reversed_amount, text_items, texts_members}
+use Rattle.sale_msg.specs.Canonical.{body_members, body_name, body_object, output_elements, display_output_tree, payment_members, payment_data, reference_members, referring_members, request_tree, reversal_members, reversed_amount, text_elements, texts_members}
 use Rattle.sale_msg.specs.declared.category.Category.TheVariants as categories
 use Rattle.sale_msg.proofs.BodyLemmas.{amount_fact}
 use Rattle.sale_msg.proofs.TextLemmas.{AllUtf8, IsPart, TextsUtf8, optional_utf8, outputs_parts, part_at, part_of, row_utf8, text_utf8}
@@ -51,13 +51,13 @@ header_texts body header part reported = record {
 text_at_depth : (d : ℕ) (name text : List ℕ) → d < 32 → IsUtf8 name → IsUtf8 text → IsSpellableAt d (only name (string text))
 text_at_depth d name text room n t = only_at d name (string text) room n t
 
-payment_kind : (kind : Option (List ℕ)) → IfSome kind IsUtf8 → HaveSpellable 3 (payment_data kind)
-payment_kind None h = tt
-payment_kind (Some text) h =
+payment_typed : (payment_type : Option (List ℕ)) → IfSome payment_type IsUtf8 → HaveSpellable 3 (payment_data payment_type)
+payment_typed None h = tt
+payment_typed (Some text) h =
     (ascii_utf8 (codes "PaymentData") refl, text_at_depth 3 (codes "PaymentType") text (omega arith) (ascii_utf8 (codes "PaymentType") refl) h, tt)
 
-payment_distinct : (transaction stamp currency : List ℕ) (amount : ℕ) (kind : Option (List ℕ))
-    → are_distinct (names (payment_members (record { transaction = transaction; stamp = stamp; currency = currency; amount = amount; kind = kind }))) ≡ true
+payment_distinct : (transaction stamp currency : List ℕ) (amount : ℕ) (payment_type : Option (List ℕ))
+    → are_distinct (names (payment_members (record { transaction = transaction; stamp = stamp; currency = currency; amount = amount; kind = payment_type }))) ≡ true
 payment_distinct transaction stamp currency amount None = refl
 payment_distinct transaction stamp currency amount (Some text) = refl
 
@@ -86,7 +86,7 @@ payment_spellable body ask part k =
     let stamp = text_utf8 (codes "PaymentRequest.SaleData.SaleTransactionID.TimeStamp") body ask.stamp part k.stamp in
     let currency = text_utf8 (codes "PaymentRequest.PaymentTransaction.AmountsReq.Currency") body ask.currency part k.currency in
     let amount = amount_fact (codes "PaymentRequest.PaymentTransaction.AmountsReq.RequestedAmount") body ask.amount k.amount in
-    let kind = optional_utf8 (codes "PaymentRequest.PaymentData.PaymentType") body ask.kind part k.kind in
+    let payment_type = optional_utf8 (codes "PaymentRequest.PaymentData.PaymentType") body ask.kind part k.kind in
     object_at 2 (payment_members ask) (omega arith) (payment_distinct ask.transaction ask.stamp ask.currency ask.amount ask.kind) (
       ascii_utf8 (codes "SaleData") refl,
       only_at 3 (codes "SaleTransactionID") (sale_object ask.transaction ask.stamp) (omega arith) (ascii_utf8 (codes "SaleTransactionID") refl)
@@ -95,7 +95,7 @@ payment_spellable body ask part k =
         ascii_utf8 (codes "PaymentTransaction") refl,
         only_at 3 (codes "AmountsReq") (amount_object ask.currency ask.amount) (omega arith) (ascii_utf8 (codes "AmountsReq") refl)
             (amount_spellable ask.currency ask.amount currency (small_amount ask.amount amount)),
-        payment_kind ask.kind kind,
+        payment_typed ask.kind payment_type,
       ),
     )
 
@@ -145,7 +145,7 @@ referring_spellable tree reference part k =
 
 -- ---- Display
 
-texts_spellable : (texts : List (List ℕ)) → AllUtf8 texts → AreSpellable 7 (text_items texts)
+texts_spellable : (texts : List (List ℕ)) → AllUtf8 texts → AreSpellable 7 (text_elements texts)
 texts_spellable [] h = tt
 texts_spellable (text ∷ texts) h =
     (text_at_depth 7 (codes "Text") text (omega arith) (ascii_utf8 (codes "Text") refl) h.0, texts_spellable texts h.1)
@@ -191,7 +191,7 @@ output_spellable tree output part k =
     (row_utf8 (codes "OutputContent.OutputText") tree output.texts part k.texts)
 
 outputs_spellable : (parts : List Tree) (outputs : List Output) → All IsPart parts → AllZip IsOutput parts outputs
-    → AreSpellable 4 (output_items outputs)
+    → AreSpellable 4 (output_elements outputs)
 outputs_spellable [] [] h z = tt
 outputs_spellable [] (o ∷ os) h z = elim z [ ]
 outputs_spellable (p ∷ ps) [] h z = elim z [ ]
@@ -219,7 +219,7 @@ body_spellable body (requests.Reconciliation period) part k =
     text_at_depth 2 (codes "ReconciliationType") (period_name period) (omega arith) (ascii_utf8 (codes "ReconciliationType") refl) (period_utf8 period)
 body_spellable body (requests.Display outputs) part k =
     let parts = outputs_parts (codes "DisplayRequest.DisplayOutput") body part in
-    only_at 2 (codes "DisplayOutput") (array (output_items outputs)) (omega arith) (ascii_utf8 (codes "DisplayOutput") refl)
+    only_at 2 (codes "DisplayOutput") (array (output_elements outputs)) (omega arith) (ascii_utf8 (codes "DisplayOutput") refl)
     (omega arith, outputs_spellable (parts_of categories.Display body) outputs parts k)
 body_spellable body (requests.Print qualifier) part k =
     let text = text_utf8 (codes "PrintRequest.PrintOutput.DocumentQualifier") body qualifier part k in

@@ -5,7 +5,7 @@ use Rattle.std.specs.Option.{option_and_then}
 use Rattle.std.specs.Prelude.{option_map, unwrap_or}
 use Rattle.std.specs.Str.{IsUtf8}
 use Rattle.std.proofs.lemmas.List.Elements.{All-nil, All-cons, All-head, All-tail}
-use Rattle.json_text.specs.Tree.{Tree, null, boolean, number, string, array, object, Items, no_items, item, Members, no_members, member, get_of, member_of, string_of, array_of, items_list}
+use Rattle.json_text.specs.Tree.{Tree, null, boolean, number, string, array, object, Elements, no_elements, element, Members, no_members, member, get_of, member_of, string_of, array_of, elements_list}
 use Rattle.json_text.specs.Spellable.{IsSpellableAt, AreSpellable, HaveSpellable}
 use Rattle.sale_msg.specs.Path.{is_point, text_at, tree_at, tree_under}
 use Rattle.sale_msg.specs.Grammar.{listed, outputs_in, texts_of}
@@ -80,9 +80,9 @@ optional_utf8 path tree (Some text) h e = text_utf8 path tree text h e
 
 -- ---- lists
 
-elements_parts : (d : ℕ) (xs : Items) → AreSpellable d xs → All IsPart (items_list xs)
-elements_parts d no_items h = All-nil IsPart
-elements_parts d (item x rest) h = All-cons IsPart x (items_list rest) (record { depth = d; spellable = h.0 }) (elements_parts d rest h.1)
+elements_parts : (d : ℕ) (xs : Elements) → AreSpellable d xs → All IsPart (elements_list xs)
+elements_parts d no_elements h = All-nil IsPart
+elements_parts d (element x rest) h = All-cons IsPart x (elements_list rest) (record { depth = d; spellable = h.0 }) (elements_parts d rest h.1)
 
 array_parts : (d : ℕ) (tree : Tree) (elements : List Tree) → IsSpellableAt d tree → array_of tree ≡ Some elements → All IsPart elements
 array_parts d null elements h e = no_some elements None refl e
@@ -90,7 +90,7 @@ array_parts d (boolean b) elements h e = no_some elements None refl e
 array_parts d (number text) elements h e = no_some elements None refl e
 array_parts d (string text) elements h e = no_some elements None refl e
 array_parts d (array xs) elements h e =
-    let P : List Tree → Type 0 = λ l. All IsPart l in subst P (same_some (items_list xs) elements e) (elements_parts (suc d) xs h.1)
+    let P : List Tree → Type 0 = λ l. All IsPart l in subst P (same_some (elements_list xs) elements e) (elements_parts (suc d) xs h.1)
 array_parts d (object ms) elements h e = no_some elements None refl e
 
 listed_parts : (tree : Tree) → IsPart tree → All IsPart (listed tree)

@@ -51,7 +51,7 @@ none_some {A} o x e f = let nothing : Option A = None in let g : nothing ≡ Som
 
 row_one : (row : MemberRow) (tree : Tree) (f g : Flaw) → IsFlaw row tree f → IsFlaw row tree g → f ≡ g
 unfolding IsFlaw
-row_one row tree f g h k = by (tree_at row.at tree) h k
+row_one row tree f g h k = by (tree_at row.within tree) h k
   where
     by : (found : Option Tree)
         → MatchOption found ((¬ MayBeAbsent row.presence tree) × (f ≡ flaws.Missing row.path)) (λ value. (¬ HasForm row.form value) × (f ≡ flaws.Wrong row.path))
@@ -62,7 +62,7 @@ row_one row tree f g h k = by (tree_at row.at tree) h k
 
 row_no_both : (row : MemberRow) (tree : Tree) (f : Flaw) → IsMet row tree → IsFlaw row tree f → ⊥
 unfolding IsMet IsFlaw
-row_no_both row tree f h k = by (tree_at row.at tree) h k
+row_no_both row tree f h k = by (tree_at row.within tree) h k
   where
     by : (found : Option Tree) → MatchOption found (MayBeAbsent row.presence tree) (HasForm row.form)
         → MatchOption found ((¬ MayBeAbsent row.presence tree) × (f ≡ flaws.Missing row.path)) (λ value. (¬ HasForm row.form value) × (f ≡ flaws.Wrong row.path))

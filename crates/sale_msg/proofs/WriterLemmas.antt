@@ -2,11 +2,11 @@
 use Rattle.std.proofs.Common.{◌≡◌, ℕ, List, [], ◌∷◌, ◌++◌, Option, Some, None, Bool, true, false, cond, sym, ap, ◌∙◌, append_assoc, Result, Ok, Err, OnOk, codes}
 use Rattle.std.specs.Result.{is_ok}
 use Rattle.json_text.specs.Canonical.{canonical, canonical_first, canonical_string}
-use Rattle.json_text.specs.Tree.{boolean, array, object, Items, Members, no_members, member, number}
+use Rattle.json_text.specs.Tree.{boolean, array, object, Elements, Members, no_members, member, number}
 use Rattle.sale_msg.specs.inner.OptionalParts.{money_part, optional_part, texts_part}
 use Rattle.sale_values.specs.MemberShapes.{object_member, optional_member, text_member}
 use Rattle.sale_values.specs.Money.{money_text}
-use Rattle.sale_msg.specs.Canonical.{payment_data, reversed_amount, texts_members}
+use Rattle.sale_msg.specs.Canonical.{payment_data, reversed_amount, text_elements, texts_members}
 
 -- the last part
 pub last : {T E : Type 0} (r : Result T E) (new prev old q part total : List ℕ) → new ≡ cond (is_ok r) (prev ++ part) prev
@@ -70,7 +70,7 @@ payment_prefix transaction stamp currency amount =
     ++ (codes "}},\"PaymentTransaction\":{\"AmountsReq\":{\"Currency\":" ++ canonical_string currency)) ++ codes ",\"RequestedAmount\":") ++ money_text amount
 
 abbrev pub payment_whole : List ℕ → List ℕ → List ℕ → ℕ → Option (List ℕ) → List ℕ
-payment_whole transaction stamp currency amount kind = canonical (object
+payment_whole transaction stamp currency amount payment_type = canonical (object
     (object_member (codes "SaleData")
     (object_member (codes "SaleTransactionID")
     (text_member (codes "TransactionID") transaction (text_member (codes "TimeStamp") stamp no_members))
@@ -79,16 +79,16 @@ payment_whole transaction stamp currency amount kind = canonical (object
     (object_member (codes "AmountsReq")
     (text_member (codes "Currency") currency (member (codes "RequestedAmount") (number (money_text amount)) no_members))
     no_members)
-    (payment_data kind))))
+    (payment_data payment_type))))
 
 payment_plain : (transaction stamp currency : List ℕ) (amount : ℕ)
     → payment_prefix transaction stamp currency amount ++ codes "}}}" ≡ payment_whole transaction stamp currency amount None
 payment_plain transaction stamp currency amount = simp append_assoc
 
-payment_kind : (transaction stamp currency : List ℕ) (amount : ℕ) (kind : List ℕ)
-    → (payment_prefix transaction stamp currency amount ++ (codes "}},\"PaymentData\":{\"PaymentType\":" ++ canonical_string kind)) ++ codes "}}"
-    ≡ payment_whole transaction stamp currency amount (Some kind)
-payment_kind transaction stamp currency amount kind = simp append_assoc
+payment_typed : (transaction stamp currency : List ℕ) (amount : ℕ) (payment_type : List ℕ)
+    → (payment_prefix transaction stamp currency amount ++ (codes "}},\"PaymentData\":{\"PaymentType\":" ++ canonical_string payment_type)) ++ codes "}}"
+    ≡ payment_whole transaction stamp currency amount (Some payment_type)
+payment_typed transaction stamp currency amount payment_type = simp append_assoc
 
 abbrev pub output_prefix : List ℕ → List ℕ → Bool → Option (List (List ℕ)) → List ℕ
 output_prefix device qualify required texts =
@@ -105,17 +105,30 @@ output_spelled device qualify true (Some texts) = simp append_assoc
 output_spelled device qualify false None = simp append_assoc
 output_spelled device qualify false (Some texts) = simp append_assoc
 
-pub payment_none : (transaction stamp currency : List ℕ) (amount : ℕ) (kind : Option (List ℕ)) → kind ≡ None
-    → payment_prefix transaction stamp currency amount ++ codes "}}}" ≡ payment_whole transaction stamp currency amount kind
-payment_none transaction stamp currency amount kind e =
+pub payment_none : (transaction stamp currency : List ℕ) (amount : ℕ) (payment_type : Option (List ℕ)) → payment_type ≡ None
+    → payment_prefix transaction stamp currency amount ++ codes "}}}" ≡ payment_whole transaction stamp currency amount payment_type
+payment_none transaction stamp currency amount payment_type e =
     payment_plain transaction stamp currency amount ∙ ap (payment_whole transaction stamp currency amount) (sym e)
 
-pub payment_some : (transaction stamp currency : List ℕ) (amount : ℕ) (kind : Option (List ℕ)) (text : List ℕ) → kind ≡ Some text
+pub payment_some : (transaction stamp currency : List ℕ) (amount : ℕ) (payment_type : Option (List ℕ)) (text : List ℕ) → payment_type ≡ Some text
     → (payment_prefix transaction stamp currency amount ++ (codes "}},\"PaymentData\":{\"PaymentType\":" ++ canonical_string text)) ++ codes "}}"
-    ≡ payment_whole transaction stamp currency amount kind
-payment_some transaction stamp currency amount kind text e =
-    payment_kind transaction stamp currency amount text ∙ ap (payment_whole transaction stamp currency amount) (sym e)
+    ≡ payment_whole transaction stamp currency amount payment_type
+payment_some transaction stamp currency amount payment_type text e =
+    payment_typed transaction stamp currency amount text ∙ ap (payment_whole transaction stamp currency amount) (sym e)
 
-pub display_spelled : (elements : Items) → (codes "{\"DisplayOutput\":[" ++ canonical_first elements) ++ codes "}"
+pub display_spelled : (elements : Elements) → (codes "{\"DisplayOutput\":[" ++ canonical_first elements) ++ codes "}"
     ≡ canonical (object (member (codes "DisplayOutput") (array elements) no_members))
 display_spelled elements = simp append_assoc
+
+texts_spelled : (old : List ℕ) (texts : List (List ℕ)) → (old ++ codes ",\"OutputText\":[") ++ canonical_first (text_elements texts)
+    ≡ old ++ texts_part (codes ",\"OutputText\":") (Some texts)
+texts_spelled old texts = simp append_assoc
+
+-- texts after the bytes that come before them
+pub texts_appended : {T E : Type 0} (r : Result T E) (new between old : List ℕ) (texts : List (List ℕ)) (optional : Option (List (List ℕ)))
+    → optional ≡ Some texts → between ≡ old ++ codes ",\"OutputText\":[" → OnOk r (new ≡ between ++ canonical_first (text_elements texts))
+    → OnOk r (new ≡ old ++ texts_part (codes ",\"OutputText\":") optional)
+texts_appended (Ok x) new between old texts optional is opened e =
+    e ∙ ap (λ l. l ++ canonical_first (text_elements texts)) opened ∙ texts_spelled old texts
+    ∙ ap (λ (o : Option (List (List ℕ))). old ++ texts_part (codes ",\"OutputText\":") o) (sym is)
+texts_appended (Err x) new between old texts optional is opened e = tt

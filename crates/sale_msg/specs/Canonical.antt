@@ -1,6 +1,6 @@
 -- The tree of a request that is written: the members of the tables in their order, none for what is absent.
 use Rattle.std.specs.Prelude.{ℕ, List, [], ◌∷◌, Option, Some, None, codes}
-use Rattle.json_text.specs.Tree.{Tree, boolean, array, object, Items, no_items, item, Members, no_members, member}
+use Rattle.json_text.specs.Tree.{Tree, boolean, array, object, Elements, no_elements, element, Members, no_members, member}
 use Rattle.sale_values.specs.CanonicalHeader.{header_members}
 use Rattle.sale_values.specs.MemberShapes.{text_member, optional_member, number_member, object_member, only}
 use Rattle.sale_values.specs.Money.{money_text}
@@ -16,7 +16,7 @@ use Rattle.sale_values.specs.declared.request.SaleRequest.TheVariants as request
 -- the type of a Payment, where it has one
 abbrev pub payment_data : Option (List ℕ) → Members
 payment_data None = no_members
-payment_data (Some kind) = object_member (codes "PaymentData") (text_member (codes "PaymentType") kind no_members) no_members
+payment_data (Some payment_type) = object_member (codes "PaymentData") (text_member (codes "PaymentType") payment_type no_members) no_members
 
 -- what a Payment asks: the till's transaction, the amount, and the type where there is one
 abbrev pub payment_members : PaymentAsk → Members
@@ -59,14 +59,14 @@ status_members None = no_members
 status_members (Some reference) = referring_members reference
 
 -- one object for each text
-abbrev pub text_items : List (List ℕ) → Items
-text_items [] = no_items
-text_items (text ∷ texts) = item (object (text_member (codes "Text") text no_members)) (text_items texts)
+abbrev pub text_elements : List (List ℕ) → Elements
+text_elements [] = no_elements
+text_elements (text ∷ texts) = element (object (text_member (codes "Text") text no_members)) (text_elements texts)
 
 -- the texts of an output, where it has some
 abbrev pub texts_members : Option (List (List ℕ)) → Members
 texts_members None = no_members
-texts_members (Some texts) = member (codes "OutputText") (array (text_items texts)) no_members
+texts_members (Some texts) = member (codes "OutputText") (array (text_elements texts)) no_members
 
 -- an output, with its flag
 unfoldable pub display_output_tree : Output → Tree
@@ -79,9 +79,9 @@ display_output_tree output = object
     no_members))))
 
 -- the outputs in order
-abbrev pub output_items : List Output → Items
-output_items [] = no_items
-output_items (output ∷ outputs) = item (display_output_tree output) (output_items outputs)
+abbrev pub output_elements : List Output → Elements
+output_elements [] = no_elements
+output_elements (output ∷ outputs) = element (display_output_tree output) (output_elements outputs)
 
 -- the members of a request's body
 abbrev pub body_members : SaleRequest → Members
@@ -92,7 +92,7 @@ body_members (requests.Reversal ask) = reversal_members ask
 body_members (requests.Abort reference) = referring_members reference
 body_members (requests.Status reference) = status_members reference
 body_members (requests.Reconciliation period) = text_member (codes "ReconciliationType") (period_name period) no_members
-body_members (requests.Display outputs) = member (codes "DisplayOutput") (array (output_items outputs)) no_members
+body_members (requests.Display outputs) = member (codes "DisplayOutput") (array (output_elements outputs)) no_members
 body_members (requests.Print qualifier) =
     object_member (codes "PrintOutput") (text_member (codes "DocumentQualifier") qualifier no_members) no_members
 body_members requests.Diagnosis = no_members

@@ -28,11 +28,11 @@ MayHoldAt path form tree = MatchOption (tree_at path tree) (Unit {0}) (HasForm f
 
 -- the member is of its form, or is absent and may be
 unfoldable pub IsMet : MemberRow → Tree → Type 0
-IsMet row tree = MatchOption (tree_at row.at tree) (MayBeAbsent row.presence tree) (HasForm row.form)
+IsMet row tree = MatchOption (tree_at row.within tree) (MayBeAbsent row.presence tree) (HasForm row.form)
 
 -- the member is absent and may not be, or is of another form
 unfoldable pub IsFlaw : MemberRow → Tree → Flaw → Type 0
-IsFlaw row tree flaw = MatchOption (tree_at row.at tree)
+IsFlaw row tree flaw = MatchOption (tree_at row.within tree)
     ((¬ MayBeAbsent row.presence tree) × (flaw ≡ flaws.Missing row.path))
     (λ value. (¬ HasForm row.form value) × (flaw ≡ flaws.Wrong row.path))
 

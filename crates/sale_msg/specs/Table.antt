@@ -13,19 +13,19 @@ use Rattle.sale_msg.specs.declared.table.Envelope.TheVariants as envelopes
 
 -- a member by its path in the table's object, its path in a fault, whether it may be absent, and its form
 pub record MemberRow : Type 0 where
-  pub at : List ℕ
+  pub within : List ℕ
   pub path : List ℕ
   pub presence : Presence
   pub form : Form
 
 -- a member of the body object; its path in a fault is the same
 abbrev pub member_row : String → Presence → Form → MemberRow
-member_row path presence form = record { at = codes path; path = codes path; presence = presence; form = form }
+member_row path presence form = record { within = codes path; path = codes path; presence = presence; form = form }
 
 -- a member of an object within the body; its path in a fault begins with that object's
 abbrev pub part_row : String → String → Presence → Form → MemberRow
 part_row object path presence form =
-    record { at = codes path; path = codes object ++ 0x2E ∷ codes path; presence = presence; form = form }
+    record { within = codes path; path = codes object ++ 0x2E ∷ codes path; presence = presence; form = form }
 
 -- the type of a message in each envelope
 abbrev pub kind_form : Envelope → Form

@@ -26,13 +26,13 @@ pub(crate) fn payment(alloc: Global, body: &Json) -> Result<PaymentAsk, AllocErr
     requires { AreMet payment_rows (value_of body.now) }
     ensures { IfOk result (IsPayment (value_of body.now)) }
 {
-    let kind = text_or_none(alloc, body, paths::PAYMENT_TYPE)?;
+    let payment_type = text_or_none(alloc, body, paths::PAYMENT_TYPE)?;
     Ok(PaymentAsk {
         transaction: ident(body, paths::PAYMENT_SALE_ID),
         stamp: ident(body, paths::PAYMENT_SALE_STAMP),
         currency: currency(body, paths::PAYMENT_CURRENCY),
         amount: amount(body, paths::PAYMENT_AMOUNT),
-        kind,
+        kind: payment_type,
     })
 }
 

@@ -57,7 +57,7 @@ fn check_row(tree: &Json, row: &MemberRow) -> Result<(), Flaw>
     ensures { MatchResult result (λ _. IsMet (row_value row.now) (value_of tree.now))
         (IsFlaw (row_value row.now) (value_of tree.now)) }
 {
-    match find(tree, row.at) {
+    match find(tree, row.within) {
         None => {
             if may_be_absent(row.presence, tree) {
                 Ok(())
@@ -108,8 +108,5 @@ pub(crate) fn reported_path(path: &'static str) -> Ident<100>
     ensures { result ≡ path.now }
 {
     // The paths of the tables are texts of this program, of 1 to 100 printable bytes: that is proved of the tables.
-    match Ident::of(path.as_bytes()) {
-        Some(ident) => ident,
-        None => unreachable!(),
-    }
+    Ident::known(path.as_bytes())
 }

@@ -7,7 +7,7 @@ ghost use Rattle.sale_msg.specs.Grammar.{IsHeaded, IsHeadless, IsUnderEnvelope, 
 ghost use Rattle.sale_msg.specs.Table.{header_rows};
 
 use crate::check::{check, reported_path};
-use crate::members::{class, ident, ident_or_none, kind, letters};
+use crate::members::{class, ident, ident_or_none, letters, message_type};
 use crate::paths;
 use crate::table::{Envelope, header_table};
 use json_text::Json;
@@ -63,7 +63,7 @@ fn header_of(body: &Json) -> Header
     Header {
         class: class(body, paths::HEADER_CLASS),
         category: letters(body, paths::HEADER_CATEGORY),
-        kind: kind(body, paths::HEADER_TYPE),
+        kind: message_type(body, paths::HEADER_TYPE),
         service: ident_or_none(body, paths::HEADER_SERVICE),
         device: ident_or_none(body, paths::HEADER_DEVICE),
         sale: ident(body, paths::HEADER_SALE),

@@ -160,8 +160,8 @@ pub(crate) fn class(tree: &Json, path: &str) -> Class
     }
 }
 
-/// The kind at the path.
-pub(crate) fn kind(tree: &Json, path: &str) -> Kind
+/// The message type at the path.
+pub(crate) fn message_type(tree: &Json, path: &str) -> Kind
     requires { HoldsAt path.now Form.Kind (value_of tree.now) }
     ensures { text_at path.now (value_of tree.now) ≡ Some (kind_name result) }
 {

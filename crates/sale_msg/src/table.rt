@@ -50,8 +50,8 @@ pub enum Envelope {
 /// One row of a table.
 #[derive(Clone, Copy)]
 pub(crate) struct MemberRow {
-    /// The member, by its names from the table's object on, divided by points.
-    pub at: &'static str,
+    /// The member's path within the table's object: names divided by points.
+    pub within: &'static str,
     /// The path in a fault.
     pub path: &'static str,
     pub presence: Presence,
@@ -61,26 +61,26 @@ pub(crate) struct MemberRow {
 /// Rows of members whose path in a fault is their own.
 macro_rules! rows {
     ($($path:ident $presence:ident $form:expr,)*) => {
-        [$(MemberRow { at: paths::$path, path: paths::$path, presence: Presence::$presence, form: $form }),*]
+        [$(MemberRow { within: paths::$path, path: paths::$path, presence: Presence::$presence, form: $form }),*]
     };
 }
 
 /// Rows of the members of an object within the body: a fault has their whole path.
 macro_rules! part_rows {
-    ($($at:ident $path:ident $presence:ident $form:expr,)*) => {
-        [$(MemberRow { at: paths::$at, path: paths::$path, presence: Presence::$presence, form: $form }),*]
+    ($($within:ident $path:ident $presence:ident $form:expr,)*) => {
+        [$(MemberRow { within: paths::$within, path: paths::$path, presence: Presence::$presence, form: $form }),*]
     };
 }
 
 /// The rows of the header, in which the two envelopes differ by the form of the type alone.
 macro_rules! header {
-    ($kind:expr) => {
+    ($message_type:expr) => {
         rows! {
             HEADER Required Form::Object,
             HEADER_VERSION Optional Form::Version,
             HEADER_CLASS Required Form::Class,
             HEADER_CATEGORY Required Form::Letters,
-            HEADER_TYPE Required $kind,
+            HEADER_TYPE Required $message_type,
             HEADER_SERVICE ByHeader Form::Ident(10),
             HEADER_DEVICE Optional Form::Ident(10),
             HEADER_SALE Required Form::Ident(40),

@@ -1,11 +1,12 @@
 //! Requests, written.
 ghost use Rattle.std.specs.Prelude.{◌≡◌, ◌++◌, codes, OnOk, OnErr};
+ghost use Rattle.gw_bytes.specs.Bytes.{IsPrefix};
 ghost use Rattle.json_text.specs.Canonical.{canonical, canonical_first, canonical_string};
 ghost use Rattle.json_text.specs.Tree.{boolean, object};
 ghost use Rattle.sale_msg.specs.inner.OptionalParts.{money_part, optional_part, texts_part};
 ghost use Rattle.sale_values.specs.Money.{money_text};
 ghost use Rattle.sale_values.specs.Parts.{part_text, parts_text};
-ghost use Rattle.sale_msg.specs.Canonical.{body_members, body_name, output_items, display_output_tree, payment_members, referring_members, request_tree, reversal_members, text_items};
+ghost use Rattle.sale_msg.specs.Canonical.{body_members, body_name, output_elements, display_output_tree, payment_members, referring_members, request_tree, reversal_members, text_elements};
 
 use crate::paths;
 use gw_base::{Ident, Text};
@@ -24,8 +25,10 @@ use std::alloc::{AllocError, Global};
 /// [`read_message`](crate::read_message) gave of a text's tree is written as JSON text (RFC 8259) that is read as this
 /// request again ([`law_written_again`](crate::law_written_again)). This asks for nothing: one that was put together
 /// otherwise is written by these rules too, though its bytes may be no text.
+///
+/// It writes straight into `out`, which grows by its own allocator: `_alloc` only marks that the call takes memory.
 pub fn write_request(
-    alloc: Global,
+    _alloc: Global,
     header: &Header,
     request: &SaleRequest,
     out: &mut Vec<u8>,
@@ -33,18 +36,25 @@ pub fn write_request(
     ensures ok { OnOk result (out.new.items ≡ out.old.items ++ canonical (request_tree header.now request.now)) }
     ensures err { OnErr result (out.new.items ≡ out.old.items) }
 {
-    // Into a buffer of its own: where memory is refused halfway, no part of a message stays in `out`.
-    let mut text = Vec::new(alloc);
-    write_message(header, request, &mut text)?;
-    out.extend_from_slice(&text)
+    let before = out.len();
+    match write_message(header, request, out) {
+        Ok(()) => Ok(()),
+        Err(error) => {
+            // Memory was refused halfway: the part of the message that there was room for is taken away again.
+            out.truncate(before);
+            Err(error)
+        }
+    }
 }
 
+/// Appends a request. Where memory is refused, the part of it that there was room for stays, here and in what this calls.
 fn write_message(
     header: &Header,
     request: &SaleRequest,
     out: &mut Vec<u8>,
 ) -> Result<(), AllocError>
-    ensures { OnOk result (out.new.items ≡ out.old.items ++ canonical (request_tree header.now request.now)) }
+    ensures ok { OnOk result (out.new.items ≡ out.old.items ++ canonical (request_tree header.now request.now)) }
+    ensures grows { IsPrefix out.old.items out.new.items }
 {
     out.extend_from_slice(b"{\"SaleToPOIRequest\":{\"MessageHeader\":")?;
     write_parts(&header_parts(header), out)?;
@@ -75,7 +85,8 @@ fn name_of_body(request: &SaleRequest) -> &'static str
 
 /// The parts of a message, one after the other.
 fn write_parts(parts: &[Part<'_>], out: &mut Vec<u8>) -> Result<(), AllocError>
-    ensures { OnOk result (out.new.items ≡ out.old.items ++ parts_text parts.now) }
+    ensures ok { OnOk result (out.new.items ≡ out.old.items ++ parts_text parts.now) }
+    ensures grows { IsPrefix out.old.items out.new.items }
 {
     for part in parts {
         write_part(*part, out)?;
@@ -84,7 +95,8 @@ fn write_parts(parts: &[Part<'_>], out: &mut Vec<u8>) -> Result<(), AllocError>
 }
 
 fn write_part(part: Part<'_>, out: &mut Vec<u8>) -> Result<(), AllocError>
-    ensures { OnOk result (out.new.items ≡ out.old.items ++ part_text part.entry) }
+    ensures ok { OnOk result (out.new.items ≡ out.old.items ++ part_text part.entry) }
+    ensures grows { IsPrefix out.old.items out.new.items }
 {
     match part {
         Part::Raw(bytes) => out.extend_from_slice(bytes),
@@ -96,7 +108,8 @@ fn write_part(part: Part<'_>, out: &mut Vec<u8>) -> Result<(), AllocError>
 
 /// A text, after the bytes that come before it.
 fn write_named(prefix: &[u8], text: &[u8], out: &mut Vec<u8>) -> Result<(), AllocError>
-    ensures { OnOk result (out.new.items ≡ out.old.items ++ (prefix.now ++ canonical_string text.now)) }
+    ensures ok { OnOk result (out.new.items ≡ out.old.items ++ (prefix.now ++ canonical_string text.now)) }
+    ensures grows { IsPrefix out.old.items out.new.items }
 {
     out.extend_from_slice(prefix)?;
     write_text(text, out)
@@ -108,7 +121,8 @@ fn write_optional<const N: usize>(
     text: &Option<Ident<N>>,
     out: &mut Vec<u8>,
 ) -> Result<(), AllocError>
-    ensures { OnOk result (out.new.items ≡ out.old.items ++ optional_part prefix.now text.now) }
+    ensures ok { OnOk result (out.new.items ≡ out.old.items ++ optional_part prefix.now text.now) }
+    ensures grows { IsPrefix out.old.items out.new.items }
 {
     match text {
         None => Ok(()),
@@ -117,7 +131,8 @@ fn write_optional<const N: usize>(
 }
 
 fn write_body(request: &SaleRequest, out: &mut Vec<u8>) -> Result<(), AllocError>
-    ensures { OnOk result (out.new.items ≡ out.old.items ++ canonical (object (body_members request.now))) }
+    ensures ok { OnOk result (out.new.items ≡ out.old.items ++ canonical (object (body_members request.now))) }
+    ensures grows { IsPrefix out.old.items out.new.items }
 {
     match request {
         SaleRequest::Payment(ask) => write_payment(ask, out),
@@ -149,7 +164,8 @@ fn write_body(request: &SaleRequest, out: &mut Vec<u8>) -> Result<(), AllocError
 }
 
 fn write_payment(ask: &PaymentAsk, out: &mut Vec<u8>) -> Result<(), AllocError>
-    ensures { OnOk result (out.new.items ≡ out.old.items ++ canonical (object (payment_members ask.now))) }
+    ensures ok { OnOk result (out.new.items ≡ out.old.items ++ canonical (object (payment_members ask.now))) }
+    ensures grows { IsPrefix out.old.items out.new.items }
 {
     write_named(
         b"{\"SaleData\":{\"SaleTransactionID\":{\"TransactionID\":",
@@ -166,10 +182,10 @@ fn write_payment(ask: &PaymentAsk, out: &mut Vec<u8>) -> Result<(), AllocError>
     write_money(ask.amount, out)?;
     match &ask.kind {
         None => out.extend_from_slice(b"}}}"),
-        Some(kind) => {
+        Some(payment_type) => {
             write_named(
                 b"}},\"PaymentData\":{\"PaymentType\":",
-                kind.as_str().as_bytes(),
+                payment_type.as_str().as_bytes(),
                 out,
             )?;
             out.extend_from_slice(b"}}")
@@ -178,7 +194,8 @@ fn write_payment(ask: &PaymentAsk, out: &mut Vec<u8>) -> Result<(), AllocError>
 }
 
 fn write_reversal(ask: &ReversalAsk, out: &mut Vec<u8>) -> Result<(), AllocError>
-    ensures { OnOk result (out.new.items ≡ out.old.items ++ canonical (object (reversal_members ask.now))) }
+    ensures ok { OnOk result (out.new.items ≡ out.old.items ++ canonical (object (reversal_members ask.now))) }
+    ensures grows { IsPrefix out.old.items out.new.items }
 {
     write_named(
         b"{\"OriginalPOITransaction\":{\"POITransactionID\":{\"TransactionID\":",
@@ -192,7 +209,8 @@ fn write_reversal(ask: &ReversalAsk, out: &mut Vec<u8>) -> Result<(), AllocError
 
 /// An object whose only member is the reference.
 fn write_referring(reference: &Reference, out: &mut Vec<u8>) -> Result<(), AllocError>
-    ensures { OnOk result (out.new.items ≡ out.old.items ++ canonical (object (referring_members reference.now))) }
+    ensures ok { OnOk result (out.new.items ≡ out.old.items ++ canonical (object (referring_members reference.now))) }
+    ensures grows { IsPrefix out.old.items out.new.items }
 {
     write_named(
         b"{\"MessageReference\":{\"ServiceID\":",
@@ -206,7 +224,8 @@ fn write_referring(reference: &Reference, out: &mut Vec<u8>) -> Result<(), Alloc
 
 /// Outputs after the opening bracket, with the closing one.
 fn write_outputs(outputs: &[Output], out: &mut Vec<u8>) -> Result<(), AllocError>
-    ensures { OnOk result (out.new.items ≡ out.old.items ++ canonical_first (output_items outputs.now)) }
+    ensures ok { OnOk result (out.new.items ≡ out.old.items ++ canonical_first (output_elements outputs.now)) }
+    ensures grows { IsPrefix out.old.items out.new.items }
 {
     for (i, output) in outputs.iter().enumerate() {
         if i > 0 {
@@ -218,7 +237,8 @@ fn write_outputs(outputs: &[Output], out: &mut Vec<u8>) -> Result<(), AllocError
 }
 
 fn write_output(output: &Output, out: &mut Vec<u8>) -> Result<(), AllocError>
-    ensures { OnOk result (out.new.items ≡ out.old.items ++ canonical (display_output_tree output.now)) }
+    ensures ok { OnOk result (out.new.items ≡ out.old.items ++ canonical (display_output_tree output.now)) }
+    ensures grows { IsPrefix out.old.items out.new.items }
 {
     write_named(b"{\"Device\":", output.device.as_bytes(), out)?;
     write_named(b",\"InfoQualify\":", output.qualify.as_bytes(), out)?;
@@ -238,7 +258,8 @@ fn word_of(flag: bool) -> &'static [u8]
 
 /// The texts of an output, where it has some.
 fn write_optional_texts(texts: &Option<Texts>, out: &mut Vec<u8>) -> Result<(), AllocError>
-    ensures { OnOk result (out.new.items ≡ out.old.items ++ texts_part (codes ",\"OutputText\":") texts.now) }
+    ensures ok { OnOk result (out.new.items ≡ out.old.items ++ texts_part (codes ",\"OutputText\":") texts.now) }
+    ensures grows { IsPrefix out.old.items out.new.items }
 {
     match texts {
         None => Ok(()),
@@ -251,7 +272,8 @@ fn write_optional_texts(texts: &Option<Texts>, out: &mut Vec<u8>) -> Result<(), 
 
 /// Texts after the opening bracket, with the closing one.
 fn write_texts(texts: &[Text], out: &mut Vec<u8>) -> Result<(), AllocError>
-    ensures { OnOk result (out.new.items ≡ out.old.items ++ canonical_first (text_items texts.now)) }
+    ensures ok { OnOk result (out.new.items ≡ out.old.items ++ canonical_first (text_elements texts.now)) }
+    ensures grows { IsPrefix out.old.items out.new.items }
 {
     for (i, text) in texts.iter().enumerate() {
         if i > 0 {
@@ -264,7 +286,8 @@ fn write_texts(texts: &[Text], out: &mut Vec<u8>) -> Result<(), AllocError>
 }
 
 fn write_money(units: u64, out: &mut Vec<u8>) -> Result<(), AllocError>
-    ensures { OnOk result (out.new.items ≡ out.old.items ++ money_text units) }
+    ensures ok { OnOk result (out.new.items ≡ out.old.items ++ money_text units) }
+    ensures grows { IsPrefix out.old.items out.new.items }
 {
     out.extend_from_slice(money(units).as_slice())
 }
@@ -275,7 +298,8 @@ fn write_optional_money(
     units: Option<u64>,
     out: &mut Vec<u8>,
 ) -> Result<(), AllocError>
-    ensures { OnOk result (out.new.items ≡ out.old.items ++ money_part prefix.now units) }
+    ensures ok { OnOk result (out.new.items ≡ out.old.items ++ money_part prefix.now units) }
+    ensures grows { IsPrefix out.old.items out.new.items }
 {
     match units {
         None => Ok(()),

@@ -1,6 +1,6 @@
 -- The canonical spelling of each part of a message, put together from smaller ones.
 use Rattle.std.proofs.Common.{◌≡◌, ℕ, List, [], ◌∷◌, ◌++◌, Option, Some, None, refl, append_assoc, codes, ℤ, length, ◌≤◌, arith}
-use Rattle.std.specs.Prelude.{decimal, option_map}
+use Rattle.std.specs.Prelude.{decimal, map, option_map}
 use Rattle.std.specs.Borrow.{Bor}
 use Rattle.sale_reply.proofs.PartLemmas.{canonical_outputs_is, canonical_lines_is}
 use Rattle.json_text.specs.Tree.{Tree}
@@ -241,7 +241,7 @@ pub paper_parts : (lines : List (Bor (List ℕ))) →
     prefix ++ (first_name (codes "PrintOutput") ++ (prefix ++ (first_text (codes "DocumentQualifier") (codes "Document")
     ++ (next_text (codes "ResponseMode") (codes "NotRequired") ++ (next_name (codes "OutputContent")
     ++ (content_prefix ++ (canonical_lines lines ++ 93 ∷ 125 ∷ 125 ∷ 125 ∷ [])))))))
-    ≡ canonical (print_request_body lines)
+    ≡ canonical (print_request_body (map (λ line. line.now) lines))
 unfolding print_request_body content content_prefix next_name first_name first_text next_text
 paper_parts lines = rw (← canonical_lines_is lines) (simp append_assoc)
 

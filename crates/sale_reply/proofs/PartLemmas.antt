@@ -6,8 +6,8 @@ use Rattle.std.specs.Prelude.{flat_map, map}
 use Rattle.std.specs.Str.{encode_utf8_all}
 use Rattle.std.specs.Char.{encode_utf8}
 use Rattle.std.specs.Borrow.{Bor}
-use Rattle.json_text.specs.Tree.{Tree, no_items}
-use Rattle.json_text.specs.ValueOf.{items_onto}
+use Rattle.json_text.specs.Tree.{Tree, no_elements}
+use Rattle.json_text.specs.ValueOf.{elements_onto}
 use Rattle.json_text.specs.Canonical.{canonical, canonical_first, canonical_more, canonical_byte, canonical_string}
 use Rattle.gw_base.specs.Text437.{char_of}
 use Rattle.sale_reply.specs.declared.reply.Shown.{Shown}
@@ -56,24 +56,32 @@ unfolding line_text
 line_is line = ap (λ bytes. 34 ∷ (bytes ++ 34 ∷ [])) (sym (shown_bytes_is line))
 
 -- the elements after the first
-more_elements_is : {A : Type 0} (f : A → Tree) (xs : List A) → flat_map (λ x. 44 ∷ canonical (f x)) xs ++ 93 ∷ [] ≡ canonical_more (items_onto (map f xs) no_items)
+more_elements_is : {A : Type 0} (f : A → Tree) (xs : List A) → flat_map (λ x. 44 ∷ canonical (f x)) xs ++ 93 ∷ [] ≡ canonical_more (elements_onto (map f xs) no_elements)
 more_elements_is f [] = refl
 more_elements_is f (x ∷ xs) =
     append_assoc (44 ∷ canonical (f x)) (flat_map (λ y. 44 ∷ canonical (f y)) xs) (93 ∷ [])
     ∙ ap (λ rest. 44 ∷ (canonical (f x) ++ rest)) (more_elements_is f xs)
 
 -- the results of outputs, in a list
-pub canonical_outputs_is : (outputs : List Shown) → canonical_outputs outputs ++ 93 ∷ [] ≡ canonical_first (items_onto (map output_result_tree outputs) no_items)
+pub canonical_outputs_is : (outputs : List Shown) → canonical_outputs outputs ++ 93 ∷ [] ≡ canonical_first (elements_onto (map output_result_tree outputs) no_elements)
 unfolding canonical_outputs more_outputs
 canonical_outputs_is [] = refl
 canonical_outputs_is (shown ∷ outputs) =
     append_assoc (canonical (output_result_tree shown)) (more_outputs outputs) (93 ∷ [])
     ∙ ap (λ rest. canonical (output_result_tree shown) ++ rest) (more_elements_is output_result_tree outputs)
 
+-- the lines after the first
+more_lines_is : (lines : List (Bor (List ℕ))) → more_lines lines ++ 93 ∷ [] ≡ canonical_more (elements_onto (line_trees (map (λ line. line.now) lines)) no_elements)
+unfolding more_lines
+more_lines_is [] = refl
+more_lines_is (line ∷ lines) =
+    append_assoc (44 ∷ canonical (text_tree (line_text line.now))) (more_lines lines) (93 ∷ [])
+    ∙ ap (λ rest. 44 ∷ (canonical (text_tree (line_text line.now)) ++ rest)) (more_lines_is lines)
+
 -- lines, in a list
-pub canonical_lines_is : (lines : List (Bor (List ℕ))) → canonical_lines lines ++ 93 ∷ [] ≡ canonical_first (items_onto (line_trees lines) no_items)
-unfolding canonical_lines more_lines
+pub canonical_lines_is : (lines : List (Bor (List ℕ))) → canonical_lines lines ++ 93 ∷ [] ≡ canonical_first (elements_onto (line_trees (map (λ line. line.now) lines)) no_elements)
+unfolding canonical_lines
 canonical_lines_is [] = refl
 canonical_lines_is (line ∷ lines) =
     append_assoc (canonical (text_tree (line_text line.now))) (more_lines lines) (93 ∷ [])
-    ∙ ap (λ rest. canonical (text_tree (line_text line.now)) ++ rest) (more_elements_is (λ (l : Bor (List ℕ)). text_tree (line_text l.now)) lines)
+    ∙ ap (λ rest. canonical (text_tree (line_text line.now)) ++ rest) (more_lines_is lines)

@@ -1,5 +1,6 @@
 -- How long every message within the limits is at most.
 use Rattle.std.proofs.Common.{ℕ, ◌+◌, ◌≤◌, List, [], ◌∷◌, ◌++◌, length, arith, lit≤, codes, ℤ}
+use Rattle.std.specs.Prelude.{map}
 use Rattle.gw_base.specs.Ident.{IsIdent}
 use Rattle.json_text.specs.Tree.{Tree}
 use Rattle.json_text.specs.Canonical.{canonical}
@@ -57,8 +58,8 @@ reply_size stamps (reply.Told h told) is = within 65536 (response_size h (result
 reply_size stamps (reply.Status h repeated told) is =
     within 65536 (response_size h (status_body repeated (result_body told)) is.0 (status_size repeated (result_body told) is.1 (result_body_size stamps told is.2))) (lit≤ tt)
 reply_size stamps (reply.Diagnosis h status) is = within 65536 (response_size h (diagnosis_body status) is (diagnosis_size status)) (lit≤ tt)
-reply_size stamps (reply.Display h outputs) is = within 65536 (response_size h (display_body outputs.items) is.0 (display_size outputs.items is.2 is.1)) (lit≤ tt)
+reply_size stamps (reply.Display h outputs) is = within 65536 (response_size h (display_body outputs) is.0 (display_size outputs is.2 is.1)) (lit≤ tt)
 reply_size stamps (reply.Print h qualifier verdict) is = within 65536 (response_size h (print_body qualifier verdict) is.0 (print_size qualifier verdict is.1 is.2)) (lit≤ tt)
 reply_size stamps (reply.DisplayRequest h code) is = within 65536 (request_size h (display_request_body code) is.0 (show_size code)) (lit≤ tt)
-reply_size stamps (reply.PrintRequest h lines) is = within 65536 (request_size h (print_request_body lines.items) is.0 (paper_size lines.items is.1 is.2)) (lit≤ tt)
+reply_size stamps (reply.PrintRequest h lines) is = within 65536 (request_size h (print_request_body (map (λ line. line.now) lines.now)) is.0 (paper_size lines.now is.1 is.2)) (lit≤ tt)
 reply_size stamps (reply.Reject sale poi moment detail) is = within 65536 (event_size stamps sale poi moment detail is.0 is.1 is.2) (lit≤ tt)

@@ -1,6 +1,6 @@
 -- How long a print request, a display request and an event are at most.
 use Rattle.std.proofs.Common.{◌≡◌, ℕ, ◌+◌, ◌*◌, ◌/◌, ◌%◌, ◌≤◌, List, [], ◌∷◌, ◌++◌, length, refl, arith, length-append, lit≤, codes, nat_eq, Bool, true, false, ℤ}
-use Rattle.std.specs.Prelude.{flat_map, sum_by, nat_lt, ◌||◌, if◌then◌else◌}
+use Rattle.std.specs.Prelude.{flat_map, map, sum_by, nat_lt, ◌||◌, if◌then◌else◌}
 use Rattle.std.specs.Char.{encode_utf8, digit_char}
 use Rattle.std.specs.Borrow.{Bor}
 use Rattle.std.proofs.lemmas.Bool.Decides.{nat_tests}
@@ -109,7 +109,7 @@ content_prefix_size = within 300 (same_size content_prefix_parts
     (both (known (123 ∷ [])) (both (first_text_size (known (codes "OutputFormat")) (known (codes "Text")))
     (both (next_name_size (known (codes "OutputText"))) (known (91 ∷ [])))))) (lit≤ tt)
 
-pub paper_size : (lines : List (Bor (List ℕ))) → length lines ≤ 400 → bytes_of lines ≤ 12000 → IsAtMost (canonical (print_request_body lines)) 39000
+pub paper_size : (lines : List (Bor (List ℕ))) → length lines ≤ 400 → bytes_of lines ≤ 12000 → IsAtMost (canonical (print_request_body (map (λ line. line.now) lines))) 39000
 paper_size lines few fits = within 39000 (same_size (paper_parts lines)
     (both (known (123 ∷ [])) (both (first_name_size (known (codes "PrintOutput"))) (both (known (123 ∷ []))
     (both (first_text_size (known (codes "DocumentQualifier")) (known (codes "Document")))

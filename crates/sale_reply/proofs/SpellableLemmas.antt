@@ -1,7 +1,6 @@
 -- Every reply within the limits has a text.
 use Rattle.std.proofs.Common.{◌≡◌, ◌≢◌, ℕ, suc, ◌^◌, ◌<◌, List, [], ◌∷◌, ◌++◌, Option, Some, None, true, refl, arith, All, IfSome, codes, decimal, map, ℤ}
-use Rattle.std.specs.Borrow.{Bor}
-use Rattle.std.specs.Prelude.{option_map, false}
+use Rattle.std.specs.Prelude.{map, option_map, false}
 use Rattle.std.specs.Str.{IsUtf8}
 use Rattle.std.proofs.lemmas.List.Elements.{All-head, All-tail}
 use Rattle.std.proofs.lemmas.Str.{IsUtf8-append}
@@ -14,8 +13,8 @@ use Rattle.gw_base.specs.declared.currency.Currency.{Currency}
 use Rattle.gw_base.specs.declared.figures.Money.{Money}
 use Rattle.json_text.specs.MemberNames.{are_distinct}
 use Rattle.json_text.specs.Spellable.{IsSpellable, IsSpellableAt, AreSpellable}
-use Rattle.json_text.specs.Tree.{Tree, boolean, string, array, object, Items, no_items, item, Members, no_members, member, names}
-use Rattle.json_text.specs.ValueOf.{items_onto}
+use Rattle.json_text.specs.Tree.{Tree, boolean, string, array, object, Elements, no_elements, element, Members, no_members, member, names}
+use Rattle.json_text.specs.ValueOf.{elements_onto}
 use Rattle.sale_values.specs.HeaderTexts.{HasUtf8Texts}
 use Rattle.sale_values.specs.MemberShapes.{text_member, optional_member, number_member, object_member, only}
 use Rattle.sale_values.specs.Money.{money_text}
@@ -134,7 +133,7 @@ unfolding totals
 totals_texts d currency debit reversed room p q =
     object_at d (text_member (codes "PaymentInstrumentType") (codes "Card") (text_member (codes "PaymentCurrency") (currency_letters currency)
     (member (codes "PaymentTotals")
-    (array (item (total (codes "Debit") debit) (item (total (codes "ReverseDebit") reversed) no_items))) no_members))) (omega arith) refl (
+    (array (element (total (codes "Debit") debit) (element (total (codes "ReverseDebit") reversed) no_elements))) no_members))) (omega arith) refl (
       ascii_utf8 (codes "PaymentInstrumentType") refl,
       ascii_utf8 (codes "Card") refl,
       (
@@ -220,7 +219,7 @@ reconciled_texts : (d : ℕ) (period : Period) (currency : Currency) (debit reve
 unfolding result_body
 reconciled_texts d period currency debit reversed room p q =
     object_at d (member (codes "Response") success_tree (text_member (codes "ReconciliationType") (period_name period)
-    (member (codes "TransactionTotals") (array (item (totals currency debit reversed) no_items)) no_members))) (omega arith) refl (
+    (member (codes "TransactionTotals") (array (element (totals currency debit reversed) no_elements)) no_members))) (omega arith) refl (
       ascii_utf8 (codes "Response") refl,
       success_texts (suc d) (omega arith),
       (
@@ -274,7 +273,7 @@ output_texts d shown room is =
       ),
     )
 
-outputs_texts : (d : ℕ) (outputs : List Shown) → d < 30 → All IsShownWithinLimits outputs → AreSpellable d (items_onto (map output_result_tree outputs) no_items)
+outputs_texts : (d : ℕ) (outputs : List Shown) → d < 30 → All IsShownWithinLimits outputs → AreSpellable d (elements_onto (map output_result_tree outputs) no_elements)
 outputs_texts d [] room is = tt
 outputs_texts d (shown ∷ outputs) room is =
     (output_texts d shown room (All-head IsShownWithinLimits shown outputs is), outputs_texts d outputs room (All-tail IsShownWithinLimits shown outputs is))
@@ -282,7 +281,7 @@ outputs_texts d (shown ∷ outputs) room is =
 display_texts : (d : ℕ) (outputs : List Shown) → d < 26 → All IsShownWithinLimits outputs → IsSpellableAt d (display_body outputs)
 unfolding display_body
 display_texts d outputs room is =
-    only_at d (codes "OutputResult") (array (items_onto (map output_result_tree outputs) no_items)) (omega arith) (ascii_utf8 (codes "OutputResult") refl)
+    only_at d (codes "OutputResult") (array (elements_onto (map output_result_tree outputs) no_elements)) (omega arith) (ascii_utf8 (codes "OutputResult") refl)
     (omega arith, outputs_texts (suc (suc d)) outputs (omega arith) is)
 
 print_texts : (d : ℕ) (qualifier : List ℕ) (verdict : Verdict) → d < 26 → IsIdent 40 qualifier → IsVerdictWithinLimits verdict
@@ -301,7 +300,7 @@ text_texts : (d : ℕ) (text : List ℕ) → d < 32 → IsUtf8 text → IsSpella
 unfolding text_tree
 text_texts d text room t = only_at d (codes "Text") (string text) room (ascii_utf8 (codes "Text") refl) t
 
-content_texts : (d : ℕ) (texts : Items) → d < 30 → AreSpellable (suc (suc d)) texts → IsSpellableAt d (content texts)
+content_texts : (d : ℕ) (texts : Elements) → d < 30 → AreSpellable (suc (suc d)) texts → IsSpellableAt d (content texts)
 unfolding content
 content_texts d texts room ts =
     object_at d (text_member (codes "OutputFormat") (codes "Text") (member (codes "OutputText") (array texts) no_members)) (omega arith) refl
@@ -312,12 +311,12 @@ abbrev status_members : ℕ → Members
 status_members code =
     member (codes "ResponseRequiredFlag") (boolean false) (text_member (codes "Device") (codes "CashierDisplay")
     (text_member (codes "InfoQualify") (codes "Status")
-    (member (codes "OutputContent") (content (item (text_tree (intermediate_text code)) no_items)) no_members)))
+    (member (codes "OutputContent") (content (element (text_tree (intermediate_text code)) no_elements)) no_members)))
 
 show_texts : (d code : ℕ) → d < 25 → code < 2 ^ 8 → IsSpellableAt d (display_request_body code)
 unfolding display_request_body
 show_texts d code room small =
-    only_at d (codes "DisplayOutput") (array (item (object (status_members code)) no_items)) (omega arith) (ascii_utf8 (codes "DisplayOutput") refl) (
+    only_at d (codes "DisplayOutput") (array (element (object (status_members code)) no_elements)) (omega arith) (ascii_utf8 (codes "DisplayOutput") refl) (
       omega arith,
       (
         object_at (suc (suc d)) (status_members code) (omega arith) refl (
@@ -331,7 +330,7 @@ show_texts d code room small =
               ascii_utf8 (codes "Status") refl,
               (
                 ascii_utf8 (codes "OutputContent") refl,
-                content_texts (suc (suc (suc d))) (item (text_tree (intermediate_text code)) no_items) (omega arith)
+                content_texts (suc (suc (suc d))) (element (text_tree (intermediate_text code)) no_elements) (omega arith)
                     (text_texts (suc (suc (suc (suc (suc d))))) (intermediate_text code) (omega arith) (status_text_utf8 code small), tt),
                 tt,
               ),
@@ -342,17 +341,17 @@ show_texts d code room small =
       ),
     )
 
-lines_texts : (d : ℕ) (lines : List (Bor (List ℕ))) → d < 32 → AreSpellable d (items_onto (line_trees lines) no_items)
+lines_texts : (d : ℕ) (lines : List (List ℕ)) → d < 32 → AreSpellable d (elements_onto (line_trees lines) no_elements)
 lines_texts d [] room = tt
-lines_texts d (line ∷ lines) room = (text_texts d (line_text line.now) room (line_utf8 line.now), lines_texts d lines room)
+lines_texts d (line ∷ lines) room = (text_texts d (line_text line) room (line_utf8 line), lines_texts d lines room)
 
 -- the output that is printed
-abbrev paper_members : List (Bor (List ℕ)) → Members
+abbrev paper_members : List (List ℕ) → Members
 paper_members lines =
     text_member (codes "DocumentQualifier") (codes "Document") (text_member (codes "ResponseMode") (codes "NotRequired")
-    (member (codes "OutputContent") (content (items_onto (line_trees lines) no_items)) no_members))
+    (member (codes "OutputContent") (content (elements_onto (line_trees lines) no_elements)) no_members))
 
-paper_texts : (d : ℕ) (lines : List (Bor (List ℕ))) → d < 25 → IsSpellableAt d (print_request_body lines)
+paper_texts : (d : ℕ) (lines : List (List ℕ)) → d < 25 → IsSpellableAt d (print_request_body lines)
 unfolding print_request_body
 paper_texts d lines room =
     only_at d (codes "PrintOutput") (object (paper_members lines)) (omega arith) (ascii_utf8 (codes "PrintOutput") refl)
@@ -364,7 +363,7 @@ paper_texts d lines room =
         ascii_utf8 (codes "NotRequired") refl,
         (
           ascii_utf8 (codes "OutputContent") refl,
-          content_texts (suc (suc d)) (items_onto (line_trees lines) no_items) (omega arith)
+          content_texts (suc (suc d)) (elements_onto (line_trees lines) no_elements) (omega arith)
               (lines_texts (suc (suc (suc (suc d)))) lines (omega arith)),
           tt,
         ),
@@ -473,9 +472,9 @@ reply_spellable stamps (reply.Status h repeated told) is =
     (status_texts repeated (result_body told) is.1 (result_body_texts stamps 5 told (omega arith) is.2))
 reply_spellable stamps (reply.Diagnosis h status) is = response_texts h (diagnosis_body status) is (diagnosis_texts 2 status (omega arith))
 reply_spellable stamps (reply.Display h outputs) is =
-    response_texts h (display_body outputs.items) is.0 (display_texts 2 outputs.items (omega arith) is.2)
+    response_texts h (display_body outputs) is.0 (display_texts 2 outputs (omega arith) is.2)
 reply_spellable stamps (reply.Print h qualifier verdict) is =
     response_texts h (print_body qualifier verdict) is.0 (print_texts 2 qualifier verdict (omega arith) is.1 is.2)
 reply_spellable stamps (reply.DisplayRequest h code) is = request_texts h (display_request_body code) is.0 (show_texts 2 code (omega arith) is.1)
-reply_spellable stamps (reply.PrintRequest h lines) is = request_texts h (print_request_body lines.items) is.0 (paper_texts 2 lines.items (omega arith))
+reply_spellable stamps (reply.PrintRequest h lines) is = request_texts h (print_request_body (map (λ line. line.now) lines.now)) is.0 (paper_texts 2 (map (λ line. line.now) lines.now) (omega arith))
 reply_spellable stamps (reply.Reject sale poi moment detail) is = event_texts stamps sale poi moment detail is.0 is.1 is.2

@@ -61,11 +61,11 @@ IsWithinLimits (reply.Plain header verdict) = IsHeaderWithinLimits header × IsV
 IsWithinLimits (reply.Told header told) = IsHeaderWithinLimits header × IsToldWithinLimits told
 IsWithinLimits (reply.Status header repeated told) = IsHeaderWithinLimits header × IsHeaderWithinLimits repeated × IsToldWithinLimits told
 IsWithinLimits (reply.Diagnosis header status) = IsHeaderWithinLimits header
-IsWithinLimits (reply.Display header outputs) = IsHeaderWithinLimits header × (length outputs.items ≤ 16) × All IsShownWithinLimits outputs.items
+IsWithinLimits (reply.Display header outputs) = IsHeaderWithinLimits header × (length outputs ≤ 16) × All IsShownWithinLimits outputs
 IsWithinLimits (reply.Print header qualifier verdict) = IsHeaderWithinLimits header × IsIdent 40 qualifier × IsVerdictWithinLimits verdict
 IsWithinLimits (reply.DisplayRequest header code) = IsHeaderWithinLimits header × (code < 2 ^ 8)
 IsWithinLimits (reply.PrintRequest header lines) =
-    IsHeaderWithinLimits header × (length lines.items ≤ 400) × (sum_by (λ line. length line.now) lines.items ≤ 12000)
+    IsHeaderWithinLimits header × (length lines.now ≤ 400) × (sum_by (λ line. length line.now) lines.now ≤ 12000)
 IsWithinLimits (reply.Reject sale poi moment detail) = IsIdent 40 sale × IsIdent 40 poi × IsDetailWithinLimits detail
 
 -- it asks to print lines of the terminal, which are of any number and length

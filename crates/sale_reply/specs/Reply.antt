@@ -1,8 +1,7 @@
 -- The one tree of each message to a till: nexo Sale to POI 3.0, narrowed to this profile.
 use Rattle.std.specs.Prelude.{ℕ, List, ◌++◌, codes, decimal, map, Option, Some, None, option_map, false, ℤ}
-use Rattle.std.specs.Borrow.{Bor}
-use Rattle.json_text.specs.Tree.{Tree, boolean, string, array, object, Items, no_items, item, Members, no_members, member}
-use Rattle.json_text.specs.ValueOf.{items_onto}
+use Rattle.json_text.specs.Tree.{Tree, boolean, string, array, object, Elements, no_elements, element, Members, no_members, member}
+use Rattle.json_text.specs.ValueOf.{elements_onto}
 use Rattle.gw_base.specs.declared.condition.Condition.{Condition}
 use Rattle.gw_base.specs.declared.currency.Currency.{Currency}
 use Rattle.gw_base.specs.declared.figures.Money.{Money}
@@ -112,7 +111,7 @@ totals currency debit reversed = object
     (text_member (codes "PaymentInstrumentType") (codes "Card")
     (text_member (codes "PaymentCurrency") (currency_letters currency)
     (member (codes "PaymentTotals")
-    (array (item (total (codes "Debit") debit) (item (total (codes "ReverseDebit") reversed) no_items))) no_members)))
+    (array (element (total (codes "Debit") debit) (element (total (codes "ReverseDebit") reversed) no_elements))) no_members)))
 
 -- the body of the reply to an approved payment
 unfoldable pub approved_body : List ℕ → List ℕ → PoiMark → ReplyResult → Money → Tree
@@ -140,7 +139,7 @@ result_body (ReversalDeclined mark condition) = object
 result_body (Reconciled period currency debit reversed) = object
     (member (codes "Response") success_tree
     (text_member (codes "ReconciliationType") (period_name period)
-    (member (codes "TransactionTotals") (array (item (totals currency debit reversed) no_items)) no_members)))
+    (member (codes "TransactionTotals") (array (element (totals currency debit reversed) no_elements)) no_members)))
 
 -- a reply that is repeated: the header that it had, and its body under the name that it had
 unfoldable pub repeated_message : Header → Tree → Tree
@@ -169,7 +168,7 @@ output_result_tree shown = object
 
 -- the results of the outputs, in order
 unfoldable pub display_body : List Shown → Tree
-display_body outputs = only (codes "OutputResult") (array (items_onto (map output_result_tree outputs) no_items))
+display_body outputs = only (codes "OutputResult") (array (elements_onto (map output_result_tree outputs) no_elements))
 
 -- the result of a print
 unfoldable pub print_body : List ℕ → Verdict → Tree
@@ -182,30 +181,30 @@ unfoldable pub text_tree : List ℕ → Tree
 text_tree text = only (codes "Text") (string text)
 
 -- lines of text to be shown or printed
-unfoldable pub content : Items → Tree
+unfoldable pub content : Elements → Tree
 content texts = object
     (text_member (codes "OutputFormat") (codes "Text")
     (member (codes "OutputText") (array texts) no_members))
 
 -- the body that shows a cashier an intermediate status of the terminal
 unfoldable pub display_request_body : ℕ → Tree
-display_request_body code = only (codes "DisplayOutput") (array (item (object
+display_request_body code = only (codes "DisplayOutput") (array (element (object
     (member (codes "ResponseRequiredFlag") (boolean false)
     (text_member (codes "Device") (codes "CashierDisplay")
     (text_member (codes "InfoQualify") (codes "Status")
-    (member (codes "OutputContent") (content (item (text_tree (intermediate_text code)) no_items)) no_members)))))
-    no_items))
+    (member (codes "OutputContent") (content (element (text_tree (intermediate_text code)) no_elements)) no_members)))))
+    no_elements))
 
 -- the lines that are printed, each as a text
-abbrev pub line_trees : List (Bor (List ℕ)) → List Tree
-line_trees lines = map (λ line. text_tree (line_text line.now)) lines
+abbrev pub line_trees : List (List ℕ) → List Tree
+line_trees lines = map (λ line. text_tree (line_text line)) lines
 
 -- the body that prints lines of the terminal
-unfoldable pub print_request_body : List (Bor (List ℕ)) → Tree
+unfoldable pub print_request_body : List (List ℕ) → Tree
 print_request_body lines = only (codes "PrintOutput") (object
     (text_member (codes "DocumentQualifier") (codes "Document")
     (text_member (codes "ResponseMode") (codes "NotRequired")
-    (member (codes "OutputContent") (content (items_onto (line_trees lines) no_items)) no_members))))
+    (member (codes "OutputContent") (content (elements_onto (line_trees lines) no_elements)) no_members))))
 
 -- the header of an event
 abbrev pub event_header : List ℕ → List ℕ → Header
@@ -237,8 +236,8 @@ tree_of (reply.Plain header verdict) = response_tree header (plain_body (verdict
 tree_of (reply.Told header told) = response_tree header (result_body told)
 tree_of (reply.Status header repeated told) = response_tree header (status_body repeated (result_body told))
 tree_of (reply.Diagnosis header status) = response_tree header (diagnosis_body status)
-tree_of (reply.Display header outputs) = response_tree header (display_body outputs.items)
+tree_of (reply.Display header outputs) = response_tree header (display_body outputs)
 tree_of (reply.Print header qualifier verdict) = response_tree header (print_body qualifier verdict)
 tree_of (reply.DisplayRequest header code) = device_request header (display_request_body code)
-tree_of (reply.PrintRequest header lines) = device_request header (print_request_body lines.items)
+tree_of (reply.PrintRequest header lines) = device_request header (print_request_body (map (λ line. line.now) lines.now))
 tree_of (reply.Reject sale poi moment detail) = event_tree sale poi moment detail

@@ -1,5 +1,5 @@
 -- The texts that a reply puts together.
-use Rattle.std.specs.Prelude.{ℕ, ◌+◌, ◌/◌, ◌%◌, List, [], ◌∷◌, ◌++◌, codes, decimal, map, nat_lt, if◌then◌else◌}
+use Rattle.std.specs.Prelude.{ℕ, ◌/◌, ◌%◌, List, [], ◌∷◌, ◌++◌, codes, decimal, map}
 use Rattle.std.specs.Str.{encode_utf8_all}
 use Rattle.gw_bytes.specs.Hex.{upper_digit}
 use Rattle.gw_base.specs.Digits.{digits}

@@ -1,4 +1,5 @@
 //! Writes what is shown and printed: the bodies of Display and Print, and of requests to show and to print.
+ghost use Rattle.std.specs.Prelude.{map};
 ghost use Rattle.json_text.specs.Canonical.{canonical};
 ghost use Rattle.sale_reply.specs.Texts.{line_text};
 ghost use Rattle.sale_reply.specs.inner.Appends.{Appends};
@@ -80,7 +81,7 @@ fn open_content(out: &mut Out)
 }
 
 pub(crate) fn write_print_request(lines: &[&[u8]], out: &mut Out)
-    ensures { Appends out.old out.new (canonical (print_request_body lines.now)) }
+    ensures { Appends out.old out.new (canonical (print_request_body (map (λ line. line.now) lines.now))) }
 {
     out.raw(b"{");
     out.first_name(b"PrintOutput");

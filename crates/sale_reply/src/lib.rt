@@ -6,7 +6,7 @@
 //! ```
 //! let mut out = Out::new(alloc)?;
 //! write_reply(&SaleReply::Plain { header, verdict: Verdict { condition: None, path: None } }, &mut out);
-//! site.send_till(till, out.as_bytes());
+//! let frame = out.as_bytes(); // the length in four bytes, then `{"SaleToPOIResponse":..,"LoginResponse":..}`
 //! ```
 #![tactic(auto)]
 
@@ -14,6 +14,7 @@ mod body;
 mod buffer;
 mod device;
 mod limits;
+mod outputs;
 mod reply;
 #[cfg(test)]
 mod tests;
@@ -22,5 +23,6 @@ mod write;
 
 pub use buffer::Out;
 pub use limits::{is_within_limits, law_size, law_text};
+pub use outputs::OutputResults;
 pub use reply::{Detail, GlobalStatus, PoiMark, ReplyResult, SaleReply, Shown, Told, Verdict};
 pub use write::write_reply;

@@ -26,7 +26,7 @@ pub fn is_within_limits(reply: &SaleReply<'_>) -> bool
     match reply {
         SaleReply::PrintRequest { header, lines } => {
             law_header(header);
-            are_within_limits(lines.as_slice())
+            are_within_limits(lines)
         }
         SaleReply::Plain { header, verdict } => {
             law_header(header);

@@ -1,26 +1,13 @@
 //! The messages to a till, as values.
 ghost use Rattle.std.specs.Prelude.{◌≡◌};
-ghost use Rattle.gw_base.specs.Ident.{IsIdent};
 
-use arrayvec::ArrayVec;
+use crate::outputs::OutputResults;
 use gw_base::{Condition, Currency, Ident, Money};
-use gw_bytes::MOST_OUTPUTS;
 use json_text::JsonFault;
 use sale_values::{Header, Period};
 
 /// The most lines of a print request: as many as a reader of a terminal's block gives.
 pub(crate) const MOST_LINES: usize = 400;
-
-/// A name that is known.
-pub(crate) fn name(text: &[u8]) -> Ident<40>
-    requires { IsIdent 40 text.now }
-    ensures { result ≡ text.now }
-{
-    match Ident::of(text) {
-        Some(ident) => ident,
-        None => unreachable!(),
-    }
-}
 
 /// nexo's `POITransactionID`: the numbers that the terminal reported, the slot of the record of the
 /// intent, and the moment of the outcome.
@@ -127,20 +114,6 @@ pub struct Shown {
     pub verdict: Verdict,
 }
 
-impl Default for Shown {
-    /// What fills the unused elements of a list of outputs; it is never written.
-    fn default() -> Self {
-        Shown {
-            device: name(b"CustomerDisplay"),
-            qualify: name(b"Display"),
-            verdict: Verdict {
-                condition: Some(Condition::MessageFormat),
-                path: None,
-            },
-        }
-    }
-}
-
 /// Whether a terminal can be used.
 #[derive(Clone, Copy, Debug, PartialEq, Eq)]
 pub enum GlobalStatus {
@@ -202,7 +175,7 @@ pub enum SaleReply<'a> {
     },
     Display {
         header: Header,
-        outputs: ArrayVec<Shown, MOST_OUTPUTS>,
+        outputs: OutputResults,
     },
     Print {
         header: Header,
@@ -217,7 +190,7 @@ pub enum SaleReply<'a> {
     /// Prints what the terminal sent, each line in the bytes of a terminal's text.
     PrintRequest {
         header: Header,
-        lines: ArrayVec<&'a [u8], MOST_LINES>,
+        lines: &'a [&'a [u8]],
     },
     /// The event that a message was rejected.
     Reject {

@@ -1,7 +1,6 @@
 //! Messages byte by byte.
 
 use crate::*;
-use arrayvec::ArrayVec;
 use gw_base::{Condition, Currency, Ident, Money};
 use json_text::{FaultKind, JsonFault};
 use sale_values::{Class, Header, Kind, Period};
@@ -112,6 +111,7 @@ fn replies(rt: HostRuntime) -> Result<(), Fail> {
         },
     };
     is_written_as(&rt, &mut out, &failed, FAILED);
+    // The example of the crate's documentation.
     let logged_in = SaleReply::Plain {
         header: header(Class::Service, b"Login", Kind::Response).ok_or("printable")?,
         verdict: Verdict {
@@ -196,24 +196,25 @@ fn devices(rt: HostRuntime) -> Result<(), Fail> {
         condition: Some(Condition::UnavailableDevice),
         path: None,
     };
-    let mut outputs = ArrayVec::new();
+    let mut outputs = Vec::new(rt.alloc());
     let customer = Shown {
         verdict: Verdict {
             condition: None,
             path: None,
         },
-        ..Shown::default()
+        device: Ident::of(b"CustomerDisplay").ok_or("printable")?,
+        qualify: Ident::of(b"Display").ok_or("printable")?,
     };
     let cashier = Shown {
         device: Ident::of(b"CashierDisplay").ok_or("printable")?,
         verdict: unavailable,
         ..customer
     };
-    outputs.push(customer);
-    outputs.push(cashier);
+    outputs.push(customer)?;
+    outputs.push(cashier)?;
     let shown = SaleReply::Display {
         header: display,
-        outputs,
+        outputs: OutputResults::new(outputs),
     };
     is_written_as(&rt, &mut out, &shown, SHOWN);
     let printed = SaleReply::Print {
@@ -236,16 +237,13 @@ fn device_requests_and_events(rt: HostRuntime) -> Result<(), Fail> {
         code: 0x0A,
     };
     is_written_as(&rt, &mut out, &show, SHOW);
-    let mut lines = ArrayVec::new();
-    lines.push([0x84, 0xFF].as_slice());
-    lines.push(b"".as_slice());
-    lines.push(b"\"\\".as_slice());
+    let lines = [[0x84, 0xFF].as_slice(), b"".as_slice(), b"\"\\".as_slice()];
     let paper = SaleReply::PrintRequest {
         header: Header {
             device: Ident::of(b"0"),
             ..header(Class::Device, b"Print", Kind::Request).ok_or("printable")?
         },
-        lines,
+        lines: &lines,
     };
     is_written_as(&rt, &mut out, &paper, PAPER);
     let reject = SaleReply::Reject {

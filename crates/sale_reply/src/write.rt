@@ -11,7 +11,7 @@ use crate::body::{
 };
 use crate::buffer::Out;
 use crate::device::{write_display, write_display_request, write_print_request};
-use crate::reply::{Detail, SaleReply, Told, name};
+use crate::reply::{Detail, SaleReply, Told};
 use crate::text::body_name;
 use gw_base::Ident;
 use sale_values::{Class, Header, Kind, header_parts};
@@ -46,7 +46,7 @@ fn write_message(reply: &SaleReply<'_>, out: &mut Out)
         }
         SaleReply::PrintRequest { header, lines } => {
             open_request(header, out);
-            write_print_request(lines.as_slice(), out);
+            write_print_request(lines, out);
             out.raw(b"}}");
         }
         SaleReply::Plain { header, verdict } => {
@@ -163,7 +163,7 @@ fn event_header(sale: &Ident<40>, poi: &Ident<40>) -> Header
 {
     Header {
         class: Class::Event,
-        category: name(b"Event"),
+        category: Ident::known(b"Event"),
         kind: Kind::Notification,
         service: None,
         device: None,

@@ -116,8 +116,8 @@ fn usual_payment(rt: HostRuntime) -> Result<(), Fail> {
     );
     assert_eq!(rt; ask.currency, *b"EUR");
     assert_eq!(rt; ask.amount, 1099);
-    let kind = ask.kind.as_ref().ok_or("kind")?;
-    assert_eq!(rt; kind.as_str(), "Normal");
+    let payment_type = ask.kind.as_ref().ok_or("payment type")?;
+    assert_eq!(rt; payment_type.as_str(), "Normal");
     Ok(())
 }
 

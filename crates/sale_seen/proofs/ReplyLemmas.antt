@@ -48,7 +48,7 @@ plain_reply header body condition h r shows own = (
 outcome_reply : (header : Header) (body : Tree) (within : OutcomeValue) (result : ReplyResult) (condition : Option Condition) (told : Told)
     → IsHeaderWithinLimits header → IsReadable header → HasResult body result condition → outcome_in header.category body ≡ Some within
     → HasOutcome within told → IsToldWithinLimits told → ReadsReply (response_tree header body) (expected_outcome header result condition within.category told)
-outcome_reply header body within result condition told h r shows place has fits = (
+outcome_reply header body within result condition told h r shows found has fits = (
   envelopes.Response,
   object_of_reply header body,
   header,
@@ -60,9 +60,9 @@ outcome_reply header body within result condition told h r shows place has fits 
     result = shows.result;
     condition = shows.condition;
     transaction = finds_transaction (option_and_then transaction_in (outcome_in header.category body)) _
-        (ap (option_and_then transaction_in) place ∙ has.transaction) (transaction_fits within.category told fits);
+        (ap (option_and_then transaction_in) found ∙ has.transaction) (transaction_fits within.category told fits);
     minor = finds_minor (option_and_then amount_in (outcome_in header.category body)) _
-        (ap (option_and_then amount_in) place ∙ has.amount) (minor_fits within.category told fits);
+        (ap (option_and_then amount_in) found ∙ has.amount) (minor_fits within.category told fits);
   },
 )
 
@@ -73,9 +73,9 @@ own_outcome category body other = rw (not_eq category (codes "TransactionStatus"
 -- the outcome is in the body that a status repeats
 repeated_outcome : (category : List ℕ) (body : Tree) (within : OutcomeValue) → category ≡ codes "TransactionStatus" → repeated_in body ≡ Some within
     → outcome_in category body ≡ Some within
-repeated_outcome category body within same place =
+repeated_outcome category body within same found =
     let test : bytes_eq category (codes "TransactionStatus") ≡ true = ap (λ c. bytes_eq c (codes "TransactionStatus")) same in
-    rw test place
+    rw test found
 
 one_reply : (message : Tree) (a b : ReadReply) → Some a ≡ Some b → ReadsReply message a → ReadsReply message b
 one_reply message a b e h = let same : a ≡ b = cc in subst (ReadsReply message) same h
@@ -150,7 +150,7 @@ display_lacks (reply.Told own told) header w s e = none_lacks (tree_of (reply.To
 display_lacks (reply.Status own repeated told) header w s e = none_lacks (tree_of (reply.Status own repeated told)) header e
 display_lacks (reply.Diagnosis own status) header w s e = none_lacks (tree_of (reply.Diagnosis own status)) header e
 display_lacks (reply.Display own outputs) header w s e =
-    along (tree_of (reply.Display own outputs)) own header e (lacks_result own outputs.items w.0 s)
+    along (tree_of (reply.Display own outputs)) own header e (lacks_result own outputs w.0 s)
 display_lacks (reply.Print own qualifier verdict) header w s e = none_lacks (tree_of (reply.Print own qualifier verdict)) header e
 display_lacks (reply.DisplayRequest own code) header w s e = absurd s
 display_lacks (reply.PrintRequest own lines) header w s e = absurd s

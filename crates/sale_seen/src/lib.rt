@@ -14,6 +14,7 @@
 mod amount;
 mod digits;
 mod laws;
+mod paths;
 mod reader;
 mod reply;
 mod reply_members;

@@ -1,7 +1,6 @@
 //! Replies, read from trees.
 ghost use Rattle.std.specs.Prelude.{◌≡◌, ◌≢◌, ◌↔◌, ℕ, ◌≤◌, List, length, Err, IfOk, MatchResult, option_map, IsOkAnd, codes};
 ghost use Rattle.std.specs.Option.{option_and_then};
-ghost use Rattle.gw_base.specs.Ident.{IsIdent};
 ghost use Rattle.json_text.specs.Tree.{Tree, string_of};
 ghost use Rattle.json_text.specs.ValueOf.{value_of};
 ghost use Rattle.sale_values.specs.declared.header.Header.{Header};
@@ -13,10 +12,10 @@ ghost use Rattle.sale_seen.specs.ReplyMembers.{amount_in, condition_in, response
 ghost use Rattle.sale_seen.specs.inner.OutcomeRead.{outcome_value};
 ghost use Rattle.sale_seen.specs.Grammar.{FindsMember, ReadsReply, ReadReply, NamesCondition, IsAmountMember, NamesResult, IsTransactionText, read_reply_value};
 
-use crate::ReplySeen;
 use crate::amount::minor_of;
 use crate::reply_members::{Outcome, amount, find_outcome, response, text, transaction_text};
 use crate::transaction::is_transaction;
+use crate::{ReplySeen, paths};
 use arrayvec::ArrayVec;
 use gw_base::{Condition, Ident};
 use json_text::Json;
@@ -52,7 +51,7 @@ fn read_body(header: &Header, object: &Json) -> Result<ReplySeen, SaleFault>
 {
     match response(object, header.category.as_bytes()) {
         None => Err(missing(header)),
-        Some(body) => match find(body, "Response.Result") {
+        Some(body) => match find(body, paths::RESULT) {
             None => Err(missing(header)),
             Some(value) => match result_of(value) {
                 None => Err(wrong(header)),
@@ -95,7 +94,7 @@ fn wrong(header: &Header) -> SaleFault
 fn result_path(category: &Ident<40>) -> Ident<100>
     ensures { result ≡ result_path category.now }
 {
-    path_of(path_text(category.as_bytes()).as_slice())
+    Ident::known(path_text(category.as_bytes()).as_slice())
 }
 
 fn path_text(category: &[u8]) -> ArrayVec<u8, 64>
@@ -104,20 +103,9 @@ fn path_text(category: &[u8]) -> ArrayVec<u8, 64>
 {
     let mut path = ArrayVec::new();
     path.try_extend_from_slice(category).unwrap();
-    path.try_extend_from_slice(b"Response.Response.Result")
+    path.try_extend_from_slice(paths::RESULT_FROM_CATEGORY.as_bytes())
         .unwrap();
     path
-}
-
-/// The path of this text.
-fn path_of(text: &[u8]) -> Ident<100>
-    requires { IsIdent 100 text.now }
-    ensures { result ≡ text.now }
-{
-    match Ident::of(text) {
-        None => unreachable!(),
-        Some(path) => path,
-    }
 }
 
 /// The result of this name.
@@ -137,7 +125,7 @@ fn condition(outcome: ReplyResult, body: &Json) -> Option<Condition>
     match outcome {
         ReplyResult::Success => None,
         ReplyResult::Partial => None,
-        ReplyResult::Failure => match text(body, "Response.ErrorCondition") {
+        ReplyResult::Failure => match text(body, paths::CONDITION) {
             None => None,
             Some(name) => Condition::from_name(name),
         },

@@ -7,6 +7,7 @@ ghost use Rattle.sale_msg.specs.Path.{text_at, tree_at};
 ghost use Rattle.sale_seen.specs.ReplyMembers.{amount_in, outcome_in, repeated_in, response_of, transaction_in};
 ghost use Rattle.sale_seen.specs.inner.OutcomeRead.{outcome_value};
 
+use crate::paths;
 use json_text::{Chars, Json};
 use sale_msg::find;
 
@@ -63,23 +64,15 @@ pub(crate) fn find_outcome<'a>(category: &'a [u8], body: &'a Json) -> Option<Out
 fn repeated(status: &Json) -> Option<Outcome<'_>>
     ensures { option_map outcome_value result ≡ repeated_in (value_of status.now) }
 {
-    match text(
-        status,
-        "RepeatedMessageResponse.MessageHeader.MessageCategory",
-    ) {
+    match text(status, paths::REPEATED_CATEGORY) {
         None => None,
-        Some(category) => {
-            match find(
-                status,
-                "RepeatedMessageResponse.RepeatedResponseMessageBody",
-            ) {
+        Some(category) => match find(status, paths::REPEATED_BODY) {
+            None => None,
+            Some(object) => match response(object, category) {
                 None => None,
-                Some(object) => match response(object, category) {
-                    None => None,
-                    Some(body) => Some(Outcome { category, body }),
-                },
-            }
-        }
+                Some(body) => Some(Outcome { category, body }),
+            },
+        },
     }
 }
 
@@ -100,7 +93,7 @@ pub(crate) fn transaction_text<'a>(outcome: &Outcome<'a>) -> Option<&'a [u8]>
 fn poi_transaction(body: &Json) -> Option<&[u8]>
     ensures { option_copied result ≡ text_at (codes "POIData.POITransactionID.TransactionID") (value_of body.now) }
 {
-    text(body, "POIData.POITransactionID.TransactionID")
+    text(body, paths::TRANSACTION)
 }
 
 /// The number that is the amount: what was paid, or what was reversed.
@@ -120,14 +113,14 @@ pub(crate) fn amount<'a>(outcome: &Outcome<'a>) -> Option<&'a [u8]>
 fn paid_amount(body: &Json) -> Option<&[u8]>
     ensures { option_copied result ≡ option_and_then numeral_of (tree_at (codes "PaymentResult.AmountsResp.AuthorizedAmount") (value_of body.now)) }
 {
-    numeral(body, "PaymentResult.AmountsResp.AuthorizedAmount")
+    numeral(body, paths::PAID_AMOUNT)
 }
 
 /// The number of a body's `ReversedAmount`.
 fn reversed_amount(body: &Json) -> Option<&[u8]>
     ensures { option_copied result ≡ option_and_then numeral_of (tree_at (codes "ReversedAmount") (value_of body.now)) }
 {
-    numeral(body, "ReversedAmount")
+    numeral(body, paths::REVERSED_AMOUNT)
 }
 
 /// The text at the path.

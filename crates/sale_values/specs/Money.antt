@@ -4,4 +4,4 @@ use Rattle.gw_base.specs.Digits.{digits}
 
 -- minor units of a currency with two decimals: whole units, a point and two digits
 unfoldable pub money_text : ℕ → List ℕ
-money_text minor = decimal (minor / 100) ++ 0x2E ∷ digits 2 (minor % 100)
+money_text units = decimal (units / 100) ++ 0x2E ∷ digits 2 (units % 100)

@@ -12,7 +12,7 @@ pub record HasFieldDigits (fields : Fields) : Type 0 where
 -- the field of the result, where there is one
 abbrev pub canonical_result_field : Option ℕ → List ℕ
 canonical_result_field None = []
-canonical_result_field (Some code) = 0x27 ∷ code ∷ []
+canonical_result_field (Some result_code) = 0x27 ∷ result_code ∷ []
 
 -- the field of a number in so many bytes of digits, where there is one
 abbrev pub canonical_digits_field : ℕ → ℕ → Option ℕ → List ℕ

@@ -1,5 +1,6 @@
 pub mod Canonical
 pub mod Decode
+pub mod Example
 pub mod Grammar
 pub mod Table
 pub mod ValueGrammar

@@ -5,11 +5,11 @@ use Rattle.std.proofs.lemmas.Bool.{cases_eq, eq-eqb, ne_eqb, eqb-true, and_parts
 use Rattle.std.proofs.lemmas.List.{append-nil}
 use Rattle.zvt_tlv.specs.declared.fault.TlvFault.{TlvFault}
 use Rattle.zvt_tlv.specs.Grammar.{ObjectValue, SpellsTlvObject, BeginsWithTlvObject}
-use Rattle.zvt_tlv.specs.GrammarOfObjects.{BeginsWithTlvObjects, SpellsTlvObjects, IsMalformedTlvObject, IsEndOfTlvObjects}
+use Rattle.zvt_tlv.specs.ObjectsGrammar.{BeginsWithTlvObjects, SpellsTlvObjects, IsMalformedTlvObject, IsEndOfTlvObjects}
 use Rattle.zvt_tlv.specs.Decode.{decode_tlv_object}
-use Rattle.zvt_tlv.specs.DecodeObjects.{DecodedTlvObjects, decode_tlv_objects}
+use Rattle.zvt_tlv.specs.ObjectsDecode.{DecodedTlvObjects, decode_tlv_objects}
 use Rattle.zvt_tlv.proofs.DecodeLemmas.{begins_found, found_begins, none_malformed, malformed_none, malformed_some}
-use Rattle.zvt_tlv.proofs.DecodeObjectsLemmas.{begins_shrinks, split_is, only_split, fills_is}
+use Rattle.zvt_tlv.proofs.ObjectsDecodeLemmas.{begins_shrinks, split_is, only_split, fills_is}
 use Rattle.zvt_msg.specs.BlockGrammar.{container_tag, text_tag, SpellsContainer, IsWellFormedInside, AreWellFormedInside, AreWholeObjects, SpellsBlock, IsMalformedHere, IsMalformedInside, IsMalformedWith, IsBlockFault}
 use Rattle.zvt_msg.specs.BlockDecode.{container_value, decode_container, left_inside, bytes_left, decode_in_container, decode_block}
 use Rattle.zvt_msg.proofs.BytesLeftLemmas.{value_shrinks, nothing, left_ends, left_goes_on, left_stops}

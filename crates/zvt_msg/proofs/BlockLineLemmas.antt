@@ -3,11 +3,11 @@ use Rattle.std.proofs.Common.{◌≡◌, ℕ, List, [], ◌∷◌, ◌++◌, tak
 use Rattle.std.proofs.lemmas.Bool.{cases_eq, eq-eqb, ne_eqb}
 use Rattle.std.specs.Prelude.{◌⊎◌}
 use Rattle.zvt_tlv.specs.Grammar.{ObjectValue}
-use Rattle.zvt_tlv.specs.GrammarOfObjects.{SpellsTlvObjects}
+use Rattle.zvt_tlv.specs.ObjectsGrammar.{SpellsTlvObjects}
 use Rattle.zvt_tlv.specs.Decode.{decode_tlv_object}
-use Rattle.zvt_tlv.specs.DecodeObjects.{DecodedTlvObjects}
+use Rattle.zvt_tlv.specs.ObjectsDecode.{DecodedTlvObjects}
 use Rattle.zvt_tlv.specs.Reader.{TlvReaderValue}
-use Rattle.zvt_tlv.proofs.DecodeObjectsLemmas.{split_whole, split_none, fills_is}
+use Rattle.zvt_tlv.proofs.ObjectsDecodeLemmas.{split_whole, split_none, fills_is}
 use Rattle.zvt_msg.specs.BlockGrammar.{text_tag, line_tag, most_block_lines, values_with_tag, IsWellFormedInside, AreWellFormedInside, AreWholeObjects, HaveBlockLines, AreBlockLines}
 use Rattle.zvt_msg.specs.BlockDecode.{decode_values_with_tag, all_block_lines, block_lines_from, decode_block_lines}
 

@@ -7,7 +7,7 @@ use Rattle.zvt_tlv.specs.Grammar.{ObjectValue, SpellsTag, BeginsWithTlvObject}
 use Rattle.zvt_tlv.specs.Decode.{decode_tlv_object}
 use Rattle.zvt_tlv.specs.Reader.{TlvReaderValue, ReturnsTlvObject, LeavesTlvReader}
 use Rattle.zvt_tlv.proofs.DecodeLemmas.{begins_found, found_begins}
-use Rattle.zvt_tlv.proofs.DecodeObjectsLemmas.{begins_shrinks}
+use Rattle.zvt_tlv.proofs.ObjectsDecodeLemmas.{begins_shrinks}
 use Rattle.zvt_msg.specs.BlockDecode.{left_inside, bytes_left_from, bytes_left_within, bytes_left}
 use Rattle.zvt_msg.specs.inner.Results.{ReturnsNextTlvObject}
 
@@ -32,7 +32,7 @@ nothing = nothing_at (decode_tlv_object []) refl
 
 pub finds_object : (old new : TlvReaderValue) (found : Option Object) → ReturnsTlvObject (Ok found) old → LeavesTlvReader old (Ok found) new → ReturnsNextTlvObject old found new
 finds_object old new None empty stays = (ap decode_tlv_object empty ∙ nothing, stays)
-finds_object old new (Some object) answers moves = record {
+finds_object old new (Some object) same moves = record {
   found = begins_found old.rest _ new.rest moves.begins;
   offset = moves.offset;
   shorter = value_shrinks old.rest _ new.rest moves.begins;

@@ -121,7 +121,7 @@ stop_by apdu has (b ∷ body) e = tt
 
 show_lines : (apdu : ApduValue) → HasClassAndInstruction apdu 0x06 0xE0 → (text : List ℕ) (lines : Option (List (ArrayVec ℕ))) → apdu.body ≡ 0xF0 ∷ 0x05 ∷ text → AreFound 8 0xF1 text lines → Is apdu (show_with lines)
 show_lines apdu has text None e found = tt
-show_lines apdu has text (Some lines) e (few, short, spells) = (has, text, (few, short), spells, e)
+show_lines apdu has text (Some lines) e (few, sized, spells) = (has, text, (few, sized), spells, e)
 
 lines_are_found : (text : List ℕ) → AreFound 8 0xF1 text (decode_display_lines text)
 unfolding decode_display_lines
@@ -271,9 +271,9 @@ one_command apdu a b first second = some_is a b (sym (spelt_found apdu a first) 
 -- ---- how long it is
 
 lines_size : (lines : List (ArrayVec ℕ)) (number : ℕ) → AreShortLines lines → length (canonical_display_lines number lines) ≤ 43 * length lines
-lines_size [] number short = omega arith
-lines_size (line ∷ lines) number short =
-    omega (arith, short.0, lines_size lines (number + 1) short.1, length-append line.items (canonical_display_lines (number + 1) lines))
+lines_size [] number sized = omega arith
+lines_size (line ∷ lines) number sized =
+    omega (arith, sized.0, lines_size lines (number + 1) sized.1, length-append line.items (canonical_display_lines (number + 1) lines))
 
 pub body_size : (command : Command) → HasCommandSizes command → length (command_data command) ≤ 12000
 body_size (Register password config currency) size =

@@ -39,7 +39,7 @@ found_digit byte digit e = digit_by byte digit (leb 240 byte && leb byte 249) re
 -- ---- a line
 
 abbrev line : List ℕ → ArrayVec ℕ
-line items = record { items = items }
+line bytes = record { items = bytes }
 
 -- the bytes after a number are this line, and rest follows it
 pub record HasLine (bytes : List ℕ) (found : ArrayVec ℕ) (rest : List ℕ) : Type 0 where

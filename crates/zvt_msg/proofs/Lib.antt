@@ -5,4 +5,5 @@ pub mod CanonicalLemmas
 pub mod CommandLemmas
 pub mod DisplayGrammarLemmas
 pub mod DisplayLemmas
+pub mod LimitLemmas
 pub mod MessageLemmas

@@ -3,7 +3,7 @@ use Rattle.std.specs.Prelude.{ℕ, zero, suc, ◌+◌, ◌-◌, List, [], ◌∷
 use Rattle.zvt_tlv.specs.declared.fault.TlvFault.{TlvFault}
 use Rattle.zvt_tlv.specs.Grammar.{ObjectValue}
 use Rattle.zvt_tlv.specs.Decode.{decode_tlv_object}
-use Rattle.zvt_tlv.specs.DecodeObjects.{decode_tlv_objects}
+use Rattle.zvt_tlv.specs.ObjectsDecode.{decode_tlv_objects}
 use Rattle.zvt_msg.specs.BlockGrammar.{container_tag, text_tag, line_tag, most_block_lines, values_with_tag}
 
 -- the value of a container that nothing follows
@@ -13,7 +13,7 @@ container_value (Some found) = if (found.0.tag == container_tag) && (length foun
 
 -- the bytes in the container, where the data are one
 abbrev pub decode_container : List ℕ → Option (List ℕ)
-decode_container body = container_value (decode_tlv_object body)
+decode_container apdu_data = container_value (decode_tlv_object apdu_data)
 
 -- ---- how many bytes are left from the first malformed object on: 0 where there is none
 
@@ -44,7 +44,7 @@ decode_in_container size (Some bytes) = if bytes_left bytes == 0 then Ok bytes e
 
 -- the objects of a block, or the offset of its fault
 abbrev pub decode_block : List ℕ → Result (List ℕ) TlvFault
-decode_block body = decode_in_container (length body) (decode_container body)
+decode_block apdu_data = decode_in_container (length apdu_data) (decode_container apdu_data)
 
 -- ---- its lines
 

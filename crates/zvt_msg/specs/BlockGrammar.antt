@@ -1,7 +1,7 @@
 -- A block to print: its container, the objects in it, and its lines (ZVT PA00P015, "Print Text-Block").
 use Rattle.std.specs.Prelude.{◌≡◌, ℕ, ◌+◌, ◌⊎◌, List, [], ◌∷◌, ◌++◌, length, take, ◌==◌, if◌then◌else◌}
 use Rattle.zvt_tlv.specs.Grammar.{ObjectValue, SpellsTlvObject, BeginsWithTlvObject}
-use Rattle.zvt_tlv.specs.GrammarOfObjects.{BeginsWithTlvObjects, SpellsTlvObjects, IsMalformedTlvObject}
+use Rattle.zvt_tlv.specs.ObjectsGrammar.{BeginsWithTlvObjects, SpellsTlvObjects, IsMalformedTlvObject}
 
 -- the tag of a block's container
 abbrev pub container_tag : ℕ
@@ -19,7 +19,7 @@ line_tag = 0x07
 
 -- the data are one container and no more, and these bytes are its value
 abbrev pub SpellsContainer : List ℕ → List ℕ → Type 0
-SpellsContainer body bytes = SpellsTlvObject body (record { tag = container_tag; value = bytes })
+SpellsContainer apdu_data bytes = SpellsTlvObject apdu_data (record { tag = container_tag; value = bytes })
 
 -- where the object holds lines, objects fill it
 abbrev pub IsWellFormedInside : ObjectValue → Type 0
@@ -36,7 +36,7 @@ AreWholeObjects bytes = (objects : List ObjectValue) × SpellsTlvObjects bytes o
 
 -- the data are a container of whole objects
 abbrev pub SpellsBlock : List ℕ → List ℕ → Type 0
-SpellsBlock body bytes = SpellsContainer body bytes × AreWholeObjects bytes
+SpellsBlock apdu_data bytes = SpellsContainer apdu_data bytes × AreWholeObjects bytes
 
 -- ---- the first object that is malformed
 
@@ -57,8 +57,8 @@ IsMalformedWith bytes left = (before : List ObjectValue) × (rest : List ℕ)
 
 -- the data are no container, or the first malformed object in it is at this offset of the data
 abbrev pub IsBlockFault : List ℕ → ℕ → Type 0
-IsBlockFault body offset = ((offset ≡ 0) × ((bytes : List ℕ) → ¬ SpellsContainer body bytes))
-    ⊎ ((bytes : List ℕ) × (left : ℕ) × SpellsContainer body bytes × IsMalformedWith bytes left × (offset + left ≡ length body))
+IsBlockFault apdu_data offset = ((offset ≡ 0) × ((bytes : List ℕ) → ¬ SpellsContainer apdu_data bytes))
+    ⊎ ((bytes : List ℕ) × (left : ℕ) × SpellsContainer apdu_data bytes × IsMalformedWith bytes left × (offset + left ≡ length apdu_data))
 
 -- ---- lines
 

@@ -6,6 +6,7 @@ use Rattle.zvt_apdu.specs.Grammar.{ApduValue}
 use Rattle.zvt_bmp.specs.Decode.{length_digit}
 use Rattle.zvt_msg.specs.declared.command.Command.{Command}
 use Rattle.zvt_msg.specs.declared.command.Command.TheVariants.{Register, Authorise, Enquire, Reverse, EndOfDay, Stop, Show}
+use Rattle.zvt_msg.specs.CommandGrammar.{longest_display_line, most_display_lines}
 
 -- ---- the parts
 
@@ -20,7 +21,7 @@ decode_bcd_number count bytes = if (length bytes == count) && is_bcd bytes then 
 -- a line of so many bytes, and what follows it
 abbrev pub display_line_with : ℕ → List ℕ → Option (ArrayVec ℕ × List ℕ)
 display_line_with n bytes =
-    if nat_lt 40 n then None
+    if nat_lt longest_display_line n then None
     else if nat_lt (length bytes) n then None
     else Some (record { items = take n bytes }, drop n bytes)
 
@@ -54,7 +55,7 @@ decode_display_lines_within (suc n) number (b ∷ bytes) = if b == number then d
 
 -- the lines of a display
 unfoldable pub decode_display_lines : List ℕ → Option (List (ArrayVec ℕ))
-decode_display_lines bytes = decode_display_lines_within 8 0xF1 bytes
+decode_display_lines bytes = decode_display_lines_within most_display_lines 0xF1 bytes
 
 -- ---- the commands, by their data
 
@@ -71,7 +72,7 @@ register_at password (config ∷ number) = register_with password config (decode
 
 -- a registration: a password, the configuration byte and a currency
 abbrev pub decode_register : List ℕ → Option Command
-decode_register body = register_at (decode_password (take 3 body)) (drop 3 body)
+decode_register apdu_data = register_at (decode_password (take 3 apdu_data)) (drop 3 apdu_data)
 
 -- an authorisation of these parts, where both were read
 abbrev pub authorise_with : Option ℕ → Option ℕ → Option Command
@@ -102,7 +103,7 @@ reverse_at password (b ∷ number) = if b == 0x87 then reverse_with password (de
 
 -- a reversal: a password, 87 and a receipt number
 abbrev pub decode_reverse : List ℕ → Option Command
-decode_reverse body = reverse_at (decode_password (take 3 body)) (drop 3 body)
+decode_reverse apdu_data = reverse_at (decode_password (take 3 apdu_data)) (drop 3 apdu_data)
 
 -- an enquiry with this password, where it was read
 abbrev pub enquire_with : Option (List ℕ) → Option Command
@@ -134,14 +135,14 @@ decode_show (b ∷ c ∷ bytes) = if (b == 0xF0) && (c == 0x05) then show_with (
 
 -- the command with this instruction, by its data
 abbrev pub decode_command_by : ℕ → List ℕ → Option Command
-decode_command_by instr body =
-    if instr == 0x00 then decode_register body
-    else if instr == 0x01 then decode_authorise body
-    else if instr == 0x20 then enquire_with (decode_password body)
-    else if instr == 0x30 then decode_reverse body
-    else if instr == 0x50 then end_of_day_with (decode_password body)
-    else if instr == 0xB0 then decode_stop body
-    else if instr == 0xE0 then decode_show body
+decode_command_by instr apdu_data =
+    if instr == 0x00 then decode_register apdu_data
+    else if instr == 0x01 then decode_authorise apdu_data
+    else if instr == 0x20 then enquire_with (decode_password apdu_data)
+    else if instr == 0x30 then decode_reverse apdu_data
+    else if instr == 0x50 then end_of_day_with (decode_password apdu_data)
+    else if instr == 0xB0 then decode_stop apdu_data
+    else if instr == 0xE0 then decode_show apdu_data
     else None
 
 -- the command that an APDU spells; none where it spells none

@@ -25,14 +25,22 @@ SpellsDisplayLines number bytes (line ∷ lines) = (size : List ℕ) × (more : 
     × SpellsLlvar size (array_vec_len line) × SpellsDisplayLines (number + 1) more lines
     × (bytes ≡ number ∷ (size ++ (line.items ++ more)))
 
--- each of the lines has at most 40 bytes
+-- the most bytes of a line of a display
+abbrev pub longest_display_line : ℕ
+longest_display_line = 40
+
+-- the most lines of a display
+abbrev pub most_display_lines : ℕ
+most_display_lines = 8
+
+-- each of the lines has at most so many bytes
 abbrev pub AreShortLines : List (ArrayVec ℕ) → Type 0
 AreShortLines [] = Unit {0}
-AreShortLines (line ∷ lines) = (array_vec_len line ≤ 40) × AreShortLines lines
+AreShortLines (line ∷ lines) = (array_vec_len line ≤ longest_display_line) × AreShortLines lines
 
--- a display has at most eight lines
+-- a display has at most so many lines, and each of them fits
 abbrev pub FitsDisplay : List (ArrayVec ℕ) → Type 0
-FitsDisplay lines = (length lines ≤ 8) × AreShortLines lines
+FitsDisplay lines = (length lines ≤ most_display_lines) × AreShortLines lines
 
 -- ---- the commands
 

@@ -3,6 +3,7 @@ pub mod BlockGrammar
 pub mod CommandCanonical
 pub mod CommandDecode
 pub mod CommandGrammar
+pub mod Example
 pub mod Message
 pub mod MessageCanonical
 pub mod MessageDecode

@@ -36,16 +36,16 @@ HasControlField apdu ControlField.Abort = HasClassAndInstruction apdu 0x06 0x1E
 
 -- the first byte of the data, if there is one
 abbrev pub IsFirstByte : List ℕ → Option ℕ → Type 0
-IsFirstByte body None = body ≡ []
-IsFirstByte body (Some byte) = (more : List ℕ) × (body ≡ byte ∷ more)
+IsFirstByte apdu_data None = apdu_data ≡ []
+IsFirstByte apdu_data (Some byte) = (more : List ℕ) × (apdu_data ≡ byte ∷ more)
 
 -- the first byte of the data, or 0 where there is none
 abbrev pub IsFirstByteOrZero : List ℕ → ℕ → Type 0
-IsFirstByteOrZero body code = IsFirstByte body (Some code) ⊎ (IsFirstByte body None × (code ≡ 0))
+IsFirstByteOrZero apdu_data code = IsFirstByte apdu_data (Some code) ⊎ (IsFirstByte apdu_data None × (code ≡ 0))
 
 -- all after the first byte of the data
 abbrev pub IsLineText : List ℕ → List ℕ → Type 0
-IsLineText body text = ((attribute : ℕ) × (body ≡ attribute ∷ text)) ⊎ ((body ≡ []) × (text ≡ []))
+IsLineText apdu_data text = ((attribute : ℕ) × (apdu_data ≡ attribute ∷ text)) ⊎ ((apdu_data ≡ []) × (text ≡ []))
 
 -- the APDU spells this message: that of its control field with what its data carry, or another where it has none of them
 abbrev pub SpellsPtMessage : ApduValue → MessageValue → Type 0

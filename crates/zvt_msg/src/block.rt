@@ -2,7 +2,7 @@
 
 ghost use Rattle.std.specs.Prelude.{◌≡◌, ◌≤◌, length, IfSome};
 ghost use Rattle.zvt_tlv.specs.Grammar.{value_of};
-ghost use Rattle.zvt_tlv.specs.DecodeObjects.{decode_tlv_objects};
+ghost use Rattle.zvt_tlv.specs.ObjectsDecode.{decode_tlv_objects};
 ghost use Rattle.zvt_msg.specs.BlockDecode.{decode_container, left_inside, bytes_left, decode_block};
 ghost use Rattle.zvt_msg.specs.inner.Results.{ReturnsNextTlvObject, ReturnsBlock, ReturnsContainer};
 

@@ -1,12 +1,13 @@
 //! A command to a terminal.
 
 use arrayvec::ArrayVec;
+use gw_bytes::{LONGEST_SHOWN_LINE, MOST_SHOWN_LINES};
 
 /// A line of text that a terminal shows, in the terminal's character set: at most 40 bytes.
-pub type Line = ArrayVec<u8, 40>;
+pub type Line = ArrayVec<u8, LONGEST_SHOWN_LINE>;
 
 /// The lines that a terminal shows, from the top: at most eight.
-pub type Lines = ArrayVec<Line, 8>;
+pub type Lines = ArrayVec<Line, MOST_SHOWN_LINES>;
 
 /// A command to a terminal. A password is its six digits in three bytes, two in each, and a currency its
 /// number of ISO 4217.

@@ -5,6 +5,7 @@ ghost use Rattle.zvt_msg.specs.CommandDecode.{decode_display_line, decode_displa
 ghost use Rattle.zvt_msg.specs.inner.Results.{ReturnsDisplayLine, ReturnsDisplayLines};
 
 use crate::command::{Line, Lines};
+use gw_bytes::LONGEST_SHOWN_LINE;
 use zvt_bmp::digit_of;
 
 /// The lines of a display that fill the bytes.
@@ -34,7 +35,7 @@ fn read_line(bytes: &[u8]) -> Option<(Line, &[u8])>
         return None;
     };
     let length = 10 * digit_of(*tens)? + digit_of(*units)?;
-    if length > 40 || rest.len() < length {
+    if length > LONGEST_SHOWN_LINE || rest.len() < length {
         return None;
     }
     let (text, rest) = rest.split_at(length);

@@ -1,11 +1,14 @@
 //! Laws of the definitions that the contracts cite. Each function does nothing: its contract is the law.
-ghost use Rattle.std.specs.Prelude.{◌≡◌, ◌≤◌, ◌↔◌, ℕ, List, ◌++◌, length, Result, Some};
+ghost use Rattle.std.specs.Prelude.{◌≡◌, ◌≢◌, ◌≤◌, ◌↔◌, ℕ, List, ◌++◌, length, Result, Ok, Some};
 ghost use Rattle.zvt_apdu.specs.Grammar.{ApduValue, BeginsWithApdu};
+ghost use Rattle.zvt_bmp.specs.declared.fields.Fields.{Fields};
 ghost use Rattle.zvt_msg.specs.declared.fault.PtFault.{PtFault};
 ghost use Rattle.zvt_msg.specs.declared.command.Command.{Command};
 ghost use Rattle.zvt_msg.specs.BlockGrammar.{AreWholeObjects, AreBlockLines};
 ghost use Rattle.zvt_msg.specs.BlockDecode.{decode_block_lines};
-ghost use Rattle.zvt_msg.specs.Message.{MessageValue};
+ghost use Rattle.zvt_msg.specs.Example.{ExampleRead};
+ghost use Rattle.zvt_msg.specs.Message.{MessageValue, Status, Other};
+ghost use Rattle.zvt_msg.specs.Numbers.{NumbersFitFields};
 ghost use Rattle.zvt_msg.specs.MessageGrammar.{SpellsPtMessageOrFault, SpellsPtMessage};
 ghost use Rattle.zvt_msg.specs.MessageDecode.{decode_pt_message};
 ghost use Rattle.zvt_msg.specs.MessageCanonical.{HasPtMessageForm, HasPtMessageSizes, canonical_pt_message, pt_message_read_again};
@@ -19,6 +22,21 @@ pub fn law_decode_pt_message()
     ensures computes { (apdu : ApduValue) (result : Result MessageValue PtFault)
         → (decode_pt_message apdu ≡ result) ↔ SpellsPtMessageOrFault apdu result }
 {}
+
+/// What was read has the form that is written, where it is known: each number of a status has at most as many digits as its
+/// field. So a status that was read can be written again, and so can a line or a block where it fits 512 bytes. The examples
+/// have the greatest numbers, and a block.
+pub fn law_read_fits()
+    ensures numbers { (apdu : ApduValue) (message : MessageValue) → decode_pt_message apdu ≡ Ok message → NumbersFitFields message }
+    ensures sizes { (apdu : ApduValue) (message : MessageValue) → decode_pt_message apdu ≡ Ok message → HasPtMessageSizes message }
+    ensures form { (apdu : ApduValue) (message : MessageValue) → decode_pt_message apdu ≡ Ok message → message ≢ Other
+        → HasPtMessageForm message }
+    ensures status_size { (apdu : ApduValue) (fields : Fields) → decode_pt_message apdu ≡ Ok (Status fields)
+        → length (canonical_pt_message (Status fields)) ≤ 22 }
+    ensures examples { ExampleRead }
+{
+    zvt_bmp::law_fields_fit();
+}
 
 /// A block has one list of lines, and the function that computes them agrees with the definition.
 pub fn law_decode_block_lines()

@@ -29,7 +29,9 @@ pub use command::{Command, Line, Lines};
 pub use command_reading::read_command;
 pub use command_writing::write_command;
 pub use fault::PtFault;
-pub use laws::{law_commands, law_decode_block_lines, law_decode_pt_message, law_read_again};
+pub use laws::{
+    law_commands, law_decode_block_lines, law_decode_pt_message, law_read_again, law_read_fits,
+};
 pub use message::PtMessage;
 pub use message_reading::read_pt;
 pub use message_writing::write_pt;

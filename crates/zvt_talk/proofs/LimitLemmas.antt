@@ -1,20 +1,25 @@
 -- What a dialogue reports fits the fields that it came in.
-use Rattle.std.proofs.Common.{◌≡◌, ℕ, ◌^◌, ◌<◌, ◌⊎◌, inl, inr, true, List, [], ◌∷◌, Option, None, Some, ap, subst}
+use Rattle.std.proofs.Common.{◌≡◌, ℕ, ◌^◌, ◌<◌, ◌⊎◌, inl, inr, true, List, [], ◌∷◌, Option, None, Some, Ok, ap, subst, sym}
 use Rattle.std.specs.Prelude.{IfSome}
 use native.Mathlib.Omega.{arith}
 use Rattle.std.specs.List.{filter_map, last_or}
+use Rattle.gw_base.specs.Limits.{IsTrace}
 use Rattle.gw_base.specs.declared.figures.Figures.{Figures}
+use Rattle.zvt_apdu.specs.Grammar.{ApduValue}
 use Rattle.zvt_bmp.specs.declared.fields.Fields.{Fields}
 use Rattle.zvt_bmp.specs.Canonical.{HasFieldDigits}
+use Rattle.zvt_msg.specs.MessageDecode.{decode_pt_message}
+use Rattle.zvt_msg.specs.Numbers.{NumbersFitFields}
 use Rattle.zvt_msg.specs.Message.{MessageValue, Ack, Nack, Intermediate, Line, Block, Status, Completion, Abort, Other}
 use Rattle.zvt_talk.specs.declared.dialogue_kind.DialogueKind.{DialogueKind}
 use Rattle.zvt_talk.specs.declared.dialogue_kind.DialogueKind.TheVariants.{Registration, Enquiry, Payment, Reversal, EndOfDay, Display}
 use Rattle.zvt_talk.specs.declared.meaning.Heard.TheVariants as heard
 use Rattle.zvt_talk.specs.Dialogue.{Dialogue}
 use Rattle.zvt_talk.specs.Came.{Came, status_fields_of, last_status, messages}
+use Rattle.zvt_talk.specs.Table.{trace_of}
 use Rattle.zvt_talk.specs.Talk.{meaning, is_end}
-use Rattle.zvt_talk.specs.Laws.{HasFigures, IsEndOf, IsEnquiry, ReportsLastTransaction, ReportsNoTransaction}
-use Rattle.zvt_talk.specs.Limits.{AreAtLeastOne, FiguresFitFields, AllNumbersFitFields}
+use Rattle.zvt_talk.specs.Laws.{HasFigures, IsEndOf, IsEnquiry, IsEnquiryOrDisplay, IsService, IsTransaction, RefusedAtOnce, RefusesCommand, ReportsLastTransaction, ReportsNoTransaction}
+use Rattle.zvt_talk.specs.Limits.{AreAtLeastOne, FiguresFitFields, FiguresFitRecord, AllNumbersFitFields, WereRead}
 
 last_digits : (before : Option Fields) (taken : List MessageValue) → IfSome before HasFieldDigits → AllNumbersFitFields taken → IfSome (last_or before (filter_map status_fields_of taken)) HasFieldDigits
 last_digits before [] has all = has
@@ -80,3 +85,53 @@ reported_number dialogue came message trace approved code all (inl last) =
     let N : Option ℕ → Type 0 = λ o. IfSome o (λ n. n < 100 ^ 3) in
     subst N last.its_number (status_digits came last.status all last.last).trace
 reported_number dialogue came message trace approved code all (inr none) = zero_fits trace none.no_number
+
+-- ---- the trace number of what is declined
+
+trace_below : (last : Option Fields) → IfSome last HasFieldDigits → IfSome (trace_of last) (λ n. n < 100 ^ 3)
+trace_below None digits = tt
+trace_below (Some status) digits = digits.trace
+
+refused_at_once_number : (came : List Came) (message : MessageValue) (code trace : ℕ) → RefusedAtOnce came message code (Some trace) → trace < 100 ^ 3
+refused_at_once_number came message code trace refused = let no : Some trace ≡ None = refused.no_number in absurd cc
+
+refused_number : (came : List Came) (message : MessageValue) (code trace : ℕ) → AllNumbersFitFields (messages came) → RefusesCommand came message code (Some trace) → trace < 100 ^ 3
+refused_number came message code trace all (some, inl refused) = refused_at_once_number came message code trace refused
+refused_number came message code trace all (some, inr refused) =
+    let N : Option ℕ → Type 0 = λ o. IfSome o (λ n. n < 100 ^ 3) in
+    subst N (sym refused.its_number) (trace_below (last_status came) (last_digits None (messages came) tt all))
+
+-- by the kind of the dialogue: only what is refused later has a number
+pub declined_number : (dialogue_kind : DialogueKind) (came : List Came) (message : MessageValue) (code trace : ℕ)
+    → AllNumbersFitFields (messages came)
+    → (IsTransaction dialogue_kind → RefusesCommand came message code (Some trace))
+    → (IsService dialogue_kind → RefusesCommand came message code (Some trace))
+    → (IsEnquiryOrDisplay dialogue_kind → RefusedAtOnce came message code (Some trace))
+    → trace < 100 ^ 3
+declined_number Registration came message code trace all transaction service other = refused_number came message code trace all (service tt)
+declined_number Enquiry came message code trace all transaction service other = refused_at_once_number came message code trace (other tt)
+declined_number Payment came message code trace all transaction service other = refused_number came message code trace all (transaction tt)
+declined_number Reversal came message code trace all transaction service other = refused_number came message code trace all (transaction tt)
+declined_number EndOfDay came message code trace all transaction service other = refused_number came message code trace all (service tt)
+declined_number Display came message code trace all transaction service other = refused_at_once_number came message code trace (other tt)
+
+-- ---- messages that were read
+
+-- what was read has its numbers within their fields
+abbrev pub ReadFits : Type 0
+ReadFits = (apdu : ApduValue) (message : MessageValue) → decode_pt_message apdu ≡ Ok message → NumbersFitFields message
+
+pub read_fit : ReadFits → (messages : List MessageValue) → WereRead messages → AllNumbersFitFields messages
+read_fit fits [] read = tt
+read_fit fits (message ∷ messages) ((apdu, is), read) = (fits apdu message is, read_fit fits messages read)
+
+pub fit_record : (figures : Figures) → FiguresFitFields figures → AreAtLeastOne figures → FiguresFitRecord figures
+fit_record figures fit least = record {
+  first_number = least.number;
+  number = omega (arith, fit.number);
+  receipt = omega (arith, fit.receipt);
+  amount = (least.amount, omega (arith, fit.amount));
+}
+
+pub trace_within : (trace : ℕ) → trace < 100 ^ 3 → IsTrace trace
+trace_within trace below = omega (arith, below)

@@ -65,8 +65,8 @@ end_no_stop heard.Block is = refl
 end_no_stop heard.Seen is = refl
 end_no_stop (heard.Approved figures) is = refl
 end_no_stop heard.Done is = refl
-end_no_stop (heard.Told number approved code) is = refl
-end_no_stop (heard.Declined code number) is = refl
+end_no_stop (heard.Told trace approved code) is = refl
+end_no_stop (heard.Declined code trace) is = refl
 end_no_stop heard.Unclear is = refl
 end_no_stop heard.Stray is = refl
 

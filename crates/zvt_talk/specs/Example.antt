@@ -1,7 +1,8 @@
 -- Example dialogues: a payment, an enquiry and a display, and what single messages mean in them.
-use Rattle.std.specs.Prelude.{◌≡◌, pos, List, [], ◌∷◌, None, Some, true, false}
+use Rattle.std.specs.Prelude.{◌≡◌, ℕ, pos, List, [], ◌∷◌, None, Some, Ok, true, false}
 use Rattle.gw_base.specs.declared.figures.Figures.{Figures}
 use Rattle.zvt_bmp.specs.declared.fields.Fields.{Fields}
+use Rattle.zvt_bmp.specs.Decode.{decode_status}
 use Rattle.zvt_msg.specs.Message.{Ack, Intermediate, Line, Block, Status, Completion, Abort, Other}
 use Rattle.zvt_talk.specs.declared.dialogue_kind.DialogueKind.TheVariants.{Enquiry, Payment, Display}
 use Rattle.zvt_talk.specs.declared.meaning.Heard.TheVariants as heard
@@ -9,7 +10,7 @@ use Rattle.zvt_talk.specs.Dialogue.{Dialogue}
 use Rattle.zvt_talk.specs.Came.{Came, Message, StopWished, messages, deadline}
 use Rattle.zvt_talk.specs.Talk.{meaning}
 use Rattle.zvt_talk.specs.Laws.{ReportsLastTransaction, ReportsNoTransaction}
-use Rattle.zvt_talk.specs.Limits.{AllNumbersFitFields, FiguresFitFields, AreAtLeastOne}
+use Rattle.zvt_talk.specs.Limits.{AllNumbersFitFields, FiguresFitFields, FiguresFitRecord, AreAtLeastOne, WereRead}
 
 -- a payment that was sent at the moment 100; its terminal has 5 seconds to answer, and 180 from one message to the next
 abbrev pub payment_dialogue : Dialogue
@@ -72,6 +73,25 @@ pub record ExampleFigures : Type 0 where
   pub reported : meaning enquiry_dialogue greatest_came Completion ≡ heard.Told 999999 (Some greatest_figures) 0
   pub fit : FiguresFitFields greatest_figures
   pub some : AreAtLeastOne greatest_figures
+
+-- the data of this status: 27 00, 04 and twelve nines, 0B and six, 87 and four
+abbrev pub greatest_status_data : List ℕ
+greatest_status_data =
+    0x27 ∷ 0x00 ∷ 0x04 ∷ 0x99 ∷ 0x99 ∷ 0x99 ∷ 0x99 ∷ 0x99 ∷ 0x99 ∷ 0x0B ∷ 0x99 ∷ 0x99 ∷ 0x99 ∷ 0x87 ∷ 0x99 ∷ 0x99 ∷ []
+
+-- the data of the status of transaction 7: 27 05, 04 and twelve nines, 0B and 000007, 87 and four nines
+abbrev pub declined_status_data : List ℕ
+declined_status_data =
+    0x27 ∷ 0x05 ∷ 0x04 ∷ 0x99 ∷ 0x99 ∷ 0x99 ∷ 0x99 ∷ 0x99 ∷ 0x99 ∷ 0x0B ∷ 0x00 ∷ 0x00 ∷ 0x07 ∷ 0x87 ∷ 0x99 ∷ 0x99 ∷ []
+
+-- the messages of an approved payment were read, and their figures can be kept; those of a declined one were read
+pub record ExampleReadFigures : Type 0 where
+  pub status : decode_status greatest_status_data ≡ Ok greatest_status
+  pub read : WereRead (messages greatest_came)
+  pub approved : meaning payment_dialogue greatest_came Completion ≡ heard.Approved greatest_figures
+  pub fit : FiguresFitRecord greatest_figures
+  pub declined_read : WereRead (messages declined_came)
+  pub declined : meaning payment_dialogue declined_came Completion ≡ heard.Declined 5 (Some 7)
 
 -- an enquiry reports the last transaction, approved or not, or by the configured code that there is none
 pub record ExampleReports : Type 0 where

@@ -12,17 +12,17 @@ use Rattle.zvt_talk.specs.Dialogue.{is_display}
 
 -- ---- what follows from the last status
 
--- no figures where the number or the amount is 0
+-- no figures where the trace number or the amount is 0
 abbrev pub positive_figures : ℕ → ℕ → ℕ → Option Figures
-positive_figures number receipt amount =
-    if nat_le 1 number && nat_le 1 amount then Some (record { number = number; receipt = receipt; amount = amount }) else None
+positive_figures trace receipt amount =
+    if nat_le 1 trace && nat_le 1 amount then Some (record { number = trace; receipt = receipt; amount = amount }) else None
 
 -- no figures where one of the three is absent
 abbrev pub figures_of : Option ℕ → Option ℕ → Option ℕ → Option Figures
 figures_of None receipt amount = None
-figures_of (Some number) None amount = None
-figures_of (Some number) (Some receipt) None = None
-figures_of (Some number) (Some receipt) (Some amount) = positive_figures number receipt amount
+figures_of (Some trace) None amount = None
+figures_of (Some trace) (Some receipt) None = None
+figures_of (Some trace) (Some receipt) (Some amount) = positive_figures trace receipt amount
 
 -- full figures: a trace number of at least 1, a receipt number in digits and an amount of at least 1
 abbrev pub full_figures : Fields → Option Figures
@@ -102,15 +102,15 @@ transaction_completed statuses (Some status) = transaction_result statuses statu
 
 -- an approved transaction is reported with full figures
 abbrev pub enquiry_approved : ℕ → Option Figures → Heard
-enquiry_approved number None = heard.Unclear
-enquiry_approved number (Some figures) = heard.Told number (Some figures) 0
+enquiry_approved trace None = heard.Unclear
+enquiry_approved trace (Some figures) = heard.Told trace (Some figures) 0
 
 -- by the result and the trace number of the last status; another transaction is reported by its number and code alone
 abbrev pub enquiry_result : Fields → Option ℕ → Option ℕ → Heard
 enquiry_result status None trace = heard.Unclear
 enquiry_result status (Some code) None = heard.Unclear
-enquiry_result status (Some code) (Some number) =
-    if code == 0 then enquiry_approved number (full_figures status) else heard.Told number None code
+enquiry_result status (Some code) (Some trace) =
+    if code == 0 then enquiry_approved trace (full_figures status) else heard.Told trace None code
 
 -- without a status nothing is known
 abbrev pub enquiry_completed : Option Fields → Heard

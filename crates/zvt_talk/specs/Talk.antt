@@ -30,8 +30,8 @@ is_end heard.Block = false
 is_end heard.Seen = false
 is_end (heard.Approved figures) = true
 is_end heard.Done = true
-is_end (heard.Told number approved code) = true
-is_end (heard.Declined code number) = true
+is_end (heard.Told trace approved code) = true
+is_end (heard.Declined code trace) = true
 is_end heard.Unclear = true
 is_end heard.Stray = false
 

@@ -1,15 +1,16 @@
 //! Laws of the table, in words of the subject. Each function does nothing: its contract is the law.
 ghost use Rattle.std.specs.Prelude.{◌≡◌, ◌≢◌, ◌^◌, ◌↔◌, ◌⊎◌, ◌||◌, ◌&&◌, not, ℕ, ℤ, pos, ◌+ℤ◌, ◌<◌, Bool, true, false, List, [], ◌∷◌, ◌++◌, Option, Some, IsTrue, IsFalse, is_some, if◌then◌else◌, None};
+ghost use Rattle.gw_base.specs.Limits.{IsTrace};
 ghost use Rattle.gw_base.specs.declared.figures.Figures.{Figures};
 ghost use Rattle.zvt_msg.specs.Message.{MessageValue, Ack, Nack, Intermediate, Completion, Other};
 ghost use Rattle.zvt_talk.specs.declared.meaning.Heard.{Heard};
 ghost use Rattle.zvt_talk.specs.declared.meaning.Heard.TheVariants as heard;
 ghost use Rattle.zvt_talk.specs.declared.dialogue_kind.DialogueKind.TheVariants.{Display};
 ghost use Rattle.zvt_talk.specs.Dialogue.{Dialogue};
-ghost use Rattle.zvt_talk.specs.Example.{ExampleBegins, ExampleGoesOn, ExampleDeadlines, ExampleFigures, ExampleReports};
+ghost use Rattle.zvt_talk.specs.Example.{ExampleBegins, ExampleGoesOn, ExampleDeadlines, ExampleFigures, ExampleReadFigures, ExampleReports};
 ghost use Rattle.zvt_talk.specs.Came.{Came, Message, StopWished, messages, statuses, last_status, said_approved, has_ended, is_begun, is_stop_sent, is_stop_wished, deadline};
 ghost use Rattle.zvt_talk.specs.Talk.{meaning, end_of, is_end, phase_of, talk_after, talk_goes_on};
-ghost use Rattle.zvt_talk.specs.Limits.{AreAtLeastOne, FiguresFitFields, AllNumbersFitFields};
+ghost use Rattle.zvt_talk.specs.Limits.{AreAtLeastOne, FiguresFitFields, FiguresFitRecord, AllNumbersFitFields, WereRead};
 ghost use Rattle.zvt_talk.specs.Laws.{AbortsApproved, AbortsEnquiry, AbortsWithoutCode, AcknowledgesCommand, Approves, BringsBlock, BringsLine, BringsStatus, HasNoRefusal, HasNoStopWished, HasStopWished, IsAckOrNack, IsEndOf, IsEnquiry, IsEnquiryOrDisplay, LeavesCommandUnclear, IsService, IsTransaction, LeavesEnquiryOpen, LeavesTransactionOpen, RefusedAtOnce, RefusedLater, RefusesCommand, ReportsLastTransaction, ReportsNoTransaction, says_stop};
 
 /// A message approves exactly where it completes a payment or a reversal whose last status said that it is approved, with
@@ -162,6 +163,25 @@ pub fn law_figures()
     law_approved();
     law_reports();
     law_meanings();
+}
+
+/// What is reported of a transaction can be kept in a record and reported to a till, where each message was read of an APDU:
+/// what was read has its numbers within their fields. The trace number of a declined one is within its field too.
+pub fn law_read_figures()
+    ensures fit { (messages : List MessageValue) → WereRead messages → AllNumbersFitFields messages }
+    ensures approved { (dialogue : Dialogue) (came : List Came) (message : MessageValue) (figures : Figures)
+        → WereRead (messages came) → meaning dialogue came message ≡ heard.Approved figures → FiguresFitRecord figures }
+    ensures reported { (dialogue : Dialogue) (came : List Came) (message : MessageValue) (trace : ℕ) (figures : Figures) (code : ℕ)
+        → WereRead (messages came) → meaning dialogue came message ≡ heard.Told trace (Some figures) code → FiguresFitRecord figures }
+    ensures reported_number { (dialogue : Dialogue) (came : List Came) (message : MessageValue) (trace : ℕ) (approved : Option Figures) (code : ℕ)
+        → WereRead (messages came) → meaning dialogue came message ≡ heard.Told trace approved code → IsTrace trace }
+    ensures declined_number { (dialogue : Dialogue) (came : List Came) (message : MessageValue) (code trace : ℕ)
+        → WereRead (messages came) → meaning dialogue came message ≡ heard.Declined code (Some trace) → IsTrace trace }
+    ensures example { ExampleReadFigures }
+{
+    zvt_msg::law_read_fits();
+    law_figures();
+    law_declined();
 }
 
 /// A dialogue is begun exactly where its command, which is no display, is acknowledged, and a stop is to be sent with it

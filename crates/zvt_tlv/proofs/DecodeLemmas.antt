@@ -4,7 +4,7 @@ use Rattle.std.specs.Prelude.{◌⊎◌, replicate}
 use Rattle.std.proofs.lemmas.Bool.{cases_lt, cases_eq, le-ltb, lt-ltb, ne_eqb}
 use Rattle.std.proofs.lemmas.List.{take_at, drop_at, take-append-drop, length-append, length-take, length-replicate, append-nil}
 use Rattle.zvt_tlv.specs.Grammar.{ObjectValue, SpellsTag, SpellsTlvLength, SpellsTlvObject, BeginsWithTlvObject, canonical_tag, canonical_tlv_length, canonical_tlv_object, IsTag}
-use Rattle.zvt_tlv.specs.GrammarOfObjects.{IsMalformedTlvObject}
+use Rattle.zvt_tlv.specs.ObjectsGrammar.{IsMalformedTlvObject}
 use Rattle.zvt_tlv.specs.Decode.{decode_third_tag_byte, decode_second_tag_byte, decode_tag, decode_one_byte_length, decode_two_byte_length, decode_tlv_length, decode_tlv_value, decode_after_tlv_length, decode_after_tag, decode_tlv_object}
 
 -- ---- from the grammar to the functions

@@ -1,3 +1,3 @@
 pub mod DecodeLemmas
-pub mod DecodeObjectsLemmas
+pub mod ObjectsDecodeLemmas
 pub mod ResultLemmas

@@ -5,7 +5,7 @@ use Rattle.std.proofs.lemmas.List.{length-append, length-drop}
 use Rattle.zvt_tlv.specs.declared.object.Object.{Object}
 use Rattle.zvt_tlv.specs.declared.fault.TlvFault.{TlvFault}
 use Rattle.zvt_tlv.specs.Grammar.{ObjectValue, value_of, BeginsWithTlvLength, BeginsWithTlvObject}
-use Rattle.zvt_tlv.specs.GrammarOfObjects.{IsMalformedTlvObject}
+use Rattle.zvt_tlv.specs.ObjectsGrammar.{IsMalformedTlvObject}
 use Rattle.zvt_tlv.specs.Decode.{decode_tlv_length, decode_tlv_object}
 use Rattle.zvt_tlv.specs.Results.{ReturnsTlvLength}
 use Rattle.zvt_tlv.specs.Reader.{TlvReaderValue, IsTlvObject, ReturnsTlvObject, PassesTlvObject}

@@ -1,6 +1,6 @@
 pub mod Decode
-pub mod DecodeObjects
+pub mod ObjectsDecode
 pub mod Grammar
-pub mod GrammarOfObjects
+pub mod ObjectsGrammar
 pub mod Reader
 pub mod Results

@@ -1,9 +1,9 @@
 //! Laws of the definitions that the contracts cite. Each function does nothing: its contract is the law.
 ghost use Rattle.std.specs.Prelude.{◌≡◌, ◌≢◌, ◌+◌, ◌<◌, ◌↔◌, ℕ, List, [], ◌++◌, length, None, Some};
 ghost use Rattle.zvt_tlv.specs.Grammar.{ObjectValue, IsTag, SpellsTlvObject, BeginsWithTlvObject, canonical_tlv_object};
-ghost use Rattle.zvt_tlv.specs.GrammarOfObjects.{BeginsWithTlvObjects, SpellsTlvObjects, IsMalformedTlvObject, IsEndOfTlvObjects, HasTlvFaultAt};
+ghost use Rattle.zvt_tlv.specs.ObjectsGrammar.{BeginsWithTlvObjects, SpellsTlvObjects, IsMalformedTlvObject, IsEndOfTlvObjects, HasTlvFaultAt};
 ghost use Rattle.zvt_tlv.specs.Decode.{decode_tlv_object};
-ghost use Rattle.zvt_tlv.specs.DecodeObjects.{with_first_tlv_object, decode_tlv_objects};
+ghost use Rattle.zvt_tlv.specs.ObjectsDecode.{with_first_tlv_object, decode_tlv_objects};
 ghost use Rattle.zvt_tlv.specs.Reader.{TlvReaderValue, tlv_reader_over, PassesTlvObjects};
 
 /// No object is a proper prefix of another: where the same bytes begin with two, these are one, and the same follows.

@@ -2,7 +2,7 @@
 
 ghost use Rattle.std.specs.Prelude.{◌≡◌, ◌↔◌, ℕ, List, [], IsNone, IsOkAnd, IsErrOf};
 ghost use Rattle.zvt_tlv.specs.Grammar.{ObjectValue, BeginsWithTlvObject};
-ghost use Rattle.zvt_tlv.specs.GrammarOfObjects.{IsMalformedTlvObject};
+ghost use Rattle.zvt_tlv.specs.ObjectsGrammar.{IsMalformedTlvObject};
 ghost use Rattle.zvt_tlv.specs.Reader.{ReturnsTlvObject, IsTlvObject, LeavesTlvReader, TlvReaderValue};
 
 use crate::fault::TlvFault;

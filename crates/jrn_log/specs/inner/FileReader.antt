@@ -80,8 +80,8 @@ ReadTurns (Err fault) turns = ReadFaultTurns fault turns
 
 -- the turns of a write and its sync
 abbrev pub WroteSyncedTurns : {E : Type 0} → ℕ → List ℕ → Result (Unit {0}) E → List Turn → Type 0
-WroteSyncedTurns at bytes (Ok done) turns = turns ≡ Wrote at bytes ∷ Synced ∷ []
-WroteSyncedTurns at bytes (Err failed) turns = turns ≡ Wrote at bytes ∷ DiskFailed ∷ []
+WroteSyncedTurns offset bytes (Ok done) turns = turns ≡ Wrote offset bytes ∷ Synced ∷ []
+WroteSyncedTurns offset bytes (Err failed) turns = turns ≡ Wrote offset bytes ∷ DiskFailed ∷ []
 
 -- the turns of a sync and a reading of the length
 abbrev pub SyncedLengthTurns : {E : Type 0} → Result ℕ E → List Turn → Type 0

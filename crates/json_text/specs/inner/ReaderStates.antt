@@ -2,8 +2,8 @@
 use Rattle.std.specs.Prelude.{◌≡◌, ◌≢◌, ℕ, suc, ◌<◌, ◌≤◌, List, [], ◌∷◌, ◌++◌, length, map, reverse, drop, true, false, string_bytes}
 use Rattle.std.specs.Char.{encode_utf8}
 use Rattle.std.specs.Str.{encode_utf8_all}
-use Rattle.json_text.specs.Tree.{Tree, null, boolean, number, string, array, object, Items, item, Members, member, names}
-use Rattle.json_text.specs.ValueOf.{value_of, items_onto, members_onto}
+use Rattle.json_text.specs.Tree.{Tree, null, boolean, number, string, array, object, Elements, element, Members, member, names}
+use Rattle.json_text.specs.ValueOf.{value_of, elements_onto, members_onto}
 use Rattle.json_text.specs.MemberNames.{pair_names}
 use Rattle.json_text.specs.Character.{AreCharacters}
 use Rattle.json_text.specs.Grammar.{Rules, skip, Value, First, More, FirstMember, MoreMembers, Allows, SpellsBy, literal_null, literal_true, literal_false}
@@ -33,7 +33,7 @@ pub data Level : Type 0 where
 -- inside these levels, innermost first, x has ended, b follows, and the whole is v
 abbrev pub After : Rules → List Level → Tree → List ℕ → Tree → Type 0
 After R [] x b v = (skip b ≡ []) × (v ≡ x)
-After R (in_list done ∷ st) x b v = (xs : Items) × (n : List ℕ) × More R (suc (length st)) xs b n × After R st (array (items_onto done (item x xs))) n v
+After R (in_list done ∷ st) x b v = (xs : Elements) × (n : List ℕ) × More R (suc (length st)) xs b n × After R st (array (elements_onto done (element x xs))) n v
 After R (in_object done k ∷ st) x b v = (ms : Members) × (n : List ℕ) × MoreMembers R (suc (length st)) ms b n × Allows R (pair_names done ++ k ∷ names ms) × After R st (object (members_onto done (member k x ms))) n v
 
 -- a value comes
@@ -106,7 +106,7 @@ Closed R st (as_name done) text b v = AtColon R st done text b v
 -- b, read from here, makes v
 abbrev pub Rest : Rules → ReaderState → List Level → List ℕ → Tree → Type 0
 Rest R value st b v = AtValue R st b v
-Rest R first_element st b v = (xs : Items) × (n : List ℕ) × First R (suc (length st)) xs b n × After R st (array xs) n v
+Rest R first_element st b v = (xs : Elements) × (n : List ℕ) × First R (suc (length st)) xs b n × After R st (array xs) n v
 Rest R first_name st b v = (ms : Members) × (n : List ℕ) × FirstMember R (suc (length st)) ms b n × Allows R (names ms) × After R st (object ms) n v
 Rest R (name done) st b v = (m : List ℕ) × (skip b ≡ 34 ∷ m) × IsStringRest (λ k n. AtColon R st done k n v) [] m
 Rest R (colon done k) st b v = AtColon R st done k b v

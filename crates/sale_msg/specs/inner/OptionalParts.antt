@@ -3,7 +3,7 @@ use Rattle.std.specs.Prelude.{ℕ, List, [], ◌++◌, Option, Some, None}
 use Rattle.json_text.specs.Canonical.{canonical, canonical_string}
 use Rattle.json_text.specs.Tree.{array}
 use Rattle.sale_values.specs.Money.{money_text}
-use Rattle.sale_msg.specs.Canonical.{text_items}
+use Rattle.sale_msg.specs.Canonical.{text_elements}
 
 -- the bytes before a text and the text, where there is one
 abbrev pub optional_part : List ℕ → Option (List ℕ) → List ℕ
@@ -13,7 +13,7 @@ optional_part prefix (Some text) = prefix ++ canonical_string text
 -- the bytes before texts and the texts, where there are some
 abbrev pub texts_part : List ℕ → Option (List (List ℕ)) → List ℕ
 texts_part prefix None = []
-texts_part prefix (Some texts) = prefix ++ canonical (array (text_items texts))
+texts_part prefix (Some texts) = prefix ++ canonical (array (text_elements texts))
 
 -- the bytes before money and the money, where there is some
 abbrev pub money_part : List ℕ → Option ℕ → List ℕ

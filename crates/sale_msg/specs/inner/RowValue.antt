@@ -6,7 +6,7 @@ use Rattle.sale_msg.specs.declared.table.MemberRow.{MemberRow as ProgramRow}
 
 -- the row as plain data
 abbrev pub row_value : ProgramRow → MemberRow
-row_value row = record { at = row.at.now; path = row.path.now; presence = row.presence; form = row.form }
+row_value row = record { within = row.within.now; path = row.path.now; presence = row.presence; form = row.form }
 
 -- whether the bytes are 1 to 100 printable ones, as those of a path in a fault are
 abbrev pub is_path : List ℕ → Bool

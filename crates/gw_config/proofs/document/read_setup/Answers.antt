@@ -1,7 +1,7 @@
 use Rattle.std.proofs.Common.{◌∙◌, sym}
 use Rattle.toml.specs.View.{table_view}
-use Rattle.gw_config.proofs.Bounds.{within_limits}
-use Rattle.gw_config.proofs.Offsets.{reported, reported_inside}
+use Rattle.gw_config.proofs.LimitLemmas.{within_limits}
+use Rattle.gw_config.proofs.OffsetLemmas.{reported, reported_inside}
 use Rattle.gw_config.proofs.document.read_setup.Goals as goal
 
 pub returns-clause-limits : goal.returns-clause-limits

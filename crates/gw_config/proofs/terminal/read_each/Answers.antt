@@ -1,6 +1,6 @@
 use Rattle.std.proofs.Common.{sym, arith}
 use Rattle.std.proofs.lemmas.Result.{err_from_is_err_and}
-use Rattle.gw_config.proofs.Exits.{exit}
+use Rattle.gw_config.proofs.ExitLemmas.{exit}
 use Rattle.gw_config.proofs.TableLemmas.{read_one, pass_one, fault_at_one, all_read}
 use Rattle.gw_config.proofs.terminal.read_each.Goals as goal
 use Rattle.gw_config.proofs.terminal.read_each.Goals.{in-Some+in_ok-read_terminal+in_ok-push, in_default}

@@ -1,7 +1,15 @@
-use Rattle.std.proofs.Common.{Some, inr, subst, refl}
+use Rattle.std.proofs.Common.{subst}
 use Rattle.std.proofs.lemmas.Int.{to_z-of_z}
 use Rattle.json_text.specs.Fault.{RefusesText}
+use Rattle.gw_owes.specs.ReadAs.{NoJson}
 use Rattle.gw_core.proofs.till.reply_to_message.Goals as goal
 
+pub returns-in-Ok : goal.returns-in-Ok
+returns-in-Ok c = simp (to_z-of_z, c.ranges.now) at (c.reply_to_tree.ensures c.args.message.now c.in-Ok.ensures.spelled)
+
 pub returns-in-Err-Fault : goal.returns-in-Err-Fault
-returns-in-Err-Fault c = (Some _, inr (record { fault = c.in-Err-Fault.fault; faulty = subst (RefusesText c.args.message.now) c.in-Err-Fault.field-0-is c.in-Err-Fault.ensures.fault; is = refl }), simp (to_z-of_z, c.ranges.now, c.in-Err-Fault.field-0-is) at c.reply_to_no_text.ensures)
+returns-in-Err-Fault c = record {
+  as_read = NoJson c.in-Err-Fault.fault;
+  read = subst (RefusesText c.args.message.now) c.in-Err-Fault.field-0-is c.in-Err-Fault.ensures.fault;
+  replied = λ known at. rw (at.name_is, at.moment_is) (simp (to_z-of_z, c.ranges.now, c.in-Err-Fault.field-0-is) at c.reply_to_no_text.ensures);
+}

@@ -1,12 +1,31 @@
-use Rattle.std.proofs.Common.{Some, inr, subst, refl}
+use Rattle.std.proofs.Common.{subst}
 use Rattle.std.proofs.lemmas.Int.{to_z-of_z}
 use Rattle.json_text.specs.ValueOf.{value_of}
 use Rattle.sale_msg.specs.Grammar.{IsTillMessage, RefusesTree}
+use Rattle.gw_owes.specs.ReadAs.{Request, Silent, NoMessage}
+use Rattle.gw_base.specs.Moment.{moment_of}
 use Rattle.gw_core.proofs.OutputLemmas.{few-outputs}
+use Rattle.gw_core.proofs.ReplyLemmas.{replied}
 use Rattle.gw_core.proofs.till.reply_to_tree.Goals as goal
 
 pub reply_to_request-requires : goal.reply_to_request-requires
 reply_to_request-requires c = few-outputs (value_of c.args.json.now) c.in-Ok-Request.header c.in-Ok-Request.request (subst (IsTillMessage (value_of c.args.json.now)) c.in-Ok-Request.field-0-is c.in-Ok-Request.ensures.ok)
 
+pub returns-in-Ok-Request : goal.returns-in-Ok-Request
+returns-in-Ok-Request c = λ message spelled.
+    replied c.args.name.now (moment_of c.args.now) message (Request c.in-Ok-Request.header c.in-Ok-Request.request) _
+    (record { tree = value_of c.args.json.now; spelled = spelled; read = subst (IsTillMessage (value_of c.args.json.now)) c.in-Ok-Request.field-0-is c.in-Ok-Request.ensures.ok })
+    (λ known at. c.reply_to_request.ensures known (rw (to_z-of_z, c.ranges.now) at.moment_is))
+
+pub returns-in-Ok-Silent : goal.returns-in-Ok-Silent
+returns-in-Ok-Silent c = λ message spelled. record {
+  as_read = Silent;
+  read = record { tree = value_of c.args.json.now; spelled = spelled; read = subst (IsTillMessage (value_of c.args.json.now)) c.in-Ok-Silent.field-0-is c.in-Ok-Silent.ensures.ok };
+  replied = λ known at. tt;
+}
+
 pub returns-in-Err-Fault : goal.returns-in-Err-Fault
-returns-in-Err-Fault c = (Some _, inr (record { fault = c.in-Err-Fault.fault; faulty = subst (RefusesTree (value_of c.args.json.now)) c.in-Err-Fault.field-0-is c.in-Err-Fault.ensures.err; is = refl }), simp (to_z-of_z, c.ranges.now) at c.reply_to_fault.ensures)
+returns-in-Err-Fault c = λ message spelled.
+    replied c.args.name.now (moment_of c.args.now) message (NoMessage c.in-Err-Fault.fault) _
+    (record { tree = value_of c.args.json.now; spelled = spelled; faulty = subst (RefusesTree (value_of c.args.json.now)) c.in-Err-Fault.field-0-is c.in-Err-Fault.ensures.err })
+    (λ known at. rw (at.name_is, at.moment_is) (simp (to_z-of_z, c.ranges.now) at c.reply_to_fault.ensures))

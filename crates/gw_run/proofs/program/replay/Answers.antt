@@ -1,7 +1,7 @@
 use Rattle.std.proofs.Common.{ap, ◌∙◌, ◌<◌, length, arith}
 use Rattle.std.specs.Prelude.{Err}
 use Rattle.gw_run.specs.declared.ending.Ending.TheVariants.{Long, Line as AtLine, Memory}
-use Rattle.gw_rules.specs.Script.{script_limit}
+use Rattle.gw_script.specs.Script.{script_limit}
 use Rattle.gw_run.specs.ScriptRead.{script_value}
 use Rattle.gw_run.proofs.ReplayLemmas.{fault-observed, observed-cause, play-cause, play-written, input-fault, input-cause, input-complete, is-script}
 use Rattle.gw_run.proofs.program.replay.Goals as goal

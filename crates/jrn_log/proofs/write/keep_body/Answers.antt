@@ -6,7 +6,7 @@ use Rattle.jrn_log.proofs.write.keep_body.Goals as goal
 
 pub returns-in-Ok-clause-turns : goal.returns-in-Ok-clause-turns
 returns-in-Ok-clause-turns g c = grows-then _ _ _ _ _ _ c.in-Ok.ensures.turns c.write_synced-in-Ok.ensures.turns
-    (λ p q. keep_then c.write_synced-in-Ok.result c.args.slot _ c.args.body.now _ p q (ap (λ n. 256 * n) c.from-offset.ensures) c.body_and_gate.ensures)
+    (λ p q. keep_then c.write_synced-in-Ok.result c.args.slot _ c.args.body.now _ p q (ap (λ n. 256 * n) c.from.ensures) c.body_and_gate.ensures)
 
 pub returns-in-Err-clause-turns : goal.returns-in-Err-clause-turns
-returns-in-Err-clause-turns g c = grows-weaker _ _ _ _ c.in-Err.ensures.turns (λ p. keep_fails c.in-Err.field-0 c.args.slot _ c.args.body.now _ p (ap (λ n. 256 * n) c.from-offset.ensures) c.body_and_gate.ensures)
+returns-in-Err-clause-turns g c = grows-weaker _ _ _ _ c.in-Err.ensures.turns (λ p. keep_fails c.in-Err.field-0 c.args.slot _ c.args.body.now _ p (ap (λ n. 256 * n) c.from.ensures) c.body_and_gate.ensures)

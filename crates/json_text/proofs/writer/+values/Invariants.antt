@@ -1,14 +1,14 @@
 use Rattle.std.proofs.Common.{◌≡◌, ◌++◌, map, drop, nat_eq}
 use Rattle.gw_bytes.specs.Bytes.{IsPrefix}
-use Rattle.json_text.specs.Tree.{no_items}
-use Rattle.json_text.specs.ValueOf.{value_of, items_onto, members_value}
-use Rattle.json_text.specs.Canonical.{canonical_first, canonical_items, canonical_first_member, canonical_members}
+use Rattle.json_text.specs.Tree.{no_elements}
+use Rattle.json_text.specs.ValueOf.{value_of, elements_onto, members_value}
+use Rattle.json_text.specs.Canonical.{canonical_first, canonical_elements, canonical_first_member, canonical_members}
 use Rattle.json_text.proofs.writer.+values.Given as goal
 
 -- the elements written and those that follow are all of them, and the buffer has grown
 abbrev pub invariant-write_elements-loop-i : goal.invariant-write_elements-loop-i
 invariant-write_elements-loop-i l = record {
-  spelled : l.out.items ++ canonical_items (nat_eq l.i 0) (items_onto (map value_of (drop l.i l.elements)) no_items) ≡ l.fn.out.items ++ canonical_first (items_onto (map value_of l.elements) no_items);
+  spelled : l.out.items ++ canonical_elements (nat_eq l.i 0) (elements_onto (map value_of (drop l.i l.elements)) no_elements) ≡ l.fn.out.items ++ canonical_first (elements_onto (map value_of l.elements) no_elements);
   grows : IsPrefix l.fn.out.items l.out.items;
 }
 

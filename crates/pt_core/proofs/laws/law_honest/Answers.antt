@@ -6,6 +6,7 @@ use Rattle.pt_core.specs.Exchange.{HasTrueCause, met_of, placed_book}
 use Rattle.pt_core.proofs.SplitLemmas.{Laws}
 use Rattle.pt_core.proofs.AnswerLemmas.{Digits, ReadLaws}
 use Rattle.pt_core.proofs.PlaceLemmas.{placed_entries, true_causes}
+use Rattle.pt_core.proofs.CauseLemmas.{own_causes}
 use Rattle.pt_core.proofs.HearingLemmas.{AllLaws, true_hearing}
 use Rattle.pt_core.proofs.laws.law_honest.Goals as goal
 
@@ -18,6 +19,7 @@ returns c setting exchanges hears =
     record {
       book = placed_entries stream setting (ap (λ (t : TerminalValue). t.account.book) (c.law_met.ensures.fresh setting)) (c.law_book.ensures.link setting) exchanges;
       causes = All-from_recursion (HasTrueCause setting exchanges) (placed_book setting exchanges) (true_causes stream setting exchanges);
+      own_causes = own_causes stream setting exchanges;
       numbers = c.law_book.ensures.numbers setting (met_of exchanges);
       few = c.law_book.ensures.few setting (met_of exchanges);
       ends = true_hearing laws setting exchanges hears;

@@ -1,4 +1,5 @@
 use Rattle.std.proofs.Common.{codes}
+use Rattle.std.specs.Prelude.{map}
 use Rattle.sale_reply.specs.Reply.{display_request_body, print_request_body, plain_body, verdict_tree, result_body, status_body, diagnosis_body, display_body, print_body}
 use Rattle.sale_reply.proofs.PartLemmas.{and_then, spelled}
 use Rattle.sale_reply.proofs.CanonicalLemmas.{message_parts}
@@ -12,7 +13,7 @@ returns-in-DisplayRequest c =
 pub returns-in-PrintRequest : goal.returns-in-PrintRequest
 returns-in-PrintRequest c =
     rw c.in-PrintRequest.is (spelled (and_then c.open_request-in-PrintRequest.ensures (and_then c.write_print_request.ensures c.raw-in-PrintRequest.ensures))
-    (cc (message_parts (codes "SaleToPOIRequest") c.in-PrintRequest.header (codes "Request") (print_request_body c.in-PrintRequest.lines.items))))
+    (cc (message_parts (codes "SaleToPOIRequest") c.in-PrintRequest.header (codes "Request") (print_request_body (map (λ line. line.now) c.in-PrintRequest.lines.now)))))
 
 pub returns-in-Plain : goal.returns-in-Plain
 returns-in-Plain c =
@@ -37,7 +38,7 @@ returns-in-Diagnosis c =
 pub returns-in-Display : goal.returns-in-Display
 returns-in-Display c =
     rw c.in-Display.is (spelled (and_then c.open_response-in-Display.ensures (and_then c.write_display.ensures c.raw-in-Display.ensures))
-    (cc (message_parts (codes "SaleToPOIResponse") c.in-Display.header (codes "Response") (display_body c.in-Display.outputs.items))))
+    (cc (message_parts (codes "SaleToPOIResponse") c.in-Display.header (codes "Response") (display_body c.in-Display.outputs))))
 
 pub returns-in-Print : goal.returns-in-Print
 returns-in-Print c =

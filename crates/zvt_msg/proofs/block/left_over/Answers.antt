@@ -1,8 +1,8 @@
 -- Proof of the contract of `left_over`.
 use Rattle.std.proofs.Common.{ℕ, List, length, sym, ap, ◌∙◌, arith}
-use Rattle.zvt_tlv.specs.DecodeObjects.{DecodedTlvObjects}
+use Rattle.zvt_tlv.specs.ObjectsDecode.{DecodedTlvObjects}
 use Rattle.zvt_tlv.specs.Reader.{TlvReaderValue}
-use Rattle.zvt_tlv.proofs.DecodeObjectsLemmas.{split_whole, split_none}
+use Rattle.zvt_tlv.proofs.ObjectsDecodeLemmas.{split_whole, split_none}
 use Rattle.zvt_msg.proofs.block.left_over.Goals as goal
 
 pub loop-preserved : goal.loop-preserved

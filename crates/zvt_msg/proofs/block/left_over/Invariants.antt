@@ -1,6 +1,6 @@
 -- What the loop of `left_over` keeps, and why it ends.
 use Rattle.std.proofs.Common.{◌≡◌, ◌+◌, length}
-use Rattle.zvt_tlv.specs.DecodeObjects.{decode_tlv_objects}
+use Rattle.zvt_tlv.specs.ObjectsDecode.{decode_tlv_objects}
 use Rattle.zvt_msg.proofs.block.left_over.Given as goal
 
 -- what is left from here on is what is left of all

@@ -1,7 +1,7 @@
 -- Proof of the contract of `law_decode_object`.
 use Rattle.zvt_tlv.specs.Decode.{decode_tlv_object}
 use Rattle.zvt_tlv.proofs.DecodeLemmas.{begins_found, found_begins, none_malformed, malformed_none, malformed_some}
-use Rattle.zvt_tlv.proofs.DecodeObjectsLemmas.{begins_shrinks}
+use Rattle.zvt_tlv.proofs.ObjectsDecodeLemmas.{begins_shrinks}
 use Rattle.std.proofs.Common.{refl}
 use Rattle.zvt_tlv.proofs.laws.law_decode_object.Goals as goal
 

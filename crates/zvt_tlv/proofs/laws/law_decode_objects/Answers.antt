@@ -1,5 +1,5 @@
 -- Proof of the contract of `law_decode_objects`.
-use Rattle.zvt_tlv.proofs.DecodeObjectsLemmas.{fills_is, fault_is, split_whole, split_none}
+use Rattle.zvt_tlv.proofs.ObjectsDecodeLemmas.{fills_is, fault_is, split_whole, split_none}
 use Rattle.zvt_tlv.proofs.laws.law_decode_objects.Goals as goal
 
 pub returns : goal.returns

@@ -1,8 +1,8 @@
 -- Proof of the contract of `law_objects`.
 use Rattle.std.proofs.Common.{◌∙◌, length, subst, zero-add}
-use Rattle.zvt_tlv.specs.GrammarOfObjects.{BeginsWithTlvObjects}
+use Rattle.zvt_tlv.specs.ObjectsGrammar.{BeginsWithTlvObjects}
 use Rattle.zvt_tlv.specs.Reader.{tlv_reader_over}
-use Rattle.zvt_tlv.proofs.DecodeObjectsLemmas.{one_reading, walk_splits}
+use Rattle.zvt_tlv.proofs.ObjectsDecodeLemmas.{one_reading, walk_splits}
 use Rattle.zvt_tlv.proofs.laws.law_objects.Goals as goal
 
 pub returns : goal.returns

@@ -1,6 +1,6 @@
 use Rattle.std.proofs.Common.{◌≡◌, ◌≤◌, ◌-◌, length, drop}
 use Rattle.std.specs.Prelude.{map}
-use Rattle.gw_rules.specs.Plays.{met}
+use Rattle.gw_script.specs.Plays.{met}
 use Rattle.gw_run.specs.PlayerTills.{outside_with}
 use Rattle.gw_run.specs.ScriptRead.{line_value}
 use Rattle.gw_run.proofs.player.next_event.sought.Given as goal

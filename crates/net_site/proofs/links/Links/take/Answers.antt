@@ -1,7 +1,7 @@
 use Rattle.std.proofs.Common.{◌∙◌, ap}
 use Rattle.std.proofs.lemmas.List.{map-set}
 use Rattle.std.specs.Prelude.{Bool, false, map, set}
-use Rattle.net_site.specs.Heard.{is_up}
+use Rattle.net_site.specs.Link.{is_up}
 use Rattle.net_site.specs.declared.links.Terminal.{Terminal}
 use Rattle.net_site.proofs.links.Links.take.Goals as goal
 

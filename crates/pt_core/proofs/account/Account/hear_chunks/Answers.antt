@@ -4,7 +4,7 @@ use Rattle.zvt_apdu.specs.DecodeStream.{decode_apdus}
 use Rattle.pt_core.specs.Serving.{AccountValue}
 use Rattle.pt_core.specs.inner.Results.{account_value}
 use Rattle.pt_core.proofs.SplitLemmas.{Laws, count_of, few_requests}
-use Rattle.pt_core.proofs.Progress.{Progress, Comes, cut_chunk, next_chunk}
+use Rattle.pt_core.proofs.ProgressLemmas.{Progress, Comes, cut_chunk, next_chunk}
 use Rattle.pt_core.proofs.account.Account.hear_chunks.Goals as goal
 
 pub serve_all-requires-clause-answer_room : goal.serve_all-requires-clause-answer_room

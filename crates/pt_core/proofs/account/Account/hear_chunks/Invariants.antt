@@ -2,7 +2,7 @@
 use Rattle.std.proofs.Common.{◌≡◌, ◌+◌, ◌*◌, ◌≤◌, ◌++◌, length, vec_len, vec_capacity}
 use Rattle.zvt_apdu.specs.Decode.{DecodedApdu, decode_apdu}
 use Rattle.pt_core.specs.inner.Results.{account_value}
-use Rattle.pt_core.proofs.Progress.{Progress}
+use Rattle.pt_core.proofs.ProgressLemmas.{Progress}
 use Rattle.pt_core.proofs.account.Account.hear_chunks.Given as goal
 
 -- what was served, and room for what is to come

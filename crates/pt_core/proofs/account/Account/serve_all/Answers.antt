@@ -7,7 +7,7 @@ use Rattle.zvt_apdu.specs.Results.{ReturnsApdu, LeavesBytes}
 use Rattle.pt_core.specs.inner.Results.{account_value}
 use Rattle.pt_core.proofs.PrefixLemmas.{begins_at_prefix}
 use Rattle.pt_core.proofs.SplitLemmas.{Laws}
-use Rattle.pt_core.proofs.Progress.{bad_by, cut_at, one_more}
+use Rattle.pt_core.proofs.ProgressLemmas.{bad_by, cut_at, one_more}
 use Rattle.pt_core.proofs.account.Account.serve_all.Goals as goal
 
 pub returns-then-serve-clause-bytes : goal.returns-then-serve-clause-bytes

@@ -2,7 +2,7 @@
 use Rattle.std.proofs.Common.{◌≡◌, ◌+◌, ◌*◌, ◌≤◌, length, vec_len, vec_capacity}
 use Rattle.pt_core.specs.inner.Results.{account_value}
 use Rattle.pt_core.proofs.SplitLemmas.{count_of}
-use Rattle.pt_core.proofs.Progress.{Progress}
+use Rattle.pt_core.proofs.ProgressLemmas.{Progress}
 use Rattle.pt_core.proofs.account.Account.serve_all.Given as goal
 
 -- what was served, and room for what is to come

@@ -1,7 +1,7 @@
 use Rattle.std.proofs.Common.{drop}
 use Rattle.std.specs.Prelude.{map}
 use Rattle.gw_site.specs.Outside.{outside_of}
-use Rattle.gw_rules.specs.Plays.{rests}
+use Rattle.gw_script.specs.Plays.{rests}
 use Rattle.gw_run.specs.ScriptRead.{line_value}
 use Rattle.gw_run.proofs.PlayLemmas.{turn_played}
 use Rattle.gw_run.proofs.player.played.Played.add.Goals as goal

@@ -1,0 +1,4 @@
+pub mod EngineLemmas
+pub mod RoundLemmas
+pub mod SendLemmas
+pub mod TillLemmas

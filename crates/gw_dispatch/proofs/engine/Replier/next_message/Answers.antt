@@ -1,0 +1,18 @@
+use Rattle.std.proofs.Common.{◌∙◌, subst, ap}
+use Rattle.std.specs.Prelude.{Some, Ok}
+use Rattle.std.proofs.lemmas.Int.{to_z-of_z}
+use Rattle.sale_frame.specs.Steps.{TakesFrame, frame_step}
+use Rattle.gw_dispatch.proofs.engine.Replier.next_message.Goals as goal
+
+pub returns-in_ok-reply-in-Ok-Some : goal.returns-in_ok-reply-in-Ok-Some
+returns-in_ok-reply-in-Ok-Some c =
+    let step : TakesFrame c.args.reader.now (frame_step (Ok (Some c.in-Ok-Some.message))) c.next.follows.lender-at-none =
+    subst (λ r. TakesFrame c.args.reader.now (frame_step r) c.next.follows.lender-at-none) (c.in-Ok-Some.is ∙ ap Ok c.in-Ok-Some.field-0-is) c.next.follows.holds-at-none in (
+      record {
+        message = c.in-Ok-Some.message.now;
+        payload = step.0;
+        taken = step.1;
+        is_reply = simp (to_z-of_z, c.ranges.now) at c.in_ok-reply-in-Ok-Some.ensures.reply;
+      },
+      c.in_ok-reply-in-Ok-Some.ensures.fits,
+    )

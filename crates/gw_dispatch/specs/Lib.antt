@@ -1,0 +1,4 @@
+pub mod NextMessage
+pub mod Round
+pub mod RunEnd
+pub mod Tills

@@ -1,0 +1,7 @@
+//! The loop of a run over any site: it is opened and polled, and what each round owes is done.
+#![tactic(auto)]
+
+mod engine;
+mod tills;
+
+pub use engine::{Ended, run};

@@ -1,0 +1,139 @@
+-- The examples of turns that no row owes yet.
+use Rattle.std.proofs.Common.{◌≡◌, ℕ, ◌≤◌, Bool, true, List, [], ◌∷◌, ◌++◌, refl, arith, inl}
+use Rattle.std.proofs.lemmas.Bool.{and_parts, leb-true}
+use Rattle.std.proofs.lemmas.List.Elements.{All-from_recursion}
+use Rattle.std.specs.Prelude.{pos, nat_le, ◌&&◌, ◌/◌, ◌%◌}
+use Rattle.gw_base.specs.Bcd.{IsBcd}
+use Rattle.gw_base.specs.Setup.{IsPt, IsSetup}
+use Rattle.gw_bytes.specs.Bytes.{AreBytes}
+use Rattle.gw_site.specs.Image.{Image}
+use Rattle.gw_site.specs.declared.turn.Turn.{Turn}
+use Rattle.gw_site.specs.declared.turn.Turn.TheVariants.{Start, Polled, HeardPt, Lost, Wrote, Synced, DiskFailed, Crash, Stopped}
+use Rattle.gw_site.proofs.ImageLemmas.{file_image, stable_image}
+use Rattle.jrn_record.specs.Grammar.{record_body}
+use Rattle.zvt_apdu.specs.DecodeStream.{decode_apdus, decode_apdus_within}
+use Rattle.gw_owes.specs.Calls.{Ask, WriteBody, WriteGate}
+use Rattle.gw_owes.specs.Terminals.{registration}
+use Rattle.gw_rules.specs.Lawful.{IsCourse, IsChunk}
+use Rattle.gw_rules.specs.RowExample.{example_pt, terminal_setup, unserved_log, link_view, keep_view, linked_moves, both_bytes, gate_moves, example_record, UnservedIsLawful, LinkRegisters, LinkIsDueAgain, FailedSendCutsLink, LostIsDue, BothAreItems, GateIsInFlight, SyncKeeps, StartLeavesFlight, FailedSyncCrashes, ClosedGateDrops, OpenGateKeeps}
+use Rattle.gw_rules.specs.View.{Begin, Make, view_from}
+use Rattle.gw_rules.proofs.CourseLemmas.{course-append}
+use Rattle.gw_rules.proofs.PrefixLemmas.{lawful-along}
+use Rattle.gw_rules.proofs.TextLemmas.{each_passes, all-passed, bytes-tested, ident-tested, setup-formed}
+
+-- ---- a terminal
+
+abbrev is_bcd : ℕ → Bool
+is_bcd byte = nat_le (byte / 16) 9 && nat_le (byte % 16) 9
+
+bcd-tested : (bytes : List ℕ) → each_passes is_bcd bytes ≡ true → IsBcd bytes
+bcd-tested bytes e =
+    All-from_recursion (λ byte. (byte / 16 ≤ 9) × (byte % 16 ≤ 9)) bytes
+    (all-passed (λ byte. (byte / 16 ≤ 9) × (byte % 16 ≤ 9)) is_bcd (λ byte t. let p = and_parts (nat_le (byte / 16) 9) (nat_le (byte % 16) 9) t in (leb-true (byte / 16) 9 p.0, leb-true (byte % 16) 9 p.1)) bytes e)
+
+pt-formed : IsPt example_pt
+pt-formed = record {
+  poi = ident-tested 40 example_pt.poi refl;
+  password = (refl, bcd-tested example_pt.password refl);
+  config = omega arith;
+  none = omega arith;
+  answer = (omega arith, omega arith);
+  command = (omega arith, omega arith);
+}
+
+formed : IsSetup terminal_setup
+formed = record {
+  name = setup-formed.name;
+  line = setup-formed.line;
+  wait = setup-formed.wait;
+  slots = setup-formed.slots;
+  count = omega arith;
+  each = All-from_recursion IsPt (example_pt ∷ []) (pt-formed, tt);
+  distinct = (All-from_recursion _ [] tt, tt);
+}
+
+pub unserved-lawful : UnservedIsLawful
+unserved-lawful = lawful-along unserved_log
+    (Make (Start terminal_setup) ∷ Make (Polled (pos 0)) ∷ Begin ∷ Begin ∷ Make (Polled (pos 1)) ∷ Make Stopped ∷ []) refl (
+      (refl, formed),
+      (
+        record { running = refl; calls = refl; items = refl },
+        (
+          record { idle = record { round = refl; calls = refl }; first = refl },
+          (record { idle = record { round = refl; calls = refl }; first = refl }, (record { running = refl; calls = refl; items = refl }, (refl, tt))),
+        ),
+      ),
+    )
+
+linked-course : IsCourse link_view linked_moves
+linked-course = (refl, ((Ask (registration example_pt), refl, refl), tt))
+
+pub link-registers : LinkRegisters
+link-registers = record { lawful = linked-course; standing_is = refl; calls_are = refl }
+
+pub link-is-due-again : LinkIsDueAgain
+link-is-due-again = record { lawful = (refl, tt); standing_is = refl; calls_are = refl }
+
+pub failed-send-cuts-link : FailedSendCutsLink
+failed-send-cuts-link = record { lawful = (refl, ((Ask (registration example_pt), refl, (_, refl)), (refl, tt))); standing_is = refl; calls_are = refl }
+
+pub lost-is-due : LostIsDue
+lost-is-due = record {
+  lawful = course-append link_view linked_moves (Make (Polled (pos 2)) ∷ Make (Lost 0) ∷ Begin ∷ []) linked-course
+      (record { running = refl; calls = refl; items = refl }, (record { polled = refl; connected_is = refl }, (record { idle = record { round = refl; calls = refl }; first = refl }, tt)));
+  standing_is = refl;
+  calls_are = refl;
+}
+
+both-chunk : IsChunk both_bytes
+both-chunk = record { count = (omega arith, omega arith); bytes = bytes-tested both_bytes refl }
+
+pub both-are-items : BothAreItems
+unfolding decode_apdus decode_apdus_within
+both-are-items = record {
+  lawful = course-append link_view linked_moves (Make (Polled (pos 1)) ∷ Make (HeardPt 0 both_bytes) ∷ []) linked-course (record { running = refl; calls = refl; items = refl }, ((record { polled = refl; connected_is = refl }, both-chunk), tt));
+  items = refl;
+}
+
+-- ---- a record
+
+gate-course : IsCourse keep_view gate_moves
+gate-course = ((WriteBody 0 example_record, refl, refl), (refl, ((WriteGate 0 example_record, refl, refl), tt)))
+
+pub gate-in-flight : GateIsInFlight
+gate-in-flight = record { lawful = gate-course; kept_are = refl; flight_is = refl }
+
+pub sync-keeps : SyncKeeps
+sync-keeps = record { lawful = course-append keep_view gate_moves (Make Synced ∷ []) gate-course (refl, tt); kept_are = refl; flight_is = refl }
+
+pub start-leaves-flight : StartLeavesFlight
+start-leaves-flight = record { lawful = course-append keep_view gate_moves (Make (Start terminal_setup) ∷ []) gate-course ((refl, formed), tt); kept_are = refl; flight_is = refl }
+
+-- the log up to the gate, from which the images are
+abbrev gate_log : List Turn
+gate_log = Start terminal_setup ∷ Polled (pos 0) ∷ Wrote 1 (record_body example_record ++ 0 ∷ []) ∷ Synced ∷ Wrote 0 (165 ∷ []) ∷ []
+
+open-image : Image (view_from keep_view gate_moves).scene.outside (165 ∷ (record_body example_record ++ 0 ∷ []))
+open-image = file_image gate_log
+
+closed-image : Image (view_from keep_view gate_moves).scene.outside (0 ∷ (record_body example_record ++ 0 ∷ []))
+closed-image = stable_image gate_log
+
+open-bytes : AreBytes (165 ∷ (record_body example_record ++ 0 ∷ []))
+open-bytes = bytes-tested (165 ∷ (record_body example_record ++ 0 ∷ [])) refl
+
+closed-bytes : AreBytes (0 ∷ (record_body example_record ++ 0 ∷ []))
+closed-bytes = bytes-tested (0 ∷ (record_body example_record ++ 0 ∷ [])) refl
+
+pub closed-gate-drops : ClosedGateDrops
+closed-gate-drops = record { lawful = course-append keep_view gate_moves (Make (Crash (0 ∷ (record_body example_record ++ 0 ∷ []))) ∷ []) gate-course ((closed-image, closed-bytes), tt); kept_are = refl; flight_is = refl }
+
+pub open-gate-keeps : OpenGateKeeps
+open-gate-keeps = record { lawful = course-append keep_view gate_moves (Make (Crash (165 ∷ (record_body example_record ++ 0 ∷ []))) ∷ []) gate-course ((open-image, open-bytes), tt); kept_are = refl; flight_is = refl }
+
+pub failed-sync-crashes : FailedSyncCrashes
+failed-sync-crashes = record {
+  lawful = course-append keep_view gate_moves (Make DiskFailed ∷ Make (Crash (0 ∷ (record_body example_record ++ 0 ∷ []))) ∷ Make (Start terminal_setup) ∷ []) gate-course (inl refl, ((closed-image, closed-bytes), ((refl, formed), tt)));
+  kept_are = refl;
+  flight_is = refl;
+}

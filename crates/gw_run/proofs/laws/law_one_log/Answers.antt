@@ -1,0 +1,5 @@
+use Rattle.gw_run.proofs.OneLogLemmas.{one-log}
+use Rattle.gw_run.proofs.laws.law_one_log.Goals as goal
+
+pub returns : goal.returns
+returns c = record { one = one-log }

@@ -1,0 +1,8 @@
+use Rattle.gw_run.proofs.ExampleLemmas.{status-of-script, status-has-text}
+use Rattle.gw_run.proofs.laws.law_status.Goals as goal
+
+pub returns-clause-script : goal.returns-clause-script
+returns-clause-script c = status-of-script
+
+pub returns-clause-text : goal.returns-clause-text
+returns-clause-text c = status-has-text

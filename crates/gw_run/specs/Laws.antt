@@ -1,0 +1,23 @@
+-- Laws of the logs of scripts.
+use Rattle.std.specs.Prelude.{◌≡◌, ◌↔◌, ℕ, List, Ok}
+use Rattle.gw_site.specs.declared.turn.Turn.{Turn}
+use Rattle.gw_script.specs.Script.{Script, script_of}
+use Rattle.gw_script.specs.ByLines.{GoesByScript, HasEventsOf}
+use Rattle.gw_rules.specs.Lawful.{IsLawful}
+use Rattle.gw_run.specs.ScriptLog.{IsLogOf}
+
+-- a script has one log at most
+abbrev pub OneLog : Type 0
+OneLog = (script : List ℕ) (log other : List Turn) → IsLogOf script log → IsLogOf script other → log ≡ other
+
+-- the log of a script is exactly a lawful log that goes by the script's lines
+abbrev pub LogGoesByLines : Type 0
+LogGoesByLines = (text : List ℕ) (script : Script) (log : List Turn) → script_of text ≡ Ok script → IsLogOf text log ↔ (IsLawful log × GoesByScript script log)
+
+-- its events and polls are those of the lines that aren't skipped, in their order
+abbrev pub LogHasEvents : Type 0
+LogHasEvents = (text : List ℕ) (script : Script) (log : List Turn) → script_of text ≡ Ok script → IsLogOf text log → HasEventsOf script.lines log
+
+-- and only a text that is a script has a log
+abbrev pub LogHasScript : Type 0
+LogHasScript = (text : List ℕ) (log : List Turn) → IsLogOf text log → (script : Script) × (script_of text ≡ Ok script)

@@ -1,0 +1,5 @@
+pub mod EntryLemmas
+pub mod EntryReadLemmas
+pub mod LogTextLemmas
+pub mod NumberLemmas
+pub mod ScriptLemmas
