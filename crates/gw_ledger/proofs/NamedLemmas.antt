@@ -8,12 +8,12 @@ use Rattle.std.proofs.lemmas.Option.{same_Some}
 use Rattle.jrn_record.specs.declared.records.Record.{Record}
 use Rattle.jrn_record.specs.declared.records.Intent.{Intent as TheIntent}
 use Rattle.jrn_record.specs.declared.records.Outcome.{Outcome as TheOutcome}
-use Rattle.gw_ledger.specs.declared.values.Entry.{Entry}
+use Rattle.gw_ledger.specs.declared.entry.Entry.{Entry}
 use Rattle.gw_ledger.specs.Slots.{ended_at, entry_at, entry_with, intent_at}
 use Rattle.gw_ledger.specs.History.{same_text}
 use Rattle.gw_ledger.specs.Transaction.{is_named, is_text, named_below, named_of, text_of, transaction_id}
-use Rattle.gw_ledger.proofs.Along.{intent_inside}
-use Rattle.gw_ledger.proofs.Tied.{same_text-is}
+use Rattle.gw_ledger.proofs.FoldLemmas.{intent_inside}
+use Rattle.gw_ledger.proofs.TieLemmas.{same_text-is}
 
 both : (a b : Bool) → (a && b) ≡ true → (a ≡ true) × (b ≡ true)
 both true true e = (refl, refl)

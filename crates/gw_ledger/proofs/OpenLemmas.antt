@@ -11,15 +11,14 @@ use Rattle.jrn_record.specs.declared.records.Record.TheVariants.{Intent, Outcome
 use Rattle.jrn_record.specs.Limits.{IsRecord}
 use Rattle.gw_ledger.specs.declared.account.Account.{Account}
 use Rattle.gw_ledger.specs.Accounts.{account_in, account_of, account_with, is_poi, last_number_of, open_slot, poi_of}
-use Rattle.gw_ledger.specs.Fold.{AreFolded, fits, has_fitting_original, is_unknown}
+use Rattle.gw_ledger.specs.Fold.{AreFoldedBesideKeys, fits_beside_key, has_fitting_original}
 use Rattle.gw_ledger.specs.History.{history, same_text}
-use Rattle.gw_ledger.specs.Keys.{intent_key}
 use Rattle.gw_ledger.specs.Laws.{IsOpenAt, poi_at}
 use Rattle.gw_ledger.specs.Slots.{as_intent, is_open, is_outcome_of}
-use Rattle.gw_ledger.proofs.After.{get_before, get_last}
-use Rattle.gw_ledger.proofs.Along.{along, intent_inside, open_before, open_has_intent, open_last, open_parts}
-use Rattle.gw_ledger.proofs.Push.{history-push}
-use Rattle.gw_ledger.proofs.Tied.{same_text-is}
+use Rattle.gw_ledger.proofs.RecordLemmas.{get_before, get_last}
+use Rattle.gw_ledger.proofs.FoldLemmas.{along, intent_inside, open_before, open_has_intent, open_last, open_parts}
+use Rattle.gw_ledger.proofs.HistoryLemmas.{history-push}
+use Rattle.gw_ledger.proofs.TieLemmas.{same_text-is}
 
 -- a terminal after one more record
 account_push : (records : List Record) (next : Record) (poi : List ℕ) → account_of (records ++ next ∷ []) poi
@@ -101,7 +100,7 @@ still_open before next poi are same none other slot = (
   ],
 )
 
-open_step : (before : List Record) (next : Record) → AreOpenSlots before → IsRecord next → IsTrue (fits before next) → AreOpenSlots (before ++ next ∷ [])
+open_step : (before : List Record) (next : Record) → AreOpenSlots before → IsRecord next → IsTrue (fits_beside_key before next) → AreOpenSlots (before ++ next ∷ [])
 open_step before (Settled settled) are within fitting poi slot =
     still_open before (Settled settled) poi are (unresolved_push before (Settled settled) poi ∙ by_test (same_text poi settled.poi)) (λ slot opened. refl) (λ some. absurd (cc)) slot
   where
@@ -140,14 +139,13 @@ open_step before (Outcome outcome) are within fitting poi slot = by_test (is_poi
             cc
 open_step before (Intent intent) are within fitting poi slot = by_test (same_text poi intent.poi) refl
   where
-    busy : IsTrue (fits before (Intent intent)) → open_slot before intent.poi ≡ Some slot → ⊥
+    busy : IsTrue (fits_beside_key before (Intent intent)) → open_slot before intent.poi ≡ Some slot → ⊥
     busy fitting found =
-        let known = is_unknown before (intent_key intent) in
         let free = not (is_some (open_slot before intent.poi)) in
         let rises = nat_le (last_number_of before intent.poi) intent.before in
         let original = has_fitting_original before intent intent.what in
-        let parts = both known free (both (known && free) rises (both ((known && free) && rises) original fitting).0).0 in
-        let none : is_some (open_slot before intent.poi) ≡ false = not_true (is_some (open_slot before intent.poi)) parts.1 in
+        let parts = both free rises (both (free && rises) original fitting).0 in
+        let none : is_some (open_slot before intent.poi) ≡ false = not_true (is_some (open_slot before intent.poi)) parts.0 in
         let clash : true ≡ false = sym (ap is_some found) ∙ none in
         cc
 
@@ -175,5 +173,5 @@ none_open : AreOpenSlots []
 unfolding history
 none_open poi slot = (λ e. absurd (cc), λ opened. let clash : false ≡ true = opened.0 in absurd (cc))
 
-pub open_slot_is : (records : List Record) → AreFolded records → (poi : List ℕ) (slot : ℕ) → (open_slot records poi ≡ Some slot) ↔ IsOpenAt records poi slot
+pub open_slot_is : (records : List Record) → AreFoldedBesideKeys records → (poi : List ℕ) (slot : ℕ) → (open_slot records poi ≡ Some slot) ↔ IsOpenAt records poi slot
 open_slot_is = along AreOpenSlots open_step none_open

@@ -12,8 +12,8 @@ use Rattle.jrn_record.specs.declared.records.Settled.{Settled as TheSettled}
 use Rattle.jrn_record.specs.declared.records.Record.{Record}
 use Rattle.jrn_record.specs.declared.records.Record.TheVariants.{Intent, Outcome, Settled}
 use Rattle.gw_ledger.specs.Accounts.{is_settled, last_number_of, open_slot}
-use Rattle.gw_ledger.specs.declared.values.Found.TheVariants.{Entry, Closed}
-use Rattle.gw_ledger.specs.declared.values.Totals.{Totals}
+use Rattle.gw_ledger.specs.declared.entry.Found.TheVariants.{Entry, Closed}
+use Rattle.gw_ledger.specs.declared.totals.Totals.{Totals}
 use Rattle.gw_ledger.specs.Fold.{fits, found_of, last_entry, open_entry}
 use Rattle.gw_ledger.specs.History.{history}
 use Rattle.gw_ledger.specs.Keys.{last_slot, slot_of}
@@ -256,3 +256,13 @@ example_outcomes : (fits [] (declined 0) ≡ false) × (fits [] (approved 0 123 
     × (fits (day ++ pay (codes "A") (codes "4") 100 125 ∷ []) (approved 6 126 100) ≡ true)
 unfolding history
 example_outcomes = (refl, refl, refl, refl, refl, refl, refl, refl)
+
+-- a payment after the day and its approval: nothing is found under its key, nothing is open and its number before is the
+-- last one; then its entry is open, and the approval's number is above that
+example_next : (found_of day (key (codes "4")) ≡ None) × (open_entry day (codes "A") ≡ None) × (last_number_of day (codes "A") ≡ 125)
+    × (fits day (pay (codes "A") (codes "4") 100 125) ≡ true)
+    × (open_entry (day ++ pay (codes "A") (codes "4") 100 125 ∷ []) (codes "A")
+    ≡ Some (record { slot = 6; intent = payment (codes "A") (codes "4") 100 125; result = None }))
+    × (fits (day ++ pay (codes "A") (codes "4") 100 125 ∷ []) (approved 6 126 100) ≡ true)
+unfolding history
+example_next = (refl, refl, refl, refl, refl, refl)

@@ -11,12 +11,12 @@ use Rattle.jrn_record.specs.declared.records.Outcome.{Outcome as TheOutcome}
 use Rattle.jrn_record.specs.declared.records.Settled.{Settled as TheSettled}
 use Rattle.jrn_record.specs.declared.records.Record.{Record}
 use Rattle.jrn_record.specs.declared.records.Record.TheVariants.{Intent, Outcome, Settled}
-use Rattle.gw_ledger.specs.declared.values.Entry.{Entry as TheEntry}
-use Rattle.gw_ledger.specs.declared.values.Closed.{Closed as TheClosed}
-use Rattle.gw_ledger.specs.declared.values.Found.{Found}
-use Rattle.gw_ledger.specs.declared.values.Found.TheVariants.{Entry, Closed}
-use Rattle.gw_ledger.specs.declared.values.LedgerFault.{LedgerFault}
-use Rattle.gw_ledger.specs.declared.values.LedgerFault.TheVariants.{BadRecord, Memory}
+use Rattle.gw_ledger.specs.declared.entry.Entry.{Entry as TheEntry}
+use Rattle.gw_ledger.specs.declared.entry.Closed.{Closed as TheClosed}
+use Rattle.gw_ledger.specs.declared.entry.Found.{Found}
+use Rattle.gw_ledger.specs.declared.entry.Found.TheVariants.{Entry, Closed}
+use Rattle.gw_ledger.specs.declared.fault.LedgerFault.{LedgerFault}
+use Rattle.gw_ledger.specs.declared.fault.LedgerFault.TheVariants.{BadRecord, Memory}
 use Rattle.gw_ledger.specs.History.{same_text}
 use Rattle.gw_ledger.specs.Slots.{intent_at, entry_at, is_open, is_payment, is_reversed}
 use Rattle.gw_ledger.specs.Keys.{intent_key, settled_key, slot_of, last_slot}
@@ -58,26 +58,45 @@ rises approved number None = false
 rises true number (Some intent) = nat_lt intent.before number
 rises false number (Some intent) = true
 
--- the record may come after these: an Intent or a Settled has a new key; an Intent's terminal has no open Intent, and
--- its number before isn't below the terminal's last number; a reversal has an original that it may reverse; an Outcome
--- is of an open Intent, and an approved one has a greater number
-abbrev pub fits : List Record → Record → Bool
-fits records (Intent intent) =
-    is_unknown records (intent_key intent) && not (is_some (open_slot records intent.poi))
+-- the key of an Intent or a Settled is unknown
+abbrev pub has_new_key : List Record → Record → Bool
+has_new_key records (Intent intent) = is_unknown records (intent_key intent)
+has_new_key records (Outcome outcome) = true
+has_new_key records (Settled settled) = is_unknown records (settled_key settled)
+
+-- whatever its key, the record may come after these: an Intent's terminal has no open Intent, and its number before
+-- isn't below the terminal's last number; a reversal has an original that it may reverse; an Outcome is of an open
+-- Intent, and an approved one has a greater number
+abbrev pub fits_beside_key : List Record → Record → Bool
+fits_beside_key records (Intent intent) =
+    not (is_some (open_slot records intent.poi))
     && nat_le (last_number_of records intent.poi) intent.before && has_fitting_original records intent intent.what
-fits records (Outcome outcome) =
+fits_beside_key records (Outcome outcome) =
     is_open records outcome.slot && rises outcome.approved outcome.number (intent_at records outcome.slot)
-fits records (Settled settled) = is_unknown records (settled_key settled)
+fits_beside_key records (Settled settled) = true
+
+-- the record may come after these: its key is new, where it has one, and whatever its key it may come
+abbrev pub fits : List Record → Record → Bool
+fits records the_record = has_new_key records the_record && fits_beside_key records the_record
+
+-- each of the records passes a test after those before it
+abbrev pub FitBy : (List Record → Record → Bool) → List Record → List Record → Type 0
+FitBy test before [] = Unit {0}
+FitBy test before (the_record ∷ rest) = IsTrue (test before the_record) × FitBy test (before ++ the_record ∷ []) rest
 
 -- each of the records may come after those before it
 abbrev pub Fit : List Record → List Record → Type 0
-Fit before [] = Unit {0}
-Fit before (the_record ∷ rest) = IsTrue (fits before the_record) × Fit (before ++ the_record ∷ []) rest
+Fit = FitBy fits
 
 -- the records that a ledger is the fold of: each within its limits, and each after those before it
 pub record AreFolded (records : List Record) : Type 0 where
   pub within : All IsRecord records
   pub fit : Fit [] records
+
+-- Inner: records of which each is within its limits, and each may come after those before it, whatever their keys
+pub record AreFoldedBesideKeys (records : List Record) : Type 0 where
+  pub within : All IsRecord records
+  pub fit : FitBy fits_beside_key [] records
 
 -- the bodies are those of records that are folded
 pub record AreBodiesOf (bodies : List (List ℕ)) (records : List Record) : Type 0 where
@@ -96,7 +115,7 @@ abbrev pub IfBad : (ℕ → Type 0) → LedgerFault → Type 0
 IfBad P (BadRecord fault) = P fault.slot
 IfBad P Memory = Unit {0}
 
--- the body is that of a record that may come next, and the records have it
+-- Inner: the body is that of a record that may come next, and the records have it
 pub record IsTaken (before : List Record) (body : List ℕ) (after : List Record) : Type 0 where
   pub the_record : Record
   pub within : IsRecord the_record
@@ -104,7 +123,13 @@ pub record IsTaken (before : List Record) (body : List ℕ) (after : List Record
   pub fitting : IsTrue (fits before the_record)
   pub after_is : after ≡ before ++ the_record ∷ []
 
--- the body is that of no record that may come next
+-- Inner: the body is that of a record, and the records have it
+pub record IsBodyAdded (before : List Record) (body : List ℕ) (after : List Record) : Type 0 where
+  pub the_record : Record
+  pub body_is : body ≡ record_body the_record
+  pub after_is : after ≡ before ++ the_record ∷ []
+
+-- Inner: the body is that of no record that may come next
 abbrev pub IsRefused : List Record → List ℕ → Type 0
 IsRefused before body = (the_record : Record) → IsRecord the_record → body ≡ record_body the_record → IsTrue (fits before the_record) → ⊥
 

@@ -1,5 +1,5 @@
 -- Where the records have a key, and the last Intent of a till at a terminal.
-use Rattle.std.specs.Prelude.{ℕ, Bool, false, ◌&&◌, if◌then◌else◌, List, [], ◌∷◌, length, Option, Some, None}
+use Rattle.std.specs.Prelude.{ℕ, Bool, false, ◌&&◌, if◌then◌else◌, List, [], ◌∷◌, length, Option, Some, None, slice_get, option_and_then}
 use Rattle.std.specs.Ordering.{is_eq}
 use Rattle.gw_base.specs.declared.key.Key.{Key}
 use Rattle.gw_base.specs.Key.{key_cmp}
@@ -31,6 +31,10 @@ same_key a b = is_eq (key_cmp a b)
 abbrev pub is_key : Key → Option Key → Bool
 is_key key None = false
 is_key key (Some other) = same_key key other
+
+-- Inner: the key of the record at this slot
+abbrev pub key_at : List Record → ℕ → Option Key
+key_at records slot = option_and_then record_key (slice_get records slot)
 
 -- the slot of the newest record that has the key
 abbrev pub slot_in : Key → List Placed → Option ℕ

@@ -1,9 +1,15 @@
 -- Laws of the fold of the records.
-use Rattle.std.specs.Prelude.{◌≡◌, ◌↔◌, ℕ, zero, suc, ◌+◌, ◌≤◌, Bool, true, false, List, [], ◌∷◌, ◌++◌, length, Option, Some, option_map}
+use Rattle.std.specs.Prelude.{◌≡◌, ◌↔◌, ℕ, zero, suc, ◌+◌, ◌<◌, ◌≤◌, Bool, true, false, IsTrue, List, [], ◌∷◌, ◌++◌, length, Option, Some, None, option_map}
+use Rattle.jrn_record.specs.declared.records.Deal.TheVariants.{Payment}
+use Rattle.jrn_record.specs.declared.records.Intent.{Intent as TheIntent}
+use Rattle.jrn_record.specs.declared.records.Outcome.{Outcome as TheOutcome}
 use Rattle.jrn_record.specs.declared.records.Record.{Record}
+use Rattle.jrn_record.specs.declared.records.Record.TheVariants.{Intent, Outcome}
+use Rattle.gw_ledger.specs.declared.entry.Entry.{Entry}
 use Rattle.gw_ledger.specs.Accounts.{is_poi, last_number_of, open_slot, poi_of}
-use Rattle.gw_ledger.specs.Fold.{AreFolded}
+use Rattle.gw_ledger.specs.Fold.{AreFolded, fits, found_of, open_entry}
 use Rattle.gw_ledger.specs.History.{history}
+use Rattle.gw_ledger.specs.Keys.{intent_key}
 use Rattle.gw_ledger.specs.Slots.{entry_at, intent_at, is_open}
 use Rattle.gw_ledger.specs.Sums.{one_if, open_count_of}
 use Rattle.gw_ledger.specs.Transaction.{is_named, named_of}
@@ -46,3 +52,17 @@ OpenSlotIsOpen = (records : List Record) → AreFolded records → (poi : List �
 abbrev pub TextNamesOne : Type 0
 TextNamesOne = (records : List Record) → length records ≤ 1000000 → (poi text : List ℕ) (slot : ℕ)
     → is_named poi text (entry_at records slot) ≡ true → named_of records poi text ≡ entry_at records slot
+
+-- a payment may come next where its key is unknown, its terminal has no open entry, and its number before isn't below
+-- the terminal's last number
+abbrev pub PaymentFits : Type 0
+PaymentFits = (records : List Record) → AreFolded records → (intent : TheIntent) → intent.what ≡ Payment
+    → found_of records (intent_key intent) ≡ None → open_entry records intent.poi ≡ None
+    → last_number_of records intent.poi ≤ intent.before → IsTrue (fits records (Intent intent))
+
+-- an Outcome may come next where it is that of a terminal's open entry, and its number is above the number before
+-- where it approves
+abbrev pub OutcomeFits : Type 0
+OutcomeFits = (records : List Record) → AreFolded records → (poi : List ℕ) (entry : Entry) (outcome : TheOutcome)
+    → open_entry records poi ≡ Some entry → outcome.slot ≡ entry.slot
+    → (outcome.approved ≡ true → entry.intent.before < outcome.number) → IsTrue (fits records (Outcome outcome))

@@ -3,6 +3,7 @@ pub mod Accounts
 pub mod Example
 pub mod Fold
 pub mod History
+pub mod KeyTable
 pub mod Keys
 pub mod Laws
 pub mod Slots

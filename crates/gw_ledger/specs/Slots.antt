@@ -7,7 +7,7 @@ use Rattle.jrn_record.specs.declared.records.Outcome.{Outcome as TheOutcome}
 use Rattle.jrn_record.specs.declared.records.Settled.{Settled as TheSettled}
 use Rattle.jrn_record.specs.declared.records.Record.{Record}
 use Rattle.jrn_record.specs.declared.records.Record.TheVariants.{Intent, Outcome, Settled}
-use Rattle.gw_ledger.specs.declared.values.Entry.{Entry}
+use Rattle.gw_ledger.specs.declared.entry.Entry.{Entry}
 use Rattle.gw_ledger.specs.History.{Placed, history}
 
 -- a record as an Intent
@@ -35,13 +35,13 @@ intent_at records slot = option_and_then as_intent (slice_get records slot)
 abbrev pub outcome_at : List Record → ℕ → Option TheOutcome
 outcome_at records slot = option_and_then as_outcome (slice_get records slot)
 
--- a record as a Settled
+-- Inner: a record as a Settled
 abbrev pub as_settled : Record → Option TheSettled
 as_settled (Intent intent) = None
 as_settled (Outcome outcome) = None
 as_settled (Settled settled) = Some settled
 
--- the Settled at this slot
+-- Inner: the Settled at this slot
 abbrev pub settled_at : List Record → ℕ → Option TheSettled
 settled_at records slot = option_and_then as_settled (slice_get records slot)
 

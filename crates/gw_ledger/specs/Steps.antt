@@ -6,8 +6,8 @@ use Rattle.jrn_record.specs.declared.records.Deal.TheVariants.{Payment, Reversal
 use Rattle.jrn_record.specs.declared.records.Intent.{Intent as TheIntent}
 use Rattle.jrn_record.specs.declared.records.Outcome.{Outcome as TheOutcome}
 use Rattle.gw_ledger.specs.declared.account.Sums.{Sums}
-use Rattle.gw_ledger.specs.declared.ledger.Mark.{Mark}
-use Rattle.gw_ledger.specs.declared.values.Tally.{Tally}
+use Rattle.gw_ledger.specs.declared.tables.Mark.{Mark}
+use Rattle.gw_ledger.specs.declared.totals.Tally.{Tally}
 use Rattle.gw_ledger.specs.Sums.{same_currency}
 
 -- the mark at a slot, changed

@@ -7,9 +7,9 @@ use Rattle.jrn_record.specs.declared.records.Deal.TheVariants.{Payment, Reversal
 use Rattle.jrn_record.specs.declared.records.Intent.{Intent as TheIntent}
 use Rattle.jrn_record.specs.declared.records.Record.{Record}
 use Rattle.jrn_record.specs.declared.records.Record.TheVariants.{Intent, Outcome, Settled}
-use Rattle.gw_ledger.specs.declared.values.Tally.{Tally}
+use Rattle.gw_ledger.specs.declared.totals.Tally.{Tally}
 use Rattle.gw_ledger.specs.declared.account.Sums.{Sums}
-use Rattle.gw_ledger.specs.declared.values.Totals.{Totals}
+use Rattle.gw_ledger.specs.declared.totals.Totals.{Totals}
 use Rattle.gw_ledger.specs.History.{Placed, history, same_text}
 use Rattle.gw_ledger.specs.Slots.{intent_at, asks_payment}
 

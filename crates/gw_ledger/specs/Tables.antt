@@ -1,24 +1,22 @@
--- Inner: the tables of a ledger are the fold of its records.
+-- Inner: the tables by slot and by terminal are the fold of the records, whatever their keys.
 use Rattle.std.specs.Prelude.{◌≡◌, ℕ, ◌+◌, ◌*◌, ◌<◌, ◌≤◌, List, length, take, Option, Some, None, IsSome, slice_get, slice_index_or, Vec, vec_len, vec_capacity}
 use Rattle.std.specs.Ordering.{nat_cmp, ordering_then}
 use Rattle.std.specs.Cmp.Lexicographic.{slice_cmp}
 use Rattle.std.specs.declared.cmp.Ordering.{Ordering}
-use Rattle.gw_base.specs.Key.{key_cmp}
 use Rattle.gw_base.specs.declared.currency.Currency.{Currency}
-use Rattle.gw_base.specs.declared.key.Key.{Key}
 use Rattle.jrn_record.specs.declared.records.Intent.{Intent as TheIntent}
 use Rattle.jrn_record.specs.declared.records.Record.{Record}
 use Rattle.jrn_record.specs.declared.records.Record.TheVariants.{Settled}
 use Rattle.gw_ledger.specs.declared.account.Account.{Account}
 use Rattle.gw_ledger.specs.declared.account.Desk.{Desk}
 use Rattle.gw_ledger.specs.declared.account.Sums.{Sums}
-use Rattle.gw_ledger.specs.declared.ledger.Mark.{Mark}
-use Rattle.gw_ledger.specs.declared.values.Tally.{Tally}
-use Rattle.gw_ledger.specs.declared.values.Totals.{Totals}
+use Rattle.gw_ledger.specs.declared.tables.Mark.{Mark}
+use Rattle.gw_ledger.specs.declared.totals.Tally.{Tally}
+use Rattle.gw_ledger.specs.declared.totals.Totals.{Totals}
 use Rattle.gw_ledger.specs.Accounts.{account_of, new_account}
-use Rattle.gw_ledger.specs.Fold.{AreFolded}
+use Rattle.gw_ledger.specs.Fold.{AreFoldedBesideKeys}
 use Rattle.gw_ledger.specs.History.{history}
-use Rattle.gw_ledger.specs.Keys.{slot_of, last_slot}
+use Rattle.gw_ledger.specs.Keys.{last_slot}
 use Rattle.gw_ledger.specs.Slots.{ended_at, intent_at, reversed_in}
 use Rattle.gw_ledger.specs.Sums.{ordinal, sums_of, tally_of, totals_of}
 use Rattle.gw_ledger.specs.Table.{IsTable, value_at}
@@ -50,14 +48,12 @@ sums_in_row None currency = no_sums
 sums_in_row (Some desk) currency = slice_index_or desk.sums (ordinal currency) no_sums
 
 -- the tables agree with the records
-pub record AreTables (records : List Record) (marks : List Mark) (keys : List (Key × ℕ)) (lasts : List ((List ℕ × List ℕ) × ℕ))
+pub record AreTables (records : List Record) (marks : List Mark) (lasts : List ((List ℕ × List ℕ) × ℕ))
     (desks : List (List ℕ × Desk)) (closings : List (ℕ × Totals)) (tally : Tally) : Type 0 where
-  pub folded : AreFolded records
+  pub folded : AreFoldedBesideKeys records
   pub few : length records ≤ 1000000
   pub marks_len : length marks ≡ length records
   pub marks_are : (slot : ℕ) → slot < length records → slice_get marks slot ≡ Some (mark_of records slot)
-  pub keys_table : IsTable key_cmp keys
-  pub keys_are : (key : Key) → value_at key_cmp keys key ≡ slot_of records key
   pub lasts_table : IsTable pair_cmp lasts
   pub lasts_are : (sale poi : List ℕ) → value_at pair_cmp lasts (sale, poi) ≡ last_slot records sale poi
   pub desks_table : IsTable poi_cmp desks
@@ -71,11 +67,10 @@ pub record AreTables (records : List Record) (marks : List Mark) (keys : List (K
 
 -- the vectors have room for what is still to come: the Outcomes of the open Intents, and for `spare` more Intents or
 -- Settled, with the Outcome of each
-pub record HaveRoom {A : Type 0} (records : Vec Record A) (marks : Vec Mark A) (keys : Vec (Key × ℕ) A) (lasts : Vec ((List ℕ × List ℕ) × ℕ) A)
+pub record HaveRoom {A : Type 0} (records : Vec Record A) (marks : Vec Mark A) (lasts : Vec ((List ℕ × List ℕ) × ℕ) A)
     (desks : Vec (List ℕ × Desk) A) (closings : Vec (ℕ × Totals) A) (unresolved spare : ℕ) : Type 0 where
   pub for_records : vec_len records + unresolved + 2 * spare ≤ vec_capacity records
   pub for_marks : vec_len marks + unresolved + 2 * spare ≤ vec_capacity marks
-  pub for_keys : vec_len keys + spare ≤ vec_capacity keys
   pub for_lasts : vec_len lasts + spare ≤ vec_capacity lasts
   pub for_desks : vec_len desks + spare ≤ vec_capacity desks
   pub for_closings : vec_len closings + spare ≤ vec_capacity closings

@@ -3,7 +3,7 @@ use Rattle.std.specs.Prelude.{ℕ, zero, suc, Bool, false, ◌&&◌, if◌then�
 use Rattle.std.specs.Fmt.{decimal}
 use Rattle.gw_base.specs.Digits.{digits}
 use Rattle.jrn_record.specs.declared.records.Record.{Record}
-use Rattle.gw_ledger.specs.declared.values.Entry.{Entry}
+use Rattle.gw_ledger.specs.declared.entry.Entry.{Entry}
 use Rattle.gw_ledger.specs.History.{same_text}
 use Rattle.gw_ledger.specs.Slots.{entry_at}
 

@@ -9,7 +9,7 @@ ghost use Rattle.gw_ledger.specs.Table.{IsTable, value_at};
 ghost use Rattle.gw_ledger.specs.Tables.{account_in_row, no_sums, poi_cmp, sums_in_row};
 
 use crate::table;
-use crate::values::Totals;
+use crate::totals::Totals;
 use gw_base::{Currency, Ident};
 use jrn_record::{Deal, Intent, Outcome};
 

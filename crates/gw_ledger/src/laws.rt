@@ -1,5 +1,5 @@
 //! Laws of the fold of the records.
-ghost use Rattle.gw_ledger.specs.Laws.{CountIsOfOpenSlots, NewestIsFirst, OpenSlotIsOpen, OthersLeaveTerminal, TextNamesOne};
+ghost use Rattle.gw_ledger.specs.Laws.{CountIsOfOpenSlots, NewestIsFirst, OpenSlotIsOpen, OthersLeaveTerminal, OutcomeFits, PaymentFits, TextNamesOne};
 
 /// One more record is the newest of the history, and where it is one of another terminal it leaves a terminal's open slot
 /// and its last number.
@@ -18,4 +18,10 @@ pub fn law_open()
 /// A text names at most one entry of a terminal.
 pub fn law_named()
     ensures { TextNamesOne }
+{}
+
+/// When a payment and an Outcome may come next, by what the ledger returns.
+pub fn law_fits()
+    ensures payment { PaymentFits }
+    ensures outcome { OutcomeFits }
 {}

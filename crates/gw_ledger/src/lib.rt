@@ -2,15 +2,22 @@
 #![tactic(auto)]
 
 mod account;
+mod entry;
+mod fault;
+mod keys;
 mod laws;
 mod ledger;
+mod sorted;
 mod table;
+mod tables;
+mod totals;
 mod transaction;
-mod values;
 
-pub use laws::{law_named, law_next, law_open};
+pub use entry::{Closed, Entry, Found};
+pub use fault::{BadRecord, LedgerFault};
+pub use laws::{law_fits, law_named, law_next, law_open};
 pub use ledger::Ledger;
-pub use values::{BadRecord, Closed, Entry, Found, LedgerFault, Tally, Totals};
+pub use totals::{Tally, Totals};
 
 #[cfg(test)]
 mod tests;

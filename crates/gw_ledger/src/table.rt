@@ -40,7 +40,7 @@ pub fn put<K: Ord + Copy, V: Copy>(rows: &mut Vec<(K, V)>, key: K, value: V)
 }
 
 /// Inserts the row, for which there is room.
-fn insert_at<R: Copy>(rows: &mut Vec<R>, at: usize, row: R)
+pub fn insert_at<R: Copy>(rows: &mut Vec<R>, at: usize, row: R)
     requires inside { at ≤ vec_len rows.old }
     requires room { vec_len rows.old < vec_capacity rows.old }
     ensures inserted { rows.new.items ≡ insert rows.old.items at row }

@@ -5,7 +5,7 @@ ghost use Rattle.gw_base.specs.Digits.{digits};
 ghost use Rattle.gw_ledger.specs.History.{same_text};
 ghost use Rattle.gw_ledger.specs.Transaction.{is_named, is_text, transaction_id};
 
-use crate::values::Entry;
+use crate::entry::Entry;
 use arrayvec::ArrayVec;
 use gw_base::Ident;
 use itoa::Buffer;

@@ -1,6 +1,6 @@
 -- Proof of the contract of `law_next`.
 use Rattle.gw_ledger.proofs.OpenLemmas.{others_leave}
-use Rattle.gw_ledger.proofs.Push.{history-push}
+use Rattle.gw_ledger.proofs.HistoryLemmas.{history-push}
 use Rattle.gw_ledger.proofs.laws.law_next.Goals as goal
 
 pub returns-clause-newest : goal.returns-clause-newest

@@ -1,6 +1,6 @@
 -- Proof of the contract of `get`.
 use Rattle.std.proofs.Common.{sym}
-use Rattle.gw_ledger.proofs.Rows.{value_found, value_absent}
+use Rattle.gw_ledger.proofs.TableLemmas.{value_found, value_absent}
 use Rattle.gw_ledger.proofs.table.get.Goals as goal
 
 pub returns-in-Ok : goal.returns-in-Ok

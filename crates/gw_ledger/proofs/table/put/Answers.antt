@@ -1,7 +1,7 @@
 -- Proof of the contract of `put`.
 use Rattle.std.proofs.Common.{◌∙◌, sym, ap, subst}
 use Rattle.gw_ledger.specs.Table.{IsGapFor, IsRowOf, IsTable, value_at}
-use Rattle.gw_ledger.proofs.Rows.{value_absent, none_has_value, table_set, values_set_row, table_insert, values_insert_row}
+use Rattle.gw_ledger.proofs.TableLemmas.{value_absent, none_has_value, table_set, values_set_row, table_insert, values_insert_row}
 use Rattle.gw_ledger.proofs.table.put.Goals as goal
 
 pub insert_at-requires-clause-room : goal.insert_at-requires-clause-room

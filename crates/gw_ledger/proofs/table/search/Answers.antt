@@ -1,7 +1,7 @@
 -- Proof of the contract of `search`.
 use Rattle.std.proofs.Common.{rules}
 use Rattle.std.proofs.lemmas.List.Sorted.{answers_always}
-use Rattle.gw_ledger.proofs.Rows.{searched}
+use Rattle.gw_ledger.proofs.TableLemmas.{searched}
 use Rattle.gw_ledger.proofs.table.search.Goals as goal
 
 pub returns : goal.returns

@@ -1,71 +1,30 @@
 -- Proof of the contract of `accept`.
-use Rattle.std.proofs.Common.{◌≡◌, ◌∙◌, ◌<◌, ◌≤◌, refl, ap, arith, length}
-use Rattle.std.proofs.lemmas.List.{length-append}
-use Rattle.jrn_record.specs.declared.records.Record.{Record}
+use Rattle.std.proofs.Common.{◌≡◌, refl, ap, subst, arith, length}
+use Rattle.gw_base.specs.Key.{key_cmp}
 use Rattle.jrn_record.specs.declared.records.Record.TheVariants.{Intent}
-use Rattle.gw_ledger.specs.Sums.{count_all, is_intent, open_count_of}
-use Rattle.std.specs.Prelude.{slice_index_or, Some}
-use Rattle.gw_base.specs.declared.currency.Currency.{Currency}
-use Rattle.gw_ledger.specs.Accounts.{account_of, account_with}
-use Rattle.gw_ledger.specs.Sums.{ordinal, sums_of}
-use Rattle.gw_ledger.specs.declared.ledger.Mark.{Mark}
-use Rattle.gw_ledger.specs.Tables.{account_in_row, no_sums, poi_cmp, sums_in_row}
-use Rattle.gw_ledger.specs.Table.{value_at}
-use Rattle.gw_ledger.proofs.After.{folded_push, count-le, open-le}
-use Rattle.gw_ledger.proofs.AfterIntent.{keys_after, lasts_after, marks_are_after, account_after, sums_after, desks_after, closings_after, tally_after}
+use Rattle.gw_ledger.specs.Keys.{intent_key}
+use Rattle.gw_ledger.specs.KeyTable.{key_rows}
+use Rattle.gw_ledger.specs.Table.{IsGapFor}
+use Rattle.gw_ledger.proofs.KeyTableLemmas.{keys_push, new_value}
+use Rattle.gw_ledger.proofs.RecordLemmas.{folded_push}
 use Rattle.gw_ledger.proofs.ledger.Ledger.accept.Goals as goal
 
-pub overflow_add-self : goal.overflow_add-self
-overflow_add-self c =
-    let tables = c.self.invariant.0 in
-    let count : c.self.inside.tally.accepted ≡ count_all c.self.inside.records.items is_intent = ap (λ t. t.accepted) tables.tally_is in
-    omega (arith, count, count-le c.self.inside.records.items is_intent, tables.few)
-
-pub overflow_add-self-2 : goal.overflow_add-self-2
-overflow_add-self-2 c =
-    let tables = c.self.invariant.0 in
-    let count : c.self.inside.tally.unresolved ≡ open_count_of c.self.inside.records.items = ap (λ t. t.unresolved) tables.tally_is in
-    omega (arith, count, open-le c.self.inside.records.items, tables.few)
+pub gap-at-requires-clause-new : goal.gap-at-requires-clause-new
+gap-at-requires-clause-new c =
+    let records = c.self.inside.tables.records in
+    let slots = c.self.inside.slots.items in
+    let intent = c.args.intent.now in
+    rw (c.deref.ensures.value, c.key_of_intent.ensures) (new_value records (Intent intent) slots (intent_key intent) refl (rw (ap (λ v. v.records) c.self.view_is) c.requires.fits) c.self.invariant.1)
 
 pub invariant_of-self : goal.invariant_of-self
 invariant_of-self c =
-    let tables = c.self.invariant.0 in
-    let room = c.self.invariant.1 in
-    let records = c.self.inside.records.items in
+    let records = c.self.inside.tables.records in
+    let slots = c.self.inside.slots.items in
     let intent = c.args.intent.now in
-    let same = ap (λ v. v.records) c.self.view_is in
-    let spare = ap (λ v. v.spare) c.self.view_is in
-    let enough : 1 ≤ c.self.inside.spare = rw spare c.requires.spare in
-    let slot : c.len-slot.result ≡ length records = c.len-slot.ensures ∙ c.self.inside.records.ok.0 in
-    let accounts = ap (λ desks. account_in_row (value_at poi_cmp desks intent.poi)) c.deref.ensures.value in
-    let account : c.asked.result.account ≡ account_with (length records) (Intent intent) (account_of records intent.poi) =
-    c.asked.ensures.account ∙ rw (slot, c.desk_in-desk.ensures.account, accounts, tables.accounts_are intent.poi) refl in
-    let sums : (currency : Currency) → sums_in_row (Some c.asked.result) currency ≡ sums_of records intent.poi currency =
-    λ currency. ap (λ s. slice_index_or s (ordinal currency) no_sums) c.asked.ensures.sums ∙ c.desk_in-desk.ensures.sums currency ∙ ap (λ desks. sums_in_row (value_at poi_cmp desks intent.poi) currency) c.deref.ensures.value ∙ tables.sums_are intent.poi currency in
-    let few : length records < 1000000 = rw same c.requires.few in (
-      rw (c.push.ensures.elements, c.push-2.ensures.elements) (record {
-        folded = folded_push records (Intent intent) tables.folded c.requires.within (rw same c.requires.fits);
-        few = omega (arith, length-append {A = Record});
-        marks_len = omega (arith, length-append {A = Record}, length-append {A = Mark}, tables.marks_len);
-        marks_are = marks_are_after records intent _ tables.marks_len tables.marks_are;
-        keys_table = c.put.ensures.table;
-        keys_are = λ key. c.put.ensures.values key ∙ rw (c.key_of_intent.ensures, slot) (keys_after records intent key _ (tables.keys_are key));
-        lasts_table = c.put-2.ensures.table;
-        lasts_are = λ sale poi. c.put-2.ensures.values (sale, poi) ∙ rw slot (lasts_after records intent sale poi _ (tables.lasts_are sale poi));
-        desks_table = c.put-3.ensures.table;
-        accounts_are = λ poi. ap account_in_row (c.put-3.ensures.values poi) ∙ account_after records intent c.asked.result poi _ account (tables.accounts_are poi);
-        sums_are = λ poi currency. ap (λ row. sums_in_row row currency) (c.put-3.ensures.values poi) ∙ sums_after records intent c.asked.result poi _ currency (sums currency) (tables.sums_are poi currency);
-        asked_have_desks = desks_after records intent c.asked.result c.self.inside.desks.items c.put-3.new.rows.items c.put-3.ensures.values tables.asked_have_desks;
-        closings_table = tables.closings_table;
-        closings_are = closings_after records intent _ tables.closings_are;
-        tally_is = tally_after records intent _ tables.tally_is;
-      }),
-      record {
-        for_records = omega (arith, room.for_records, c.push.ensures.len, c.push.ensures.capacity);
-        for_marks = omega (arith, room.for_marks, c.push-2.ensures.len, c.push-2.ensures.capacity);
-        for_keys = omega (arith, room.for_keys, c.put.ensures.len, c.put.ensures.capacity);
-        for_lasts = omega (arith, room.for_lasts, c.put-2.ensures.len, c.put-2.ensures.capacity);
-        for_desks = omega (arith, room.for_desks, c.put-3.ensures.len, c.put-3.ensures.capacity);
-        for_closings = omega (arith, room.for_closings);
-      },
+    let gap = subst (λ key. IsGapFor key_cmp (key_rows records slots) key c.gap-at.result) c.key_of_intent.ensures
+    (subst (λ s. IsGapFor key_cmp (key_rows records s) c.key_of_intent.result c.gap-at.result) c.deref.ensures.value c.gap-at.ensures) in
+    let slot : c.accept-slot.result ≡ length records = c.accept-slot.ensures.slot in (
+      rw c.accept-slot.ensures.records (folded_push records (Intent intent) c.self.invariant.0 c.requires.within (rw (ap (λ v. v.records) c.self.view_is) c.requires.fits)),
+      rw (c.accept-slot.ensures.records, c.insert_at.ensures.inserted, slot) (keys_push records (Intent intent) slots c.gap-at.result (intent_key intent) refl c.self.invariant.1 gap),
+      omega (arith, c.self.invariant.2, c.insert_at.ensures.len, c.insert_at.ensures.capacity, c.accept-slot.ensures.spare),
     )

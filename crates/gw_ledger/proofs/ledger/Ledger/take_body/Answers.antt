@@ -9,13 +9,13 @@ never false passes fails = cc
 
 pub returns-in-Err-clause-bad : goal.returns-in-Err-clause-bad
 returns-in-Err-clause-bad c = (
-  c.len-slot.ensures ∙ c.self.inside.records.ok.0 ∙ ap (λ v. length v.records) c.self.view_is,
+  c.count-slot.ensures ∙ ap (λ v. length v.records) c.self.view_is,
   λ the_record within body_is fitting. c.law_bodies.ensures.faulty _ _ c.in-Err.ensures the_record within body_is,
 )
 
 pub returns-then-not-fits-clause-bad : goal.returns-then-not-fits-clause-bad
 returns-then-not-fits-clause-bad c = (
-  c.len-slot.ensures ∙ c.self.inside.records.ok.0 ∙ ap (λ v. length v.records) c.self.view_is,
+  c.count-slot.ensures ∙ ap (λ v. length v.records) c.self.view_is,
   λ the_record within body_is fitting.
       let same = c.law_bodies.ensures.one_record the_record c.in-Ok.the_record within c.in-Ok.ensures.0 (sym body_is ∙ c.in-Ok.ensures.1) in
       never (fits c.args.self.now.records the_record) fitting (ap (fits c.args.self.now.records) same ∙ sym c.fits.ensures ∙ c.if-not-fits.true),

@@ -1,0 +1,61 @@
+-- Inner: the table of keys, which has the slots of the records that have one, sorted by it.
+use Rattle.std.specs.Prelude.{◌≡◌, ℕ, ◌+◌, ◌<◌, List, [], ◌∷◌, ◌++◌, map, length, slice_index_or, Option, Some, None, IsSome}
+use Rattle.std.specs.List.{All, Contains}
+use Rattle.std.specs.declared.cmp.Ordering.{Ordering}
+use Rattle.std.specs.declared.cmp.Ordering.TheVariants.{Less}
+use Rattle.gw_base.specs.Key.{key_cmp}
+use Rattle.gw_base.specs.declared.key.Key.{Key}
+use Rattle.jrn_record.specs.declared.records.Record.{Record}
+use Rattle.jrn_record.specs.declared.records.Record.TheVariants.{Intent, Outcome, Settled}
+use Rattle.gw_ledger.specs.Keys.{intent_key, key_at, settled_key, slot_of}
+use Rattle.gw_ledger.specs.Table.{IsTable, value_at}
+
+-- a key, or an empty one where there is none
+abbrev pub key_or_empty : Option Key → Key
+key_or_empty None = record { sale = []; poi = []; service = [] }
+key_or_empty (Some key) = key
+
+-- the slots, each with its key
+abbrev pub key_rows : List Record → List ℕ → List (Key × ℕ)
+key_rows records slots = map (λ slot. (key_or_empty (key_at records slot), slot)) slots
+
+-- how the key of a record compares with another; no key is below each
+abbrev pub compare_record : Option Record → Key → Ordering
+compare_record None key = Less
+compare_record (Some (Intent intent)) key = key_cmp (intent_key intent) key
+compare_record (Some (Outcome outcome)) key = Less
+compare_record (Some (Settled settled)) key = key_cmp (settled_key settled) key
+
+-- each of the slots has a key
+abbrev pub AreKeyed : List Record → List ℕ → Type 0
+AreKeyed records slots = All (λ slot. IsSome (key_at records slot)) slots
+
+-- the table of keys agrees with the records
+pub record AreKeys (records : List Record) (slots : List ℕ) : Type 0 where
+  pub table : IsTable key_cmp (key_rows records slots)
+  pub keyed : AreKeyed records slots
+  pub values : (key : Key) → value_at key_cmp (key_rows records slots) key ≡ slot_of records key
+
+-- the rows are the keys of the records, each with its slot, in some order
+pub record AreRowsOf (records : List Record) (rows : List (Key × ℕ)) : Type 0 where
+  pub sound : All (λ row. key_at records row.1 ≡ Some row.0) rows
+  pub complete : (slot : ℕ) (key : Key) → key_at records slot ≡ Some key → Contains rows (key, slot)
+
+-- the slots of all records that have a key, sorted by it, and no two have the same key
+pub record AreSortedSlots (records : List Record) (slots : List ℕ) : Type 0 where
+  pub table : IsTable key_cmp (key_rows records slots)
+  pub rows : AreRowsOf records (key_rows records slots)
+
+-- the rows are the keys of the records below this slot, each with its slot
+pub record AreRowsBelow (records : List Record) (below : ℕ) (rows : List (Key × ℕ)) : Type 0 where
+  pub sound : All (λ row. key_at records row.1 ≡ Some row.0) rows
+  pub complete : (slot : ℕ) (key : Key) → slot < below → key_at records slot ≡ Some key → Contains rows (key, slot)
+
+-- each key before this index is below the next
+abbrev pub RiseTo : List (Key × ℕ) → ℕ → Type 0
+RiseTo rows to = (i : ℕ) (d : Key × ℕ) → i + 1 < to → i + 1 < length rows → key_cmp (slice_index_or rows i d).0 (slice_index_or rows (i + 1) d).0 ≡ Less
+
+-- the rows with one more, where there is a key
+abbrev pub rows_with : List (Key × ℕ) → Option Key → ℕ → List (Key × ℕ)
+rows_with rows None slot = rows
+rows_with rows (Some key) slot = rows ++ (key, slot) ∷ []
