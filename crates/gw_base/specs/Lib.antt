@@ -1,3 +1,4 @@
+-- The definitions of values that all crates share: identifiers, currencies, amounts, BCD, moments and the setup.
 pub mod Amount
 pub mod Bcd
 pub mod Condition
@@ -9,4 +10,5 @@ pub mod Limits
 pub mod Moment
 pub mod Setup
 pub mod Text437
+pub mod Transaction
 pub mod inner

@@ -12,6 +12,7 @@ mod moment;
 mod owned;
 mod setup;
 mod text_437;
+mod transaction;
 
 pub use amount::{law_amounts, minor_of};
 pub use bcd::{NotDigits, bcd_read, bcd_write, law_bcd};
@@ -24,6 +25,7 @@ pub use moment::{LAST_MOMENT, law_stamp, stamp, to_moment};
 pub use owned::{Bodies, Bytes, Text};
 pub use setup::{Pt, Pts, Setup};
 pub use text_437::{byte_of_437, char_of_437, law_text_437};
+pub use transaction::{law_transaction_texts, transaction_text};
 
 #[cfg(test)]
 mod tests;

@@ -1,1 +1,2 @@
+-- The lemmas of bytes and prefixes.
 pub mod ByteLemmas

@@ -27,7 +27,7 @@ record Computes {X : Type 0} (found : Option X) (IsFound : X → Type 0) (NoneTh
   nothing : found ≡ None → NoneThere
   none : NoneThere → found ≡ None
 
--- the same in other words
+-- what computes a value that is said in one way computes it also where the value is said in another way that means as much
 said : {X : Type 0} {found : Option X} {P Q : X → Type 0} {N M : Type 0} → Computes found P N → ((x : X) → P x → Q x) → ((x : X) → Q x → P x) → (N → M) → (M → N) → Computes found Q M
 said computes on back never yes_ = record {
   there = λ x e. on x (computes.there x e);

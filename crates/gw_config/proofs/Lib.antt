@@ -1,3 +1,4 @@
+-- The lemmas of a configuration document: its form, its limits, and its first fault.
 mod DocumentLemmas
 mod ExitLemmas
 mod FirstFaultLemmas

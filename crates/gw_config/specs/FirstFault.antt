@@ -1,5 +1,4 @@
--- The first fault of a document, in words of the format: a fault that is there, and nothing is wrong with what is looked at
--- before it. `Faults` computes it.
+-- The first fault of a document, in words of the format: it is there, and nothing is wrong with what is looked at before it; `Faults` computes it.
 use Rattle.std.specs.Prelude.{◌≡◌, ℕ, ◌<◌, ◌≤◌, ◌⊎◌, List, [], ◌∷◌, ◌++◌, length, IsTrue, Option, Some, None}
 use Rattle.std.specs.List.{flat_map}
 use Rattle.std.specs.Ordering.{nat_cmp, is_lt}

@@ -1,3 +1,4 @@
+-- The definitions of a configuration document: its form, the setup that it is, and its first fault.
 pub mod Example
 pub mod FaultLine
 pub mod Faults

@@ -1,9 +1,9 @@
--- What is replied to what was read, and that no reply is a print request.
+-- What is replied to what was read, and that the types of its parts limit it.
 use Rattle.std.proofs.Common.{ℕ, List, [], refl}
 use Rattle.std.specs.Prelude.{Option, Some, None, Result, Ok, Err, IfOk}
 use Rattle.std.specs.declared.alloc.AllocError.{AllocError}
 use Rattle.sale_reply.specs.declared.reply.SaleReply.{SaleReply}
-use Rattle.sale_reply.specs.Limits.{IsPrintRequest}
+use Rattle.sale_reply.specs.Limits.{HasUnlimitedParts}
 use Rattle.gw_owes.specs.Core.{no_core}
 use Rattle.gw_owes.specs.Reply.{ReplyValue}
 use Rattle.gw_owes.specs.Replies.{reply_to}
@@ -20,10 +20,10 @@ nothing_known name moment = record {
   moment = moment;
 }
 
-pub no-print : (name : List ℕ) (moment : ℕ) (message : List ℕ) (reply : SaleReply) → IsReplyTo name moment message (Some reply) → IsPrintRequest reply → ⊥
-no-print name moment message reply h = by_reply (reply_to (nothing_known name moment) h.as_read) (h.replied (nothing_known name moment) (record { name_is = refl; moment_is = refl }))
+pub all-limited : (name : List ℕ) (moment : ℕ) (message : List ℕ) (reply : SaleReply) → IsReplyTo name moment message (Some reply) → HasUnlimitedParts reply → ⊥
+all-limited name moment message reply h = by_reply (reply_to (nothing_known name moment) h.as_read) (h.replied (nothing_known name moment) (record { name_is = refl; moment_is = refl }))
   where
-    by_reply : (owed : Option ReplyValue) → AreSameReplies (Some reply) owed → IsPrintRequest reply → ⊥
+    by_reply : (owed : Option ReplyValue) → AreSameReplies (Some reply) owed → HasUnlimitedParts reply → ⊥
     by_reply None alike = absurd alike
     by_reply (Some owed) alike = alike.1
 

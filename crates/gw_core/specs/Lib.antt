@@ -1,1 +1,2 @@
+-- The definitions of what a till gets for each message.
 pub mod ReplyOf

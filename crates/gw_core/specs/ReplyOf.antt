@@ -4,16 +4,16 @@ use Rattle.json_text.specs.Canonical.{canonical}
 use Rattle.sale_values.specs.declared.request.SaleRequest.{SaleRequest}
 use Rattle.sale_values.specs.declared.request.SaleRequest.TheVariants.{Login, Logout, Payment, Reversal, Abort, Status, Reconciliation, Display, Print, Diagnosis}
 use Rattle.sale_reply.specs.declared.reply.SaleReply.{SaleReply}
-use Rattle.sale_reply.specs.Limits.{IsPrintRequest}
+use Rattle.sale_reply.specs.Limits.{HasUnlimitedParts}
 use Rattle.sale_reply.specs.Reply.{tree_of}
 use Rattle.gw_owes.specs.Reply.{ReplyValue, reply_value_tree}
 use Rattle.gw_owes.specs.ReadAs.{ReadAs, IsReadAs}
 use Rattle.gw_owes.specs.Row.{Known}
 use Rattle.gw_owes.specs.Replies.{reply_to}
 
--- the message has the tree of the reply, and is no print request, whose lines may have any length
+-- the message has the tree of the reply, and no part that may lie outside the limits
 abbrev pub IsSameReply : SaleReply → ReplyValue → Type 0
-IsSameReply given reply = (tree_of given ≡ reply_value_tree reply) × (IsPrintRequest given → ⊥)
+IsSameReply given reply = (tree_of given ≡ reply_value_tree reply) × (HasUnlimitedParts given → ⊥)
 
 -- the code has this reply, or none where there is none
 abbrev pub AreSameReplies : Option SaleReply → Option ReplyValue → Type 0

@@ -5,7 +5,7 @@ ghost use Rattle.json_text.specs.Grammar.{Spells};
 ghost use Rattle.json_text.specs.ValueOf.{value_of};
 ghost use Rattle.sale_reply.specs.declared.reply.Detail.TheVariants.{Json as JsonDetail};
 ghost use Rattle.json_text.specs.Canonical.{canonical};
-ghost use Rattle.sale_reply.specs.Limits.{IsPrintRequest};
+ghost use Rattle.sale_reply.specs.Limits.{HasUnlimitedParts};
 ghost use Rattle.sale_reply.specs.Reply.{tree_of};
 ghost use Rattle.gw_owes.specs.Row.{Known};
 ghost use Rattle.gw_owes.specs.Replies.{reply_to_request as reply_owed_to_request, reply_to_fault as reply_owed_to_fault, reject_event};
@@ -129,9 +129,9 @@ pub fn reply(
     }
 }
 
-/// Every message but a print request fits a frame.
+/// A message whose types limit its parts fits a frame.
 fn fits(reply: &SaleReply<'_>)
-    requires { IsPrintRequest reply.now → ⊥ }
+    requires { HasUnlimitedParts reply.now → ⊥ }
     ensures { length (canonical (tree_of reply.now)) ≤ 65536 }
 {
     let _ = is_within_limits(reply);

@@ -4,8 +4,7 @@ use Rattle.std.specs.Prelude.{map, Option, Some, None, Ok, ◌==◌, ◌≢◌, 
 use Rattle.gw_site.specs.Outside.{Outside, Connection, outside_after, is_connected, without}
 use Rattle.gw_site.specs.declared.turn.Turn.{Turn}
 use Rattle.gw_site.specs.declared.turn.Turn.TheVariants.{SentTill, CutTill as TillCut}
-use Rattle.gw_site.specs.Observed.{Observed, Grows}
-use Rattle.gw_site.specs.Turns.{IsTurn}
+use Rattle.gw_site.specs.Observed.{Observed}
 use Rattle.sale_frame.specs.Grammar.{frame, IsPayload, IsIncompleteFrame, BeginsWithBadLength}
 use Rattle.sale_frame.specs.Decode.{decode_frames, DecodedFrames}
 use Rattle.sale_reply.specs.declared.reply.SaleReply.{SaleReply}
@@ -27,12 +26,12 @@ use Rattle.gw_rules.specs.View.{View, called, begun, at_first, at_item, till_cut
 use Rattle.gw_rules.specs.Lawful.{Stands, may_begin}
 use Rattle.gw_rules.specs.Triple.{Extends, Triple, Owing}
 use Rattle.gw_rules.proofs.TripleLemmas.{keeps-refl, keeps-then, keeps-after, keeps-before, keeps-frame, keeps-some, nothing-extends, begin-keeps, read-keeps}
-use Rattle.gw_rules.proofs.CallLemmas.{cut-till-keeps}
 use Rattle.gw_core.specs.ReplyOf.{IsKnownAt, AreSameReplies}
 use Rattle.gw_dispatch.specs.NextMessage.{TakesMessage}
 use Rattle.gw_dispatch.specs.Round.{IsIn, InRound, Pending, BeforeTill, AfterTill, ReadsOn, Delivered, OweNothing, with_core, known_without}
 use Rattle.gw_dispatch.specs.declared.engine.Served.{Served}
 use Rattle.gw_dispatch.specs.declared.engine.Served.TheVariants.{More, Incomplete, Gone}
+use Rattle.gw_dispatch.proofs.SendLemmas.{Cuts}
 use Rattle.std.specs.declared.alloc.AllocError.{AllocError}
 
 -- ---- facts that are known where the site isn't dark
@@ -172,17 +171,18 @@ abbrev pub IsHere : Outside → ℕ → Type 0
 IsHere o till = is_connected o.tills till ≡ true
 
 -- bytes that begin no frame are followed by the cut
-pub serve-unframed : (a b : Observed) (known : Known) (polls : ℕ) (o : Outside) (till : ℕ) (bytes : List ℕ) (items : List RoundItem) → BeginsWithBadLength bytes → Grows a b (IsTurn (TillCut till)) →
-    Triple a b (BeforeTill known polls o till bytes items) (InRound (known_without known till) polls (outside_after o (TillCut till)) items)
-serve-unframed a b known polls o till bytes items bad grows =
-    keeps-then a a b _ _ _
+pub serve-unframed : (a b : Observed) (known : Known) (polls : ℕ) (o : Outside) (till : ℕ) (bytes left : List ℕ) (items : List RoundItem) (served : Served) → served ≡ Gone → BeginsWithBadLength bytes → Cuts a b till →
+    Triple a b (BeforeTill known polls o till bytes items) (AfterTill {E = AllocError} (Ok served) known polls o till left items)
+serve-unframed a b known polls o till bytes left items served gone bad cuts =
+    subst (λ served. Triple a b (BeforeTill known polls o till bytes items) (AfterTill {E = AllocError} (Ok served) known polls o till left items)) (sym gone)
+    (keeps-then a a b _ _ _
     (keeps-before a a (BeforeTill known polls o till bytes items) (λ v. InRound known polls o (Unframed till ∷ items) v × IsHere o till) _
     (λ v p. (subst (λ list. InRound known polls o (list ++ items) v) (items-unframed till bytes bad) p.0, p.1))
     (keeps-known a (IsHere o till) _ (Pending known polls o (CutTill till ∷ []) items)
     (λ here. begin-first a known polls o (Unframed till) items known.core (CutTill till ∷ [])
     (record { begins = λ scene e. refl; row = ap (λ there. where_there there known (owing known (CutTill till ∷ []))) here }))))
     (some-scene a b known polls o (CutTill till ∷ []) items (InRound (known_without known till) polls (outside_after o (TillCut till)) items)
-    (λ scene. keeps-after a b _ _ _ (keeps-frame a b _ _ (IsIn known polls o scene) (cut-till-keeps scene items a b till grows)) (λ v q. (till_cut scene till, q.0, cut-in known polls o till scene q.1))))
+    (λ scene. keeps-after a b _ _ _ (keeps-frame a b _ _ (IsIn known polls o scene) (cuts scene items)) (λ v q. (till_cut scene till, q.0, cut-in known polls o till scene q.1)))))
 
 -- ---- a message
 
@@ -284,3 +284,7 @@ pub reads-on-sent : (served : Served) (old new : List ℕ) → served ≢ Incomp
 reads-on-sent More old new whole less = less
 reads-on-sent Incomplete old new whole less = absurd (whole refl)
 reads-on-sent Gone old new whole less = tt
+
+-- nothing is said either of a till whose bytes begin no frame
+pub reads-on-gone : (served : Served) (old new : List ℕ) → served ≡ Gone → ReadsOn served old new
+reads-on-gone served old new gone = subst (λ served. ReadsOn served old new) (sym gone) tt

@@ -1,3 +1,4 @@
+-- The definitions of the loop of a run: a round, the tills that it holds, and how a run ends.
 pub mod NextMessage
 pub mod Round
 pub mod RunEnd

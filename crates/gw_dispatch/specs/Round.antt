@@ -44,7 +44,7 @@ Pending known polls o calls items v = (scene : Scene) × Owing scene calls items
 abbrev pub InRound : Known → ℕ → Outside → List RoundItem → View → Type 0
 InRound known polls o items v = Pending known polls o [] items v
 
--- the same is known, but that this is remembered
+-- what is known, with this remembered in place of what was
 abbrev pub with_core : Known → Core → Known
 with_core known core = record known { core = core }
 
@@ -130,7 +130,7 @@ pub record BringsChunk (setup : Setup) (tills : List Till) (polls : ℕ) (now : 
   pub holds : HoldsTills tills setting.outside
   pub connected : is_connected setting.outside.tills till ≡ true
 
--- the same, in some setting
+-- this chunk of a till has come in some setting, and nothing of it was handled yet
 abbrev pub BeforeChunk : Setup → List Till → ℕ → ℤ → ℕ → List ℕ → View → Type 0
 BeforeChunk setup tills polls now till chunk v = (setting : RoundSetting) × BringsChunk setup tills polls now till chunk setting v
 
@@ -141,7 +141,7 @@ pub record BringsTill (setup : Setup) (tills : List Till) (polls : ℕ) (now : �
   pub holds : HoldsTills tills setting.outside
   pub above : setting.outside.next_till ≤ till
 
--- the same, in some setting
+-- a till has opened in some setting, and nothing of it was handled yet
 abbrev pub BeforeOpen : Setup → List Till → ℕ → ℤ → ℕ → View → Type 0
 BeforeOpen setup tills polls now till v = (setting : RoundSetting) × BringsTill setup tills polls now till setting v
 

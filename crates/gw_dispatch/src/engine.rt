@@ -9,12 +9,13 @@ ghost use Rattle.gw_site.specs.Outside.{Outside};
 ghost use Rattle.gw_site.specs.Turns.{IsWithinBuf};
 ghost use Rattle.json_text.specs.Canonical.{canonical};
 ghost use Rattle.sale_reply.specs.Reply.{tree_of};
-ghost use Rattle.gw_owes.specs.Calls.{SendTill};
+ghost use Rattle.gw_owes.specs.Calls.{CutTill, SendTill};
 ghost use Rattle.gw_owes.specs.Items.{RoundItem};
 ghost use Rattle.gw_owes.specs.Reply.{ReplyValue, reply_value_tree, reply_value_bytes};
 ghost use Rattle.gw_owes.specs.Row.{Known};
 ghost use Rattle.gw_rules.specs.Scene.{Scene};
 ghost use Rattle.gw_rules.specs.Triple.{Triple, RunTriple, IsRun, Owing, JustBegun};
+ghost use Rattle.gw_rules.specs.View.{till_cut};
 ghost use Rattle.gw_core.specs.ReplyOf.{IsKnownAt};
 ghost use Rattle.gw_dispatch.specs.NextMessage.{IsNextOf};
 ghost use Rattle.gw_dispatch.specs.Round.{BeforeTill, AfterTill, ReadsOn, Delivered, BeforeChunk, BeforeOpen, IsBetweenRounds, IsPolled, AfterEvent, AfterRound};
@@ -69,6 +70,16 @@ pub enum Ended {
     NoMemory,
 }
 
+/// Cuts a till's connection.
+fn cut<S: Site>(site: &mut S, till: u64) -> Served
+    ensures keeps { (scene : Scene) (items : List RoundItem) → Triple (S.observed site.old) (S.observed site.new) (Owing scene (CutTill till ∷ []) items) (Owing (till_cut scene till) [] items) }
+    ensures gone { result ≡ Served.Gone }
+    ensures later { (S.observed site.old).faults ≤ (S.observed site.new).faults }
+{
+    site.cut_till(till);
+    Served::Gone
+}
+
 /// Makes the replies of a run, and sends them.
 #[derive(Drop)]
 struct Replier {
@@ -106,8 +117,7 @@ impl Replier {
             Ok(()) => Served::More,
             Err(Failed) => {
                 // The till has lost a reply, and learns of it by the end of its connection.
-                site.cut_till(till);
-                Served::Gone
+                cut(site, till)
             }
         }
     }
@@ -129,10 +139,7 @@ impl Replier {
     {
         match self.next_message(now, reader)? {
             Next::Incomplete => Ok(Served::Incomplete),
-            Next::Unframed => {
-                site.cut_till(till);
-                Ok(Served::Gone)
-            }
+            Next::Unframed => Ok(cut(site, till)),
             Next::Message(None) => Ok(Served::More),
             Next::Message(Some(reply)) => Ok(self.send_reply(site, till, &reply)),
         }
@@ -286,17 +293,17 @@ impl Dispatch {
         }
     }
 
-    /// One poll, and what its event brings.
-    fn round<S: Site>(&mut self, site: &mut S) -> Result<RoundEnd, AllocError>
+    /// One poll, and what its event brings. What was heard is read into the buffer.
+    fn round<S: Site>(&mut self, site: &mut S, buf: &mut [u8; 4096]) -> Result<RoundEnd, AllocError>
         ensures keeps { (setup : Setup) (polls : ℕ) → setup.name ≡ self.old.replier.name → Triple (S.observed site.old) (S.observed site.new)
             (IsBetweenRounds setup self.old.tills.items polls)
             (AfterRound result setup self.new.tills.items (polls + 1)) }
+        ensures buf { length buf.new ≡ 4096 }
         ensures name { self.new.replier.name ≡ self.old.replier.name }
         ensures later { (S.observed site.old).faults ≤ (S.observed site.new).faults }
     {
-        let mut buf = [0; 4096];
-        let Polled { now, what } = site.poll(&mut buf);
-        self.on_event(site, now, what, &buf)
+        let Polled { now, what } = site.poll(buf);
+        self.on_event(site, now, what, buf)
     }
 }
 
@@ -315,8 +322,10 @@ fn rounds<S: Site>(alloc: Global, name: Ident<40>, site: &mut S, most: u64) -> E
         replier: Replier { alloc, name, out },
         tills,
     };
+    // One buffer for all polls of the run, so that it is filled with zeros once.
+    let mut buf = [0; 4096];
     for made in 0..most {
-        match dispatch.round(site) {
+        match dispatch.round(site, &mut buf) {
             Ok(RoundEnd::Went) => {}
             Ok(RoundEnd::Stopped) => return Ended::Done,
             Err(AllocError) => return Ended::NoMemory,

@@ -79,9 +79,9 @@ entry_parts records slot entry found = by_intent (intent_at records slot) refl f
         let one : entry_with records slot (ended_at records slot) intent ≡ entry = cc in
         (sym (ap (λ (e : TheEntry). e.slot) one), is ∙ ap (λ (e : TheEntry). Some e.intent) one)
 
-rising : (approved : Bool) (intent : TheIntent) (number : ℕ) → (approved ≡ true → intent.before < number) → rises approved number (Some intent) ≡ true
-rising true intent number above = let lt : intent.before < number = above refl in grind (arith, nat_tests)
-rising false intent number above = refl
+rising : (approved : Bool) (intent : TheIntent) (trace : ℕ) → (approved ≡ true → intent.before < trace) → rises approved trace (Some intent) ≡ true
+rising true intent trace above = let lt : intent.before < trace = above refl in grind (arith, nat_tests)
+rising false intent trace above = refl
 
 pub outcome_fits : (records : List Record) → AreFolded records → (poi : List ℕ) (entry : TheEntry) (outcome : TheOutcome) → open_entry records poi ≡ Some entry → outcome.slot ≡ entry.slot
     → (outcome.approved ≡ true → entry.intent.before < outcome.number) → IsTrue (fits records (Outcome outcome))

@@ -5,13 +5,14 @@ use Rattle.std.specs.Fmt.{decimal}
 use Rattle.std.proofs.lemmas.Bool.{cases_lt}
 use Rattle.std.proofs.lemmas.Fmt.{decimal_injective, decimal_nonempty}
 use Rattle.std.proofs.lemmas.Option.{same_Some}
+use Rattle.gw_base.specs.Transaction.{transaction_text}
 use Rattle.jrn_record.specs.declared.records.Record.{Record}
 use Rattle.jrn_record.specs.declared.records.Intent.{Intent as TheIntent}
 use Rattle.jrn_record.specs.declared.records.Outcome.{Outcome as TheOutcome}
 use Rattle.gw_ledger.specs.declared.entry.Entry.{Entry}
 use Rattle.gw_ledger.specs.Slots.{ended_at, entry_at, entry_with, intent_at}
 use Rattle.gw_ledger.specs.History.{same_text}
-use Rattle.gw_ledger.specs.Transaction.{is_named, is_text, named_below, named_of, text_of, transaction_id}
+use Rattle.gw_ledger.specs.Transaction.{is_named, is_text, named_below, named_of, text_of}
 use Rattle.gw_ledger.proofs.FoldLemmas.{intent_inside}
 use Rattle.gw_ledger.proofs.TieLemmas.{same_text-is}
 
@@ -30,9 +31,10 @@ entry_slot records slot entry found = by_intent (intent_at records slot) found
 
 -- the text of an entry ends with its slot
 text_end : (text : List ℕ) (slot : ℕ) (result : Option TheOutcome)
-    → is_text text (option_map (λ (outcome : TheOutcome). transaction_id outcome.number outcome.receipt slot) result) ≡ true → drop 12 text ≡ decimal slot
+    → is_text text (option_map (λ (outcome : TheOutcome). transaction_text outcome.number outcome.receipt slot) result) ≡ true → drop 12 text ≡ decimal slot
+unfolding transaction_text
 text_end text slot None e = cc
-text_end text slot (Some outcome) e = ap (drop 12) (same_text-is text (transaction_id outcome.number outcome.receipt slot) e)
+text_end text slot (Some outcome) e = ap (drop 12) (same_text-is text (transaction_text outcome.number outcome.receipt slot) e)
 
 -- a text that names the entry at a slot ends with that slot
 named_end : (records : List Record) (poi text : List ℕ) (slot : ℕ) → is_named poi text (entry_at records slot) ≡ true → drop 12 text ≡ decimal slot

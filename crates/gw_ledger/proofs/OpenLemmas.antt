@@ -30,7 +30,7 @@ pub others_leave : (records : List Record) (next : Record) (poi : List ℕ) → 
     → (open_slot (records ++ next ∷ []) poi ≡ open_slot records poi) × (last_number_of (records ++ next ∷ []) poi ≡ last_number_of records poi)
 others_leave records next poi apart =
     let same : account_of (records ++ next ∷ []) poi ≡ account_of records poi = account_push records next poi ∙ cond-false _ _ _ apart in
-    (ap (λ (a : Account). a.unresolved) same, ap (λ (a : Account). a.number) same)
+    (ap (λ (a : Account). a.unresolved) same, ap (λ (a : Account). a.trace) same)
 
 and_true : (b : Bool) → (b && true) ≡ b
 and_true true = refl

@@ -1,4 +1,4 @@
--- What the records say of a terminal: its open entry, its last number, its last reconciliation.
+-- What the records say of a terminal: its open entry, its last trace number, its last reconciliation.
 use Rattle.std.specs.Prelude.{ℕ, suc, nat_lt, max, Bool, false, ◌&&◌, if◌then◌else◌, List, [], ◌∷◌, length, Option, Some, None, option_map}
 use Rattle.jrn_record.specs.declared.records.Intent.{Intent as TheIntent}
 use Rattle.jrn_record.specs.declared.records.Record.{Record}
@@ -20,13 +20,13 @@ is_poi poi (Some other) = same_text poi other
 
 -- a terminal without records
 abbrev pub new_account : Account
-new_account = record { unresolved = None; number = 0; settled = 0 }
+new_account = record { unresolved = None; trace = 0; settled = 0 }
 
 -- one more record of the terminal, at this slot
 abbrev pub account_with : ℕ → Record → Account → Account
-account_with at (Intent intent) a = record { unresolved = Some at; number = max a.number intent.before; settled = a.settled }
-account_with at (Outcome outcome) a = record { unresolved = None; number = max a.number outcome.number; settled = a.settled }
-account_with at (Settled settled) a = record { unresolved = a.unresolved; number = a.number; settled = suc at }
+account_with at (Intent intent) a = record { unresolved = Some at; trace = max a.trace intent.before; settled = a.settled }
+account_with at (Outcome outcome) a = record { unresolved = None; trace = max a.trace outcome.number; settled = a.settled }
+account_with at (Settled settled) a = record { unresolved = a.unresolved; trace = a.trace; settled = suc at }
 
 -- a terminal after these records
 abbrev pub account_in : List ℕ → List Placed → Account
@@ -43,9 +43,9 @@ account_of records poi = account_in poi (history records)
 abbrev pub open_slot : List Record → List ℕ → Option ℕ
 open_slot records poi = let account = account_of records poi in account.unresolved
 
--- the greatest number in the terminal's records, else 0
+-- the greatest trace number in the terminal's records, else 0
 abbrev pub last_number_of : List Record → List ℕ → ℕ
-last_number_of records poi = let account = account_of records poi in account.number
+last_number_of records poi = let account = account_of records poi in account.trace
 
 -- an Outcome's slot is before the terminal's last Settled
 abbrev pub is_before_last_settled : List Record → Option TheIntent → Option ℕ → Bool

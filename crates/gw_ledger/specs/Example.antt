@@ -62,10 +62,10 @@ undo poi service original amount before = Intent (reversal poi service original 
 
 -- an approval of the Intent at this slot
 abbrev approval : ℕ → ℕ → ℕ → TheOutcome
-approval slot number amount = record {
+approval slot trace amount = record {
   approved = true;
   slot = slot;
-  number = number;
+  number = trace;
   receipt = 17;
   amount = amount;
   condition = None;
@@ -74,7 +74,7 @@ approval slot number amount = record {
 
 -- its record
 abbrev approved : ℕ → ℕ → ℕ → Record
-approved slot number amount = Outcome (approval slot number amount)
+approved slot trace amount = Outcome (approval slot trace amount)
 
 -- a refusal of the Intent at this slot, which was aborted
 abbrev refusal : ℕ → TheOutcome
@@ -209,7 +209,7 @@ example_tally :
 unfolding history
 example_tally = (refl, refl, refl)
 
--- each Outcome, the last number, and that nothing is open
+-- each Outcome, the last trace number, and that nothing is open
 example_standing : (ended_at day 0 ≡ Some 1) × (ended_at day 4 ≡ Some 5) × (open_slot day (codes "A") ≡ None)
     × (last_number_of day (codes "A") ≡ 125) × (last_number_of day (codes "B") ≡ 0)
     × (last_slot day (codes "S") (codes "A") ≡ Some 4)
@@ -227,7 +227,7 @@ example_marks : (is_reversed day 0 ≡ true) × (is_reversed day 2 ≡ false) ×
 unfolding history
 example_marks = (refl, refl, refl, refl, refl, refl, refl)
 
--- a known key, a second open Intent, a number before that is below the last
+-- a known key, a second open Intent, a trace number before that is below the last
 example_intents : (fits day (pay (codes "A") (codes "4") 100 125) ≡ true) × (fits day (pay (codes "A") (codes "2") 100 125) ≡ false)
     × (fits day (settled (codes "A") (codes "2")) ≡ false)
     × (fits (day ++ pay (codes "A") (codes "4") 100 125 ∷ []) (pay (codes "A") (codes "5") 100 125) ≡ false)
@@ -248,7 +248,7 @@ example_reversals : (fits day (undo (codes "A") (codes "4") 2 500 125) ≡ true)
 unfolding history
 example_reversals = (refl, refl, refl, refl, refl, refl, refl)
 
--- an Outcome without its open Intent, and an approved number that isn't above the number before
+-- an Outcome without its open Intent, and an approved trace number that isn't above the one before
 example_outcomes : (fits [] (declined 0) ≡ false) × (fits [] (approved 0 123 1099) ≡ false)
     × (fits day (declined 2) ≡ false) × (fits day (declined 1) ≡ false) × (fits day (declined 6) ≡ false)
     × (fits (day ++ pay (codes "A") (codes "4") 100 125 ∷ []) (declined 6) ≡ true)
@@ -257,8 +257,8 @@ example_outcomes : (fits [] (declined 0) ≡ false) × (fits [] (approved 0 123 
 unfolding history
 example_outcomes = (refl, refl, refl, refl, refl, refl, refl, refl)
 
--- a payment after the day and its approval: nothing is found under its key, nothing is open and its number before is the
--- last one; then its entry is open, and the approval's number is above that
+-- a payment after the day and its approval: nothing is found under its key, nothing is open and its trace number before is the
+-- last one; then its entry is open, and the approval's trace number is above that
 example_next : (found_of day (key (codes "4")) ≡ None) × (open_entry day (codes "A") ≡ None) × (last_number_of day (codes "A") ≡ 125)
     × (fits day (pay (codes "A") (codes "4") 100 125) ≡ true)
     × (open_entry (day ++ pay (codes "A") (codes "4") 100 125 ∷ []) (codes "A")

@@ -52,11 +52,11 @@ abbrev pub has_fitting_original : List Record → TheIntent → Deal → Bool
 has_fitting_original records intent Payment = true
 has_fitting_original records intent Reversal = may_reverse records intent intent.original
 
--- an approved number is above the number before it
+-- an approved trace number is above the trace number before it
 abbrev pub rises : Bool → ℕ → Option TheIntent → Bool
-rises approved number None = false
-rises true number (Some intent) = nat_lt intent.before number
-rises false number (Some intent) = true
+rises approved trace None = false
+rises true trace (Some intent) = nat_lt intent.before trace
+rises false trace (Some intent) = true
 
 -- the key of an Intent or a Settled is unknown
 abbrev pub has_new_key : List Record → Record → Bool
@@ -64,9 +64,9 @@ has_new_key records (Intent intent) = is_unknown records (intent_key intent)
 has_new_key records (Outcome outcome) = true
 has_new_key records (Settled settled) = is_unknown records (settled_key settled)
 
--- whatever its key, the record may come after these: an Intent's terminal has no open Intent, and its number before
--- isn't below the terminal's last number; a reversal has an original that it may reverse; an Outcome is of an open
--- Intent, and an approved one has a greater number
+-- whatever its key, the record may come after these: an Intent's terminal has no open Intent, and its trace number
+-- before isn't below the terminal's last one; a reversal has an original that it may reverse; an Outcome is of an open
+-- Intent, and an approved one has a greater trace number
 abbrev pub fits_beside_key : List Record → Record → Bool
 fits_beside_key records (Intent intent) =
     not (is_some (open_slot records intent.poi))

@@ -19,7 +19,7 @@ abbrev pub NewestIsFirst : Type 0
 NewestIsFirst = (records : List Record) (next : Record)
     → history (records ++ next ∷ []) ≡ record { before = records; the_record = next } ∷ history records
 
--- a record of another terminal leaves a terminal's open slot and its last number
+-- a record of another terminal leaves a terminal's open slot and its last trace number
 abbrev pub OthersLeaveTerminal : Type 0
 OthersLeaveTerminal = (records : List Record) (next : Record) (poi : List ℕ) → is_poi poi (poi_of records next) ≡ false
     → (open_slot (records ++ next ∷ []) poi ≡ open_slot records poi)
@@ -53,14 +53,14 @@ abbrev pub TextNamesOne : Type 0
 TextNamesOne = (records : List Record) → length records ≤ 1000000 → (poi text : List ℕ) (slot : ℕ)
     → is_named poi text (entry_at records slot) ≡ true → named_of records poi text ≡ entry_at records slot
 
--- a payment may come next where its key is unknown, its terminal has no open entry, and its number before isn't below
--- the terminal's last number
+-- a payment may come next where its key is unknown, its terminal has no open entry, and its trace number before isn't below
+-- the terminal's last one
 abbrev pub PaymentFits : Type 0
 PaymentFits = (records : List Record) → AreFolded records → (intent : TheIntent) → intent.what ≡ Payment
     → found_of records (intent_key intent) ≡ None → open_entry records intent.poi ≡ None
     → last_number_of records intent.poi ≤ intent.before → IsTrue (fits records (Intent intent))
 
--- an Outcome may come next where it is that of a terminal's open entry, and its number is above the number before
+-- an Outcome may come next where it is that of a terminal's open entry, and its trace number is above the one before
 -- where it approves
 abbrev pub OutcomeFits : Type 0
 OutcomeFits = (records : List Record) → AreFolded records → (poi : List ℕ) (entry : Entry) (outcome : TheOutcome)

@@ -1,19 +1,14 @@
 -- The text that names a transaction at its terminal, and the entry that a text names.
-use Rattle.std.specs.Prelude.{ℕ, zero, suc, Bool, false, ◌&&◌, if◌then◌else◌, List, ◌∷◌, ◌++◌, length, Option, Some, None, option_map}
-use Rattle.std.specs.Fmt.{decimal}
-use Rattle.gw_base.specs.Digits.{digits}
+use Rattle.std.specs.Prelude.{ℕ, zero, suc, Bool, false, ◌&&◌, if◌then◌else◌, List, length, Option, Some, None, option_map}
+use Rattle.gw_base.specs.Transaction.{transaction_text}
 use Rattle.jrn_record.specs.declared.records.Record.{Record}
 use Rattle.gw_ledger.specs.declared.entry.Entry.{Entry}
 use Rattle.gw_ledger.specs.History.{same_text}
 use Rattle.gw_ledger.specs.Slots.{entry_at}
 
--- the trace number in six digits, `-`, the receipt number in four digits, `-`, and the Intent's slot in decimal
-abbrev pub transaction_id : ℕ → ℕ → ℕ → List ℕ
-transaction_id number receipt slot = digits 6 number ++ (0x2D ∷ (digits 4 receipt ++ (0x2D ∷ decimal slot)))
-
 -- the text of an entry; one that is open has none
 abbrev pub text_of : Entry → Option (List ℕ)
-text_of entry = option_map (λ outcome. transaction_id outcome.number outcome.receipt entry.slot) entry.result
+text_of entry = option_map (λ outcome. transaction_text outcome.number outcome.receipt entry.slot) entry.result
 
 -- a text is this one
 abbrev pub is_text : List ℕ → Option (List ℕ) → Bool

@@ -18,8 +18,8 @@ use jrn_record::{Deal, Intent, Outcome};
 pub struct Account {
     /// The slot of its open Intent.
     pub unresolved: Option<u32>,
-    /// The greatest number in its records.
-    pub number: u32,
+    /// The greatest trace number in its records.
+    pub trace: u32,
     /// How many records there were up to its last Settled.
     pub settled: u32,
 }
@@ -67,7 +67,7 @@ pub fn desk_in(desks: &[(Ident<40>, Desk)], poi: &Ident<40>) -> Desk
         None => Desk {
             account: Account {
                 unresolved: None,
-                number: 0,
+                trace: 0,
                 settled: 0,
             },
             sums: [Sums {
@@ -80,14 +80,14 @@ pub fn desk_in(desks: &[(Ident<40>, Desk)], poi: &Ident<40>) -> Desk
 
 /// The terminal after an Intent at this slot.
 pub fn asked(desk: Desk, slot: u32, before: u32) -> Desk
-    ensures account { result.account ≡ record { unresolved = Some slot; number = max desk.account.number before; settled = desk.account.settled } }
+    ensures account { result.account ≡ record { unresolved = Some slot; trace = max desk.account.trace before; settled = desk.account.settled } }
     ensures sums { result.sums ≡ desk.sums }
 {
     let sums = desk.sums;
     Desk {
         account: Account {
             unresolved: Some(slot),
-            number: desk.account.number.max(before),
+            trace: desk.account.trace.max(before),
             settled: desk.account.settled,
         },
         sums,
@@ -96,7 +96,7 @@ pub fn asked(desk: Desk, slot: u32, before: u32) -> Desk
 
 /// The terminal after a Settled, with so many records up to it.
 pub fn closed(desk: Desk, settled: u32) -> Desk
-    ensures account { result.account ≡ record { unresolved = desk.account.unresolved; number = desk.account.number; settled = settled } }
+    ensures account { result.account ≡ record { unresolved = desk.account.unresolved; trace = desk.account.trace; settled = settled } }
     ensures sums { (currency : Currency) → sums_in_row (Some result) currency ≡ no_sums }
 {
     let none = Sums {
@@ -107,7 +107,7 @@ pub fn closed(desk: Desk, settled: u32) -> Desk
     Desk {
         account: Account {
             unresolved: desk.account.unresolved,
-            number: desk.account.number,
+            trace: desk.account.trace,
             settled,
         },
         sums,
@@ -129,7 +129,7 @@ pub fn totals_at(desk: &Desk, currency: Currency) -> Totals
 /// The terminal after an Outcome of this Intent.
 pub fn resolved(desk: Desk, intent: &Intent, outcome: &Outcome) -> Desk
     requires counts { (currency : Currency) → HasRoomFor outcome.now.amount (sums_in_row (Some desk) currency) }
-    ensures account { result.account ≡ record { unresolved = None; number = max desk.account.number outcome.now.number; settled = desk.account.settled } }
+    ensures account { result.account ≡ record { unresolved = None; trace = max desk.account.trace outcome.now.number; settled = desk.account.settled } }
     ensures sums { (currency : Currency) → sums_in_row (Some result) currency ≡ sums_with intent.now outcome.now currency (sums_in_row (Some desk) currency) }
 {
     let mut sums = desk.sums;
@@ -140,7 +140,7 @@ pub fn resolved(desk: Desk, intent: &Intent, outcome: &Outcome) -> Desk
     Desk {
         account: Account {
             unresolved: None,
-            number: desk.account.number.max(outcome.number),
+            trace: desk.account.trace.max(outcome.number),
             settled: desk.account.settled,
         },
         sums,

@@ -2,7 +2,7 @@
 ghost use Rattle.gw_ledger.specs.Laws.{CountIsOfOpenSlots, NewestIsFirst, OpenSlotIsOpen, OthersLeaveTerminal, OutcomeFits, PaymentFits, TextNamesOne};
 
 /// One more record is the newest of the history, and where it is one of another terminal it leaves a terminal's open slot
-/// and its last number.
+/// and its last trace number.
 pub fn law_next()
     ensures newest { NewestIsFirst }
     ensures others { OthersLeaveTerminal }

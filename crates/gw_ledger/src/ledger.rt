@@ -257,7 +257,7 @@ impl Ledger {
         self.tables.open_at(poi)
     }
 
-    /// The greatest number in the terminal's records, else 0.
+    /// The greatest trace number in the terminal's records, else 0.
     pub fn last_number(&self, poi: &Ident<40>) -> u32
         ensures { result ≡ last_number_of self.now.records poi.now }
     {

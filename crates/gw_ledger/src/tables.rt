@@ -154,7 +154,7 @@ impl Tables {
     {
         let account = desk_in(&self.desks, &intent.poi).account;
         account.unresolved.is_none()
-            && account.number <= intent.before
+            && account.trace <= intent.before
             && self.has_fitting_original(intent)
     }
 
@@ -183,7 +183,7 @@ impl Tables {
         }
     }
 
-    /// Whether the Outcome is of an open Intent, and has a greater number where it is approved.
+    /// Whether the Outcome is of an open Intent, and has a greater trace number where it is approved.
     fn fits_outcome(&self, outcome: &Outcome) -> bool
         ensures { result ≡ fits_beside_key self.now.records (Record.Outcome outcome.now) }
     {
@@ -415,11 +415,11 @@ impl Tables {
         }
     }
 
-    /// The greatest number in the terminal's records, else 0.
+    /// The greatest trace number in the terminal's records, else 0.
     pub fn last_number(&self, poi: &Ident<40>) -> u32
         ensures { result ≡ last_number_of self.now.records poi.now }
     {
-        desk_in(&self.desks, poi).account.number
+        desk_in(&self.desks, poi).account.trace
     }
 
     /// The terminal's totals since its last Settled, in this currency.

@@ -15,7 +15,7 @@ fn body(parts: &[(usize, &[u8])]) -> [u8; 255] {
     body
 }
 
-/// A payment of till `S` at terminal `A`, in euros: its ServiceID with a byte of length, its amount and the number before.
+/// A payment of till `S` at terminal `A`, in euros: its ServiceID with a byte of length, its amount and the trace number before.
 fn pay<'a>(service: &'a [u8], amount: &'a [u8], before: &'a [u8]) -> [u8; 255] {
     body(&[
         (0, b"\x01\x01"),
@@ -32,7 +32,7 @@ fn pay<'a>(service: &'a [u8], amount: &'a [u8], before: &'a [u8]) -> [u8; 255] {
 }
 
 /// A reversal of till `S` in euros: its terminal and ServiceID with a byte of length, the slot of its original, its amount
-/// and the number before.
+/// and the trace number before.
 fn undo<'a>(
     poi: &'a [u8],
     service: &'a [u8],
@@ -52,12 +52,12 @@ fn undo<'a>(
     ])
 }
 
-/// An approval: the slot's last byte, the number, the amount.
-fn approved<'a>(slot: &'a [u8], number: &'a [u8], amount: &'a [u8]) -> [u8; 255] {
+/// An approval: the slot's last byte, the trace number, the amount.
+fn approved<'a>(slot: &'a [u8], trace: &'a [u8], amount: &'a [u8]) -> [u8; 255] {
     body(&[
         (0, b"\x02\x01"),
         (5, slot),
-        (6, number),
+        (6, trace),
         (9, b"\x00\x17"),
         (11, amount),
     ])
@@ -160,7 +160,7 @@ fn records_that_may_not_follow(rt: HostRuntime) -> Result<(), Fail> {
         // A key that is known.
         pay(b"\x012", TEN, b"\x00\x01\x25"),
         settled(b"\x01A", b"\x013"),
-        // A number before that is below the terminal's last number.
+        // A trace number before that is below the terminal's last one.
         pay(b"\x014", TEN, b"\x00\x01\x24"),
         // A reversal of a payment that is reversed already.
         undo(b"\x01A", b"\x014", b"\x00", TEN, b"\x00\x01\x25"),
@@ -189,7 +189,7 @@ fn records_that_may_not_follow_others(rt: HostRuntime) -> Result<(), Fail> {
     let alloc = rt.alloc();
     let fourth = pay(b"\x014", FIVE, b"\x00\x01\x25");
     let undone = undo(b"\x01A", b"\x015", b"\x02", FIVE, b"\x00\x01\x25");
-    // While an Intent is open: a second one of its terminal, and a number that isn't above the one before.
+    // While an Intent is open: a second one of its terminal, and a trace number that isn't above the one before.
     let second = pay(b"\x015", FIVE, b"\x00\x01\x25");
     let level = approved(b"\x06", b"\x00\x01\x25", FIVE);
     let above = approved(b"\x06", b"\x00\x01\x26", FIVE);

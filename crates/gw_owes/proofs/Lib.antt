@@ -1,3 +1,4 @@
+-- The lemmas of what each item of a round owes.
 pub mod ApduLemmas
 pub mod FrameLemmas
 pub mod ReadLemmas

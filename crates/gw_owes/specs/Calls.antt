@@ -1,14 +1,13 @@
 -- The calls of the site that are owed, by what they mean and not by their bytes.
 use Rattle.std.specs.Prelude.{ℕ, List, [], ◌∷◌, Option, Some, None}
 use Rattle.gw_site.specs.declared.turn.Turn.{Turn}
-use Rattle.gw_site.specs.declared.turn.Turn.TheVariants.{Wrote}
 use Rattle.zvt_msg.specs.declared.command.Command.{Command}
 use Rattle.zvt_msg.specs.Message.{MessageValue}
 use Rattle.zvt_msg.specs.CommandCanonical.{canonical_command}
 use Rattle.zvt_msg.specs.MessageCanonical.{canonical_pt_message}
 use Rattle.jrn_record.specs.declared.records.Record.{Record}
 use Rattle.jrn_record.specs.Grammar.{record_body}
-use Rattle.jrn_log.specs.JournalTurns.{body_write, gate_write}
+use Rattle.jrn_log.specs.JournalTurns.{body_write, gate_write, first_gate_write}
 use Rattle.gw_owes.specs.Reply.{ReplyValue}
 
 -- what goes to a terminal
@@ -60,5 +59,5 @@ write_turn (CutPt pt) = None
 write_turn (LinkPt pt) = None
 write_turn (WriteBody slot item) = Some (body_write slot (record_body item))
 write_turn (WriteGate slot item) = Some (gate_write slot)
-write_turn WriteFirstGate = Some (Wrote 0 (0 ∷ []))
+write_turn WriteFirstGate = Some first_gate_write
 write_turn Sync = None

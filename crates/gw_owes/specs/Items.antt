@@ -10,7 +10,7 @@ pub data RoundItem : Type 0 where
   Crowded : ℕ → RoundItem
   -- a whole message of a till, not read yet
   Message : ℕ → List ℕ → RoundItem
-  -- the same, read
+  -- a whole message of a till, by what it is read as
   Asked : ℕ → ReadAs → RoundItem
   -- bytes of a till that begin no frame
   Unframed : ℕ → RoundItem

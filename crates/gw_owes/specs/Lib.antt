@@ -1,3 +1,4 @@
+-- The definitions of what each item of a round owes: what a till's bytes are read as, the calls, and what is remembered.
 pub mod Calls
 pub mod Core
 pub mod Events

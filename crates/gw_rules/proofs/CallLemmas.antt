@@ -19,7 +19,7 @@ use Rattle.gw_rules.specs.Lawful.{IsCourse, IsChunk}
 use Rattle.gw_rules.specs.Scene.{Scene}
 use Rattle.gw_rules.specs.Stage.{is_running}
 use Rattle.gw_rules.specs.Triple.{Triple, Owing, Sent, AtEvent}
-use Rattle.gw_rules.specs.TurnSort.{IsQuiet}
+use Rattle.gw_site.specs.Sorts.{IsQuiet}
 use Rattle.gw_rules.specs.View.{View, view_from, till_cut}
 use Rattle.gw_rules.proofs.CourseLemmas.{makes, stands-outside}
 use Rattle.gw_rules.proofs.TripleLemmas.{call-keeps}

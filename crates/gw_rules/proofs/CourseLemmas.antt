@@ -8,7 +8,7 @@ use Rattle.gw_owes.specs.Items.{RoundItem}
 use Rattle.gw_rules.specs.Lawful.{IsCourse, turns_of, Stands}
 use Rattle.gw_rules.specs.Scene.{Scene}
 use Rattle.gw_rules.specs.Stage.{busy}
-use Rattle.gw_rules.specs.TurnSort.{IsQuiet}
+use Rattle.gw_site.specs.Sorts.{IsQuiet}
 use Rattle.gw_rules.specs.View.{View, Move, Begin, Read, Make, begin, after, after_turn, view_from, at_first}
 
 pub view_from-append : (v : View) (xs ys : List Move) → view_from v (xs ++ ys) ≡ view_from (view_from v xs) ys

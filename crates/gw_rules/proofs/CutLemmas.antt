@@ -1,4 +1,4 @@
--- A till whose bytes begin no frame is cut before the next poll.
+-- A till whose cut an item owes is cut before the next poll, and so is one whose bytes begin no frame.
 use Rattle.std.proofs.Common.{◌≡◌, ℕ, List, [], ◌∷◌, ◌++◌, refl, sym, ◌∙◌, ap, subst, true, false, inl, inr, append_assoc, eqb-true}
 use Rattle.std.specs.Prelude.{Bool, ℤ, map, ◌==◌, ◌⊎◌, Option, Some, None}
 use Rattle.gw_base.specs.declared.setup.Setup.{Setup}
@@ -21,7 +21,7 @@ use Rattle.gw_rules.specs.Laws.{IsCutIn, BadFrameCuts}
 use Rattle.gw_rules.specs.Lawful.{first_call, first_message, Begins, IsRead, AllowedTurn, IsCourse, turns_of}
 use Rattle.gw_rules.specs.Scene.{Scene, known_in, row_in, row_at, link_made_at, link_lost_at}
 use Rattle.gw_rules.specs.Stage.{Stage, Resting, Opening, Looking, AtPoll, Handling, Over, Broken, busy, is_round, is_running, stage_synced, stage_wrote}
-use Rattle.gw_rules.specs.TurnSort.{AreOfRound, is_sort_of_round, sort_of}
+use Rattle.gw_site.specs.Sorts.{AreOfRound, is_sort_of_round, sort_of}
 use Rattle.gw_rules.specs.View.{View, Move, Begin, Read, Make, begin, read_first, after, after_turn, at_first}
 use Rattle.gw_rules.proofs.CourseLemmas.{begin-outside, begin-stage, after-outside}
 use Rattle.gw_rules.proofs.HeardLemmas.{HeardBytes, first-bytes, begin-bytes, turn-bytes, heard-bytes, bytes-append}
@@ -29,17 +29,17 @@ use Rattle.gw_rules.proofs.SetupLemmas.{begin-setup, IsInRun, first-run, begin-r
 use Rattle.gw_rules.proofs.StageLemmas.{no-true, handling-not-polled}
 
 -- the item is among these
-abbrev IsAmong : RoundItem → List RoundItem → Type 0
+abbrev pub IsAmong : RoundItem → List RoundItem → Type 0
 IsAmong item items = (first : List RoundItem) × (rest : List RoundItem) × (items ≡ first ++ item ∷ rest)
 
 has-after : (item : RoundItem) (more items : List RoundItem) → IsAmong item items → IsAmong item (more ++ items)
 has-after item more items (first, rest, e) = (more ++ first, rest, ap (λ l. more ++ l) e ∙ sym (append_assoc more first (item ∷ rest)))
 
-has-before : (item : RoundItem) (items more : List RoundItem) → IsAmong item items → IsAmong item (items ++ more)
+pub has-before : (item : RoundItem) (items more : List RoundItem) → IsAmong item items → IsAmong item (items ++ more)
 has-before item items more (first, rest, e) = (first, rest ++ more, ap (λ l. l ++ more) e ∙ append_assoc first (item ∷ rest) more)
 
 -- the run has ended
-abbrev is_dead : Stage → Bool
+abbrev pub is_dead : Stage → Bool
 is_dead Resting = false
 is_dead (Opening refused) = false
 is_dead (Looking refused) = false
@@ -49,20 +49,28 @@ is_dead Over = true
 is_dead Broken = true
 
 -- there is a run, so the setup is known
-abbrev HasSome : Option Setup → Type 0
+abbrev pub HasSome : Option Setup → Type 0
 HasSome setup = (is : Setup) × (setup ≡ Some is)
 
+-- the item owes the cut of the till, where this is there
+abbrev pub IsCutItem : ℕ → RoundItem → Type 0
+IsCutItem till item = (item ≡ Unframed till) ⊎ (item ≡ Crowded till)
+
+-- such an item is among these
+abbrev pub HasCutItem : ℕ → List RoundItem → Type 0
+HasCutItem till items = (item : RoundItem) × IsCutItem till item × IsAmong item items
+
 -- the cut of the till is owed, or will be
-abbrev IsOwed : ℕ → View → Type 0
-IsOwed till v = IsAmong (Unframed till) v.items ⊎ (v.calls ≡ OwedCutTill till ∷ [])
+abbrev pub IsOwed : ℕ → View → Type 0
+IsOwed till v = HasCutItem till v.items ⊎ (v.calls ≡ OwedCutTill till ∷ [])
 
-record Waits (till : ℕ) (v : View) : Type 0 where
-  stage : v.scene.stage ≡ Handling
-  run : HasSome v.scene.setup
-  there : is_connected v.scene.outside.tills till ≡ true
-  owed : IsOwed till v
+pub record Waits (till : ℕ) (v : View) : Type 0 where
+  pub stage : v.scene.stage ≡ Handling
+  pub run : HasSome v.scene.setup
+  pub there : is_connected v.scene.outside.tills till ≡ true
+  pub owed : IsOwed till v
 
-abbrev Holds : ℕ → View → Type 0
+abbrev pub Holds : ℕ → View → Type 0
 Holds till v = Waits till v ⊎ (is_dead v.scene.stage ≡ true)
 
 dead-poll : {A : Type 0} (stage : Stage) → is_dead stage ≡ true → stage ≡ AtPoll → A
@@ -115,7 +123,7 @@ dead-synced Broken d = d
 
 -- the owed item stays where the items do
 owed-more : (till : ℕ) (v w : View) (call : OwedCall) (more : List RoundItem) → IsOwed till v → first_call v.calls ≡ Some call → (◌≡◌ {A = Option OwedCall} (Some (OwedCutTill till)) (Some call) → ⊥) → w.items ≡ more ++ v.items → IsOwed till w
-owed-more till v w call more (inl has) next other e = inl (subst (IsAmong (Unframed till)) (sym e) (has-after (Unframed till) more v.items has))
+owed-more till v w call more (inl (item, cuts, has)) next other e = inl (item, cuts, subst (IsAmong item) (sym e) (has-after item more v.items has))
 owed-more till v w call more (inr owed) next other e = absurd (other (sym (ap first_call owed) ∙ next))
 
 -- a till that isn't cut stays
@@ -222,21 +230,25 @@ dead-turn till v (Crash file) d ok e = no-true e
 no-idle : {A : Type 0} (till : ℕ) (owed : List OwedCall) → owed ≡ OwedCutTill till ∷ [] → owed ≡ [] → A
 no-idle till owed e f = absurd (let n : [] ≡ OwedCutTill till ∷ [] = sym f ∙ e in cc)
 
--- bytes of a till that is there and that begin no frame owe its cut
-unframed-owes : (scene : Scene) (till : ℕ) → HasSome scene.setup → is_connected scene.outside.tills till ≡ true → (row_at scene (Unframed till)).calls ≡ OwedCutTill till ∷ []
-unframed-owes scene till (setup, is) there =
-    ap (λ (s : Option Setup). (row_in scene (λ known. row_of scene.outside.tills known (Unframed till)) s).calls) is
+-- the item owes the cut of a till that is there
+cut-item-owes : (scene : Scene) (till : ℕ) (item : RoundItem) → HasSome scene.setup → is_connected scene.outside.tills till ≡ true → IsCutItem till item → (row_at scene item).calls ≡ OwedCutTill till ∷ []
+cut-item-owes scene till item (setup, is) there (inl unframed) =
+    ap (λ i. (row_at scene i).calls) unframed
+    ∙ ap (λ (s : Option Setup). (row_in scene (λ known. row_of scene.outside.tills known (Unframed till)) s).calls) is
     ∙ ap (λ b. (where_there b (known_in scene setup) (owing (known_in scene setup) (OwedCutTill till ∷ []))).calls) there
+cut-item-owes scene till item (setup, is) there (inr crowded) =
+    ap (λ i. (row_at scene i).calls) crowded
+    ∙ ap (λ (s : Option Setup). (row_in scene (λ known. row_of scene.outside.tills known (Crowded till)) s).calls) is
 
-begin-owed : (till : ℕ) (scene : Scene) (items : List RoundItem) → HasSome scene.setup → is_connected scene.outside.tills till ≡ true → IsAmong (Unframed till) items → IsOwed till (begin scene items)
-begin-owed till scene [] run there ([], rest, e) = absurd (let n : [] ≡ Unframed till ∷ rest = e in cc)
-begin-owed till scene [] run there (x ∷ first, rest, e) = absurd (let n : [] ≡ x ∷ (first ++ Unframed till ∷ rest) = e in cc)
-begin-owed till scene (item ∷ items) run there ([], rest, e) =
-    let heads : item ≡ Unframed till = (let n : item ∷ items ≡ Unframed till ∷ rest = e in cc) in
-    inr (ap (λ i. (row_at scene i).calls) heads ∙ unframed-owes scene till run there)
-begin-owed till scene (item ∷ items) run there (x ∷ first, rest, e) =
-    let tails : items ≡ first ++ Unframed till ∷ rest = (let n : item ∷ items ≡ x ∷ (first ++ Unframed till ∷ rest) = e in cc) in
-    inl (has-after (Unframed till) (row_at scene item).items items (first, rest, tails))
+begin-owed : (till : ℕ) (scene : Scene) (items : List RoundItem) (cut : RoundItem) → HasSome scene.setup → is_connected scene.outside.tills till ≡ true → IsCutItem till cut → IsAmong cut items → IsOwed till (begin scene items)
+begin-owed till scene [] cut run there cuts ([], rest, e) = absurd (let n : [] ≡ cut ∷ rest = e in cc)
+begin-owed till scene [] cut run there cuts (x ∷ first, rest, e) = absurd (let n : [] ≡ x ∷ (first ++ cut ∷ rest) = e in cc)
+begin-owed till scene (item ∷ items) cut run there cuts ([], rest, e) =
+    let heads : item ≡ cut = (let n : item ∷ items ≡ cut ∷ rest = e in cc) in
+    inr (ap (λ i. (row_at scene i).calls) heads ∙ cut-item-owes scene till cut run there cuts)
+begin-owed till scene (item ∷ items) cut run there cuts (x ∷ first, rest, e) =
+    let tails : items ≡ first ++ cut ∷ rest = (let n : item ∷ items ≡ x ∷ (first ++ cut ∷ rest) = e in cc) in
+    inl (cut, cuts, has-after cut (row_at scene item).items items (first, rest, tails))
 
 holds-begin : (till : ℕ) (v : View) → Holds till v → Begins v → Holds till (after v Begin)
 holds-begin till v (inr dead) b = dead-round v.scene.stage dead b.idle.round
@@ -244,31 +256,37 @@ holds-begin till v (inl w) b = by_owed w.owed
   where
     by_owed : IsOwed till v → Holds till (after v Begin)
     by_owed (inr owed) = no-idle till v.calls owed b.idle.calls
-    by_owed (inl has) = inl (record {
+    by_owed (inl (cut, cuts, has)) = inl (record {
       stage = begin-stage v.scene v.items ∙ ap busy w.stage;
       run = subst HasSome (sym (begin-setup v.scene v.items)) w.run;
       there = ap (λ (o : Outside). is_connected o.tills till) (begin-outside v.scene v.items) ∙ w.there;
-      owed = begin-owed till v.scene v.items w.run w.there has;
+      owed = begin-owed till v.scene v.items cut w.run w.there cuts has;
     })
 
-read-has : (till : ℕ) (as_read : ReadAs) (items : List RoundItem) (bytes : List ℕ) → first_message items ≡ Some bytes → IsAmong (Unframed till) items → IsAmong (Unframed till) (read_first as_read items)
-read-has till as_read [] bytes m h = absurd (let n : None ≡ Some bytes = m in cc)
-read-has till as_read (Message other text ∷ items) bytes m ([], rest, e) = absurd (let n : Message other text ∷ items ≡ Unframed till ∷ rest = e in cc)
-read-has till as_read (Message other text ∷ items) bytes m (x ∷ first, rest, e) =
-    let tails : items ≡ first ++ Unframed till ∷ rest = (let n : Message other text ∷ items ≡ x ∷ (first ++ Unframed till ∷ rest) = e in cc) in
+no-message : {A : Type 0} (till other : ℕ) (text : List ℕ) → IsCutItem till (Message other text) → A
+no-message till other text (inl unframed) = absurd (let n : Message other text ≡ Unframed till = unframed in cc)
+no-message till other text (inr crowded) = absurd (let n : Message other text ≡ Crowded till = crowded in cc)
+
+read-has : (till : ℕ) (as_read : ReadAs) (cut : RoundItem) (items : List RoundItem) (bytes : List ℕ) → first_message items ≡ Some bytes → IsCutItem till cut → IsAmong cut items → IsAmong cut (read_first as_read items)
+read-has till as_read cut [] bytes m cuts h = absurd (let n : None ≡ Some bytes = m in cc)
+read-has till as_read cut (Message other text ∷ items) bytes m cuts ([], rest, e) =
+    let heads : cut ≡ Message other text = (let n : Message other text ∷ items ≡ cut ∷ rest = e in cc) in
+    no-message till other text (subst (IsCutItem till) heads cuts)
+read-has till as_read cut (Message other text ∷ items) bytes m cuts (x ∷ first, rest, e) =
+    let tails : items ≡ first ++ cut ∷ rest = (let n : Message other text ∷ items ≡ x ∷ (first ++ cut ∷ rest) = e in cc) in
     (Asked other as_read ∷ first, rest, ap (λ l. Asked other as_read ∷ l) tails)
-read-has till as_read (Crowded other ∷ items) bytes m h = h
-read-has till as_read (Asked other before ∷ items) bytes m h = h
-read-has till as_read (Unframed other ∷ items) bytes m h = h
-read-has till as_read (Gone other ∷ items) bytes m h = h
-read-has till as_read (Greet pt apdu ∷ items) bytes m h = h
-read-has till as_read (Handle pt apdu ∷ items) bytes m h = h
-read-has till as_read (NextWaiting pt ∷ items) bytes m h = h
-read-has till as_read (Oversized pt ∷ items) bytes m h = h
-read-has till as_read (LinkLost pt ∷ items) bytes m h = h
-read-has till as_read (Late pt ∷ items) bytes m h = h
-read-has till as_read (Overdue key ∷ items) bytes m h = h
-read-has till as_read (Due pt ∷ items) bytes m h = h
+read-has till as_read cut (Crowded other ∷ items) bytes m cuts h = h
+read-has till as_read cut (Asked other before ∷ items) bytes m cuts h = h
+read-has till as_read cut (Unframed other ∷ items) bytes m cuts h = h
+read-has till as_read cut (Gone other ∷ items) bytes m cuts h = h
+read-has till as_read cut (Greet pt apdu ∷ items) bytes m cuts h = h
+read-has till as_read cut (Handle pt apdu ∷ items) bytes m cuts h = h
+read-has till as_read cut (NextWaiting pt ∷ items) bytes m cuts h = h
+read-has till as_read cut (Oversized pt ∷ items) bytes m cuts h = h
+read-has till as_read cut (LinkLost pt ∷ items) bytes m cuts h = h
+read-has till as_read cut (Late pt ∷ items) bytes m cuts h = h
+read-has till as_read cut (Overdue key ∷ items) bytes m cuts h = h
+read-has till as_read cut (Due pt ∷ items) bytes m cuts h = h
 
 holds-read : (till : ℕ) (v : View) (as_read : ReadAs) → Holds till v → IsRead v as_read → Holds till (after v (Read as_read))
 holds-read till v as_read (inr dead) r = dead-round v.scene.stage dead r.idle.round
@@ -276,9 +294,13 @@ holds-read till v as_read (inl w) r = by_owed w.owed
   where
     by_owed : IsOwed till v → Holds till (after v (Read as_read))
     by_owed (inr owed) = no-idle till v.calls owed r.idle.calls
-    by_owed (inl has) = inl (record { stage = ap busy w.stage; run = w.run; there = w.there; owed = inl (read-has till as_read v.items r.bytes r.message has) })
+    by_owed (inl (cut, cuts, has)) = inl (record { stage = ap busy w.stage; run = w.run; there = w.there; owed = inl (cut, cuts, read-has till as_read cut v.items r.bytes r.message cuts has) })
 
 -- ---- along the course
+
+none-among : {A : Type 0} (item : RoundItem) (items : List RoundItem) → IsAmong item items → items ≡ [] → A
+none-among item items ([], rest, e) none = absurd (let n : [] ≡ item ∷ rest = sym none ∙ e in cc)
+none-among item items (x ∷ first, rest, e) none = absurd (let n : [] ≡ x ∷ (first ++ item ∷ rest) = sym none ∙ e in cc)
 
 holds-polled : {A : Type 0} (till : ℕ) (v : View) (now : ℤ) → Holds till v → AllowedTurn v (Polled now) → A
 holds-polled till v now (inr dead) ok = dead-running v.scene.stage dead ok.running
@@ -286,8 +308,7 @@ holds-polled {A} till v now (inl w) ok = by_owed w.owed
   where
     by_owed : IsOwed till v → A
     by_owed (inr owed) = no-idle till v.calls owed ok.calls
-    by_owed (inl ([], rest, e)) = absurd (let n : [] ≡ Unframed till ∷ rest = sym ok.items ∙ e in cc)
-    by_owed (inl (x ∷ first, rest, e)) = absurd (let n : [] ≡ x ∷ (first ++ Unframed till ∷ rest) = sym ok.items ∙ e in cc)
+    by_owed (inl (cut, cuts, has)) = none-among cut v.items has ok.items
 
 holds-turn : (till : ℕ) (v : View) (turn : Turn) → Holds till v → AllowedTurn v turn → is_sort_of_round (sort_of turn) ≡ true → After till v turn
 holds-turn till v turn (inl w) ok e = waits-turn till v turn w ok e
@@ -296,18 +317,19 @@ holds-turn till v turn (inr dead) ok e = inr (dead-turn till v turn dead ok e)
 cut-later : (till : ℕ) (turn : Turn) (turns : List Turn) → IsCutIn till turns → IsCutIn till (turn ∷ turns)
 cut-later till turn turns (first, rest, e) = (turn ∷ first, rest, ap (λ l. turn ∷ l) e)
 
-from-heard : (till : ℕ) (now : ℤ) (rest : List Turn) (v : View) (moves : List Move) (inside : List Turn) → Holds till v → IsCourse v moves → turns_of moves ≡ inside ++ Polled now ∷ rest → AreOfRound inside → IsCutIn till inside
-from-heard till now rest v [] [] h c e a = absurd (let n : [] ≡ Polled now ∷ rest = e in cc)
-from-heard till now rest v [] (turn ∷ inside) h c e a = absurd (let n : [] ≡ turn ∷ (inside ++ Polled now ∷ rest) = e in cc)
-from-heard till now rest v (Begin ∷ moves) inside h c e a = from-heard till now rest (after v Begin) moves inside (holds-begin till v h c.0) c.1 e a
-from-heard till now rest v (Read as_read ∷ moves) inside h c e a = from-heard till now rest (after v (Read as_read)) moves inside (holds-read till v as_read h c.0) c.1 e a
-from-heard till now rest v (Make turn ∷ moves) [] h c e a =
+-- where the cut of the till is owed, or will be, it is made before the next poll
+pub cut-before-poll : (till : ℕ) (now : ℤ) (rest : List Turn) (v : View) (moves : List Move) (inside : List Turn) → Holds till v → IsCourse v moves → turns_of moves ≡ inside ++ Polled now ∷ rest → AreOfRound inside → IsCutIn till inside
+cut-before-poll till now rest v [] [] h c e a = absurd (let n : [] ≡ Polled now ∷ rest = e in cc)
+cut-before-poll till now rest v [] (turn ∷ inside) h c e a = absurd (let n : [] ≡ turn ∷ (inside ++ Polled now ∷ rest) = e in cc)
+cut-before-poll till now rest v (Begin ∷ moves) inside h c e a = cut-before-poll till now rest (after v Begin) moves inside (holds-begin till v h c.0) c.1 e a
+cut-before-poll till now rest v (Read as_read ∷ moves) inside h c e a = cut-before-poll till now rest (after v (Read as_read)) moves inside (holds-read till v as_read h c.0) c.1 e a
+cut-before-poll till now rest v (Make turn ∷ moves) [] h c e a =
     let heads : turn ≡ Polled now = (let n : turn ∷ turns_of moves ≡ Polled now ∷ rest = e in cc) in
     holds-polled till v now h (subst (AllowedTurn v) heads c.0)
-from-heard till now rest v (Make turn ∷ moves) (other ∷ inside) h c e a =
+cut-before-poll till now rest v (Make turn ∷ moves) (other ∷ inside) h c e a =
     let heads : turn ≡ other = (let n : turn ∷ turns_of moves ≡ other ∷ (inside ++ Polled now ∷ rest) = e in cc) in
     let tails : turns_of moves ≡ inside ++ Polled now ∷ rest = (let n : turn ∷ turns_of moves ≡ other ∷ (inside ++ Polled now ∷ rest) = e in cc) in
-    by_after (λ holds. from-heard till now rest (after_turn v turn) moves inside holds c.1 tails a.1) heads (holds-turn till v turn h c.0 (ap (λ t. is_sort_of_round (sort_of t)) heads ∙ a.0))
+    by_after (λ holds. cut-before-poll till now rest (after_turn v turn) moves inside holds c.1 tails a.1) heads (holds-turn till v turn h c.0 (ap (λ t. is_sort_of_round (sort_of t)) heads ∙ a.0))
   where
     by_after : (Holds till (after_turn v turn) → IsCutIn till inside) → turn ≡ other → After till v turn → IsCutIn till (other ∷ inside)
     by_after more heads (inl cut) = ([], inside, ap (λ t. t ∷ inside) (sym heads ∙ cut))
@@ -337,7 +359,7 @@ heard-holds till v chunk messages left small run ok all bad =
       stage = refl;
       run = (known.setup, known.setup_is);
       there = connected-hears v.scene.outside.tills till chunk ∙ ok.0.connected_is;
-      owed = inl (has-before (Unframed till) (till_bytes_items till heard chunk) _ (bad-brings till heard chunk messages left (bytes-append heard chunk (heard-bytes v.scene.outside.tills till small.tills) ok.1.bytes) all bad));
+      owed = inl (Unframed till, inl refl, has-before (Unframed till) (till_bytes_items till heard chunk) _ (bad-brings till heard chunk messages left (bytes-append heard chunk (heard-bytes v.scene.outside.tills till small.tills) ok.1.bytes) all bad));
     })
 
 -- what was heard of the till ends in bytes that begin no frame
@@ -358,7 +380,7 @@ to-heard till chunk now messages left inside rest v (Make turn ∷ moves) [] sma
     let heads : turn ≡ HeardTill till chunk = (let n : turn ∷ turns_of moves ≡ HeardTill till chunk ∷ (inside ++ Polled now ∷ rest) = e in cc) in
     let tails : turns_of moves ≡ inside ++ Polled now ∷ rest = (let n : turn ∷ turns_of moves ≡ HeardTill till chunk ∷ (inside ++ Polled now ∷ rest) = e in cc) in
     let course : IsCourse (after_turn v (HeardTill till chunk)) moves = subst (λ t. IsCourse (after_turn v t) moves) heads c.1 in
-    from-heard till now rest (after_turn v (HeardTill till chunk)) moves inside (heard-holds till v chunk messages left small run (subst (AllowedTurn v) heads c.0) bad.0 bad.1) course tails a
+    cut-before-poll till now rest (after_turn v (HeardTill till chunk)) moves inside (heard-holds till v chunk messages left small run (subst (AllowedTurn v) heads c.0) bad.0 bad.1) course tails a
 to-heard till chunk now messages left inside rest v (Make turn ∷ moves) (other ∷ before) small run c e a bad =
     let heads : turn ≡ other = (let n : turn ∷ turns_of moves ≡ other ∷ (before ++ HeardTill till chunk ∷ (inside ++ Polled now ∷ rest)) = e in cc) in
     let tails : turns_of moves ≡ before ++ HeardTill till chunk ∷ (inside ++ Polled now ∷ rest) = (let n : turn ∷ turns_of moves ≡ other ∷ (before ++ HeardTill till chunk ∷ (inside ++ Polled now ∷ rest)) = e in cc) in

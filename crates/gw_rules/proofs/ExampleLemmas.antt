@@ -10,7 +10,7 @@ use Rattle.sale_frame.specs.Grammar.{frame}
 use Rattle.gw_owes.specs.Calls.{OwedCall}
 use Rattle.gw_owes.specs.Items.{RoundItem}
 use Rattle.gw_owes.specs.ReadAs.{Silent}
-use Rattle.gw_rules.specs.Example.{example_setup, status_request, status_reply, silent_message, status_asked, not_found, heard_log, asked_log, failed_send_log, tills_open, crowded_log, StatusIsLawful, FailedSendIsLawful, SilentIsLawful, BadFrameIsLawful, CrowdedIsLawful, RestartedIsLawful, CrashedIsLawful, LooksMayFail, RefusedIsNotPolled}
+use Rattle.gw_rules.specs.Example.{example_setup, status_request, status_reply, silent_message, status_asked, not_found, heard_log, asked_log, failed_send_log, tills_open, crowded_log, StatusIsLawful, FailedSendIsLawful, SilentIsLawful, BadFrameIsLawful, CrowdedIsLawful, RestartedIsLawful, CrashedIsLawful, LooksMayFail, RefusedIsNotPolled, DiskFailureEnds, NoRunWhereNotOpened}
 use Rattle.gw_rules.specs.Lawful.{AllowedTurn, IsCourse, IsChunk, turns_of, IsLawful}
 use Rattle.gw_rules.specs.Stage.{Stage, Resting, Opening, Looking, AtPoll, Handling, Over, Broken, is_running}
 use Rattle.gw_rules.specs.View.{View, Move, Begin, Read, Make, after_turn, view_from, at_first}
@@ -160,6 +160,12 @@ looks-may-fail = (record { synced = refl; at_sync = inl refl; looking = inr refl
 
 pub refused-not-polled : RefusedIsNotPolled
 refused-not-polled ok = no-true ok.running
+
+pub disk-failure-ends : DiskFailureEnds
+disk-failure-ends = record { start = λ ok. no-true (sym ok.0); open_failed = λ ok. no-true (sym ok); poll = λ ok. no-true ok.running }
+
+pub no-run-where-not-opened : NoRunWhereNotOpened
+no-run-where-not-opened ok = no-true ok.running
 
 -- ---- too many tills: whether polls and openings are allowed is tested by computing
 

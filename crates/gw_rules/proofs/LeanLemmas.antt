@@ -12,7 +12,7 @@ use Rattle.gw_rules.specs.Lawful.{may_begin, first_message, IsIdle, Begins, IsRe
 use Rattle.gw_rules.specs.Lean.{goes_on, IsLean}
 use Rattle.gw_rules.specs.Scene.{Scene}
 use Rattle.gw_rules.specs.Stage.{AtPoll, Handling, busy, is_broken}
-use Rattle.gw_rules.specs.TurnSort.{TurnSort, OpeningOutcome, Poll, Event, CallOutcome, PowerFailure, sort_of, is_between}
+use Rattle.gw_site.specs.Sorts.{TurnSort, OpeningOutcome, Poll, Event, CallOutcome, PowerFailure, sort_of, is_between}
 use Rattle.gw_rules.specs.View.{View, Move, Begin, Read, Make, begin, after, after_turn, at_first}
 use Rattle.gw_rules.proofs.CourseLemmas.{begin-outside, begin-stage}
 use Rattle.gw_rules.proofs.StageLemmas.{no-true, no-call, not-true, not-false, handling-not-polled, looking-not-round, round-busy, busy-broken}

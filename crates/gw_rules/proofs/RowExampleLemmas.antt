@@ -1,40 +1,34 @@
 -- The examples of turns that no row owes yet.
-use Rattle.std.proofs.Common.{◌≡◌, ℕ, ◌≤◌, Bool, true, List, [], ◌∷◌, ◌++◌, refl, arith, inl}
-use Rattle.std.proofs.lemmas.Bool.{and_parts, leb-true}
+use Rattle.std.proofs.Common.{◌≡◌, List, [], ◌∷◌, ◌++◌, refl, arith, inl, inr}
+use Rattle.std.proofs.lemmas.Bool.{leb-true, ltb-true}
 use Rattle.std.proofs.lemmas.List.Elements.{All-from_recursion}
-use Rattle.std.specs.Prelude.{pos, nat_le, ◌&&◌, ◌/◌, ◌%◌}
-use Rattle.gw_base.specs.Bcd.{IsBcd}
+use Rattle.std.specs.Prelude.{pos}
+use Rattle.gw_base.proofs.BcdLemmas.{passes_bcd}
 use Rattle.gw_base.specs.Setup.{IsPt, IsSetup}
 use Rattle.gw_bytes.specs.Bytes.{AreBytes}
 use Rattle.gw_site.specs.Image.{Image}
 use Rattle.gw_site.specs.declared.turn.Turn.{Turn}
-use Rattle.gw_site.specs.declared.turn.Turn.TheVariants.{Start, Polled, HeardPt, Lost, Wrote, Synced, DiskFailed, Crash, Stopped}
+use Rattle.gw_site.specs.declared.turn.Turn.TheVariants.{Start, Polled, Opened, HeardTill, HeardPt, Lost, CutTill, Wrote, Synced, DiskFailed, Crash, Stopped}
 use Rattle.gw_site.proofs.ImageLemmas.{file_image, stable_image}
 use Rattle.jrn_record.specs.Grammar.{record_body}
+use Rattle.sale_frame.specs.Grammar.{BeginsWithBadLength}
 use Rattle.zvt_apdu.specs.DecodeStream.{decode_apdus, decode_apdus_within}
 use Rattle.gw_owes.specs.Calls.{Ask, WriteBody, WriteGate}
 use Rattle.gw_owes.specs.Terminals.{registration}
 use Rattle.gw_rules.specs.Lawful.{IsCourse, IsChunk}
-use Rattle.gw_rules.specs.RowExample.{example_pt, terminal_setup, unserved_log, link_view, keep_view, linked_moves, both_bytes, gate_moves, example_record, UnservedIsLawful, LinkRegisters, LinkIsDueAgain, FailedSendCutsLink, LostIsDue, BothAreItems, GateIsInFlight, SyncKeeps, StartLeavesFlight, FailedSyncCrashes, ClosedGateDrops, OpenGateKeeps}
-use Rattle.gw_rules.specs.View.{Begin, Make, view_from}
+use Rattle.gw_rules.specs.RowExample.{example_pt, terminal_setup, unserved_log, unframed_log, link_view, keep_view, linked_moves, both_bytes, gate_moves, example_record, UnservedIsLawful, UnframedIsLawful, PollBeforeUnframedCut, RowItemsComeFirst, LinkRegisters, LinkIsDueAgain, FailedSendCutsLink, LostIsDue, LostEndOfDayReplies, LostTransactionKeepsAsker, BothAreItems, SendingsAreSpelled, GoneTillIsForgotten, WaitsByDeadline, GateIsInFlight, SyncKeeps, StartLeavesFlight, FailedSyncCrashes, ClosedGateDrops, OpenGateKeeps}
+use Rattle.gw_rules.specs.View.{Move, Begin, Make, view_from, at_first}
 use Rattle.gw_rules.proofs.CourseLemmas.{course-append}
+use Rattle.gw_rules.proofs.CutLemmas.{bad-frame-cuts}
 use Rattle.gw_rules.proofs.PrefixLemmas.{lawful-along}
-use Rattle.gw_rules.proofs.TextLemmas.{each_passes, all-passed, bytes-tested, ident-tested, setup-formed}
+use Rattle.gw_rules.proofs.TextLemmas.{bytes-tested, ident-tested, setup-formed}
 
 -- ---- a terminal
-
-abbrev is_bcd : ℕ → Bool
-is_bcd byte = nat_le (byte / 16) 9 && nat_le (byte % 16) 9
-
-bcd-tested : (bytes : List ℕ) → each_passes is_bcd bytes ≡ true → IsBcd bytes
-bcd-tested bytes e =
-    All-from_recursion (λ byte. (byte / 16 ≤ 9) × (byte % 16 ≤ 9)) bytes
-    (all-passed (λ byte. (byte / 16 ≤ 9) × (byte % 16 ≤ 9)) is_bcd (λ byte t. let p = and_parts (nat_le (byte / 16) 9) (nat_le (byte % 16) 9) t in (leb-true (byte / 16) 9 p.0, leb-true (byte % 16) 9 p.1)) bytes e)
 
 pt-formed : IsPt example_pt
 pt-formed = record {
   poi = ident-tested 40 example_pt.poi refl;
-  password = (refl, bcd-tested example_pt.password refl);
+  password = (refl, passes_bcd example_pt.password refl);
   config = omega arith;
   none = omega arith;
   answer = (omega arith, omega arith);
@@ -65,17 +59,77 @@ unserved-lawful = lawful-along unserved_log
       ),
     )
 
+unframed-chunk : IsChunk (0 ∷ 0 ∷ 0 ∷ 0 ∷ [])
+unframed-chunk = record { count = (omega arith, omega arith); bytes = bytes-tested (0 ∷ 0 ∷ 0 ∷ 0 ∷ []) refl }
+
+-- what may be due passes after the till has opened
+abbrev unframed_moves : List Move
+unframed_moves = Make (Start terminal_setup) ∷ Make (Polled (pos 0)) ∷ Make (Opened 1) ∷ Begin ∷ Begin ∷ Make (Polled (pos 0)) ∷ Make (HeardTill 1 (0 ∷ 0 ∷ 0 ∷ 0 ∷ [])) ∷ []
+
+unframed-course : IsCourse at_first unframed_moves
+unframed-course = (
+  (refl, formed),
+  (
+    record { running = refl; calls = refl; items = refl },
+    (
+      (refl, leb-true 0 1 refl),
+      (
+        record { idle = record { round = refl; calls = refl }; first = refl },
+        (record { idle = record { round = refl; calls = refl }; first = refl }, (record { running = refl; calls = refl; items = refl }, ((record { polled = refl; connected_is = refl }, unframed-chunk), tt))),
+      ),
+    ),
+  ),
+)
+
+abbrev cut_moves : List Move
+cut_moves = Begin ∷ Make (CutTill 1) ∷ Begin ∷ Begin ∷ Make (Polled (pos 0)) ∷ Make Stopped ∷ []
+
+cut-course : IsCourse (view_from at_first unframed_moves) cut_moves
+cut-course = (
+  record { idle = record { round = refl; calls = refl }; first = refl },
+  (
+    refl,
+    (
+      record { idle = record { round = refl; calls = refl }; first = refl },
+      (record { idle = record { round = refl; calls = refl }; first = refl }, (record { running = refl; calls = refl; items = refl }, (refl, tt))),
+    ),
+  ),
+)
+
+pub unframed-lawful : UnframedIsLawful
+unframed-lawful = lawful-along (unframed_log ++ CutTill 1 ∷ Polled (pos 0) ∷ Stopped ∷ []) (unframed_moves ++ cut_moves) refl (course-append at_first unframed_moves cut_moves unframed-course cut-course)
+
+-- four zeros spell the length 0, which no message has
+zeros-are-bad : BeginsWithBadLength (0 ∷ 0 ∷ 0 ∷ 0 ∷ [])
+zeros-are-bad = (0, (ltb-true 0 4294967296 refl, refl), λ h. let lt = h.0 in omega arith)
+
+pub poll-before-unframed-cut : PollBeforeUnframedCut
+poll-before-unframed-cut = record {
+  before = lawful-along unframed_log unframed_moves refl unframed-course;
+  with_turn = λ lawful.
+      let cut = bad-frame-cuts (Start terminal_setup ∷ Polled (pos 0) ∷ Opened 1 ∷ Polled (pos 0) ∷ []) [] [] 1 (0 ∷ 0 ∷ 0 ∷ 0 ∷ []) (pos 0) [] (0 ∷ 0 ∷ 0 ∷ 0 ∷ []) lawful tt
+      (record { whole = refl; each = tt; ended = inr zeros-are-bad }) zeros-are-bad in
+      none cut.0 cut.1 cut.2;
+}
+  where
+    none : (first rest : List Turn) → [] ≡ first ++ CutTill 1 ∷ rest → ⊥
+    none [] rest e = cc
+    none (turn ∷ first) rest e = cc
+
+pub row-items-come-first : RowItemsComeFirst
+row-items-come-first = refl
+
 linked-course : IsCourse link_view linked_moves
 linked-course = (refl, ((Ask (registration example_pt), refl, refl), tt))
 
 pub link-registers : LinkRegisters
-link-registers = record { lawful = linked-course; standing_is = refl; calls_are = refl }
+link-registers = record { registers = record { lawful = linked-course; standing_is = refl; calls_are = refl }; awaited = refl }
 
 pub link-is-due-again : LinkIsDueAgain
 link-is-due-again = record { lawful = (refl, tt); standing_is = refl; calls_are = refl }
 
 pub failed-send-cuts-link : FailedSendCutsLink
-failed-send-cuts-link = record { lawful = (refl, ((Ask (registration example_pt), refl, (_, refl)), (refl, tt))); standing_is = refl; calls_are = refl }
+failed-send-cuts-link = record { cuts = record { lawful = (refl, ((Ask (registration example_pt), refl, (_, refl)), (refl, tt))); standing_is = refl; calls_are = refl }; awaited = refl; talk = refl }
 
 pub lost-is-due : LostIsDue
 lost-is-due = record {
@@ -84,6 +138,12 @@ lost-is-due = record {
   standing_is = refl;
   calls_are = refl;
 }
+
+pub lost-end-of-day-replies : LostEndOfDayReplies
+lost-end-of-day-replies header period = record { lawful = (refl, tt); calls_are = refl; asker_is = refl }
+
+pub lost-transaction-keeps-asker : LostTransactionKeepsAsker
+lost-transaction-keeps-asker = record { lawful = (refl, tt); calls_are = refl; asker_is = refl }
 
 both-chunk : IsChunk both_bytes
 both-chunk = record { count = (omega arith, omega arith); bytes = bytes-tested both_bytes refl }
@@ -94,6 +154,17 @@ both-are-items = record {
   lawful = course-append link_view linked_moves (Make (Polled (pos 1)) ∷ Make (HeardPt 0 both_bytes) ∷ []) linked-course (record { running = refl; calls = refl; items = refl }, ((record { polled = refl; connected_is = refl }, both-chunk), tt));
   items = refl;
 }
+
+pub sendings-are-spelled : SendingsAreSpelled
+sendings-are-spelled = record { acknowledged = refl; refused = refl }
+
+-- ---- who waits for a terminal
+
+pub gone-till-is-forgotten : GoneTillIsForgotten
+gone-till-is-forgotten = refl
+
+pub sorted-waits : WaitsByDeadline
+sorted-waits = refl
 
 -- ---- a record
 

@@ -10,7 +10,7 @@ use Rattle.gw_site.specs.declared.turn.Turn.TheVariants.{Start, OpenFailed, Cras
 use Rattle.gw_rules.specs.Lawful.{IsCourse, turns_of, Stands, IsClear}
 use Rattle.gw_rules.specs.Stage.{Resting}
 use Rattle.gw_rules.specs.Triple.{Triple, Ran, RunTriple, IsStarted, IsBegun, IsRun, JustBegun}
-use Rattle.gw_rules.specs.TurnSort.{IsQuiet}
+use Rattle.gw_site.specs.Sorts.{IsQuiet}
 use Rattle.gw_rules.specs.View.{View, Move, Make, view_from, after_turn}
 use Rattle.gw_rules.proofs.CourseLemmas.{quiet-append, stands-more, stands-outside}
 

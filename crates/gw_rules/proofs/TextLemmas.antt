@@ -19,7 +19,7 @@ use Rattle.json_text.proofs.CanonicalLemmas.{spellable_written}
 use Rattle.sale_frame.specs.Grammar.{frame}
 use Rattle.sale_values.specs.declared.header.Header.{Header}
 use Rattle.sale_values.specs.declared.names.Class.TheVariants.{Service, Device}
-use Rattle.sale_values.specs.declared.names.Kind.TheVariants.{Request, Response}
+use Rattle.sale_values.specs.declared.names.Kind.TheVariants.{Response}
 use Rattle.sale_values.specs.declared.request.Incoming.TheVariants as incoming
 use Rattle.sale_values.specs.declared.request.Reference.{Reference}
 use Rattle.sale_values.specs.declared.request.SaleRequest.TheVariants as requests
@@ -174,7 +174,7 @@ asked_for = record { service = codes "9"; sale = None; poi = None }
 
 header-holds : HeaderHolds asked_body status_header
 unfolding tree_at
-header-holds = record { class = refl; category = refl; kind = refl; service = refl; device = refl; sale = refl; poi = refl }
+header-holds = record { class = refl; category = refl; message_type = refl; service = refl; device = refl; sale = refl; poi = refl }
 
 body-met : AreMet (rows_of categories.TransactionStatus) asked_body
 unfolding IsMet tree_at
@@ -211,7 +211,7 @@ request-message = (
         );
         values = header-holds;
       };
-      kind = refl;
+      message_type = refl;
     };
     category = refl;
     members = record { members = body-met; parts = part-met };
@@ -263,7 +263,7 @@ silent_header = record { class = Device; category = codes "Display"; kind = Resp
 
 silent-holds : HeaderHolds silent_body silent_header
 unfolding tree_at
-silent-holds = record { class = refl; category = refl; kind = refl; service = refl; device = refl; sale = refl; poi = refl }
+silent-holds = record { class = refl; category = refl; message_type = refl; service = refl; device = refl; sale = refl; poi = refl }
 
 silent-is : IsTillMessage silent_tree incoming.Silent
 unfolding IsMet tree_at

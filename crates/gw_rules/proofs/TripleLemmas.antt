@@ -10,7 +10,7 @@ use Rattle.gw_rules.specs.Lawful.{may_begin, Allowed, IsCourse, turns_of, Stands
 use Rattle.gw_rules.specs.Scene.{Scene, row_at}
 use Rattle.gw_rules.specs.Stage.{is_round}
 use Rattle.gw_rules.specs.Triple.{Extends, Triple, Owing}
-use Rattle.gw_rules.specs.TurnSort.{IsQuiet}
+use Rattle.gw_site.specs.Sorts.{IsQuiet}
 use Rattle.gw_rules.specs.View.{View, Move, Begin, Read, after, view_from, begun, at_item}
 use Rattle.gw_rules.proofs.CourseLemmas.{view_from-append, course-append, course-prefix, turns_of-append, makes, turns_of-makes, makes-append, quiet-append, quiet-prefix, stands-more}
 

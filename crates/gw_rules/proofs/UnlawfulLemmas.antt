@@ -5,13 +5,14 @@ use Rattle.std.specs.Prelude.{ℤ, pos, ◌&&◌, Some, None}
 use Rattle.gw_site.specs.Image.{Image}
 use Rattle.gw_site.specs.Outside.{outside_of}
 use Rattle.gw_site.specs.declared.turn.Turn.{Turn}
-use Rattle.gw_site.specs.declared.turn.Turn.TheVariants.{Start, Polled, HeardTill, SentTill, DiskFailed, Crash}
+use Rattle.gw_site.specs.declared.turn.Turn.TheVariants.{Start, Polled, HeardTill, SentTill, Synced, DiskFailed, Crash}
 use Rattle.sale_frame.specs.Grammar.{frame}
-use Rattle.gw_owes.specs.Calls.{OwedCall, SendTill, Sync, CutTill as OwedCutTill}
+use Rattle.jrn_log.specs.JournalTurns.{first_gate_write}
+use Rattle.gw_owes.specs.Calls.{OwedCall, SendTill, WriteFirstGate, Sync, CutTill as OwedCutTill}
 use Rattle.gw_owes.specs.Items.{RoundItem}
 use Rattle.gw_owes.specs.ReadAs.{ReadAs, IsReadAs}
 use Rattle.gw_owes.proofs.ReadLemmas.{reads-one}
-use Rattle.gw_rules.specs.Example.{example_setup, status_request, status_reply, status_asked, not_found, opened_log, asked_log, UnaskedReply, PollBeforeReply, PollBeforeCut, PollWhileCrowded, CrashLeavesNoOther, NothingToLookAt, NothingToLookAtLater}
+use Rattle.gw_rules.specs.Example.{example_setup, status_request, status_reply, status_asked, not_found, opened_log, asked_log, UnaskedReply, PollBeforeReply, PollBeforeCut, PollWhileCrowded, CrashLeavesNoOther, NothingToLookAt, NothingToLookAtLater, PollEndsLooking, GateEndsLooking, opening_view, gated_view}
 use Rattle.gw_rules.specs.Lawful.{first_call, may_begin, first_message, AllowedTurn, IsCourse, turns_of, IsLawful}
 use Rattle.gw_rules.specs.Stage.{is_looking}
 use Rattle.gw_rules.specs.View.{View, Move, Begin, Read, Make, after, after_turn, view_from, at_first}
@@ -229,6 +230,19 @@ crash-leaves-no-other = record {
 no-disk : (v : View) → v.calls ≡ [] → is_looking v.scene.stage ≡ false → AllowedTurn v DiskFailed → ⊥
 no-disk v none idle (inl next) = no-call v.calls Sync none next
 no-disk v none idle (inr looking) = no-true (sym idle ∙ looking)
+
+pub poll-ends-looking : PollEndsLooking
+poll-ends-looking = record {
+  polled = record { running = refl; calls = refl; items = refl };
+  no_look = no-disk (after_turn (after_turn gated_view Synced) (Polled (pos 0))) refl refl;
+}
+
+pub gate-ends-looking : GateEndsLooking
+gate-ends-looking = record {
+  wrote = (WriteFirstGate, refl, refl);
+  stage_is = refl;
+  no_look = no-disk (after_turn (after_turn (after_turn opening_view Synced) first_gate_write) Synced) refl refl;
+}
 
 pub nothing-to-look-at : NothingToLookAt
 nothing-to-look-at = record {

@@ -4,16 +4,18 @@ use Rattle.sale_frame.specs.Grammar.{frame}
 use Rattle.gw_base.specs.declared.condition.Condition.TheVariants.{NotFound}
 use Rattle.gw_base.specs.declared.setup.Setup.{Setup}
 use Rattle.gw_site.specs.declared.turn.Turn.{Turn}
-use Rattle.gw_site.specs.declared.turn.Turn.TheVariants.{Start, Polled, Opened, HeardTill, SentTill, CutTill, Stopped, Synced, DiskFailed, Crash}
+use Rattle.gw_site.specs.declared.turn.Turn.TheVariants.{Start, OpenFailed, Polled, Opened, HeardTill, SentTill, CutTill, Stopped, Synced, DiskFailed, Crash}
 use Rattle.sale_values.specs.declared.header.Header.{Header}
 use Rattle.sale_values.specs.declared.names.Class.TheVariants.{Service}
 use Rattle.sale_values.specs.declared.names.Kind.TheVariants as kinds
 use Rattle.sale_values.specs.declared.request.SaleRequest.TheVariants as requests
+use Rattle.jrn_log.specs.JournalTurns.{first_gate_write}
 use Rattle.gw_owes.specs.Calls.{WriteFirstGate, Sync}
 use Rattle.gw_owes.specs.ReadAs.{ReadAs, Request}
 use Rattle.gw_owes.specs.Reply.{ReplyValue}
 use Rattle.gw_owes.specs.Replies.{failure_reply}
 use Rattle.gw_rules.specs.Lawful.{AllowedTurn, IsCourse, turns_of, IsLawful}
+use Rattle.gw_rules.specs.Stage.{Handling}
 use Rattle.gw_rules.specs.View.{View, Move, Begin, Read, Make, after_turn, started, at_first}
 
 -- ---- the setup and the messages
@@ -193,3 +195,28 @@ LooksMayFail = LookMayFail opening_view × LookMayFail refused_view
 -- a run whose file is refused makes no poll
 abbrev pub RefusedIsNotPolled : Type 0
 RefusedIsNotPolled = ¬ AllowedTurn (after_turn refused_view Synced) (Polled (pos 0))
+
+-- a run opens a journal, whose file has its first gate
+abbrev pub gated_view : View
+gated_view = started at_first.scene example_setup (record { calls = Sync ∷ []; refused = false })
+
+-- a poll ends the looking: it may come after the first sync, and no look may fail after it
+pub record PollEndsLooking : Type 0 where
+  pub polled : AllowedTurn (after_turn gated_view Synced) (Polled (pos 0))
+  pub no_look : ¬ AllowedTurn (after_turn (after_turn gated_view Synced) (Polled (pos 0))) DiskFailed
+
+-- so does the write of the first gate: then a look fails no more, though the sync of the gate may, and once that was made no call on the disk fails
+pub record GateEndsLooking : Type 0 where
+  pub wrote : AllowedTurn (after_turn opening_view Synced) first_gate_write
+  pub stage_is : (after_turn (after_turn opening_view Synced) first_gate_write).scene.stage ≡ Handling
+  pub no_look : ¬ AllowedTurn (after_turn (after_turn (after_turn opening_view Synced) first_gate_write) Synced) DiskFailed
+
+-- after a failed call on the disk nothing comes before a power failure
+pub record DiskFailureEnds : Type 0 where
+  pub start : ¬ AllowedTurn (after_turn opening_view DiskFailed) (Start example_setup)
+  pub open_failed : ¬ AllowedTurn (after_turn opening_view DiskFailed) OpenFailed
+  pub poll : ¬ AllowedTurn (after_turn opening_view DiskFailed) (Polled (pos 0))
+
+-- where the site can't be opened there is no run
+abbrev pub NoRunWhereNotOpened : Type 0
+NoRunWhereNotOpened = ¬ AllowedTurn (after_turn at_first OpenFailed) (Polled (pos 0))

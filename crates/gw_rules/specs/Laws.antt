@@ -1,12 +1,12 @@
 -- Laws of lawful logs.
-use Rattle.std.specs.Prelude.{◌≡◌, ℕ, ℤ, true, List, [], ◌∷◌, ◌++◌, Some}
+use Rattle.std.specs.Prelude.{◌≡◌, ◌≤◌, ℕ, ℤ, true, List, [], ◌∷◌, ◌++◌, length, Some}
 use Rattle.gw_base.specs.Setup.{IsSetup}
 use Rattle.gw_base.specs.declared.setup.Setup.{Setup}
 use Rattle.gw_bytes.specs.Bytes.{AreBytes, IsPrefix}
 use Rattle.gw_site.specs.Image.{Image}
 use Rattle.gw_site.specs.Outside.{Outside, heard_on, outside_of}
 use Rattle.gw_site.specs.declared.turn.Turn.{Turn}
-use Rattle.gw_site.specs.declared.turn.Turn.TheVariants.{Start, Polled, HeardTill, HeardPt, CutTill, Crash}
+use Rattle.gw_site.specs.declared.turn.Turn.TheVariants.{Start, Polled, Opened, HeardTill, HeardPt, CutTill, Crash}
 use Rattle.sale_frame.specs.Grammar.{BeginsWithBadLength, Frames}
 use Rattle.zvt_apdu.specs.Grammar.{ApduValue}
 use Rattle.zvt_apdu.specs.Stream.{SpellsApdus}
@@ -15,7 +15,7 @@ use Rattle.gw_owes.specs.Items.{RoundItem}
 use Rattle.gw_owes.specs.Laws.{ends_in_one, BringsFrames, BringsApdus}
 use Rattle.gw_rules.specs.Lawful.{AllowedTurn, IsCourse, turns_of, Stands, IsLawful}
 use Rattle.gw_rules.specs.Lean.{IsLean}
-use Rattle.gw_rules.specs.TurnSort.{AreOfRound}
+use Rattle.gw_site.specs.Sorts.{AreOfRound}
 use Rattle.gw_rules.specs.View.{View, Move, after_turn, at_first}
 
 -- ---- one course
@@ -87,7 +87,7 @@ PtBytesBring =
     → SpellsApdus (heard_on v.scene.outside.links pt) before rest → SpellsApdus (heard_on v.scene.outside.links pt ++ chunk) all left
     → BringsItems (after_turn v (HeardPt pt chunk)) (BringsApdus pt before all rest left)
 
--- ---- a bad frame
+-- ---- cuts of tills
 
 -- the till is cut in these turns
 abbrev pub IsCutIn : ℕ → List Turn → Type 0
@@ -99,3 +99,9 @@ BadFrameCuts =
     (before inside rest : List Turn) (till : ℕ) (chunk : List ℕ) (now : ℤ) (messages : List (List ℕ)) (left : List ℕ)
     → IsLawful (before ++ HeardTill till chunk ∷ (inside ++ Polled now ∷ rest)) → AreOfRound inside
     → Frames (heard_on (outside_of before).tills till ++ chunk) messages left → BeginsWithBadLength left → IsCutIn till inside
+
+-- in a lawful log, after a till opens while 64 others are there, it is cut before the next poll
+abbrev pub CrowdedCuts : Type 0
+CrowdedCuts =
+    (before inside rest : List Turn) (till : ℕ) (now : ℤ) → IsLawful (before ++ Opened till ∷ (inside ++ Polled now ∷ rest)) → AreOfRound inside
+    → 64 ≤ length (outside_of before).tills → IsCutIn till inside

@@ -1,6 +1,6 @@
 -- Lean courses: nothing begins unless a turn of its run follows.
 use Rattle.std.specs.Prelude.{◌≡◌, Bool, true, false, not, List, [], ◌∷◌}
-use Rattle.gw_rules.specs.TurnSort.{is_between}
+use Rattle.gw_site.specs.Sorts.{is_between}
 use Rattle.gw_rules.specs.View.{Move, Begin, Read, Make}
 
 -- a turn of the same run follows

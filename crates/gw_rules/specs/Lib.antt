@@ -1,4 +1,6 @@
+-- The definitions of lawful logs: what is owed after each turn, and which turn may come next.
 pub mod Example
+pub mod JournalFiles
 pub mod Lawful
 pub mod Laws
 pub mod Lean
@@ -7,5 +9,4 @@ pub mod RowExample
 pub mod Scene
 pub mod Stage
 pub mod Triple
-pub mod TurnSort
 pub mod View

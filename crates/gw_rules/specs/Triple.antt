@@ -1,4 +1,4 @@
--- Inner: the contract of whatever drives a site: a triple over the view, from before its calls to after them.
+-- The contract of whatever drives a site: a triple over the view, from before its calls to after them.
 use Rattle.std.specs.Prelude.{◌≡◌, ◌⊎◌, ℕ, ℤ, map, Result, Ok, Err, true, false, List, [], ◌∷◌, ◌++◌, Some, None}
 use Rattle.gw_base.specs.declared.setup.Setup.{Setup}
 use Rattle.gw_site.specs.Observed.{Observed}
@@ -12,10 +12,10 @@ use Rattle.gw_owes.specs.Items.{RoundItem}
 use Rattle.gw_rules.specs.Lawful.{IsCourse, turns_of, Stands, IsClear}
 use Rattle.gw_rules.specs.Scene.{Scene}
 use Rattle.gw_rules.specs.Stage.{Opening}
-use Rattle.gw_rules.specs.TurnSort.{IsQuiet}
+use Rattle.gw_site.specs.Sorts.{IsQuiet}
 use Rattle.gw_rules.specs.View.{View, Move, Make, view_from, called}
 
--- the log goes on from this view by allowed moves, none of which begins a run or fails the power; where the site isn't dark then, Q holds of the view
+-- Inner: the log goes on from this view by allowed moves, none of which begins a run or fails the power; where the site isn't dark then, Q holds of the view
 pub record Extends (before : List Turn) (v : View) (new : Observed) (Q : View → Type 0) : Type 0 where
   pub moves : List Move
   pub log_is : new.log ≡ Some (before ++ turns_of moves)
@@ -23,7 +23,7 @@ pub record Extends (before : List Turn) (v : View) (new : Observed) (Q : View �
   pub quiet : IsQuiet (turns_of moves)
   pub owed : new.dark ≡ false → Q (view_from v moves)
 
--- Where a lawful log is observed, and P holds of its view unless the site is dark, the log goes on lawfully, and Q holds of the view then unless the site is dark. A dark site adds nothing and stays dark.
+-- Inner: Where a lawful log is observed, and P holds of its view unless the site is dark, the log goes on lawfully, and Q holds of the view then unless the site is dark. A dark site adds nothing and stays dark.
 pub record Triple (old new : Observed) (P Q : View → Type 0) : Type 0 where
   pub observed : (before : List Turn) (v : View) → old.log ≡ Some before → Stands before v → (old.dark ≡ false → P v) → Extends before v new Q
   pub unobserved : old.log ≡ None → new.log ≡ None
@@ -31,24 +31,24 @@ pub record Triple (old new : Observed) (P Q : View → Type 0) : Type 0 where
   pub still : old.dark ≡ true → new.log ≡ old.log
   pub origin : new.origin ≡ old.origin
 
--- the view has this scene, these calls and these items
+-- Inner: the view has this scene, these calls and these items
 abbrev pub Owing : Scene → List OwedCall → List RoundItem → View → Type 0
 Owing scene calls items v = v ≡ record { scene = scene; calls = calls; items = items }
 
--- after the reply that is owed last was sent to a till: nothing is owed before these items, or where the send failed and took these bytes, the cut of the connection
+-- Inner: after the reply that is owed last was sent to a till: nothing is owed before these items, or where the send failed and took these bytes, the cut of the connection
 abbrev pub Sent : {E : Type 0} → Result (Unit {0}) E → Scene → ℕ → List ℕ → List RoundItem → View → Type 0
 Sent (Ok done) scene till bytes items v = Owing (called scene (SentTill till bytes true)) [] items v
 Sent (Err failed) scene till bytes items v = (taken : List ℕ) × Owing (called scene (SentTill till taken false)) (CutTill till ∷ []) items v
 
--- the view after a poll and its event
+-- Inner: the view after a poll and its event
 abbrev pub event_view : Scene → ℤ → What → List ℕ → View
 event_view scene now what buf = view_from (record { scene = scene; calls = []; items = [] }) (map Make (Polled now ∷ event_turns what buf))
 
--- after a poll and its event, which was promised
+-- Inner: after a poll and its event, which was promised
 abbrev pub AtEvent : Scene → ℤ → What → List ℕ → View → Type 0
 AtEvent scene now what buf v = (v ≡ event_view scene now what buf) × IsPromised scene.outside what
 
--- a run with this setup has just begun
+-- Inner: a run with this setup has just begun
 pub record IsNewRun (setup : Setup) (scene : Scene) : Type 0 where
   pub setup_is : scene.setup ≡ Some setup
   pub stage : scene.stage ≡ Opening false
@@ -57,7 +57,7 @@ pub record IsNewRun (setup : Setup) (scene : Scene) : Type 0 where
   pub polls : scene.polls ≡ 0
   pub core_is : scene.core ≡ new_core setup
 
--- and nothing is owed yet
+-- Inner: and nothing is owed yet
 abbrev pub JustBegun : Setup → View → Type 0
 JustBegun setup v = (scene : Scene) × Owing scene [] [] v × IsNewRun setup scene
 
@@ -73,7 +73,7 @@ IsFromCrash setup run turns = (file : List ℕ) × (turns ≡ Crash file ∷ Sta
 abbrev pub IsStarted : Setup → List Turn → Type 0
 IsStarted setup turns = (run : List Turn) × IsQuiet run × (IsFromStart setup run turns ⊎ IsFromCrash setup run turns)
 
--- nothing, or the turns of one run with this setup
+-- Inner: nothing, or the turns of one run with this setup
 abbrev pub IsBegun : Setup → List Turn → Type 0
 IsBegun setup turns = (turns ≡ []) ⊎ IsStarted setup turns
 

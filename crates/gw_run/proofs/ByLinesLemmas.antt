@@ -1,15 +1,16 @@
 -- A log that plays a script to its end goes by its lines, and one that goes by its lines plays it.
 use Rattle.std.proofs.Common.{◌≡◌, ℕ, inl, inr, Bool, true, false, List, [], ◌∷◌, ◌++◌, refl, sym, ◌∙◌, ap, subst, arith, append_assoc}
 use Rattle.std.proofs.lemmas.Bool.{false_from_ne_true, leb-true, leb-false}
-use Rattle.std.specs.Prelude.{ℤ, pos, if◌then◌else◌, map, Result, Ok, Err}
+use Rattle.std.specs.Prelude.{ℤ, pos, not, if◌then◌else◌, map, Result, Ok, Err}
 use Rattle.std.specs.List.{AllByRecursion, flat_map}
 use Rattle.gw_base.specs.declared.setup.Setup.{Setup}
 use Rattle.gw_site.specs.Outside.{Outside, outside_after, outside_from, nothing_yet}
 use Rattle.gw_site.specs.declared.turn.Turn.{Turn}
 use Rattle.gw_site.specs.declared.turn.Turn.TheVariants.{Start, OpenFailed, Polled, Opened, HeardTill, Closed, HeardPt, Lost, Stopped, Linked, LinkFailed, SentTill, SentPt, CutTill, CutPt, Wrote, Synced, DiskFailed, Crash}
-use Rattle.gw_script.specs.Script.{Event, Open, Close, Say, Tick, PlayedLine, At, Poll, Script, script_of, script_setup}
+use Rattle.gw_script.specs.Decode.{Event, Open, Close, Say, Tick, PlayedLine, At, Poll, Script, script_of, script_setup}
 use Rattle.gw_rules.specs.Lawful.{IsLawful}
-use Rattle.gw_rules.specs.TurnSort.{IsQuiet}
+use Rattle.gw_site.specs.Sorts as sorts
+use Rattle.gw_site.specs.Sorts.{OpeningOutcome, CallOutcome, PowerFailure, IsQuiet}
 use Rattle.gw_script.specs.Plays.{Play, applies, brings, met, play_after, Fits, PlaysFrom, rests, begins, PlaysLines, PlaysRead}
 use Rattle.gw_run.specs.ScriptLog.{IsStopped, IsRunWith}
 use Rattle.gw_script.specs.ByLines.{IsSkipped, IsCall, IsPlayed, GoesBy, GoesByScript, Timed, timed, last_moment_of, AreSomeOf, event_of, poll_of}
@@ -114,14 +115,14 @@ idles (Closed till ∷ turns) o moment lines h t = absurd (not_due _ h.0)
 idles (HeardPt pt bytes ∷ turns) o moment lines h t = absurd (not_due _ h.0)
 idles (Lost pt ∷ turns) o moment lines h t = absurd (not_due _ h.0)
 idles (Stopped ∷ turns) o moment lines h t = absurd (not_due _ h.0)
-idles (Linked pt ∷ turns) o moment lines h t = call_first o moment lines (Linked pt) turns tt (idles turns (outside_after o (Linked pt)) moment lines h.1 (tail _ turns (λ e. cc) t))
+idles (Linked pt ∷ turns) o moment lines h t = call_first o moment lines (Linked pt) turns (refl, refl) (idles turns (outside_after o (Linked pt)) moment lines h.1 (tail _ turns (λ e. cc) t))
 idles (LinkFailed pt ∷ turns) o moment lines h t = absurd h.0
-idles (SentTill till bytes ok ∷ turns) o moment lines h t = call_first o moment lines (SentTill till bytes ok) turns h.0.1 (idles turns (outside_after o (SentTill till bytes ok)) moment lines h.1 (tail _ turns (λ e. cc) t))
-idles (SentPt pt bytes ok ∷ turns) o moment lines h t = call_first o moment lines (SentPt pt bytes ok) turns h.0.1 (idles turns (outside_after o (SentPt pt bytes ok)) moment lines h.1 (tail _ turns (λ e. cc) t))
-idles (CutTill till ∷ turns) o moment lines h t = call_first o moment lines (CutTill till) turns tt (idles turns (outside_after o (CutTill till)) moment lines h.1 (tail _ turns (λ e. cc) t))
-idles (CutPt pt ∷ turns) o moment lines h t = call_first o moment lines (CutPt pt) turns tt (idles turns (outside_after o (CutPt pt)) moment lines h.1 (tail _ turns (λ e. cc) t))
-idles (Wrote at bytes ∷ turns) o moment lines h t = call_first o moment lines (Wrote at bytes) turns tt (idles turns (outside_after o (Wrote at bytes)) moment lines h.1 (tail _ turns (λ e. cc) t))
-idles (Synced ∷ turns) o moment lines h t = call_first o moment lines Synced turns tt (idles turns (outside_after o Synced) moment lines h.1 (tail _ turns (λ e. cc) t))
+idles (SentTill till bytes ok ∷ turns) o moment lines h t = call_first o moment lines (SentTill till bytes ok) turns (refl, ap not h.0.1) (idles turns (outside_after o (SentTill till bytes ok)) moment lines h.1 (tail _ turns (λ e. cc) t))
+idles (SentPt pt bytes ok ∷ turns) o moment lines h t = call_first o moment lines (SentPt pt bytes ok) turns (refl, ap not h.0.1) (idles turns (outside_after o (SentPt pt bytes ok)) moment lines h.1 (tail _ turns (λ e. cc) t))
+idles (CutTill till ∷ turns) o moment lines h t = call_first o moment lines (CutTill till) turns (refl, refl) (idles turns (outside_after o (CutTill till)) moment lines h.1 (tail _ turns (λ e. cc) t))
+idles (CutPt pt ∷ turns) o moment lines h t = call_first o moment lines (CutPt pt) turns (refl, refl) (idles turns (outside_after o (CutPt pt)) moment lines h.1 (tail _ turns (λ e. cc) t))
+idles (Wrote at bytes ∷ turns) o moment lines h t = call_first o moment lines (Wrote at bytes) turns (refl, refl) (idles turns (outside_after o (Wrote at bytes)) moment lines h.1 (tail _ turns (λ e. cc) t))
+idles (Synced ∷ turns) o moment lines h t = call_first o moment lines Synced turns (refl, refl) (idles turns (outside_after o Synced) moment lines h.1 (tail _ turns (λ e. cc) t))
 idles (DiskFailed ∷ turns) o moment lines h t = absurd h.0
 idles (Crash file ∷ turns) o moment lines h t = absurd h.0
 
@@ -264,26 +265,30 @@ record Played (o : Outside) (moment : ℤ) (lines : List PlayedLine) (turns : Li
 stopped_more : (xs ys : List Turn) → IsStopped ys → IsStopped (xs ++ ys)
 stopped_more xs ys (prefix, e) = (xs ++ prefix, ap (λ l. xs ++ l) e ∙ sym (append_assoc xs prefix (Stopped ∷ [])))
 
+sent : (ok : Bool) → not ok ≡ false → ok ≡ true
+sent true e = refl
+sent false e = absurd (let h : true ≡ false = e in cc)
+
 call_fits : (o : Outside) (p : Play) (turn : Turn) → p.due ≡ [] → IsCall turn → Fits o p turn × (play_after o p turn ≡ p) × IsQuiet (turn ∷ [])
-call_fits o p (Start setup) idle is = absurd is
-call_fits o p OpenFailed idle is = absurd is
-call_fits o p (Polled now) idle is = absurd is
-call_fits o p (Opened till) idle is = absurd is
-call_fits o p (HeardTill till bytes) idle is = absurd is
-call_fits o p (Closed till) idle is = absurd is
-call_fits o p (HeardPt pt bytes) idle is = absurd is
-call_fits o p (Lost pt) idle is = absurd is
-call_fits o p Stopped idle is = absurd is
+call_fits o p (Start setup) idle is = absurd (let h : OpeningOutcome ≡ CallOutcome = is.0 in cc)
+call_fits o p OpenFailed idle is = absurd (let h : OpeningOutcome ≡ CallOutcome = is.0 in cc)
+call_fits o p (Polled now) idle is = absurd (let h : sorts.Poll ≡ CallOutcome = is.0 in cc)
+call_fits o p (Opened till) idle is = absurd (let h : sorts.Event ≡ CallOutcome = is.0 in cc)
+call_fits o p (HeardTill till bytes) idle is = absurd (let h : sorts.Event ≡ CallOutcome = is.0 in cc)
+call_fits o p (Closed till) idle is = absurd (let h : sorts.Event ≡ CallOutcome = is.0 in cc)
+call_fits o p (HeardPt pt bytes) idle is = absurd (let h : sorts.Event ≡ CallOutcome = is.0 in cc)
+call_fits o p (Lost pt) idle is = absurd (let h : sorts.Event ≡ CallOutcome = is.0 in cc)
+call_fits o p Stopped idle is = absurd (let h : sorts.Event ≡ CallOutcome = is.0 in cc)
 call_fits o p (Linked pt) idle is = (idle, refl, (refl, tt))
-call_fits o p (LinkFailed pt) idle is = absurd is
-call_fits o p (SentTill till bytes ok) idle is = ((idle, is), refl, (refl, tt))
-call_fits o p (SentPt pt bytes ok) idle is = ((idle, is), refl, (refl, tt))
+call_fits o p (LinkFailed pt) idle is = absurd (let h : true ≡ false = is.1 in cc)
+call_fits o p (SentTill till bytes ok) idle is = ((idle, sent ok is.1), refl, (refl, tt))
+call_fits o p (SentPt pt bytes ok) idle is = ((idle, sent ok is.1), refl, (refl, tt))
 call_fits o p (CutTill till) idle is = (idle, refl, (refl, tt))
 call_fits o p (CutPt pt) idle is = (idle, refl, (refl, tt))
 call_fits o p (Wrote at bytes) idle is = (idle, refl, (refl, tt))
 call_fits o p Synced idle is = (idle, refl, (refl, tt))
-call_fits o p DiskFailed idle is = absurd is
-call_fits o p (Crash file) idle is = absurd is
+call_fits o p DiskFailed idle is = absurd (let h : true ≡ false = is.1 in cc)
+call_fits o p (Crash file) idle is = absurd (let h : PowerFailure ≡ CallOutcome = is.0 in cc)
 
 calls_play : (calls later : List Turn) (o : Outside) (p : Play) → p.due ≡ [] → AreCalls calls → PlaysFrom (outside_from o calls) p later → PlaysFrom o p (calls ++ later)
 calls_play [] later o p idle are h = h
@@ -395,31 +400,16 @@ log-has-script text log x = script_read (script_of text) log x.plays
 
 -- ---- its events and its polls
 
+-- a call is no event and no poll
+call_silent : (call : Turn) → IsCall call → (event_of call ≡ []) × (poll_of call ≡ [])
+call_silent call is = (rw is.0 refl, rw is.0 refl)
+
 calls_silent : (calls later : List Turn) → AreCalls calls → (flat_map event_of (calls ++ later) ≡ flat_map event_of later) × (flat_map poll_of (calls ++ later) ≡ flat_map poll_of later)
 calls_silent [] later are = (refl, refl)
-calls_silent (call ∷ calls) later are = let rest = calls_silent calls later are.1 in by_call call are.0 rest
-  where
-    by_call : (call : Turn) → IsCall call → (flat_map event_of (calls ++ later) ≡ flat_map event_of later) × (flat_map poll_of (calls ++ later) ≡ flat_map poll_of later)
-        → (flat_map event_of (call ∷ (calls ++ later)) ≡ flat_map event_of later) × (flat_map poll_of (call ∷ (calls ++ later)) ≡ flat_map poll_of later)
-    by_call (Start setup) is rest = absurd is
-    by_call OpenFailed is rest = absurd is
-    by_call (Polled now) is rest = absurd is
-    by_call (Opened till) is rest = absurd is
-    by_call (HeardTill till bytes) is rest = absurd is
-    by_call (Closed till) is rest = absurd is
-    by_call (HeardPt pt bytes) is rest = absurd is
-    by_call (Lost pt) is rest = absurd is
-    by_call Stopped is rest = absurd is
-    by_call (Linked pt) is rest = rest
-    by_call (LinkFailed pt) is rest = absurd is
-    by_call (SentTill till bytes ok) is rest = rest
-    by_call (SentPt pt bytes ok) is rest = rest
-    by_call (CutTill till) is rest = rest
-    by_call (CutPt pt) is rest = rest
-    by_call (Wrote at bytes) is rest = rest
-    by_call Synced is rest = rest
-    by_call DiskFailed is rest = absurd is
-    by_call (Crash file) is rest = absurd is
+calls_silent (call ∷ calls) later are =
+    let rest = calls_silent calls later are.1 in
+    let none = call_silent call are.0 in
+    (ap (λ l. l ++ flat_map event_of (calls ++ later)) none.0 ∙ rest.0, ap (λ l. l ++ flat_map poll_of (calls ++ later)) none.1 ∙ rest.1)
 
 event_heard : (event : Event) (later : List Turn) → (flat_map event_of (brings event ++ later) ≡ brings event ++ flat_map event_of later) × (flat_map poll_of (brings event ++ later) ≡ flat_map poll_of later)
 event_heard (Open till) later = (refl, refl)
@@ -432,7 +422,7 @@ record GivesTurns (moment : ℤ) (lines : List PlayedLine) (turns : List Turn) :
   played : List Timed
   of_lines : AreSomeOf played (timed moment lines)
   events : flat_map event_of turns ≡ flat_map (λ (line : Timed). brings line.event) played ++ Stopped ∷ []
-  moments : flat_map poll_of turns ≡ map (λ (line : Timed). line.moment) played ++ last_moment_of moment lines ∷ []
+  polls : flat_map poll_of turns ≡ map (λ (line : Timed). Polled line.moment) played ++ Polled (last_moment_of moment lines) ∷ []
 
 some_more : (these : List Timed) (other : Timed) (those : List Timed) → AreSomeOf these those → AreSomeOf these (other ∷ those)
 some_more [] other those h = tt
@@ -447,15 +437,15 @@ gives_event o moment event lines turns x later =
       played = line ∷ later.played;
       of_lines = inl (refl, later.of_lines);
       events = ap (flat_map event_of) x.turns_are ∙ heard.0 ∙ ap (λ l. brings event ++ l) (silent.0 ∙ later.events) ∙ sym (append_assoc (brings event) _ (Stopped ∷ []));
-      moments = ap (flat_map poll_of) x.turns_are ∙ ap (λ l. moment ∷ l) (heard.1 ∙ silent.1 ∙ later.moments);
+      polls = ap (flat_map poll_of) x.turns_are ∙ ap (λ l. Polled moment ∷ l) (heard.1 ∙ silent.1 ∙ later.polls);
     }
 
 gives : (lines : List PlayedLine) (o : Outside) (moment : ℤ) (turns : List Turn) → GoesBy o moment lines turns → GivesTurns moment lines turns
-gives [] o moment turns e = record { played = []; of_lines = tt; events = ap (flat_map event_of) e; moments = ap (flat_map poll_of) e }
-gives (At now ∷ lines) o moment turns h = let g = gives lines o now turns h in record { played = g.played; of_lines = g.of_lines; events = g.events; moments = g.moments }
+gives [] o moment turns e = record { played = []; of_lines = tt; events = ap (flat_map event_of) e; polls = ap (flat_map poll_of) e }
+gives (At now ∷ lines) o moment turns h = let g = gives lines o now turns h in record { played = g.played; of_lines = g.of_lines; events = g.events; polls = g.polls }
 gives (Poll event ∷ lines) o moment turns (inl (is, h)) =
     let g = gives lines o moment turns h in
-    record { played = g.played; of_lines = some_more g.played _ (timed moment lines) g.of_lines; events = g.events; moments = g.moments }
+    record { played = g.played; of_lines = some_more g.played _ (timed moment lines) g.of_lines; events = g.events; polls = g.polls }
 gives (Poll event ∷ lines) o moment turns (inr x) = gives_event o moment event lines turns x (gives lines (outside_from o (Polled moment ∷ (brings event ++ x.calls))) moment x.later x.goes_on)
 
 pub log-has-events : LogHasEvents
@@ -467,5 +457,5 @@ log-has-events text script log e x =
       played = all.played;
       of_lines = all.of_lines;
       events = ap (flat_map event_of) g.log_is ∙ silent.0 ∙ all.events;
-      moments = ap (flat_map poll_of) g.log_is ∙ silent.1 ∙ all.moments;
+      polls = ap (flat_map poll_of) g.log_is ∙ silent.1 ∙ all.polls;
     }

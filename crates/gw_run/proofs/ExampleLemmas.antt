@@ -6,13 +6,15 @@ use Rattle.std.specs.Fmt.{digits}
 use lib.Utf8.{encode}
 use Rattle.sale_frame.specs.Grammar.{frame}
 use Rattle.gw_site.specs.declared.turn.Turn.TheVariants.{Start, Polled, Opened, HeardTill, SentTill}
-use Rattle.gw_script.specs.Script.{Open, Say, Poll, Script, script_of, script_setup}
+use Rattle.gw_script.specs.Decode.{Open, Say, Poll, Script, script_of, script_setup}
 use Rattle.gw_script.specs.Plays.{PlaysLines, PlaysRead}
 use Rattle.gw_rules.specs.View.{view_from, at_first}
 use Rattle.gw_rules.specs.Example.{status_request, status_reply, status_log, status_course}
+use Rattle.gw_rules.specs.RowExample.{terminal_setup}
 use Rattle.gw_rules.proofs.ExampleLemmas.{status-lawful}
+use Rattle.gw_rules.proofs.RowExampleLemmas.{unserved-lawful}
 use Rattle.gw_run.specs.ScriptLog.{IsRunRead}
-use Rattle.gw_run.specs.Example.{status_script, StatusIsOfScript, StatusHasText}
+use Rattle.gw_run.specs.Example.{status_script, StatusIsOfScript, StatusHasText, UnservedIsOfLines}
 
 -- the script that was read
 abbrev status_read : Script
@@ -36,3 +38,11 @@ status-of-script = record {
 pub status-has-text : StatusHasText
 unfolding status_request status_reply digits
 status-has-text = refl
+
+pub unserved-of-lines : UnservedIsOfLines
+unserved-of-lines = record {
+  lawful = unserved-lawful;
+  plays = (refl, ((refl, refl), ((refl, refl), (refl, tt))));
+  one_run = (_, refl, (refl, (refl, (refl, tt))));
+  stopped = (Start terminal_setup ∷ Polled (pos 0) ∷ Polled (pos 1) ∷ [], refl);
+}

@@ -1,3 +1,4 @@
+-- The lemmas of the top call: scripts read and played, the text of a log, and its end.
 pub mod ByLinesLemmas
 pub mod EndLemmas
 pub mod ExampleLemmas

@@ -6,7 +6,7 @@ use Rattle.std.proofs.lemmas.Str.Pattern.{IsSplitOnceResult, split_once_first}
 use Rattle.std.specs.Borrow.{Bor}
 use Rattle.std.specs.Prelude.{Bool, Option, Some, None, MatchOption}
 use Rattle.std.specs.Str.{IsUtf8, is_utf8}
-use Rattle.gw_script.specs.Script.{WordAndRest, split_at_space, with_first_of_word}
+use Rattle.gw_script.specs.Decode.{WordAndRest, split_at_space, with_first_of_word}
 use Rattle.gw_run.proofs.SplitLemmas.{offset_of, offset_here, offset_later, take_later, drop_later}
 
 -- the two parts of a text at this offset

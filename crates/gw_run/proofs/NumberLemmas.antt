@@ -4,7 +4,7 @@ use Rattle.std.proofs.lemmas.Str.Parse.{numerals_by_value, tells_digits, parse_p
 use Rattle.std.specs.Str.Parse.{AllDigits, digits_value, ParsesUnsigned}
 use Rattle.std.specs.Result.{OkIff, result_ok}
 use Rattle.std.specs.Prelude.{◌≢◌, Option, Some, None, Result, Ok, Err}
-use Rattle.gw_script.specs.Script.{more_digits, number}
+use Rattle.gw_script.specs.Decode.{more_digits, number}
 use Rattle.gw_script.proofs.NumberLemmas.{IsRead, more_read, number_plain, read_more}
 
 read_from : {E : Type 0} (word : List ℕ) (r : Result ℕ E) → 0 < length word → OkIff r (AllDigits 10 word × (0 < length word) × (digits_value 10 word < 2 ^ 64)) (digits_value 10 word) → result_ok r ≡ more_digits 0 word

@@ -6,20 +6,20 @@ use Rattle.gw_site.specs.Outside.{Outside, outside_after, nothing_yet}
 use Rattle.gw_site.specs.declared.turn.Turn.{Turn}
 use Rattle.gw_site.specs.declared.turn.Turn.TheVariants.{Start, OpenFailed, Polled, Opened, HeardTill, Closed, HeardPt, Lost, Stopped, Linked, LinkFailed, SentTill, SentPt, CutTill, CutPt, Wrote, Synced, DiskFailed, Crash}
 use Rattle.jrn_record.specs.Grammar.{record_body}
-use Rattle.jrn_log.specs.JournalTurns.{body_write, gate_write}
+use Rattle.jrn_log.specs.JournalTurns.{body_write, gate_write, first_gate_write}
 use Rattle.gw_owes.specs.Calls as calls
 use Rattle.gw_owes.specs.Calls.{OwedCall, SendTill, SendPt, LinkPt, WriteBody, WriteGate, WriteFirstGate, Sync, sending_bytes, write_turn}
 use Rattle.gw_owes.specs.ReadAs.{ReadAs, IsReadAs}
 use Rattle.gw_owes.specs.Reply.{reply_value_bytes}
 use Rattle.gw_owes.proofs.ReadLemmas.{reads-one}
 use Rattle.gw_rules.specs.Stage.{Stage, AtPoll, Handling, Over, is_running, busy}
-use Rattle.gw_rules.specs.TurnSort.{is_between, IsQuiet}
+use Rattle.gw_site.specs.Sorts.{is_between, IsQuiet}
 use Rattle.gw_rules.specs.View.{View, Move, Begin, Read, Make, after, after_turn, view_from, at_first}
 use Rattle.gw_rules.specs.Lawful.{AllowedTurn, Begins, IsRead, IsIdle, IsCourse, turns_of, IsLawful, IsNext, first_call, first_message, may_begin}
-use Rattle.gw_script.specs.Script.{PlayedLine, Script, script_of, script_setup}
+use Rattle.gw_script.specs.Decode.{PlayedLine, Script, script_of, script_setup}
 use Rattle.gw_script.specs.Plays.{Play, Fits, PlaysFrom, play_after, after_poll, begins, PlaysLines, PlaysRead}
 use Rattle.gw_run.specs.ScriptLog.{IsStopped, IsRunWith, IsRunRead}
-use Rattle.gw_run.specs.Laws.{OneLog}
+use Rattle.gw_run.specs.Laws.{OneLog, OneLogOfLines}
 use Rattle.gw_run.proofs.EndLemmas.{OverCalm, over-turn, idle-over, busy-over, begin-over, begin-stage}
 
 -- ---- the turn that may come
@@ -33,7 +33,7 @@ outcome (calls.CutPt pt) = CutPt pt
 outcome (LinkPt pt) = Linked pt
 outcome (WriteBody slot item) = body_write slot (record_body item)
 outcome (WriteGate slot item) = gate_write slot
-outcome WriteFirstGate = Wrote 0 (0 ∷ [])
+outcome WriteFirstGate = first_gate_write
 outcome Sync = Synced
 
 some-turn : (first turn : Turn) → Some first ≡ Some turn → turn ≡ first
@@ -48,7 +48,7 @@ write-outcome (calls.CutPt pt) turn e = absurd (let h : None ≡ Some turn = e i
 write-outcome (LinkPt pt) turn e = absurd (let h : None ≡ Some turn = e in cc)
 write-outcome (WriteBody slot item) turn e = some-turn (body_write slot (record_body item)) turn e
 write-outcome (WriteGate slot item) turn e = some-turn (gate_write slot) turn e
-write-outcome WriteFirstGate turn e = some-turn (Wrote 0 (0 ∷ [])) turn e
+write-outcome WriteFirstGate turn e = some-turn first_gate_write turn e
 write-outcome Sync turn e = absurd (let h : None ≡ Some turn = e in cc)
 
 -- the one turn that may come: the event that is due, else the outcome of the first call that is owed, else a poll
@@ -328,12 +328,15 @@ run-of setup lines log (v, s) plays one stopped = run-from setup lines s.course 
 start-calm : (setup : Setup) → OverCalm (after_turn at_first (Start setup))
 start-calm setup e = refl
 
+pub one-of-lines : OneLogOfLines
+one-of-lines setup lines log other one two =
+    let x = run-of setup lines log one.lawful one.plays one.one_run one.stopped in
+    let y = run-of setup lines other two.lawful two.plays two.one_run two.stopped in
+    x.log_is ∙ ap (λ run. Start setup ∷ run) (same-turns _ _ _ x.moves y.moves (start-calm setup) x.rest y.rest) ∙ sym y.log_is
+
 one-by : (read : Result Script ℕ) (log other : List Turn) → PlaysRead read log → PlaysRead read other → IsLawful log → IsLawful other → IsRunRead read log → IsRunRead read other → IsStopped log → IsStopped other → log ≡ other
 one-by (Ok script) log other p q lawful lawful2 one one2 stopped stopped2 =
-    let setup = script_setup script.name in
-    let x = run-of setup script.lines log lawful p one stopped in
-    let y = run-of setup script.lines other lawful2 q one2 stopped2 in
-    x.log_is ∙ ap (λ run. Start setup ∷ run) (same-turns _ _ _ x.moves y.moves (start-calm setup) x.rest y.rest) ∙ sym y.log_is
+    one-of-lines (script_setup script.name) script.lines log other (record { lawful = lawful; plays = p; one_run = one; stopped = stopped }) (record { lawful = lawful2; plays = q; one_run = one2; stopped = stopped2 })
 one-by (Err number) log other p q lawful lawful2 one one2 stopped stopped2 = absurd p
 
 pub one-log : OneLog

@@ -5,7 +5,7 @@ use Rattle.gw_site.specs.Outside.{Outside, Connection as OpenedConnection, is_co
 use Rattle.gw_site.specs.declared.turn.Turn.{Turn}
 use Rattle.gw_site.specs.declared.turn.Turn.TheVariants.{Polled}
 use Rattle.gw_script.specs.Plays.{Play, Fits, PlaysFrom, PlaysLines, applies, begins, brings, met, play_after, play_from, play_of, rests}
-use Rattle.gw_script.specs.Script.{Event, Open, Close, Say, Tick, PlayedLine, At, Poll}
+use Rattle.gw_script.specs.Decode.{Event, Open, Close, Say, Tick, PlayedLine, At, Poll}
 use Rattle.gw_run.specs.PlayerMet.{MayCome}
 use Rattle.gw_run.specs.PlayerTills.{next_after, numbers_of, outside_with}
 

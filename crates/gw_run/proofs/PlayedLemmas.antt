@@ -1,4 +1,4 @@
--- What a play of a script has written.
+-- What a play of a script has printed.
 use Rattle.std.proofs.Common.{◌≡◌, ℕ, ◌<◌, List, [], ◌∷◌, ◌++◌, length, refl, sym, ◌∙◌, ap, subst, arith, append_assoc, inl, inr, true, false}
 use Rattle.std.specs.Prelude.{◌⊎◌, Bool, not, Option, Some, Result, Ok, Err}
 use Rattle.gw_base.specs.declared.setup.Setup.{Setup}
@@ -7,22 +7,22 @@ use Rattle.gw_site.specs.Observed.{Observed}
 use Rattle.gw_site.specs.Outside.{Outside, outside_after, nothing_yet}
 use Rattle.gw_site.specs.declared.turn.Turn.{Turn}
 use Rattle.gw_site.specs.declared.turn.Turn.TheVariants.{Start, Stopped}
-use Rattle.gw_rules.specs.TurnSort.{IsQuiet}
+use Rattle.gw_site.specs.Sorts.{IsQuiet}
 use Rattle.gw_rules.specs.Lawful.{IsClear, Stands}
 use Rattle.gw_rules.specs.View.{View, at_first}
 use Rattle.gw_rules.specs.Triple.{IsRun, RunTriple, Ran}
 use Rattle.gw_script.specs.LogText.{log_text}
 use Rattle.gw_script.specs.Plays.{Play, Plays, PlaysFrom, PlaysRead, PlaysLines, play_after, begins}
 use Rattle.gw_run.specs.ScriptLog.{IsOneRun, IsRunRead, IsRunWith, IsStopped}
-use Rattle.gw_script.specs.Script.{PlayedLine, Script, script_of, script_setup}
+use Rattle.gw_script.specs.Decode.{PlayedLine, Script, script_of, script_setup}
 use Rattle.gw_run.proofs.EndLemmas.{over-ends, polls-most}
 use Rattle.gw_rules.proofs.PrefixLemmas.{prefix-lawful}
-use Rattle.gw_run.specs.Top.{IsAtMostOneRun, IsInput, Writes, tail_of}
-use Rattle.gw_run.specs.Replay.{GivesName, IsFresh, IsPlayOf, WritesTail, IsReportedEnd, IsPlayEnd, NamesLine, PlayOut, PlayWritten}
+use Rattle.gw_run.specs.Top.{IsAtMostOneRun, IsInput, Prints, Printed, tail_of}
+use Rattle.gw_run.specs.Replay.{GivesName, IsFresh, IsPlayOf, WritesTail, IsReportedEnd, IsPlayEnd, NamesLine, PlayPrinted}
 use Rattle.gw_dispatch.specs.RunEnd.{EndedBy}
 use Rattle.gw_dispatch.specs.declared.engine.Ended.TheVariants.{Done}
 use Rattle.gw_run.specs.declared.ending.Ending.{Ending}
-use Rattle.gw_run.specs.declared.ending.Ending.TheVariants.{Played, Words, Long, Line as AtLine, Input, Memory, OutputFailed}
+use Rattle.gw_run.specs.declared.ending.Ending.TheVariants.{Played, Memory, OutputFailed}
 
 -- what one run of the engine adds, where it plays a script, is one run or nothing
 run-lines : (setup : Setup) (lines : List PlayedLine) (log : List Turn) → PlaysLines lines log → IsRun setup log → (log ≡ []) ⊎ IsRunWith setup log
@@ -87,15 +87,6 @@ pub done-stops : (log : List Turn) (most : ℕ) (v : View) → Stands log v → 
 done-stops log most v s few (inl over) = over-ends log v s over
 done-stops log most v s few (inr all) = absurd (let h = polls-most log v s in let e = all.polls in omega arith)
 
-written-of : (ending : Ending) (input : Option (List ℕ)) (text : List ℕ) → Writes ending input text → PlayOut ending input text
-written-of Played input text h = h
-written-of Words input text h = h
-written-of Long input text h = h
-written-of (AtLine line) input text h = h
-written-of Input input text h = h
-written-of Memory input text h = h
-written-of OutputFailed input text h = absurd h
-
 one-run-of : (text : List ℕ) (log : List Turn) → IsAtMostOneRun text log → IsStopped log → IsOneRun text log
 one-run-of text log (inl none) (prefix, e) = absurd (none-stops prefix (sym none ∙ e)) where
   none-stops : (prefix : List Turn) → [] ≡ prefix ++ Stopped ∷ [] → ⊥
@@ -103,8 +94,8 @@ one-run-of text log (inl none) (prefix, e) = absurd (none-stops prefix (sym none
   none-stops (turn ∷ prefix) h = cc
 one-run-of text log (inr one) s = one
 
--- what is written of a log that was played whole
-pub whole-text : (script : List ℕ) (input : Option (List ℕ)) (log : List Turn) → IsInput input script → IsPlayOf script true log → Writes Played input (log_text log ++ tail_of Played)
+-- what is printed of a log that was played whole
+pub whole-text : (script : List ℕ) (input : Option (List ℕ)) (log : List Turn) → IsInput input script → IsPlayOf script true log → Prints Played input (log_text log ++ tail_of Played)
 whole-text script input log i p = record {
   script = script;
   log = log;
@@ -113,26 +104,29 @@ whole-text script input log i p = record {
   is = refl;
 }
 
--- what is written of a log that was played in part
-pub part-text : (script : List ℕ) (input : Option (List ℕ)) (whole : Bool) (log : List Turn) → IsInput input script → IsPlayOf script whole log → Writes Memory input (log_text log ++ tail_of Memory)
+-- what is printed of a log that was played in part
+pub part-text : (script : List ℕ) (input : Option (List ℕ)) (whole : Bool) (log : List Turn) → IsInput input script → IsPlayOf script whole log → Prints Memory input (log_text log ++ tail_of Memory)
 part-text script input whole log i p = inr (record { script = script; log = log; input_is = i; lawful = p.lawful; plays = p.plays; one_run = p.one_run; is = refl })
 
 prefix-prefix : (text added tail : List ℕ) → IsPrefix added tail → IsPrefix (text ++ added) (text ++ tail)
 prefix-prefix text added tail (rest, e) = (rest, ap (λ t. text ++ t) e ∙ sym (append_assoc text added rest))
 
 -- the lines after a text, written in full or in part
-pub observed-after : (ending result : Ending) (input : Option (List ℕ)) (text added : List ℕ)
-    → (NamesLine ending → ⊥) → IsPlayEnd ending → Writes ending input (text ++ tail_of ending) → WritesTail ending result added → PlayOut result input (text ++ added)
-observed-after ending result input text added never end w (inl (same, all)) = rw (same, all) (written-of ending input (text ++ tail_of ending) w)
-observed-after ending result input text added never end w (inr (inl (m, names, a))) = absurd (never names)
-observed-after ending result input text added never end w (inr (inr (failed, (observed, inl same, prefix)))) = rw failed (record {
-  ending = ending;
-  whole = text ++ tail_of ending;
-  end = end;
-  writes = w;
-  prefix = prefix-prefix text added (tail_of ending) (rw same at prefix);
-})
-observed-after ending result input text added never end w (inr (inr (failed, (observed, inr other, prefix)))) = absurd (never other.1)
+pub printed-after : (ending result : Ending) (input : Option (List ℕ)) (text added : List ℕ)
+    → (NamesLine ending → ⊥) → IsPlayEnd ending → Prints ending input (text ++ tail_of ending) → WritesTail ending result added → Printed IsPlayEnd input result (text ++ added)
+printed-after ending result input text added never end w (inl (same, all)) = rw (same, all) (inl w)
+printed-after ending result input text added never end w (inr (inl (m, names, a))) = absurd (never names)
+printed-after ending result input text added never end w (inr (inr (failed, (observed, inl same, prefix)))) = inr (
+  failed,
+  record {
+    ending = ending;
+    whole = text ++ tail_of ending;
+    could = end;
+    prints = w;
+    prefix = prefix-prefix text added (tail_of ending) (rw same at prefix);
+  },
+)
+printed-after ending result input text added never end w (inr (inr (failed, (observed, inr other, prefix)))) = absurd (never other.1)
 
 played-line : NamesLine Played → ⊥
 played-line (line, e) = cc
@@ -141,22 +135,25 @@ memory-line : NamesLine Memory → ⊥
 memory-line (line, e) = cc
 
 -- the log was written, and the lines after it
-pub log-observed : (script : List ℕ) (whole : Bool) (ending result : Ending) (log : List Turn) (first added : List ℕ)
-    → ((whole ≡ true) × (ending ≡ Played)) ⊎ (ending ≡ Memory) → IsPlayOf script whole log → first ≡ log_text log → WritesTail ending result added → PlayWritten script result (first ++ added)
-log-observed script whole ending result log first added (inl (w, e)) p f t = λ input i.
-    subst (λ l. PlayOut result input (l ++ added)) (sym f) (observed-after Played result input (log_text log) added played-line tt (whole-text script input log i (rw w at p)) (rw e at t))
-log-observed script whole ending result log first added (inr e) p f t = λ input i.
-    subst (λ l. PlayOut result input (l ++ added)) (sym f) (observed-after Memory result input (log_text log) added memory-line tt (part-text script input whole log i p) (rw e at t))
+pub log-printed : (script : List ℕ) (whole : Bool) (ending result : Ending) (log : List Turn) (first added : List ℕ)
+    → ((whole ≡ true) × (ending ≡ Played)) ⊎ (ending ≡ Memory) → IsPlayOf script whole log → first ≡ log_text log → WritesTail ending result added → PlayPrinted script result (first ++ added)
+log-printed script whole ending result log first added (inl (w, e)) p f t = λ input i.
+    subst (λ l. Printed IsPlayEnd input result (l ++ added)) (sym f) (printed-after Played result input (log_text log) added played-line tt (whole-text script input log i (rw w at p)) (rw e at t))
+log-printed script whole ending result log first added (inr e) p f t = λ input i.
+    subst (λ l. Printed IsPlayEnd input result (l ++ added)) (sym f) (printed-after Memory result input (log_text log) added memory-line tt (part-text script input whole log i p) (rw e at t))
 
 -- a prefix of the log's text was written, and then no more
-pub log-unwritten : (script : List ℕ) (whole : Bool) (log : List Turn) (added : List ℕ) → IsPlayOf script whole log → IsPrefix added (log_text log) → PlayWritten script OutputFailed added
-log-unwritten script whole log added p (rest, e) = λ input i. record {
-  ending = Memory;
-  whole = log_text log ++ tail_of Memory;
-  end = tt;
-  writes = part-text script input whole log i p;
-  prefix = (rest ++ tail_of Memory, ap (λ t. t ++ tail_of Memory) e ∙ append_assoc added rest (tail_of Memory));
-}
+pub log-unprinted : (script : List ℕ) (whole : Bool) (log : List Turn) (added : List ℕ) → IsPlayOf script whole log → IsPrefix added (log_text log) → PlayPrinted script OutputFailed added
+log-unprinted script whole log added p (rest, e) = λ input i. inr (
+  refl,
+  record {
+    ending = Memory;
+    whole = log_text log ++ tail_of Memory;
+    could = tt;
+    prints = part-text script input whole log i p;
+    prefix = (rest ++ tail_of Memory, ap (λ t. t ++ tail_of Memory) e ∙ append_assoc added rest (tail_of Memory));
+  },
+)
 
 -- a play ends so
 pub observed-play-end : (ending result : Ending) → IsPlayEnd ending → IsReportedEnd ending result → IsPlayEnd result

@@ -1,10 +1,10 @@
--- What a replay has written, and why it ended so.
+-- What a replay has printed, and why it ended so.
 use Rattle.std.proofs.Common.{◌≡◌, ℕ, ◌≤◌, List, length, refl, sym, ◌∙◌, ap, arith, inl, inr}
 use Rattle.std.specs.Prelude.{◌⊎◌, Option, Some, None, Ok, Err}
 use Rattle.gw_bytes.specs.Bytes.{IsPrefix}
-use Rattle.gw_script.specs.Script.{Script, script_limit, script_of}
-use Rattle.gw_run.specs.Top.{Stream, Cause, HasRisen, IfBytesObserved, IsAccepted, IsReadWhole, IsScript, IsScriptLeft, Writes, WritesPrefix, Written, status_of, tail_of}
-use Rattle.gw_run.specs.Replay.{IsInputFault, IsInputRead, IsPlayEnd, WritesTail, IsReportedEnd, NamesLine, PlayOut}
+use Rattle.gw_script.specs.Decode.{Script, script_limit, script_of}
+use Rattle.gw_run.specs.Top.{Stream, Cause, HasRisen, IfBytesObserved, IsAccepted, IsReadWhole, IsScript, IsScriptLeft, Prints, PrintsPrefix, Printed, status_of, tail_of}
+use Rattle.gw_run.specs.Replay.{IsInputFault, IsInputRead, IsPlayEnd, WritesTail, IsReportedEnd, NamesLine}
 use Rattle.gw_run.specs.declared.ending.Ending.{Ending}
 use Rattle.gw_run.specs.declared.ending.Ending.TheVariants.{Played, Words, Long, Line as AtLine, Input, Memory, OutputFailed}
 
@@ -18,46 +18,29 @@ IsFault Input = Unit {0}
 IsFault Memory = Unit {0}
 IsFault OutputFailed = ⊥
 
-lines-written : (ending : Ending) (words : List (List ℕ)) (input out : Stream) → IsFault ending → Written ending words input out (tail_of ending)
-lines-written Words words input out h = refl
-lines-written Long words input out h = refl
-lines-written (AtLine line) words input out h = refl
-lines-written Input words input out h = refl
-lines-written Memory words input out h = inl refl
-lines-written Played words input out h = absurd h
-lines-written OutputFailed words input out h = absurd h
+-- the lines of a fault are what the table says of it
+fault-lines : (ending : Ending) (input : Option (List ℕ)) → IsFault ending → Prints ending input (tail_of ending)
+fault-lines Words input h = refl
+fault-lines Long input h = refl
+fault-lines (AtLine line) input h = refl
+fault-lines Input input h = refl
+fault-lines Memory input h = inl refl
+fault-lines Played input h = absurd h
+fault-lines OutputFailed input h = absurd h
 
-lines-whole : (ending : Ending) (input : Option (List ℕ)) → IsFault ending → Writes ending input (tail_of ending)
-lines-whole Words input h = refl
-lines-whole Long input h = refl
-lines-whole (AtLine line) input h = refl
-lines-whole Input input h = refl
-lines-whole Memory input h = inl refl
-lines-whole Played input h = absurd h
-lines-whole OutputFailed input h = absurd h
-
-lines-prefix : (ending : Ending) (words : List (List ℕ)) (input out : Stream) (added : List ℕ)
-    → IsFault ending → Cause ending words input out → IsPrefix added (tail_of ending) → WritesPrefix words input out added
-lines-prefix ending words input out added h cause prefix = record { ending = ending; whole = tail_of ending; cause = cause; writes = lines-whole ending input.before h; prefix = prefix }
-
-words-line : NamesLine Words → ⊥
-words-line (line, e) = cc
+fault-prefix : (Could : Ending → Type 0) (ending : Ending) (input : Option (List ℕ)) (added : List ℕ)
+    → IsFault ending → Could ending → IsPrefix added (tail_of ending) → PrintsPrefix Could input added
+fault-prefix Could ending input added h could prefix = record { ending = ending; whole = tail_of ending; could = could; prints = fault-lines ending input h; prefix = prefix }
 
 -- the lines of a fault that words accepted may meet, in full or in part
-pub fault-observed : (ending result : Ending) (words : List (List ℕ)) (input out : Stream) (added : List ℕ)
-    → IsFault ending → IsAccepted words → Cause ending words input out → WritesTail ending result added → Written result words input out added
-fault-observed ending result words input out added h acc cause (inl (same, all)) = rw (same, all) (lines-written ending words input out h)
-fault-observed ending result words input out added h acc cause (inr (inl (m, names, a))) = rw m (inl a)
-fault-observed ending result words input out added h acc cause (inr (inr (failed, (observed, inl same, prefix)))) = rw failed (lines-prefix ending words input out added h cause (rw same at prefix))
-fault-observed ending result words input out added h acc cause (inr (inr (failed, (observed, inr other, prefix)))) = rw failed (lines-prefix Memory words input out added tt acc (rw other.0 at prefix))
-
--- the lines for refused words, in full or in part
-pub words-observed : (result : Ending) (words : List (List ℕ)) (input out : Stream) (added : List ℕ)
-    → (IsAccepted words → ⊥) → WritesTail Words result added → Written result words input out added
-words-observed result words input out added never (inl (same, all)) = rw (same, all) refl
-words-observed result words input out added never (inr (inl (m, names, a))) = absurd (words-line names)
-words-observed result words input out added never (inr (inr (failed, (observed, inl same, prefix)))) = rw failed (lines-prefix Words words input out added tt never (rw same at prefix))
-words-observed result words input out added never (inr (inr (failed, (observed, inr other, prefix)))) = absurd (words-line other.1)
+pub fault-printed : (ending result : Ending) (words : List (List ℕ)) (input out : Stream) (added : List ℕ)
+    → IsFault ending → IsAccepted words → Cause ending words input out → WritesTail ending result added → Printed (λ other. Cause other words input out) input.before result added
+fault-printed ending result words input out added h acc cause (inl (same, all)) = rw (same, all) (inl (fault-lines ending input.before h))
+fault-printed ending result words input out added h acc cause (inr (inl (m, names, a))) = rw m (inl (inl a))
+fault-printed ending result words input out added h acc cause (inr (inr (failed, (observed, inl same, prefix)))) =
+    inr (failed, fault-prefix (λ other. Cause other words input out) ending input.before added h cause (rw same at prefix))
+fault-printed ending result words input out added h acc cause (inr (inr (failed, (observed, inr other, prefix)))) =
+    inr (failed, fault-prefix (λ other. Cause other words input out) Memory input.before added tt acc (rw other.0 at prefix))
 
 -- the cause of the end that is reported is that of the end, or no memory, or a failed write
 pub observed-cause : (ending result : Ending) (words : List (List ℕ)) (input out : Stream)
@@ -65,13 +48,6 @@ pub observed-cause : (ending result : Ending) (words : List (List ℕ)) (input o
 observed-cause ending result words input out acc cause failed (inl same) = rw same cause
 observed-cause ending result words input out acc cause failed (inr (inl (memory, names))) = rw memory acc
 observed-cause ending result words input out acc cause failed (inr (inr e)) = rw e (failed e)
-
--- the cause of the end where the words are refused
-pub words-cause : (result : Ending) (words : List (List ℕ)) (input out : Stream)
-    → (IsAccepted words → ⊥) → (result ≡ OutputFailed → HasRisen out) → IsReportedEnd Words result → Cause result words input out
-words-cause result words input out never failed (inl same) = rw same never
-words-cause result words input out never failed (inr (inl (memory, names))) = absurd (words-line names)
-words-cause result words input out never failed (inr (inr e)) = rw e (failed e)
 
 -- a text that was read as a script is one
 pub is-script : (text all : List ℕ) (script : Script) → text ≡ all → length all ≤ script_limit → script_of text ≡ Ok script → IsScript all
@@ -89,7 +65,7 @@ play-cause (AtLine line) words input out acc read failed end = absurd end
 play-cause Input words input out acc read failed end = absurd end
 
 prefix-cause : (ending : Ending) (words : List (List ℕ)) (input out : Stream) (text : List ℕ)
-    → IsAccepted words → IsReadWhole input IsScript → IsPlayEnd ending → Writes ending input.before text → Cause ending words input out
+    → IsAccepted words → IsReadWhole input IsScript → IsPlayEnd ending → Prints ending input.before text → Cause ending words input out
 prefix-cause Played words input out text acc read end w = (acc, read)
 prefix-cause Memory words input out text acc read end w = acc
 prefix-cause OutputFailed words input out text acc read end w = absurd w
@@ -98,22 +74,20 @@ prefix-cause Long words input out text acc read end w = absurd end
 prefix-cause (AtLine line) words input out text acc read end w = absurd end
 prefix-cause Input words input out text acc read end w = absurd end
 
--- what a replay writes in a play
-pub play-written : (result : Ending) (words : List (List ℕ)) (input out : Stream) (text : List ℕ)
-    → IsAccepted words → IsReadWhole input IsScript → PlayOut result input.before text → Written result words input out text
-play-written Played words input out text acc read w = w
-play-written Words words input out text acc read w = w
-play-written Long words input out text acc read w = w
-play-written (AtLine line) words input out text acc read w = w
-play-written Input words input out text acc read w = w
-play-written Memory words input out text acc read w = w
-play-written OutputFailed words input out text acc read w = record {
-  ending = w.ending;
-  whole = w.whole;
-  cause = prefix-cause w.ending words input out w.whole acc read w.end w.writes;
-  writes = w.writes;
-  prefix = w.prefix;
-}
+-- what a replay prints in a play
+pub play-printed : (result : Ending) (words : List (List ℕ)) (input out : Stream) (text : List ℕ)
+    → IsAccepted words → IsReadWhole input IsScript → Printed IsPlayEnd input.before result text → Printed (λ other. Cause other words input out) input.before result text
+play-printed result words input out text acc read (inl all) = inl all
+play-printed result words input out text acc read (inr (failed, w)) = inr (
+  failed,
+  record {
+    ending = w.ending;
+    whole = w.whole;
+    could = prefix-cause w.ending words input out w.whole acc read w.could w.prints;
+    prints = w.prints;
+    prefix = w.prefix;
+  },
+)
 
 -- a fault of the reading has its lines alone
 pub input-fault : (fault : Ending) → IsInputFault fault → IsFault fault

@@ -1,7 +1,7 @@
 -- The lines of a script, one after the other.
 use Rattle.std.proofs.Common.{◌≡◌, ℕ, ◌+◌, List, ◌∷◌, Some, None}
 use Rattle.std.specs.Prelude.{option_and_then, Err}
-use Rattle.gw_script.specs.Script.{Script, entry_of, script_from, with_entry}
+use Rattle.gw_script.specs.Decode.{Script, entry_of, script_from, with_entry}
 
 -- one more line is read
 pub line_taken : (script more : Script) (number : ℕ) (text : List ℕ) (texts : List (List ℕ)) → option_and_then (with_entry script) (entry_of text) ≡ Some more →

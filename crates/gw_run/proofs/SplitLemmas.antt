@@ -4,7 +4,7 @@ use Rattle.std.proofs.Math.Numerals.{one-add, add-one}
 use Rattle.std.proofs.lemmas.Bool.Decides.{eqb_tells, nat_tests}
 use Rattle.std.specs.Prelude.{Bool, ◌==◌, nat_lt, if◌then◌else◌, Some, None, position}
 use Rattle.std.specs.List.{position_or_len}
-use Rattle.gw_script.specs.Script.{split_lines, with_prefix}
+use Rattle.gw_script.specs.Decode.{split_lines, with_prefix}
 
 -- the offset of the first byte of this value, or the length
 abbrev pub offset_of : ℕ → List ℕ → ℕ

@@ -1,10 +1,15 @@
 -- Laws of the logs of scripts.
 use Rattle.std.specs.Prelude.{◌≡◌, ◌↔◌, ℕ, List, Ok}
+use Rattle.gw_base.specs.declared.setup.Setup.{Setup}
 use Rattle.gw_site.specs.declared.turn.Turn.{Turn}
-use Rattle.gw_script.specs.Script.{Script, script_of}
+use Rattle.gw_script.specs.Decode.{PlayedLine, Script, script_of}
 use Rattle.gw_script.specs.ByLines.{GoesByScript, HasEventsOf}
 use Rattle.gw_rules.specs.Lawful.{IsLawful}
-use Rattle.gw_run.specs.ScriptLog.{IsLogOf}
+use Rattle.gw_run.specs.ScriptLog.{IsLogOf, IsLogOfLines}
+
+-- lines have one log at most with each setup: whatever is due at a poll, with terminals and without
+abbrev pub OneLogOfLines : Type 0
+OneLogOfLines = (setup : Setup) (lines : List PlayedLine) (log other : List Turn) → IsLogOfLines setup lines log → IsLogOfLines setup lines other → log ≡ other
 
 -- a script has one log at most
 abbrev pub OneLog : Type 0

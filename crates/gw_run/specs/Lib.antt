@@ -1,3 +1,4 @@
+-- The definitions of the top call: how a script is read and played, the log that it leads to, and how the call ends.
 pub mod Example
 pub mod Laws
 pub mod LogWritten

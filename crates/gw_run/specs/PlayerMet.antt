@@ -5,7 +5,7 @@ use Rattle.gw_site.specs.Outside.{Outside}
 use Rattle.gw_site.specs.Turns.{IsPromised, IsWithinBuf, event_turns}
 use Rattle.gw_site.specs.declared.turn.Turn.{Turn}
 use Rattle.gw_site.specs.declared.turn.Turn.TheVariants.{Stopped}
-use Rattle.gw_script.specs.Script.{Event}
+use Rattle.gw_script.specs.Decode.{Event}
 use Rattle.gw_script.specs.Plays.{applies, brings}
 use Rattle.gw_run.specs.declared.player.next_event.Brought.{Brought}
 

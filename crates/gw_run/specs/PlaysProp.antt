@@ -5,7 +5,7 @@ use Rattle.gw_site.specs.Outside.{Outside, outside_after, nothing_yet}
 use Rattle.gw_site.specs.declared.turn.Turn.{Turn}
 use Rattle.gw_site.specs.declared.turn.Turn.TheVariants.{Start, OpenFailed, Polled, Opened, HeardTill, Closed, HeardPt, Lost, Stopped, Linked, LinkFailed, SentTill, SentPt, CutTill, CutPt, Wrote, Synced, DiskFailed, Crash}
 use Rattle.gw_script.specs.Plays.{Play, Fits, PlaysFrom, PlaysLines, play_after, begins}
-use Rattle.gw_script.specs.Script.{PlayedLine}
+use Rattle.gw_script.specs.Decode.{PlayedLine}
 
 -- that a turn fits is a proposition
 fits_prop : (o : Outside) (p : Play) (turn : Turn) → IsProp (Fits o p turn)

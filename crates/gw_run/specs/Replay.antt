@@ -1,20 +1,20 @@
--- Inner: how a replay and a play end, and what they write.
+-- Inner: how a replay and a play end, and what they print.
 use Rattle.std.specs.Prelude.{◌≡◌, ◌⊎◌, ℕ, ◌≤◌, List, [], Bool, true, false, Option, Some, Result, Ok, Err, length}
 use Rattle.std.specs.Global.{Vec}
 use Rattle.gw_bytes.specs.Bytes.{IsPrefix}
 use Rattle.gw_site.specs.Observed.{Observed}
 use Rattle.gw_site.specs.declared.turn.Turn.{Turn}
 use Rattle.gw_rules.specs.Lawful.{IsLawful}
-use Rattle.gw_script.specs.Script.{PlayedLine, script_of, script_limit}
+use Rattle.gw_script.specs.Decode.{PlayedLine, script_of, script_limit}
 use Rattle.gw_script.specs.Plays.{Plays}
 use Rattle.gw_run.specs.ScriptLog.{IsStopped}
-use Rattle.gw_run.specs.Top.{Stream, Cause, Written, Writes, IsAccepted, IsAtMostOneRun, IsInput, IsReadWithin, IsScriptTooLong, tail_of}
+use Rattle.gw_run.specs.Top.{Stream, Cause, Printed, IsAccepted, IsAtMostOneRun, IsInput, IsReadWithin, IsScriptTooLong, tail_of}
 use Rattle.gw_run.specs.declared.ending.Ending.{Ending}
 use Rattle.gw_run.specs.declared.ending.Ending.TheVariants.{Played, Words, Long, Line as AtLine, Input, Memory, OutputFailed}
 
--- what is written of a replay by its end
-abbrev pub ReplayWritten : Stream → Stream → Ending → List ℕ → Type 0
-ReplayWritten input out ending text = (words : List (List ℕ)) → IsAccepted words → Written ending words input out text
+-- what was printed of a replay by its end
+abbrev pub ReplayPrinted : Stream → Stream → Ending → List ℕ → Type 0
+ReplayPrinted input out ending text = (words : List (List ℕ)) → IsAccepted words → Printed (λ other. Cause other words input out) input.before ending text
 
 -- the cause of a replay's end
 abbrev pub ReplayCause : Ending → Stream → Stream → Type 0
@@ -30,27 +30,9 @@ IsPlayEnd Input = ⊥
 IsPlayEnd Memory = Unit {0}
 IsPlayEnd OutputFailed = Unit {0}
 
--- what is written of a play where a write has failed: a prefix of what another of its ends may write
-pub record PlayPrefix (input : Option (List ℕ)) (text : List ℕ) : Type 0 where
-  pub ending : Ending
-  pub whole : List ℕ
-  pub end : IsPlayEnd ending
-  pub writes : Writes ending input whole
-  pub prefix : IsPrefix text whole
-
--- what is written by the end of a play
-abbrev pub PlayOut : Ending → Option (List ℕ) → List ℕ → Type 0
-PlayOut Played input text = Writes Played input text
-PlayOut Words input text = Writes Words input text
-PlayOut Long input text = Writes Long input text
-PlayOut (AtLine line) input text = Writes (AtLine line) input text
-PlayOut Input input text = Writes Input input text
-PlayOut Memory input text = Writes Memory input text
-PlayOut OutputFailed input text = PlayPrefix input text
-
--- what is written of a play of this script by its end
-abbrev pub PlayWritten : List ℕ → Ending → List ℕ → Type 0
-PlayWritten script ending text = (input : Option (List ℕ)) → IsInput input script → PlayOut ending input text
+-- what was printed of a play of this script by its end
+abbrev pub PlayPrinted : List ℕ → Ending → List ℕ → Type 0
+PlayPrinted script ending text = (input : Option (List ℕ)) → IsInput input script → Printed IsPlayEnd input ending text
 
 -- the text is a script that gives this name, or none
 abbrev pub GivesName : List ℕ → Option (List ℕ) → Type 0

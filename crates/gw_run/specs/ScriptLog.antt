@@ -3,10 +3,10 @@ use Rattle.std.specs.Prelude.{◌≡◌, ℕ, List, [], ◌∷◌, ◌++◌, Res
 use Rattle.gw_base.specs.declared.setup.Setup.{Setup}
 use Rattle.gw_site.specs.declared.turn.Turn.{Turn}
 use Rattle.gw_site.specs.declared.turn.Turn.TheVariants.{Start, Stopped}
-use Rattle.gw_script.specs.Script.{Script, script_of, script_setup}
-use Rattle.gw_script.specs.Plays.{Plays}
+use Rattle.gw_script.specs.Decode.{PlayedLine, Script, script_of, script_setup}
+use Rattle.gw_script.specs.Plays.{Plays, PlaysLines}
 use Rattle.gw_rules.specs.Lawful.{IsLawful}
-use Rattle.gw_rules.specs.TurnSort.{IsQuiet}
+use Rattle.gw_site.specs.Sorts.{IsQuiet}
 
 -- the log ends where the script was read to its end
 abbrev pub IsStopped : List Turn → Type 0
@@ -24,6 +24,13 @@ IsRunRead (Err number) log = ⊥
 -- one run with the setup of the script of this text
 abbrev pub IsOneRun : List ℕ → List Turn → Type 0
 IsOneRun text log = IsRunRead (script_of text) log
+
+-- the log of a script's lines with this setup, whatever it is: lawful, one run with the setup, and played to the last line
+pub record IsLogOfLines (setup : Setup) (lines : List PlayedLine) (log : List Turn) : Type 0 where
+  pub lawful : IsLawful log
+  pub plays : PlaysLines lines log
+  pub one_run : IsRunWith setup log
+  pub stopped : IsStopped log
 
 -- the log of a script: lawful, one run with the script's setup, and played to the script's end
 pub record IsLogOf (text : List ℕ) (log : List Turn) : Type 0 where

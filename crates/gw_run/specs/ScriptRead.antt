@@ -1,6 +1,6 @@
 -- Inner: what the reader of scripts returns.
 use Rattle.std.specs.Prelude.{◌≡◌, ℕ, ◌<◌, ◌≤◌, Bool, true, false, List, map, Option, Some, None, Err, length}
-use Rattle.gw_script.specs.Script.{Event, Open, Close, Say, Tick, PlayedLine, At, Poll, Script, Entry, Blank, Naming, Playing, script_limit, script_of}
+use Rattle.gw_script.specs.Decode.{Event, Open, Close, Say, Tick, PlayedLine, At, Poll, Script, Entry, Blank, Naming, Playing, script_limit, script_of}
 use Rattle.gw_run.specs.declared.line.Script.{Script as ReadScript}
 use Rattle.gw_run.specs.declared.line.ScriptLine.{ScriptLine}
 use Rattle.gw_run.specs.declared.line.ScriptLine.TheVariants.{At as AtLine, Poll as PollLine}

@@ -1,11 +1,11 @@
--- How the top call ends, and what it writes.
+-- How the top call ends, and what it prints.
 use Rattle.std.specs.Prelude.{◌≡◌, ◌⊎◌, ℕ, ◌+◌, ◌<◌, ◌≤◌, List, [], ◌∷◌, ◌++◌, Option, Some, None, Ok, Err, codes, length}
 use Rattle.std.specs.Fmt.{decimal}
 use Rattle.gw_site.specs.Failures.{Rose}
 use Rattle.gw_bytes.specs.Bytes.{IsPrefix}
 use Rattle.gw_site.specs.declared.turn.Turn.{Turn}
 use Rattle.gw_rules.specs.Lawful.{IsLawful}
-use Rattle.gw_script.specs.Script.{Script, script_of, script_limit}
+use Rattle.gw_script.specs.Decode.{Script, script_of, script_limit}
 use Rattle.gw_script.specs.Plays.{Plays}
 use Rattle.gw_run.specs.ScriptLog.{IsLogOf, IsOneRun}
 use Rattle.gw_script.specs.LogText.{log_text}
@@ -46,6 +46,10 @@ pub record Stream : Type 0 where
   pub faults_before : ℕ
   -- how often a read or a write of it has failed, after the call
   pub faults_after : ℕ
+
+-- what is observed of a stream before a call and after it, by what its bytes and its faults are
+abbrev pub stream_observed : {S : Type 0} → (S → Option (List ℕ)) → (S → ℕ) → S → S → Stream
+stream_observed bytes faults old new = record { before = bytes old; after = bytes new; faults_before = faults old; faults_after = faults new }
 
 -- a read or a write of the stream has failed in the call
 abbrev pub HasRisen : Stream → Type 0
@@ -118,40 +122,34 @@ pub record IsPlayedInPart (input : Option (List ℕ)) (text : List ℕ) : Type 0
   pub one_run : IsAtMostOneRun script log
   pub is : text ≡ log_text log ++ tail_of Memory
 
--- what is written by the end of the call, if no write fails
-abbrev pub Writes : Ending → Option (List ℕ) → List ℕ → Type 0
-Writes Played input text = IsPlayedWhole input text
-Writes Words input text = text ≡ tail_of Words
-Writes Long input text = text ≡ tail_of Long
-Writes (AtLine line) input text = text ≡ tail_of (AtLine line)
-Writes Input input text = text ≡ tail_of Input
-Writes Memory input text = (text ≡ tail_of Memory) ⊎ IsPlayedInPart input text
-Writes OutputFailed input text = ⊥
+-- the table of what is printed: what a call that ends so prints, if no write fails
+abbrev pub Prints : Ending → Option (List ℕ) → List ℕ → Type 0
+Prints Played input text = IsPlayedWhole input text
+Prints Words input text = text ≡ tail_of Words
+Prints Long input text = text ≡ tail_of Long
+Prints (AtLine line) input text = text ≡ tail_of (AtLine line)
+Prints Input input text = text ≡ tail_of Input
+Prints Memory input text = (text ≡ tail_of Memory) ⊎ IsPlayedInPart input text
+Prints OutputFailed input text = ⊥
 
--- what is written where a write has failed: a prefix of what another end writes whose cause holds
-pub record WritesPrefix (words : List (List ℕ)) (input out : Stream) (text : List ℕ) : Type 0 where
+-- a prefix of what an end prints that could have come
+pub record PrintsPrefix (Could : Ending → Type 0) (input : Option (List ℕ)) (text : List ℕ) : Type 0 where
   pub ending : Ending
   pub whole : List ℕ
-  pub cause : Cause ending words input out
-  pub writes : Writes ending input.before whole
+  pub could : Could ending
+  pub prints : Prints ending input whole
   pub prefix : IsPrefix text whole
 
--- what is written by the end of the call
-abbrev pub Written : Ending → List (List ℕ) → Stream → Stream → List ℕ → Type 0
-Written Played words input out text = Writes Played input.before text
-Written Words words input out text = Writes Words input.before text
-Written Long words input out text = Writes Long input.before text
-Written (AtLine line) words input out text = Writes (AtLine line) input.before text
-Written Input words input out text = Writes Input input.before text
-Written Memory words input out text = Writes Memory input.before text
-Written OutputFailed words input out text = WritesPrefix words input out text
+-- what was printed by the end of a call: what the table says of this end; or, where a write has failed, a prefix of what it says of another end that could have come
+abbrev pub Printed : (Ending → Type 0) → Option (List ℕ) → Ending → List ℕ → Type 0
+Printed Could input ending text = Prints ending input text ⊎ ((ending ≡ OutputFailed) × PrintsPrefix Could input text)
 
--- the call has ended so: its status, the cause, and what was written, where it is observed
+-- the call has ended so: its status, the cause, and what was printed, where it is observed
 pub record IsEnded (status : ℕ) (words : List (List ℕ)) (input out : Stream) : Type 0 where
   pub ending : Ending
   pub status_is : status ≡ status_of ending
   pub cause : Cause ending words input out
-  pub output : IfBytesObserved out.before (λ written. (text : List ℕ) × (out.after ≡ Some (written ++ text)) × Written ending words input out text)
+  pub output : IfBytesObserved out.before (λ written. (text : List ℕ) × (out.after ≡ Some (written ++ text)) × Printed (λ other. Cause other words input out) input.before ending text)
 
 -- what is left in the source is observed, and is a script
 abbrev pub IsScriptLeft : Option (List ℕ) → Type 0

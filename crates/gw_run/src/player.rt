@@ -4,7 +4,7 @@ ghost use Rattle.gw_site.specs.Failures.{HasCause, Rose};
 ghost use Rattle.gw_site.specs.Outside.{Outside, outside_of, outside_after};
 ghost use Rattle.gw_site.specs.declared.turn.Turn.{Turn as LogTurn};
 ghost use Rattle.gw_script.specs.Plays.{Play, Fits, Plays, play_after, rests};
-ghost use Rattle.gw_script.specs.Script.{PlayedLine, script_of};
+ghost use Rattle.gw_script.specs.Decode.{PlayedLine, script_of};
 ghost use Rattle.gw_run.specs.ScriptRead.{script_value};
 ghost use Rattle.gw_run.specs.PlayerTills.{numbers_of, next_after, tills_after, opened_after};
 

@@ -2,8 +2,8 @@
 ghost use Rattle.std.specs.Prelude.{◌≡◌, ◌≢◌, ◌⊎◌, ◌≤◌, ◌++◌, List, ℕ, Some, Ok, IsTrue, ◌↔◌, IfOk, IfErr, IsErrOf, map, string_bytes};
 ghost use Rattle.gw_site.specs.Failures.{Rose};
 ghost use Rattle.gw_run.specs.LogWritten.{Adds};
-ghost use Rattle.gw_run.specs.Replay.{IsInputRead, IsInputFault, IsPlayEnd, ReplayCause, ReplayWritten};
-ghost use Rattle.gw_run.specs.Top.{IsAccepted, IfBytesObserved, IsEnded, IsScriptLeft};
+ghost use Rattle.gw_run.specs.Replay.{IsInputRead, IsInputFault, IsPlayEnd, ReplayCause, ReplayPrinted};
+ghost use Rattle.gw_run.specs.Top.{IsAccepted, IfBytesObserved, IsEnded, IsScriptLeft, stream_observed};
 
 use crate::ending::Ending;
 use crate::last_lines::write_last_lines;
@@ -49,12 +49,12 @@ fn read_input<I: Source>(alloc: Global, input: &mut I) -> Result<Vec<u8>, Ending
 
 /// The mode `replay`.
 fn replay<I: Source, O: Sink>(alloc: Global, input: &mut I, out: &mut O) -> Ending
-    ensures written { Adds (O.written out.old) (O.written out.new) (ReplayWritten
-        (record { before = I.left input.old; after = I.left input.new; faults_before = I.faults input.old; faults_after = I.faults input.new })
-        (record { before = O.written out.old; after = O.written out.new; faults_before = O.faults out.old; faults_after = O.faults out.new }) result) }
+    ensures printed { Adds (O.written out.old) (O.written out.new) (ReplayPrinted
+        (stream_observed I.left I.faults input.old input.new)
+        (stream_observed O.written O.faults out.old out.new) result) }
     ensures cause { ReplayCause result
-        (record { before = I.left input.old; after = I.left input.new; faults_before = I.faults input.old; faults_after = I.faults input.new })
-        (record { before = O.written out.old; after = O.written out.new; faults_before = O.faults out.old; faults_after = O.faults out.new }) }
+        (stream_observed I.left I.faults input.old input.new)
+        (stream_observed O.written O.faults out.old out.new) }
     ensures complete { IsScriptLeft (I.left input.old) → ¬ Rose (I.faults input.old) (I.faults input.new) → ¬ Rose (O.faults out.old) (O.faults out.new) → IsPlayEnd result }
     ensures output_failed { result ≡ Ending.OutputFailed → Rose (O.faults out.old) (O.faults out.new) }
     ensures input_later { I.faults input.old ≤ I.faults input.new }
@@ -91,8 +91,8 @@ pub fn top<S: Site, I: Source, O: Sink>(
     out: &mut O,
 ) -> u8
     ensures ended { IsEnded result words.now
-        (record { before = I.left input.old; after = I.left input.new; faults_before = I.faults input.old; faults_after = I.faults input.new })
-        (record { before = O.written out.old; after = O.written out.new; faults_before = O.faults out.old; faults_after = O.faults out.new }) }
+        (stream_observed I.left I.faults input.old input.new)
+        (stream_observed O.written O.faults out.old out.new) }
 
     // Nothing but 0, or 71 without memory, where the input is a script and nothing fails.
     ensures complete { IsAccepted words.now → IsScriptLeft (I.left input.old) → ¬ Rose (I.faults input.old) (I.faults input.new) → ¬ Rose (O.faults out.old) (O.faults out.new) → (result ≡ 0) ⊎ (result ≡ 71) }

@@ -2,10 +2,10 @@
 ghost use Rattle.std.specs.Prelude.{◌≡◌, ◌≢◌, ◌⊎◌, ◌≤◌, true, List, ℕ, Ok, IsTrue};
 ghost use Rattle.gw_site.specs.Failures.{Rose};
 ghost use Rattle.gw_site.specs.Observed.{IfObserved};
-ghost use Rattle.gw_script.specs.Script.{default_name, script_of, script_setup};
+ghost use Rattle.gw_script.specs.Decode.{default_name, script_of, script_setup};
 ghost use Rattle.gw_run.specs.LogWritten.{Adds};
 ghost use Rattle.gw_run.specs.Player.{player_observed};
-ghost use Rattle.gw_run.specs.Replay.{GivesName, IsFresh, IsPlayEnd, IsPlayOf, PlayWritten};
+ghost use Rattle.gw_run.specs.Replay.{GivesName, IsFresh, IsPlayEnd, IsPlayOf, PlayPrinted};
 ghost use Rattle.gw_run.specs.ScriptRead.{script_value};
 
 use crate::ending::Ending;
@@ -69,7 +69,7 @@ fn play_ending(whole: bool) -> Ending
 
 /// Writes the text of the log and the lines after it.
 fn write_play<O: Sink>(alloc: Global, log: &[Turn], whole: bool, out: &mut O) -> Ending
-    ensures written { (script : List ℕ) → IsPlayOf script whole log.now → Adds (O.written out.old) (O.written out.new) (PlayWritten script result) }
+    ensures printed { (script : List ℕ) → IsPlayOf script whole log.now → Adds (O.written out.old) (O.written out.new) (PlayPrinted script result) }
     ensures end { IsPlayEnd result }
     ensures output_failed { result ≡ Ending.OutputFailed → Rose (O.faults out.old) (O.faults out.new) }
     ensures later { O.faults out.old ≤ O.faults out.new }
@@ -85,7 +85,7 @@ fn write_play<O: Sink>(alloc: Global, log: &[Turn], whole: bool, out: &mut O) ->
 /// Plays a script, which the text was read as, and writes its log.
 pub(crate) fn play<O: Sink>(alloc: Global, text: &[u8], script: Script, out: &mut O) -> Ending
     requires { script_of text.now ≡ Ok (script_value script) }
-    ensures written { Adds (O.written out.old) (O.written out.new) (PlayWritten text.now result) }
+    ensures printed { Adds (O.written out.old) (O.written out.new) (PlayPrinted text.now result) }
     ensures end { IsPlayEnd result }
     ensures output_failed { result ≡ Ending.OutputFailed → Rose (O.faults out.old) (O.faults out.new) }
     ensures later { O.faults out.old ≤ O.faults out.new }

@@ -4,7 +4,7 @@ ghost use Rattle.std.specs.List.{list_all};
 ghost use Rattle.std.specs.Result.{result_ok};
 ghost use Rattle.hex.specs.Hex.{decode_of};
 ghost use Rattle.sale_frame.specs.Grammar.{IsPayloadLength, frame};
-ghost use Rattle.gw_script.specs.Script.{script_limit, script_of, split_lines, entry_of, spelled, is_blank, worded, poll_line, numbered, said_chunk, hex_chunk, split_at_space, at_line, name_line, is_visible, number, with_entry, Naming, Playing};
+ghost use Rattle.gw_script.specs.Decode.{script_limit, script_of, split_lines, entry_of, spelled, is_blank, worded, poll_line, numbered, said_chunk, hex_chunk, split_at_space, at_line, name_line, is_visible, number, with_entry, Naming, Playing};
 ghost use Rattle.gw_run.specs.ScriptRead.{entry_value, event_value, line_value, script_value, IsAdded, IsFaultOf};
 
 use crate::line::{Chunk, Script, ScriptEvent, ScriptLine};

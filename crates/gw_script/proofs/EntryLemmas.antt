@@ -18,7 +18,7 @@ use Rattle.gw_base.specs.Ident.{IsPrintable}
 use Rattle.gw_base.specs.Moment.{last_moment}
 use Rattle.gw_site.specs.Turns.{IsCount}
 use Rattle.sale_frame.specs.Grammar.{frame}
-use Rattle.gw_script.specs.Script.{Event, Open, Close, Say, Tick, At, Poll, Entry, Blank, Naming, Playing, WordAndRest, at_line, entry_of, hex_chunk, is_blank, is_name, is_visible, name_line, number, numbered, parts_line, poll_line, said_chunk, spelled, split_at_space, with_first_of_word, worded}
+use Rattle.gw_script.specs.Decode.{Event, Open, Close, Say, Tick, At, Poll, Entry, Blank, Naming, Playing, WordAndRest, at_line, entry_of, hex_chunk, is_blank, is_name, is_visible, name_line, number, numbered, parts_line, poll_line, said_chunk, spelled, split_at_space, with_first_of_word, worded}
 use Rattle.gw_script.specs.Grammar.{IsEntry, IsOfTill, SpellsLine, SpellsEvent}
 use Rattle.gw_script.proofs.NumberLemmas.{decimal_number}
 

@@ -10,7 +10,7 @@ use Rattle.gw_base.specs.Ident.{IsIdent, IsPrintable}
 use Rattle.gw_base.specs.Moment.{last_moment}
 use Rattle.gw_site.specs.Turns.{IsCount}
 use Rattle.sale_frame.specs.Grammar.{frame}
-use Rattle.gw_script.specs.Script.{Event, Open, Close, Say, Tick, At, Poll, Entry, Blank, Naming, Playing, at_line, entry_of, is_visible, name_line, number, spelled}
+use Rattle.gw_script.specs.Decode.{Event, Open, Close, Say, Tick, At, Poll, Entry, Blank, Naming, Playing, at_line, entry_of, is_visible, name_line, number, spelled}
 use Rattle.gw_script.specs.Grammar.{IsEntry, SpellsLine, SpellsEvent}
 use Rattle.gw_script.proofs.EntryLemmas.{split_decimal}
 use Rattle.gw_script.proofs.NumberLemmas.{number_decimal}

@@ -9,7 +9,7 @@ use Rattle.std.specs.Fmt.{decimal}
 use Rattle.std.specs.Str.Parse.{AllDigits, digits_value, digits_value_after}
 use Rattle.std.specs.Int.{IsInRange}
 use Rattle.std.specs.Prelude.{Bool, ◌⊎◌, ◌==◌, ◌≢◌, nat_lt, Some, None}
-use Rattle.gw_script.specs.Script.{is_digit, more_digits, number}
+use Rattle.gw_script.specs.Decode.{is_digit, more_digits, number}
 
 by_value : (b : Bool) → (b ≡ true) ⊎ (b ≡ false)
 by_value true = inl refl

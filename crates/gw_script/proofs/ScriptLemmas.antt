@@ -2,7 +2,7 @@
 use Rattle.std.proofs.Common.{◌≡◌, ℕ, zero, suc, ◌+◌, ◌-◌, ◌<◌, List, [], ◌∷◌, ◌++◌, length, take, refl, sym, ◌∙◌, ap, arith, append_assoc, append-nil}
 use Rattle.std.specs.Option.{option_to_list}
 use Rattle.std.specs.Prelude.{Option, Some, None, option_and_then, Ok, Err}
-use Rattle.gw_script.specs.Script.{PlayedLine, Script, Entry, Blank, Naming, Playing, entry_of, script_goes_on, no_lines, script_from, split_lines, with_entry}
+use Rattle.gw_script.specs.Decode.{PlayedLine, Script, Entry, Blank, Naming, Playing, entry_of, script_goes_on, no_lines, script_from, split_lines, with_entry}
 use Rattle.gw_script.specs.Grammar.{AreEntries, AreScript, IsFirstWrong, NamesComeFirst, ReadsScripts, played_lines, script_names}
 use Rattle.gw_script.proofs.EntryLemmas.{entry_spelled}
 use Rattle.gw_script.proofs.EntryReadLemmas.{entry_read}

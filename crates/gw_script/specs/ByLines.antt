@@ -1,10 +1,12 @@
 -- A log beside its script, line by line, in the words of the script's table.
-use Rattle.std.specs.Prelude.{◌≡◌, ◌⊎◌, ◌<◌, ℤ, pos, true, false, List, [], ◌∷◌, ◌++◌, map}
+use Rattle.std.specs.Prelude.{◌≡◌, ◌⊎◌, ◌<◌, ℤ, pos, false, List, [], ◌∷◌, ◌++◌, map}
 use Rattle.std.specs.List.{AllByRecursion, flat_map}
 use Rattle.gw_site.specs.Outside.{Outside, outside_from, outside_of, is_connected}
+use Rattle.gw_site.specs.Sorts as sorts
+use Rattle.gw_site.specs.Sorts.{TurnSort, OpeningOutcome, CallOutcome, PowerFailure, sort_of, has_failed}
 use Rattle.gw_site.specs.declared.turn.Turn.{Turn}
-use Rattle.gw_site.specs.declared.turn.Turn.TheVariants.{Start, OpenFailed, Polled, Opened, HeardTill, Closed, HeardPt, Lost, Stopped, Linked, LinkFailed, SentTill, SentPt, CutTill, CutPt, Wrote, Synced, DiskFailed, Crash}
-use Rattle.gw_script.specs.Script.{Event, Open, Close, Say, Tick, PlayedLine, At, Poll, Script, script_setup}
+use Rattle.gw_site.specs.declared.turn.Turn.TheVariants.{Start, Polled, Stopped}
+use Rattle.gw_script.specs.Decode.{Event, Open, Close, Say, Tick, PlayedLine, At, Poll, Script, script_setup}
 use Rattle.gw_script.specs.Plays.{brings}
 
 -- the line is skipped: the number of the till that opens isn't above all that opened in this run, or the till that closes or sends isn't there
@@ -16,25 +18,7 @@ IsSkipped o Tick = ⊥
 
 -- the turn is that of a call which the gateway made and which didn't fail
 abbrev pub IsCall : Turn → Type 0
-IsCall (Start setup) = ⊥
-IsCall OpenFailed = ⊥
-IsCall (Polled now) = ⊥
-IsCall (Opened till) = ⊥
-IsCall (HeardTill till bytes) = ⊥
-IsCall (Closed till) = ⊥
-IsCall (HeardPt pt bytes) = ⊥
-IsCall (Lost pt) = ⊥
-IsCall Stopped = ⊥
-IsCall (Linked pt) = Unit {0}
-IsCall (LinkFailed pt) = ⊥
-IsCall (SentTill till bytes ok) = ok ≡ true
-IsCall (SentPt pt bytes ok) = ok ≡ true
-IsCall (CutTill till) = Unit {0}
-IsCall (CutPt pt) = Unit {0}
-IsCall (Wrote at bytes) = Unit {0}
-IsCall Synced = Unit {0}
-IsCall DiskFailed = ⊥
-IsCall (Crash file) = ⊥
+IsCall turn = (sort_of turn ≡ CallOutcome) × (has_failed turn ≡ false)
 
 -- a line that isn't skipped gives a poll at the moment that is set, its event, and after it the calls of the gateway; from there the log goes on
 pub record IsPlayed (o : Outside) (moment : ℤ) (event : Event) (turns : List Turn) (GoesOn : Outside → List Turn → Type 0) : Type 0 where
@@ -82,53 +66,33 @@ AreSomeOf [] those = Unit {0}
 AreSomeOf (first ∷ these) [] = ⊥
 AreSomeOf (first ∷ these) (other ∷ those) = ((first ≡ other) × AreSomeOf these those) ⊎ AreSomeOf (first ∷ these) those
 
+-- the turns where their sort is an event
+abbrev pub if_event : TurnSort → List Turn → List Turn
+if_event OpeningOutcome turns = []
+if_event sorts.Poll turns = []
+if_event sorts.Event turns = turns
+if_event CallOutcome turns = []
+if_event PowerFailure turns = []
+
 -- the turn, where it is an event
 abbrev pub event_of : Turn → List Turn
-event_of (Start setup) = []
-event_of OpenFailed = []
-event_of (Polled now) = []
-event_of (Opened till) = Opened till ∷ []
-event_of (HeardTill till bytes) = HeardTill till bytes ∷ []
-event_of (Closed till) = Closed till ∷ []
-event_of (HeardPt pt bytes) = HeardPt pt bytes ∷ []
-event_of (Lost pt) = Lost pt ∷ []
-event_of Stopped = Stopped ∷ []
-event_of (Linked pt) = []
-event_of (LinkFailed pt) = []
-event_of (SentTill till bytes ok) = []
-event_of (SentPt pt bytes ok) = []
-event_of (CutTill till) = []
-event_of (CutPt pt) = []
-event_of (Wrote at bytes) = []
-event_of Synced = []
-event_of DiskFailed = []
-event_of (Crash file) = []
+event_of turn = if_event (sort_of turn) (turn ∷ [])
 
--- the moment of the turn, where it is a poll
-abbrev pub poll_of : Turn → List ℤ
-poll_of (Start setup) = []
-poll_of OpenFailed = []
-poll_of (Polled now) = now ∷ []
-poll_of (Opened till) = []
-poll_of (HeardTill till bytes) = []
-poll_of (Closed till) = []
-poll_of (HeardPt pt bytes) = []
-poll_of (Lost pt) = []
-poll_of Stopped = []
-poll_of (Linked pt) = []
-poll_of (LinkFailed pt) = []
-poll_of (SentTill till bytes ok) = []
-poll_of (SentPt pt bytes ok) = []
-poll_of (CutTill till) = []
-poll_of (CutPt pt) = []
-poll_of (Wrote at bytes) = []
-poll_of Synced = []
-poll_of DiskFailed = []
-poll_of (Crash file) = []
+-- the turns where their sort is a poll
+abbrev pub if_poll : TurnSort → List Turn → List Turn
+if_poll OpeningOutcome turns = []
+if_poll sorts.Poll turns = turns
+if_poll sorts.Event turns = []
+if_poll CallOutcome turns = []
+if_poll PowerFailure turns = []
+
+-- the turn, where it is a poll
+abbrev pub poll_of : Turn → List Turn
+poll_of turn = if_poll (sort_of turn) (turn ∷ [])
 
 -- The polls and events of the log are those of some of the script's lines, in their order, each poll at the moment of the last `at` line before it; after them comes a poll at the moment of the last `at` line of all, which brings the stop.
 pub record HasEventsOf (lines : List PlayedLine) (log : List Turn) : Type 0 where
   pub played : List Timed
   pub of_lines : AreSomeOf played (timed (pos 0) lines)
   pub events : flat_map event_of log ≡ flat_map (λ (line : Timed). brings line.event) played ++ Stopped ∷ []
-  pub moments : flat_map poll_of log ≡ map (λ (line : Timed). line.moment) played ++ last_moment_of (pos 0) lines ∷ []
+  pub polls : flat_map poll_of log ≡ map (λ (line : Timed). Polled line.moment) played ++ Polled (last_moment_of (pos 0) lines) ∷ []

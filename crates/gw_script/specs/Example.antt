@@ -1,7 +1,7 @@
 -- Closed examples: a script with a line of each form, two texts that are no script, and what a log's text has of a till's bytes.
 use Rattle.std.specs.Prelude.{◌≡◌, ℕ, pos, List, [], ◌∷◌, ◌++◌, Some, Ok, Err, codes}
 use Rattle.sale_frame.specs.Grammar.{frame}
-use Rattle.gw_script.specs.Script.{Open, Close, Say, Tick, At, Poll, Script, script_of}
+use Rattle.gw_script.specs.Decode.{Open, Close, Say, Tick, At, Poll, Script, script_of}
 use Rattle.gw_script.specs.LogText.{till_bytes_text}
 use Rattle.gw_script.specs.Laws.{IsPrintableMessage}
 

@@ -8,7 +8,7 @@ use Rattle.gw_base.specs.Ident.{IsIdent}
 use Rattle.gw_base.specs.Moment.{last_moment}
 use Rattle.gw_site.specs.Turns.{IsCount}
 use Rattle.sale_frame.specs.Grammar.{frame}
-use Rattle.gw_script.specs.Script.{Event, Open, Close, Say, Tick, PlayedLine, At, Poll, Script, Entry, Blank, Naming, Playing, script_of, split_lines}
+use Rattle.gw_script.specs.Decode.{Event, Open, Close, Say, Tick, PlayedLine, At, Poll, Script, Entry, Blank, Naming, Playing, script_of, split_lines}
 
 -- the text is this word, a space, and this
 abbrev pub IsWorded : List ℕ → List ℕ → List ℕ → Type 0

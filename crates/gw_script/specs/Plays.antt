@@ -1,9 +1,11 @@
 -- A log plays a script: its events, moments and failures are those of the script's lines.
 use Rattle.std.specs.Prelude.{◌≡◌, ℕ, ℤ, pos, nat_le, Bool, true, if◌then◌else◌, List, [], ◌∷◌, Result, Ok, Err}
 use Rattle.gw_site.specs.Outside.{Outside, outside_after, nothing_yet, is_connected}
+use Rattle.gw_site.specs.Sorts as sorts
+use Rattle.gw_site.specs.Sorts.{TurnSort, OpeningOutcome, CallOutcome, PowerFailure, sort_of}
 use Rattle.gw_site.specs.declared.turn.Turn.{Turn}
 use Rattle.gw_site.specs.declared.turn.Turn.TheVariants.{Start, OpenFailed, Polled, Opened, HeardTill, Closed, HeardPt, Lost, Stopped, Linked, LinkFailed, SentTill, SentPt, CutTill, CutPt, Wrote, Synced, DiskFailed, Crash}
-use Rattle.gw_script.specs.Script.{Event, Open, Close, Say, Tick, PlayedLine, At, Poll, Script, script_of}
+use Rattle.gw_script.specs.Decode.{Event, Open, Close, Say, Tick, PlayedLine, At, Poll, Script, script_of}
 
 -- how far a script is played: the lines that are left, the moment of the last `at` line passed, and the event that a poll has met and not yet brought
 pub record Play : Type 0 where
@@ -39,27 +41,17 @@ after_poll o p = met o p.moment p.lines
 abbrev pub brought : Play → Play
 brought p = record p { due = [] }
 
+-- how far the script is played after one more turn of this sort
+abbrev pub play_after_sort : Outside → Play → TurnSort → Play
+play_after_sort o p OpeningOutcome = p
+play_after_sort o p sorts.Poll = after_poll o p
+play_after_sort o p sorts.Event = brought p
+play_after_sort o p CallOutcome = p
+play_after_sort o p PowerFailure = p
+
 -- how far the script is played after one more turn
 abbrev pub play_after : Outside → Play → Turn → Play
-play_after o p (Start setup) = p
-play_after o p OpenFailed = p
-play_after o p (Polled now) = after_poll o p
-play_after o p (Opened till) = brought p
-play_after o p (HeardTill till bytes) = brought p
-play_after o p (Closed till) = brought p
-play_after o p (HeardPt pt bytes) = brought p
-play_after o p (Lost pt) = brought p
-play_after o p Stopped = brought p
-play_after o p (Linked pt) = p
-play_after o p (LinkFailed pt) = p
-play_after o p (SentTill till bytes ok) = p
-play_after o p (SentPt pt bytes ok) = p
-play_after o p (CutTill till) = p
-play_after o p (CutPt pt) = p
-play_after o p (Wrote at bytes) = p
-play_after o p Synced = p
-play_after o p DiskFailed = p
-play_after o p (Crash file) = p
+play_after o p turn = play_after_sort o p (sort_of turn)
 
 -- no event is due
 abbrev pub Idle : Play → Type 0

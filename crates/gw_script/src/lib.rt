@@ -4,13 +4,16 @@
 ghost use Rattle.gw_script.specs.Example.{EachFormIsRead, TextOfMessage, TextOfPrefix, SecondNameIsWrong, UnknownWordIsWrong};
 ghost use Rattle.gw_script.specs.Grammar.{ReadsScripts};
 ghost use Rattle.gw_script.specs.Laws.{TextOfBytes, TextOfFrame};
+ghost use Rattle.gw_script.specs.site.ByLines.{PlainLinesGoOn};
+ghost use Rattle.gw_script.specs.site.Example.{AllFormsAreRead, DefaultsHold, EarlyLinesFail, MisplacedAreReported, NumbersRise, PowerFailsAfterTwo, PowerFailsAtOnce, PowerFailsNoLater, SendsFail, SyncMustFail, TwiceIsReported, WritesFail, WrongLinesAreReported};
+ghost use Rattle.gw_script.specs.site.Laws.{PlaysOn, PrefixesPlay, ReadsSiteScripts, SendsTakeTheirs, SplitsLines};
 
 /// A text is read as the script that its lines make, and exactly where they make none the first wrong line is reported.
 pub fn law_scripts()
     ensures reads { ReadsScripts }
 {}
 
-/// In the text of a log a frame whose message is printable ASCII is written as `'` and the message, and other bytes in
+/// In the text of a log a frame whose message is printable ASCII is write_made as `'` and the message, and other bytes in
 /// hexadecimal.
 pub fn law_log_text()
     ensures framed { TextOfFrame }
@@ -18,11 +21,54 @@ pub fn law_log_text()
 {}
 
 /// A script with a line of each form is read so; a second name is a wrong line, and so is a line that begins with a word of
-/// no form; a printable message is written as it is, and a frame that is incomplete in hexadecimal.
+/// no form; a printable message is write_made as it is, and a frame that is incomplete in hexadecimal.
 pub fn law_forms()
     ensures script { EachFormIsRead }
     ensures second_name { SecondNameIsWrong }
     ensures unknown_word { UnknownWordIsWrong }
     ensures printable { TextOfMessage }
     ensures incomplete { TextOfPrefix }
+{}
+
+/// A text has the lines into which it is split at its line ends.
+pub fn law_lines()
+    ensures lines { SplitsLines }
+{}
+
+/// A text with lines of the whole table is read as the script that its lines make, and exactly where they make none the
+/// first wrong line is reported.
+pub fn law_site_scripts()
+    ensures reads { ReadsSiteScripts }
+{}
+
+/// A script with a line of each form is read so, with its defaults; lines of another form, setup lines after others, and those
+/// that come twice are reported.
+pub fn law_site_forms()
+    ensures all_forms { AllFormsAreRead }
+    ensures defaults { DefaultsHold }
+    ensures wrong { WrongLinesAreReported }
+    ensures misplaced { MisplacedAreReported }
+    ensures twice { TwiceIsReported }
+{}
+
+/// Closed logs play their scripts, and others don't: power failures with what they leave, sends, opens, links, looks and
+/// writes that fail, and lines that are skipped.
+pub fn law_site_plays()
+    ensures two { PowerFailsAfterTwo }
+    ensures at_once { PowerFailsAtOnce }
+    ensures sends { SendsFail }
+    ensures early { EarlyLinesFail }
+    ensures writes { WritesFail }
+    ensures sync { SyncMustFail }
+    ensures power { PowerFailsNoLater }
+    ensures numbers { NumbersRise }
+{}
+
+/// A log that plays a script goes on with each turn that fits, and each of its prefixes plays the script. What a send takes
+/// fits. Where no line makes a call or the power fail, the log of one run goes by the script line by line.
+pub fn law_site_logs()
+    ensures plays_on { PlaysOn }
+    ensures prefixes { PrefixesPlay }
+    ensures sends { SendsTakeTheirs }
+    ensures by_lines { PlainLinesGoOn }
 {}

@@ -7,7 +7,7 @@ use Rattle.gw_site.specs.Outside.{Outside, overwrite, outside_after, outside_fro
 use Rattle.gw_site.specs.Image.{Image, is_covered}
 use Rattle.gw_site.specs.declared.turn.Turn.{Turn}
 use Rattle.gw_site.specs.declared.turn.Turn.TheVariants.{Wrote, Synced, Crash}
-use Rattle.gw_site.proofs.ImageLemmas.{file_image}
+use Rattle.gw_site.proofs.ImageLemmas.{file_image, stable_image}
 use Rattle.gw_site.proofs.OutsideLemmas.{outside_of-append}
 use Rattle.gw_site.proofs.OverwriteLemmas.{over_inside, over_above}
 use Rattle.jrn_log.specs.Slots.{AreSlots}
@@ -24,7 +24,7 @@ fits_known : (file : List ℕ) (bodies : List (List ℕ)) → AreSlots file bodi
 fits_known file bodies s f others t = subst (λ bodies. FitsSlots (length file) (length bodies) (get_or file (256 * length bodies) 0)) (one_slots file bodies others s t) f
 
 -- a file that ends closed can be a journal's
-closed_can : (file : List ℕ) (bodies : List (List ℕ)) → AreSlots file bodies → EndsClosed file (length bodies) → CanBeJournal file
+pub closed_can : (file : List ℕ) (bodies : List (List ℕ)) → AreSlots file bodies → EndsClosed file (length bodies) → CanBeJournal file
 closed_can file bodies s e = fits_known file bodies s (record { bounded = e.bounded; closed = λ lt. e.closed })
 
 -- and so can one of at most one byte
@@ -228,6 +228,9 @@ failed_append_leaves log bodies body made rest r k c e failed file image =
 
 pub file_can : (log : List Turn) → LeavesJournals log → CanBeJournal (outside_of log).file
 file_can log leaves = leaves (outside_of log).file (file_image log)
+
+pub stable_can : (log : List Turn) → LeavesJournals log → CanBeJournal (outside_of log).stable
+stable_can log leaves = leaves (outside_of log).stable (stable_image log)
 
 synced_can : (o : Outside) → CanBeJournal o.file → CanAfter (outside_after o Synced) []
 synced_can o c file image = subst CanBeJournal (sym (same_image (outside_after o Synced) file refl refl image)) c

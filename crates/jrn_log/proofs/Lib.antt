@@ -2,8 +2,10 @@
 pub mod AppendLemmas
 pub mod AppendedLemmas
 pub mod DecodeLemmas
+pub mod ForeignExampleLemmas
 pub mod ForeignLemmas
 pub mod ImageLemmas
+pub mod JournalLogLemmas
 pub mod OpenLemmas
 pub mod PartLemmas
 pub mod PrefixLemmas

@@ -14,7 +14,7 @@ use Rattle.gw_site.proofs.OverwriteLemmas.{over_inside}
 use Rattle.jrn_log.specs.declared.fault.OpenFault.{OpenFault}
 use Rattle.jrn_log.specs.declared.fault.OpenFault.TheVariants.{Disk, TooLong, Cut, Memory}
 use Rattle.jrn_log.specs.Slots.{AreSlots, IsTruncatedSlot}
-use Rattle.jrn_log.specs.Journal.{IsAtRest}
+use Rattle.jrn_log.specs.Journal.{IsAtRest, AreKept}
 use Rattle.jrn_log.specs.JournalTurns.{first_gate, FaultTurns, FailedTurns, OpeningTurns}
 use Rattle.jrn_log.specs.Opening.{OpensWith, IsExactlyTooLong, IsExactlyTruncated}
 use Rattle.jrn_log.specs.Images.{OpeningImages}
@@ -110,29 +110,29 @@ one_byte_rest o le = record {
 no_bodies : (file : List ℕ) (bodies : List (List ℕ)) → AreSlots file bodies → length file ≤ 1 → bodies ≡ []
 no_bodies file bodies s le = one_slots file bodies [] s (one_byte_slots file le)
 
-opened_rest : (before after : List Turn) (slots size : ℕ) (bodies : List (List ℕ)) → after ≡ before ++ Synced ∷ first_gate size → size ≡ length (outside_of before).file → AreJournalBodies slots (outside_of before).file bodies → IsAtRest after (length bodies)
+pub opened_rest : (before after : List Turn) (slots size : ℕ) (bodies : List (List ℕ)) → after ≡ before ++ Synced ∷ first_gate size → size ≡ length (outside_of before).file → AreJournalBodies slots (outside_of before).file bodies → IsAtRest after (length bodies) × AreKept after bodies
 opened_rest before after slots size bodies e n s = elim (cases_lt 1 size) [ inl lt ↦ long lt | inr le ↦ one_byte le ]
   where
-    long : 1 < size → IsAtRest after (length bodies)
+    long : 1 < size → IsAtRest after (length bodies) × AreKept after bodies
     long lt =
         let none : first_gate size ≡ [] = rw (lt-leb size 1 lt) refl in
         let whole : after ≡ before ++ Synced ∷ [] = e ∙ ap (λ turns. before ++ Synced ∷ turns) none in
-        (at_rest after _ bodies (ap (λ log. outside_of log) whole ∙ outside_of-append before (Synced ∷ [])) (long_rest (outside_of before) slots bodies s (omega (arith, n)))).0
+        at_rest after _ bodies (ap (λ log. outside_of log) whole ∙ outside_of-append before (Synced ∷ [])) (long_rest (outside_of before) slots bodies s (omega (arith, n)))
 
-    one_byte : size ≤ 1 → IsAtRest after (length bodies)
+    one_byte : size ≤ 1 → IsAtRest after (length bodies) × AreKept after bodies
     one_byte le =
         let le' : length (outside_of before).file ≤ 1 = omega (arith, n) in
         let gate : first_gate size ≡ Wrote 0 (0 ∷ []) ∷ Synced ∷ [] = rw (le-leb size 1 le) refl in
         let whole : after ≡ before ++ Synced ∷ Wrote 0 (0 ∷ []) ∷ Synced ∷ [] = e ∙ ap (λ turns. before ++ Synced ∷ turns) gate in
-        let x = (at_rest after _ [] (ap (λ log. outside_of log) whole ∙ outside_of-append before (Synced ∷ Wrote 0 (0 ∷ []) ∷ Synced ∷ [])) (one_byte_rest (outside_of before) le')).0 in
-        subst (λ bs. IsAtRest after (length bs)) (sym (no_bodies (outside_of before).file bodies s.slots_are le')) x
+        let x = at_rest after _ [] (ap (λ log. outside_of log) whole ∙ outside_of-append before (Synced ∷ Wrote 0 (0 ∷ []) ∷ Synced ∷ [])) (one_byte_rest (outside_of before) le') in
+        subst (λ bs. IsAtRest after (length bs) × AreKept after bs) (sym (no_bodies (outside_of before).file bodies s.slots_are le')) x
 
 pub opened_rests : (old new : Observed) (slots size : ℕ) (bodies : List (List ℕ)) → Grows old new (λ turns. turns ≡ Synced ∷ first_gate size) → IfObserved old (λ log. size ≡ length (outside_of log).file) → IfObserved old (λ log. AreJournalBodies slots (outside_of log).file bodies) → RestsAt (length bodies) new
 opened_rests old new slots size bodies x n s lit after observed_after =
     let b = observed_before Added old new (λ before turns. turns ≡ Synced ∷ first_gate size) after x observed_after in
     let a = x.observed b.0 b.1 in
     let grown : after ≡ b.0 ++ Synced ∷ first_gate size = observed_same new after (b.0 ++ a.1) observed_after a.4 ∙ ap (λ xs. b.0 ++ xs) (added_whole old.dark new.dark a.0 a.1 a.3 lit ∙ a.2) in
-    opened_rest b.0 after slots size bodies grown (n b.0 b.1) (s b.0 b.1)
+    (opened_rest b.0 after slots size bodies grown (n b.0 b.1) (s b.0 b.1)).0
 
 -- the images
 

@@ -77,3 +77,7 @@ OthersLeaveJournals = (log : List Turn) (turn : Turn) → LeavesDisk turn → Le
 -- where a journal can have left whatever a power failure leaves, it can have left the file itself
 abbrev pub FileIsJournals : Type 0
 FileIsJournals = (log : List Turn) → LeavesJournals log → CanBeJournal (outside_of log).file
+
+-- and the file of the last sync or power failure
+abbrev pub StableIsJournals : Type 0
+StableIsJournals = (log : List Turn) → LeavesJournals log → CanBeJournal (outside_of log).stable

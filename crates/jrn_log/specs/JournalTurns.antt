@@ -22,13 +22,17 @@ abbrev pub AppendTurns : {T E : Type 0} → ℕ → List ℕ → Result T E → 
 AppendTurns slot body (Ok given) turns = turns ≡ body_write slot body ∷ Synced ∷ gate_write slot ∷ Synced ∷ []
 AppendTurns slot body (Err failed) turns = FailedAppendTurns slot body turns
 
+-- the write of the first gate of a file, closed
+abbrev pub first_gate_write : Turn
+first_gate_write = Wrote 0 (0 ∷ [])
+
 -- the turns by which a file of this size gets its first gate, closed: a write and a sync where it has at most one byte, none where it is longer
 abbrev pub first_gate : ℕ → List Turn
-first_gate size = if nat_le size 1 then Wrote 0 (0 ∷ []) ∷ Synced ∷ [] else []
+first_gate size = if nat_le size 1 then first_gate_write ∷ Synced ∷ [] else []
 
 -- the turns of an opening in which the disk failed: in the first sync, in a look at the file, or at the first gate
 abbrev pub FailedTurns : List ℕ → List Turn → Type 0
-FailedTurns file turns = (turns ≡ DiskFailed ∷ []) ⊎ ((turns ≡ Synced ∷ DiskFailed ∷ []) ⊎ ((length file ≤ 1) × (turns ≡ Synced ∷ Wrote 0 (0 ∷ []) ∷ DiskFailed ∷ [])))
+FailedTurns file turns = (turns ≡ DiskFailed ∷ []) ⊎ ((turns ≡ Synced ∷ DiskFailed ∷ []) ⊎ ((length file ≤ 1) × (turns ≡ Synced ∷ first_gate_write ∷ DiskFailed ∷ [])))
 
 -- the turns of an opening that ends with a fault
 abbrev pub FaultTurns : List ℕ → OpenFault → List Turn → Type 0

@@ -4,6 +4,7 @@ pub mod Example
 pub mod Foreign
 pub mod Images
 pub mod Journal
+pub mod JournalLogs
 pub mod JournalTurns
 pub mod Laws
 pub mod Opening

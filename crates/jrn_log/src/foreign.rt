@@ -1,6 +1,8 @@
 //! Which file a journal can have left.
 ghost use Rattle.std.specs.Prelude.{◌↔◌, IsTrue};
-ghost use Rattle.jrn_log.specs.Foreign.{AppendEndsClosed, AppendLeavesJournals, BeginningLeaves, CrashLeavesJournals, FailedAppendLeavesJournals, FailedOpeningLeavesJournals, FileIsJournals, FitsSlots, OpeningEndsClosed, OpeningLeavesJournals, OthersLeaveJournals};
+ghost use Rattle.jrn_log.specs.Example.{FailureIsJournalLog, LostGateIsForeign, TextIsForeign, TwoAreLeft};
+ghost use Rattle.jrn_log.specs.Foreign.{AppendEndsClosed, AppendLeavesJournals, BeginningLeaves, CrashLeavesJournals, FailedAppendLeavesJournals, FailedOpeningLeavesJournals, FileIsJournals, FitsSlots, OpeningEndsClosed, OpeningLeavesJournals, OthersLeaveJournals, StableIsJournals};
+ghost use Rattle.jrn_log.specs.JournalLogs.{JournalLogsAreOpen, JournalLogsLeaveJournals, OpeningRests};
 
 use crate::layout::SLOT_SIZE;
 
@@ -16,6 +18,9 @@ pub fn can_be_journal(length: u64, slots: u32, gate: u8) -> bool
 /// Whatever openings, appends and power failures leave, [`can_be_journal`] holds of it: at each turn of an opening on such
 /// a file and of an append, whatever bytes a torn write leaves, where the disk fails in it too, after a power failure, and
 /// whatever happens between them on connections.
+///
+/// The steps compose: it holds after any log that they make one after the other, and where a journal is open after this
+/// log, the log is at rest with its bodies.
 pub fn law_files()
     ensures beginning { BeginningLeaves }
     ensures opening { OpeningLeavesJournals }
@@ -27,4 +32,19 @@ pub fn law_files()
     ensures crash { CrashLeavesJournals }
     ensures others { OthersLeaveJournals }
     ensures file { FileIsJournals }
+    ensures stable { StableIsJournals }
+
+    // The steps, one after the other.
+    ensures opening_rests { OpeningRests }
+    ensures logs { JournalLogsLeaveJournals }
+    ensures is_open { JournalLogsAreOpen }
+{}
+
+/// Two appends leave a file that a journal can have left, and so does a log of two with a power failure in the second, after
+/// which the journal opens with both; one whose first gate is lost, and a text, are no journal's.
+pub fn law_file_examples()
+    ensures two { TwoAreLeft }
+    ensures failure { FailureIsJournalLog }
+    ensures lost_gate { LostGateIsForeign }
+    ensures text { TextIsForeign }
 {}

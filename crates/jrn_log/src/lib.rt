@@ -12,7 +12,7 @@ mod slots;
 mod write;
 
 pub use fault::{AppendFault, OpenFault};
-pub use foreign::{can_be_journal, law_files};
+pub use foreign::{can_be_journal, law_file_examples, law_files};
 pub use journal::Journal;
 pub use slots::{read_part, read_slots};
 

@@ -1,5 +1,4 @@
--- How a record spells its fields: integers with the most significant byte first, and zeros where a body
--- is unused.
+-- How a record spells its fields: integers with the most significant byte first, and zeros where a body is unused.
 use Rattle.std.specs.Prelude.{ℕ, ◌-◌, Bool, true, false, List, [], ◌∷◌, ◌++◌, length, replicate, Option, Some, None, ℤ, unsigned_abs}
 use Rattle.std.specs.Int.{to_be_bytes, w32, w64}
 use Rattle.gw_base.specs.Bcd.{bcd_of}

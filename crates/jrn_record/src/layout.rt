@@ -1,4 +1,4 @@
-//! Where the fields of a body are: each size and each offset stands here once, for writing and for reading.
+//! Where the fields of a body are: each size and each offset is here once, for writing and for reading.
 
 /// The size of a body.
 pub(crate) const BODY_SIZE: usize = 255;

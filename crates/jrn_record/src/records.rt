@@ -22,7 +22,8 @@ pub struct Intent {
     /// Minor units, of the original for a reversal.
     pub amount: u64,
     pub currency: Currency,
-    /// The terminal's last trace number before the request is sent: what its enquiry reported, or a later approval's.
+    /// The terminal's last trace number before the request is sent: what its enquiry reported, a later approval's,
+    /// or that of the last status of a later decline.
     pub before: u32,
     /// The slot of the original's Intent, of a reversal alone.
     pub original: Option<u32>,

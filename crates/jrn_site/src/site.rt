@@ -235,6 +235,7 @@ impl DiskSite {
         ensures lit { OnOk result ((observed_of self.new).dark ≡ false) }
         ensures calls { OnOk result (calls_of self.new ≡ None) }
         ensures err { OnErr result (observed_of self.new ≡ observed_of self.old) }
+        ensures calls_kept { OnErr result (calls_of self.new ≡ calls_of self.old) }
         ensures faults { (observed_of self.new).faults ≡ (observed_of self.old).faults }
     {
         let file = self.leave(kind)?;
@@ -247,6 +248,7 @@ impl DiskSite {
         ensures err { OnErr result (observed_of self.new ≡ observed_of self.old) }
         ensures lit { OnOk result ((observed_of self.new).dark ≡ false) }
         ensures calls { OnOk result (calls_of self.new ≡ None) }
+        ensures calls_kept { OnErr result (calls_of self.new ≡ calls_of self.old) }
         ensures faults { (observed_of self.new).faults ≡ (observed_of self.old).faults }
     {
         let stable = copied(self.alloc, &file)?;

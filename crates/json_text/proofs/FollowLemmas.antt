@@ -80,7 +80,7 @@ not_bad s c e h = subst (λ (x : Scan). IsBadUtf8 x c) e h
 quote_not_bad : (s : Scan) (c : ℕ) → s ≡ inside → c ≡ 34 → IsBadUtf8 s c → ⊥
 quote_not_bad s c e q h = let le : 128 ≤ c = subst (λ (x : Scan). IsBadUtf8 x c) e h in omega arith
 
-pub fault : (b : List ℕ) (offset c : ℕ) (p : ReaderState) (st : List Level) (kind : FaultKind) → IsAt b offset c → IsRead (take offset b) p st → FailsAt p st c kind → IsJsonFault b offset kind
+pub fault : (b : List ℕ) (offset c : ℕ) (p : ReaderState) (st : List Level) (fault_kind : FaultKind) → IsAt b offset c → IsRead (take offset b) p st → FailsAt p st c fault_kind → IsJsonFault b offset fault_kind
 fault b offset c p st kinds.NotJson i r f =
     let stuck = more_dead profile b offset c p st i (r.follows profile (omega arith)) (f.dead profile) in
     record {

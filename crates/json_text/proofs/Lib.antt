@@ -1,3 +1,4 @@
+-- The lemmas of JSON text, read and written.
 mod PrefixLemmas
 pub mod CanonicalLemmas
 pub mod CharacterLemmas

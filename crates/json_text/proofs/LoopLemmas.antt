@@ -43,7 +43,7 @@ untouched m n c false e h = h
 
 pub refused : (b : List ℕ) (offset c : ℕ) (p : ReaderState) (st : List Level) (s : StepError) → offset < length b → c ≡ get_or b offset 0 → IsRead (take offset b) p st → Fails p st c s → RefusesText b (read_error_at s offset)
 refused b offset c p st step_errors.Memory lt e r f = tt
-refused b offset c p st (step_errors.Fault kind) lt e r f = fault b offset c p st kind (at_byte b offset c lt e) r f
+refused b offset c p st (step_errors.Fault fault_kind) lt e r f = fault b offset c p st fault_kind (at_byte b offset c lt e) r f
 
 pub all_read : (b : List ℕ) (offset : ℕ) (p : ReaderState) (st : List Level) → length b ≤ offset → IsRead (take offset b) p st → IsRead b p st
 all_read b offset p st le r = subst (λ (t : List ℕ). IsRead t p st) (take_all offset b le) r

@@ -223,17 +223,17 @@ character_ends o t old new x ch s sound m e =
     stays (character_in (role_of t) (string_bytes old) s) o x x (modes.Str t new) (string_in (role_of t) (string_bytes old ++ encode_utf8 ch)) refl (ap (string_in (role_of t)) e) tt
     (λ R le. character_whole R (levels o.items) (role_of t) (string_bytes old) s (scan_within s) x ch sound m) m.scans
 
-by_kind : (p : ReaderState) (st : List Level) (c : ℕ) (kind : FaultKind) → ((R : Rules) → IsDead R p st c) → IsKindAt (scan_of p) c kind → FailsAt p st c kind
+by_kind : (p : ReaderState) (st : List Level) (c : ℕ) (fault_kind : FaultKind) → ((R : Rules) → IsDead R p st c) → IsKindAt (scan_of p) c fault_kind → FailsAt p st c fault_kind
 by_kind p st c kinds.NotJson dead k = record { dead = dead; utf8 = k }
 by_kind p st c kinds.BadUtf8 dead k = record { dead = dead; utf8 = k }
 by_kind p st c kinds.TooDeep dead k = absurd k
 by_kind p st c kinds.Repeated dead k = absurd k
 
-pub text_wrong : (fs : List OpenLevel) (t : Target) (text : List ℕ) (x : ℕ) (kind : FaultKind) → x ≢ 34 → ((w : List ℕ) (c : ℕ) → Starts (x ∷ w) c → ⊥) → IsKindAt inside x kind → FailsAt (string_in (role_of t) text) (levels fs) x kind
-text_wrong fs t text x kind ne dead k = by_kind (string_in (role_of t) text) (levels fs) x kind (λ R. text_dead R (levels fs) (role_of t) text x ne dead) k
+pub text_wrong : (fs : List OpenLevel) (t : Target) (text : List ℕ) (x : ℕ) (fault_kind : FaultKind) → x ≢ 34 → ((w : List ℕ) (c : ℕ) → Starts (x ∷ w) c → ⊥) → IsKindAt inside x fault_kind → FailsAt (string_in (role_of t) text) (levels fs) x fault_kind
+text_wrong fs t text x fault_kind ne dead k = by_kind (string_in (role_of t) text) (levels fs) x fault_kind (λ R. text_dead R (levels fs) (role_of t) text x ne dead) k
 
-pub character_wrong : (fs : List OpenLevel) (t : Target) (text : List ℕ) (s : CharacterState) (x : ℕ) (kind : FaultKind) → IsSound s → ((w : List ℕ) (c : ℕ) → LeftOfCharacter s (x ∷ w) c → ⊥) → IsKindAt (scan_within s) x kind → FailsAt (character_in (role_of t) text s) (levels fs) x kind
-character_wrong fs t text s x kind sound dead k = by_kind (character_in (role_of t) text s) (levels fs) x kind (λ R. character_dead R (levels fs) (role_of t) text s x sound dead) k
+pub character_wrong : (fs : List OpenLevel) (t : Target) (text : List ℕ) (s : CharacterState) (x : ℕ) (fault_kind : FaultKind) → IsSound s → ((w : List ℕ) (c : ℕ) → LeftOfCharacter s (x ∷ w) c → ⊥) → IsKindAt (scan_within s) x fault_kind → FailsAt (character_in (role_of t) text s) (levels fs) x fault_kind
+character_wrong fs t text s x fault_kind sound dead k = by_kind (character_in (role_of t) text s) (levels fs) x fault_kind (λ R. character_dead R (levels fs) (role_of t) text s x sound dead) k
 
 -- ---- bytes appended to the text so far
 

@@ -21,15 +21,15 @@ abbrev pub BreaksUtf8 : List ℕ → ℕ → Type 0
 BreaksUtf8 b offset = (offset < length b) × IsBadUtf8 (scan (take offset b)) (slice_index b offset)
 
 -- b is no text: some text begins with its bytes up to this offset, and none with one byte more
-pub record IsJsonFault (b : List ℕ) (offset : ℕ) (kind : FaultKind) : Type 0 where
+pub record IsJsonFault (b : List ℕ) (offset : ℕ) (fault_kind : FaultKind) : Type 0 where
   pub within : offset ≤ length b
   pub begins : BeginsText (take offset b)
   pub longest : offset < length b → BeginsText (take (offset + 1) b) → ⊥
   pub spelled_by_none : (v : Tree) → Spells v b → ⊥
   -- the kind is NotJson exactly where it is none of these
-  pub too_deep : (kind ≡ kinds.TooDeep) ↔ OpensTooDeep b offset
-  pub repeated : (kind ≡ kinds.Repeated) ↔ ClosesRepeated b offset
-  pub bad_utf8 : (kind ≡ kinds.BadUtf8) ↔ BreaksUtf8 b offset
+  pub too_deep : (fault_kind ≡ kinds.TooDeep) ↔ OpensTooDeep b offset
+  pub repeated : (fault_kind ≡ kinds.Repeated) ↔ ClosesRepeated b offset
+  pub bad_utf8 : (fault_kind ≡ kinds.BadUtf8) ↔ BreaksUtf8 b offset
 
 -- the bytes have this fault, or memory was refused
 abbrev pub RefusesText : List ℕ → ReadError → Type 0

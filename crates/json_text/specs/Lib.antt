@@ -1,3 +1,4 @@
+-- The definitions of JSON text: its trees, which text spells one, the first fault, and the canonical text.
 pub mod Canonical
 pub mod Character
 pub mod Fault

@@ -57,8 +57,8 @@ impl fmt::Display for JsonFault {
     ghost output = { λ f. Some (fault_text f) };
 
     fn fmt<W: fmt::Write>(&self, f: &mut fmt::Formatter<W>) -> fmt::Result {
-        let (kind, offset) = (self.kind.as_str(), self.at);
-        write!(f, "{kind} {offset}")
+        let (fault_kind, offset) = (self.kind.as_str(), self.at);
+        write!(f, "{fault_kind} {offset}")
     }
 }
 
@@ -94,7 +94,10 @@ impl StepError {
     {
         match self {
             StepError::Memory => ReadError::Memory,
-            StepError::Fault(kind) => ReadError::Fault(JsonFault { at: offset, kind }),
+            StepError::Fault(fault_kind) => ReadError::Fault(JsonFault {
+                at: offset,
+                kind: fault_kind,
+            }),
         }
     }
 }

@@ -20,6 +20,18 @@ fn again(alloc: Global, text: &[u8]) -> Result<Vec<u8>, AllocError> {
     Ok(out)
 }
 
+/// The example of the crate's first page.
+#[test]
+fn the_example(rt: HostRuntime) -> Result<(), Fail> {
+    let text = b"{\"a\":[1,\"x\"],\"b\":true}";
+    let tree = read(rt.alloc(), text).ok().ok_or("read")?;
+    assert_eq!(rt; tree.get(b"b").ok_or("b")?.as_bool(), Some(true));
+    let mut out = Vec::new(rt.alloc());
+    write(rt.alloc(), &tree, &mut out)?;
+    assert!(rt; out.as_slice() == text.as_slice());
+    Ok(())
+}
+
 #[test]
 fn refused(rt: HostRuntime) -> Result<(), Fail> {
     use FaultKind::{BadUtf8, NotJson, Repeated, TooDeep};
@@ -64,10 +76,10 @@ fn refused(rt: HostRuntime) -> Result<(), Fail> {
         (b"[[[[[[[[[[[[[[[[[[[[[[[[[[[[[[[[[", TooDeep, 32),
         (b"[[[[[[[[[[[[[[[[[[[[[[[[[[[[[[[{\"a\":{", TooDeep, 36),
     ];
-    for (text, kind, offset) in rows {
+    for (text, fault_kind, offset) in rows {
         assert_eq!(rt;
             fault(rt.alloc(), text),
-            Some((kind, offset)),
+            Some((fault_kind, offset)),
             "at {text:?}"
         );
     }

@@ -15,31 +15,32 @@ pub record DiskState : Type 0 where
   pub is_open : Bool
   pub failed : Bool
 
--- the tills; of each terminal, by its number, whether it is linked; whether new tills can come; the disk; and how often a call has failed
+-- the tills; of each terminal, by its number, whether it is linked; whether new tills can come; whether poll(2) took its entries when it was last tried; the disk; and how often a call has failed
 pub record Holding : Type 0 where
   pub tills : TillNumbers
   pub links : List Bool
   pub listens : Bool
+  pub can_poll : Bool
   pub disk : DiskState
   pub faults : ℕ
 
--- Inner: the tills without that of this number
+-- the tills without that of this number
 abbrev pub other_tills : List ℕ → ℕ → List ℕ
 other_tills tills till = filter (λ other. not (other == till)) tills
 
--- Inner: the till of this number is gone, and nothing else
+-- the till of this number is gone, and nothing else
 abbrev pub without_till : TillNumbers → ℕ → TillNumbers
 without_till tills till = record tills { connected = other_tills tills.connected till }
 
--- Inner: one more till, whose number is the next
+-- one more till, whose number is the next
 abbrev pub with_next : TillNumbers → TillNumbers
 with_next tills = record { connected = tills.connected ++ (tills.last + 1) ∷ []; last = tills.last + 1 }
 
--- Inner: the terminal of this number is linked
+-- the terminal of this number is linked
 abbrev pub IsLinked : List Bool → ℕ → Type 0
 IsLinked links pt = slice_get links pt ≡ Some true
 
--- Inner: an event: a till opens with the next number, and only where the site listens and fewer than 65 are connected; bytes come only of a connection that is held; one that ends was held and is gone; nothing else changes, and none says that the site has stopped
+-- an event: a till opens with the next number, and only where the site listens and fewer than 65 are connected; bytes come only of a connection that is held; one that ends was held and is gone; nothing else changes, and none says that the site has stopped
 abbrev pub Brings : Holding → Holding → What → Type 0
 Brings old new (TillOpened till) = (old.listens ≡ true) × (length old.tills.connected < 65) × (till ≡ old.tills.last + 1) × (new ≡ record old { tills = with_next old.tills })
 Brings old new (TillBytes till count) = Contains old.tills.connected till × (new ≡ old)
@@ -58,9 +59,9 @@ pub record AllGone (holding : Holding) : Type 0 where
 abbrev pub closed : Holding → Holding
 closed old = record old { tills = record old.tills { connected = [] }; links = []; listens = false; disk = record old.disk { is_open = false } }
 
--- what an opening leaves open: where it succeeded the file, the listener and the setup's terminals, where it failed nothing
+-- what an opening leaves open: where it succeeded the file, the listener and the setup's terminals, and poll(2) takes the entries for all of them; where it failed nothing
 abbrev pub LeavesOpen : {T E : Type 0} → Setup → Holding → Result T E → Type 0
-LeavesOpen setup new (Ok done) = (new.disk.is_open ≡ true) × (new.listens ≡ true) × (length new.links ≡ length setup.terminals)
+LeavesOpen setup new (Ok done) = (new.disk.is_open ≡ true) × (new.listens ≡ true) × (new.can_poll ≡ true) × (length new.links ≡ length setup.terminals)
 LeavesOpen setup new (Err failed) = (new.disk.is_open ≡ false) × (new.listens ≡ false) × (new.links ≡ [])
 
 -- an opening: no connection is held after it, the numbers of tills go on, and one more failure is counted where it failed
@@ -71,12 +72,12 @@ pub record OpensSite {T E : Type 0} (setup : Setup) (old new : Holding) (result 
   pub disk : new.disk.failed ≡ old.disk.failed
   pub faults : new.faults ≡ faults_after old.faults result
 
--- Inner: the making of a link, which replaces the one before; the terminal is linked exactly where the result is Ok
+-- the making of a link, which replaces the one before; the terminal is linked exactly where the result is Ok
 abbrev pub MakesLink : {T E : Type 0} → Holding → Holding → ℕ → Result T E → Type 0
 MakesLink old new pt (Ok done) = (pt < length old.links) × (new ≡ record old { links = slice_set old.links pt true })
 MakesLink old new pt (Err failed) = new ≡ record old { links = slice_set old.links pt false; faults = one_more old.faults }
 
--- Inner: the disk after a call on it has failed
+-- the disk after a call on it has failed
 abbrev pub failed_disk : DiskState → DiskState
 failed_disk disk = record disk { failed = true }
 
@@ -85,7 +86,7 @@ pub record IsUsable (disk : DiskState) : Type 0 where
   pub is_open : disk.is_open ≡ true
   pub failed : disk.failed ≡ false
 
--- Inner: a call on the disk: Ok only where the file is open and no call has failed before, and after a failure the disk has failed
+-- a call on the disk: Ok only where the file is open and no call has failed before, and after a failure the disk has failed
 abbrev pub UsesDisk : {T E : Type 0} → Holding → Holding → Result T E → Type 0
 UsesDisk old new (Ok done) = IsUsable old.disk × (new ≡ old)
 UsesDisk old new (Err failed) = new ≡ record old { disk = failed_disk old.disk; faults = one_more old.faults }

@@ -3,7 +3,7 @@ use Rattle.std.specs.Prelude.{Bool, true, false}
 use Rattle.net_site.specs.declared.links.Link.{Link}
 use Rattle.net_site.specs.declared.links.Link.TheVariants.{Down, Making, Up}
 
--- Inner: bytes come and go on the link; not while it is being made
+-- bytes come and go on the link; not while it is being made
 abbrev pub is_up : Link → Bool
 is_up Down = false
 is_up (Making stream) = false

@@ -1,6 +1,6 @@
 //! Tests that need a process of their own, which they start through a shell.
 use crate::NetSite;
-use crate::fixture::{address, brings, check, is_child, opened, path};
+use crate::fixture::{address, brings, check, is_child, opened, path, tried};
 use gw_site::{Site, What};
 use std::io::Read;
 use std::net::TcpStream;
@@ -67,19 +67,27 @@ fn a_disk_that_is_full(rt: HostRuntime) -> Result<(), Fail> {
     Ok(())
 }
 
-/// Prints, and sees that neither a till nor the file gets it.
+/// Prints, and sees that nobody gets it: neither the file, nor the till, nor the site by the till's connection.
 fn print(
     rt: &HostRuntime,
     site: &mut NetSite<&HostRuntime>,
     till: &mut TcpStream,
 ) -> Result<(), Fail> {
-    let mut buf = [0; 16];
+    let mut buf = [0; 4096];
     let _ = rt.print("status 0\n");
     let _ = rt.eprint("status 0\n");
     check(site.length() == Ok(0), "the file is empty")?;
     till.set_nonblocking(true)?;
-    check(till.read(&mut buf).is_err(), "the till got nothing")
+    check(till.read(&mut buf).is_err(), "the till got nothing")?;
+    check(
+        site.poll(&mut buf).what == What::Nothing,
+        "and nothing came by its connection",
+    )
 }
+
+/// Each way in which a process may be started without them: with neither, so that a till would get the number of standard
+/// error, and without one of the last two, which the file would get.
+const CLOSED: [&str; 3] = [" <&- >&- 2>&-", " >&-", " 2>&-"];
 
 #[test]
 fn descriptors_that_are_closed(rt: HostRuntime) -> Result<(), Fail> {
@@ -87,11 +95,14 @@ fn descriptors_that_are_closed(rt: HostRuntime) -> Result<(), Fail> {
         if is_child(&rt) {
             return Ok(());
         }
-        let text = run_child(&rt, "closed", "", " <&- >&- 2>&-")?;
-        return check(
-            text.as_str() == "nothing went astray",
-            "the child has failed",
-        );
+        for after in CLOSED {
+            let text = run_child(&rt, "closed", "", after)?;
+            check(
+                text.as_str() == "nothing went astray",
+                "the child has failed",
+            )?;
+        }
+        return Ok(());
     };
     let journal = path(&rt, "closed_journal")?;
     let near = address(&rt, 47012);
@@ -101,5 +112,36 @@ fn descriptors_that_are_closed(rt: HostRuntime) -> Result<(), Fail> {
     print(&rt, &mut site, &mut till)?;
     fs::remove_file(&rt, journal.as_str())?;
     fs::write(&rt, report.as_str(), "nothing went astray")?;
+    Ok(())
+}
+
+/// How many descriptors a process may have open, and what then comes of an opening: a poll has 98 entries.
+const LIMITS: [(&str, &str); 3] = [
+    ("ulimit -n 64;", "refused"),
+    ("ulimit -n 97;", "refused"),
+    ("ulimit -n 98;", "opened"),
+];
+
+#[test]
+fn too_few_descriptors_for_a_poll(rt: HostRuntime) -> Result<(), Fail> {
+    let Some(report) = child_file(&rt, "few") else {
+        if is_child(&rt) {
+            return Ok(());
+        }
+        for (limit, found) in LIMITS {
+            let text = run_child(&rt, "few", limit, "")?;
+            check(text.as_str() == found, "whether it is opened")?;
+        }
+        return Ok(());
+    };
+    let journal = path(&rt, "few_journal")?;
+    let site = tried(&rt, address(&rt, 47016), journal.as_str(), &[])?;
+    let is_made = fs::remove_file(&rt, journal.as_str()).is_ok();
+    check(
+        is_made == site.is_some(),
+        "a file is made where it is opened",
+    )?;
+    let found = if is_made { "opened" } else { "refused" };
+    fs::write(&rt, report.as_str(), found)?;
     Ok(())
 }

@@ -5,6 +5,8 @@ use gw_base::Setup;
 use gw_site::Site;
 use jrn_log::Journal;
 use std::fs;
+use std::os::unix::fs::{MetadataExt, symlink};
+use std::process::Command;
 use std::test::Fail;
 
 fn what_was_written(site: &mut NetSite<&HostRuntime>) -> Result<(), Fail> {
@@ -23,7 +25,7 @@ fn what_was_written(site: &mut NetSite<&HostRuntime>) -> Result<(), Fail> {
 
 /// Once its name is gone nothing is written, and nothing that is said of the disk counts any more.
 fn a_failed_disk(site: &mut NetSite<&HostRuntime>) -> Result<(), Fail> {
-    check(site.write_at(0, &[0x00]).is_err(), "a write fails")?;
+    check(site.write_at(0, &[0xA5]).is_err(), "a write fails")?;
     check(site.length().is_err(), "the length fails after it")?;
     check(site.sync().is_err(), "and so does a sync")
 }
@@ -153,6 +155,91 @@ fn a_file_with_two_names_is_refused(rt: HostRuntime) -> Result<(), Fail> {
     check(refused.is_none(), "it has two names")?;
     fs::remove_file(&rt, second.as_str())?;
     let _site = opened(&rt, address(&rt, 47013), journal.as_str(), &[])?;
+    fs::remove_file(&rt, journal.as_str())?;
+    Ok(())
+}
+
+#[test]
+fn a_new_file_is_for_its_owner_alone(rt: HostRuntime) -> Result<(), Fail> {
+    if is_child(&rt) {
+        return Ok(());
+    }
+    let journal = path(&rt, "mode")?;
+    let _site = opened(&rt, address(&rt, 47017), journal.as_str(), &[])?;
+    let mode = fs::metadata(&rt, journal.as_str())?.mode();
+    check(mode & 0o7777 == 0o600, "its owner reads and writes it")?;
+    fs::remove_file(&rt, journal.as_str())?;
+    Ok(())
+}
+
+/// Makes a pipe with this path.
+fn make_pipe(rt: &HostRuntime, pipe: &str) -> Result<(), Fail> {
+    let command = format!(in rt.alloc(); "mkfifo '{pipe}'")?;
+    let _ = Command::new(rt.alloc(), "/bin/sh")?
+        .arg("-c")?
+        .arg(command.as_str())?
+        .output(rt)?;
+    let made = fs::symlink_metadata(rt, pipe)?;
+    check(!made.is_file(), "a pipe is made")
+}
+
+/// Sees that no site is opened with this file.
+fn is_refused(rt: &HostRuntime, journal: &str, words: &'static str) -> Result<(), Fail> {
+    let site = tried(rt, address(rt, 47018), journal, &[])?;
+    check(site.is_none(), words)
+}
+
+/// A link isn't followed, and neither it nor a pipe is opened.
+#[test]
+fn a_link_and_a_pipe_are_refused(rt: HostRuntime) -> Result<(), Fail> {
+    if is_child(&rt) {
+        return Ok(());
+    }
+    let (journal, link) = (path(&rt, "linked")?, path(&rt, "link")?);
+    symlink(&rt, journal.as_str(), link.as_str())?;
+    is_refused(&rt, link.as_str(), "a link to nothing")?;
+    let is_made = fs::remove_file(&rt, journal.as_str()).is_ok();
+    check(!is_made, "no file is made through a link")?;
+    fs::write(&rt, journal.as_str(), b"\0")?;
+    is_refused(&rt, link.as_str(), "a link to a journal")?;
+    fs::remove_file(&rt, link.as_str())?;
+    fs::remove_file(&rt, journal.as_str())?;
+    make_pipe(&rt, link.as_str())?;
+    is_refused(&rt, link.as_str(), "a pipe")?;
+    fs::remove_file(&rt, link.as_str())?;
+    Ok(())
+}
+
+/// Moves the file that the site has open, and puts another under its name. Then neither is written.
+fn replace(rt: &HostRuntime, site: &mut NetSite<&HostRuntime>, journal: &str) -> Result<(), Fail> {
+    let aside = path(rt, "aside")?;
+    fs::rename(rt, journal, aside.as_str())?;
+    fs::write(rt, journal, b"\0")?;
+    a_failed_disk(site)?;
+    for name in [journal, aside.as_str()] {
+        let left = fs::read(rt, name)?;
+        check(left.as_slice() == b"\0".as_slice(), "it is left as it is")?;
+    }
+    fs::remove_file(rt, aside.as_str())?;
+    Ok(())
+}
+
+#[test]
+fn a_file_that_is_replaced_fails_for_good(rt: HostRuntime) -> Result<(), Fail> {
+    if is_child(&rt) {
+        return Ok(());
+    }
+    let journal = path(&rt, "replaced")?;
+    let near = format!(in rt.alloc(); "{}", address(&rt, 47019))?;
+    let setup = setup(&rt, near.as_str(), journal.as_str(), &[])?;
+    let mut site = NetSite::new(&rt, rt.alloc())?;
+    check(open(&mut site, &setup)?, "it is opened")?;
+    check(site.write_at(0, &[0x00]).is_ok(), "a write")?;
+    replace(&rt, &mut site, journal.as_str())?;
+    check(!open(&mut site, &setup)?, "it isn't opened any more")?;
+    // Another process would be: the failed opening has left neither the address nor the file.
+    let mut other = NetSite::new(&rt, rt.alloc())?;
+    check(open(&mut other, &setup)?, "another site is")?;
     fs::remove_file(&rt, journal.as_str())?;
     Ok(())
 }

@@ -1,5 +1,5 @@
 //! The site.
-ghost use Rattle.std.specs.Prelude.{◌≡◌, ◌↔◌, ◌≤◌, All, length, [], None, true, false, IfOk, IsErr, OnOk, OnErr, Contains, slice_set};
+ghost use Rattle.std.specs.Prelude.{◌≡◌, ◌↔◌, ◌≤◌, All, length, [], None, true, false, IfOk, IsErr, is_ok, OnOk, OnErr, Contains, slice_set};
 ghost use Rattle.gw_site.specs.Failures.{HasCause, faults_after};
 ghost use Rattle.gw_site.specs.Turns.{IsWithinBuf};
 ghost use Rattle.net_site.specs.Holding.{AllGone, Brings, IsLinked, MakesLink, OpensSite, UsesDisk, closed, without_till};
@@ -39,6 +39,8 @@ const ASKED: usize = FIRST_LINK + MOST_TERMINALS;
 pub struct NetSite<R: Drop> {
     rt: R,
     listener: Option<TcpListener>,
+    /// Whether poll(2) took its entries when it was last tried.
+    can_poll: bool,
     /// Whether the listener is left out of the next poll.
     skips_listener: bool,
     tills: Tills,
@@ -65,6 +67,7 @@ impl<R: Drop> Model for NetSite<R> {
       tills = site.tills;
       links = site.links;
       listens = is_some site.listener;
+      can_poll = site.can_poll;
       disk = site.disk;
       faults = site.faults;
     } };
@@ -111,7 +114,7 @@ fn listen<R: Net<Listener = TcpListener, Stream = TcpStream>>(
 impl<R: Drop> NetSite<R> {
     /// A site on which nothing is open yet.
     pub fn new(rt: R, alloc: Global) -> Result<NetSite<R>, AllocError>
-        ensures { IfOk result (λ site. site ≡ record { tills = record { connected = []; last = 0 }; links = []; listens = false; disk = record { is_open = false; failed = false }; faults = 0 }) }
+        ensures { IfOk result (λ site. site ≡ record { tills = record { connected = []; last = 0 }; links = []; listens = false; can_poll = false; disk = record { is_open = false; failed = false }; faults = 0 }) }
     {
         let tills = Tills::new(alloc)?;
         let links = Links::new(alloc)?;
@@ -120,6 +123,7 @@ impl<R: Drop> NetSite<R> {
         Ok(NetSite {
             rt,
             listener: None,
+            can_poll: false,
             skips_listener: false,
             tills,
             links,
@@ -212,6 +216,20 @@ impl<R: Drop> NetSite<R> {
         }
     }
 
+    /// Sees whether poll(2) can be asked, without waiting.
+    ///
+    /// It refuses more entries than a process may have open descriptors. Then each poll would return at once, and nothing
+    /// would ever be heard.
+    fn try_poll(&mut self) -> io::Result<()>
+        ensures { self.new ≡ record self.old { can_poll = is_ok result } }
+    {
+        self.can_poll = poll(&mut self.asked, 0) >= 0;
+        if !self.can_poll {
+            return Err(io::Error::from(ErrorKind::InvalidInput));
+        }
+        Ok(())
+    }
+
     /// Waits until one of them has something, at most 50 ms. Returns whether one has.
     fn wait(&mut self) -> bool
         ensures { self.new ≡ self.old }
@@ -291,7 +309,7 @@ impl<R: Drop> NetSite<R> {
 impl<
     R: Net<Listener = TcpListener, Stream = TcpStream> + Files<File = File> + Clock + Drop,
 > NetSite<R> {
-    /// Opens the file, takes the terminals and listens.
+    /// Opens the file, takes the terminals and listens, where poll(2) can be asked for all of them.
     fn start(&mut self, setup: &Setup) -> io::Result<()>
         requires { self.old.links ≡ [] }
         ensures tills { self.new.tills ≡ self.old.tills }
@@ -301,8 +319,10 @@ impl<
         ensures terminals { OnOk result (length self.new.links ≡ length setup.now.terminals) }
         ensures listens { OnOk result (self.new.listens ≡ true) }
         ensures file { OnOk result (self.new.disk.is_open ≡ true) }
+        ensures polls { OnOk result (self.new.can_poll ≡ true) }
         ensures failed { self.old.disk.failed ≡ true → IsErr result }
     {
+        self.try_poll()?;
         file::take_standard(&self.rt, &mut self.standard)?;
         self.disk.open(&self.rt, setup.journal.as_str())?;
         self.links.set(setup.terminals.as_slice())?;

@@ -26,13 +26,13 @@ use Rattle.pt_core.specs.Book.{is_full, last_book_entry, last_payment, next_entr
 use Rattle.pt_core.specs.Table.{at_command, by_command, cuts, enquiry, entries_of, messages_of, payment, reversal, status_of_entry}
 use Rattle.pt_core.specs.Ends.{IsReported, IsTrueEnd, entry_figures}
 
--- ---- the messages of an answer as they are read
+-- ---- the messages of a reaction as they are read
 
 -- the status of an entry, with a tail at this offset
 abbrev pub read_status : ℕ → BookEntry → Fields
 read_status tail entry = record (status_of_entry entry) { tail = tail }
 
--- the messages of an answer, whose statuses have their tail at this offset
+-- the messages of a reaction, whose statuses have their tail at this offset
 abbrev pub read_messages : ℕ → Reaction → List MessageValue
 read_messages tail reaction.Silent = []
 read_messages tail reaction.Acknowledged = Ack ∷ []
@@ -40,7 +40,7 @@ read_messages tail reaction.Refused = Nack 0x83 ∷ []
 read_messages tail reaction.Completed = Ack ∷ Completion ∷ []
 read_messages tail (reaction.Approved entry) = Ack ∷ Status (read_status tail entry) ∷ Completion ∷ []
 read_messages tail (reaction.Reported entry) = Ack ∷ Status (read_status tail entry) ∷ Completion ∷ []
-read_messages tail (reaction.Aborted code) = Ack ∷ Abort (Some code) ∷ []
+read_messages tail (reaction.Aborted result_code) = Ack ∷ Abort (Some result_code) ∷ []
 read_messages tail (reaction.Booked entry) = Ack ∷ []
 read_messages tail reaction.Dropped = []
 
@@ -52,7 +52,7 @@ same_messages reaction.Refused = refl
 same_messages reaction.Completed = refl
 same_messages (reaction.Approved entry) = refl
 same_messages (reaction.Reported entry) = refl
-same_messages (reaction.Aborted code) = refl
+same_messages (reaction.Aborted result_code) = refl
 same_messages (reaction.Booked entry) = refl
 same_messages reaction.Dropped = refl
 
@@ -103,13 +103,13 @@ other_never dialogue_kind none stop_wished (first ∷ taken) e = cc
 
 pub taken_first : (message : MessageValue) (at : ℤ) (following : List Came) → (message ≡ Other → ⊥) → messages (Message message at ∷ following) ≡ message ∷ messages following
 taken_first Ack at following apart = refl
-taken_first (Nack code) at following apart = refl
-taken_first (Intermediate code) at following apart = refl
+taken_first (Nack error_code) at following apart = refl
+taken_first (Intermediate intermediate_status) at following apart = refl
 taken_first (Line text) at following apart = refl
 taken_first (Block objects) at following apart = refl
 taken_first (Status fields) at following apart = refl
 taken_first Completion at following apart = refl
-taken_first (Abort code) at following apart = refl
+taken_first (Abort result_code) at following apart = refl
 taken_first Other at following apart = absurd (apart refl)
 
 -- ---- where a message is among few
@@ -149,8 +149,8 @@ ends_along dialogue_kind none stop_wished book entries {taken} {earlier} {messag
 
 -- each message of these
 abbrev AllEndTruly : DialogueKind → ℕ → Bool → List BookEntry → List BookEntry → List MessageValue → Type 0
-AllEndTruly dialogue_kind none stop_wished book entries answered = (before : List MessageValue) (message : MessageValue) (following : List MessageValue)
-    → before ++ message ∷ following ≡ answered → EndsTruly dialogue_kind none stop_wished book entries before message
+AllEndTruly dialogue_kind none stop_wished book entries sent = (before : List MessageValue) (message : MessageValue) (following : List MessageValue)
+    → before ++ message ∷ following ≡ sent → EndsTruly dialogue_kind none stop_wished book entries before message
 
 none_ends : (dialogue_kind : DialogueKind) (none : ℕ) (stop_wished : Bool) (book entries : List BookEntry) → AllEndTruly dialogue_kind none stop_wished book entries []
 none_ends dialogue_kind none stop_wished book entries [] message following e = absurd cc
@@ -183,9 +183,9 @@ three_end dialogue_kind none stop_wished book entries a b c first second third b
 
 -- ---- a payment or a reversal
 
-declines : (zero_code : Bool) (code : ℕ) (book : List BookEntry) → IsTrueEnd book [] (cond zero_code heard.Unclear (heard.Declined code None))
-declines true code book = tt
-declines false code book = (refl, refl)
+declines : (zero_code : Bool) (result_code : ℕ) (book : List BookEntry) → IsTrueEnd book [] (cond zero_code heard.Unclear (heard.Declined result_code None))
+declines true result_code book = tt
+declines false result_code book = (refl, refl)
 
 approves : (full : Bool) (entry : BookEntry) (book : List BookEntry) → IsTrueEnd book (entry ∷ []) (approved_with (cond full (Some (entry_figures entry)) None))
 approves true entry book = (entry, refl, refl)
@@ -196,19 +196,19 @@ reports true entry book entries last =
     let P : Option BookEntry → Type 0 = λ o. IsReported o entry.number (Some (entry_figures entry)) in subst P (sym last) (refl, refl)
 reports false entry book entries last = tt
 
-reports_none : (zero_code same : Bool) (code : ℕ) (book entries : List BookEntry) → last_book_entry book ≡ None → IsTrueEnd book entries (cond zero_code heard.Unclear (cond same (heard.Told 0 None code) heard.Unclear))
-reports_none true same code book entries last = tt
-reports_none false true code book entries last =
+reports_none : (zero_code same : Bool) (result_code : ℕ) (book entries : List BookEntry) → last_book_entry book ≡ None → IsTrueEnd book entries (cond zero_code heard.Unclear (cond same (heard.Told 0 None result_code) heard.Unclear))
+reports_none true same result_code book entries last = tt
+reports_none false true result_code book entries last =
     let P : Option BookEntry → Type 0 = λ o. IsReported o 0 None in subst P (sym last) (refl, refl)
-reports_none false false code book entries last = tt
+reports_none false false result_code book entries last = tt
 
-abort_ends : (dialogue_kind : DialogueKind) → IsTransaction dialogue_kind → (none : ℕ) (stop_wished : Bool) (book : List BookEntry) (code : ℕ) → AllEndTruly dialogue_kind none stop_wished book [] (Ack ∷ Abort (Some code) ∷ [])
-abort_ends Registration is none stop_wished book code = absurd is
-abort_ends Enquiry is none stop_wished book code = absurd is
-abort_ends Payment is none stop_wished book code = two_end Payment none stop_wished book [] Ack (Abort (Some code)) (λ _. tt) (λ _. declines (eqb code 0) code book)
-abort_ends Reversal is none stop_wished book code = two_end Reversal none stop_wished book [] Ack (Abort (Some code)) (λ _. tt) (λ _. declines (eqb code 0) code book)
-abort_ends EndOfDay is none stop_wished book code = absurd is
-abort_ends Display is none stop_wished book code = absurd is
+abort_ends : (dialogue_kind : DialogueKind) → IsTransaction dialogue_kind → (none : ℕ) (stop_wished : Bool) (book : List BookEntry) (result_code : ℕ) → AllEndTruly dialogue_kind none stop_wished book [] (Ack ∷ Abort (Some result_code) ∷ [])
+abort_ends Registration is none stop_wished book result_code = absurd is
+abort_ends Enquiry is none stop_wished book result_code = absurd is
+abort_ends Payment is none stop_wished book result_code = two_end Payment none stop_wished book [] Ack (Abort (Some result_code)) (λ _. tt) (λ _. declines (eqb result_code 0) result_code book)
+abort_ends Reversal is none stop_wished book result_code = two_end Reversal none stop_wished book [] Ack (Abort (Some result_code)) (λ _. tt) (λ _. declines (eqb result_code 0) result_code book)
+abort_ends EndOfDay is none stop_wished book result_code = absurd is
+abort_ends Display is none stop_wished book result_code = absurd is
 
 approval_ends : (dialogue_kind : DialogueKind) → IsTransaction dialogue_kind → (none : ℕ) (stop_wished : Bool) (book : List BookEntry) (tail : ℕ) (entry : BookEntry) → AllEndTruly dialogue_kind none stop_wished book (entry ∷ []) (Ack ∷ Status (read_status tail entry) ∷ Completion ∷ [])
 approval_ends Registration is none stop_wished book tail entry = absurd is
@@ -220,14 +220,14 @@ approval_ends Display is none stop_wished book tail entry = absurd is
 
 -- ---- each command
 
--- what is done at a command is truly answered
+-- what is done at a command ends truly
 abbrev Truly : ℕ → DialogueKind → ℕ → Bool → List BookEntry → Reaction → Type 0
 Truly tail dialogue_kind none stop_wished book done = AllEndTruly dialogue_kind none stop_wished book (entries_of done) (read_messages tail done)
 
 payment_truly : (tail : ℕ) (full : Bool) (chosen : Play) (none : ℕ) (stop_wished : Bool) (book : List BookEntry) (amount : ℕ) → Truly tail Payment none stop_wished book (cond full (reaction.Aborted 0x83) (payment chosen book amount))
 payment_truly tail true chosen none stop_wished book amount = abort_ends Payment tt none stop_wished book 0x83
 payment_truly tail false play.Approve none stop_wished book amount = approval_ends Payment tt none stop_wished book tail (next_entry book amount false)
-payment_truly tail false (play.Decline code) none stop_wished book amount = abort_ends Payment tt none stop_wished book code
+payment_truly tail false (play.Decline result_code) none stop_wished book amount = abort_ends Payment tt none stop_wished book result_code
 payment_truly tail false play.CutAfterBook none stop_wished book amount = one_ends Payment none stop_wished book (next_entry book amount false ∷ []) Ack (λ _. tt)
 payment_truly tail false play.DropAtOnce none stop_wished book amount = none_ends Payment none stop_wished book []
 
@@ -291,12 +291,12 @@ true_end tail own chosen book class asked command dialogue came end spells which
     let S : Heard → Type 0 = λ h. IsTrueEnd book (entries_of done) h in
     subst Q (sym spells) (subst S found.is truly)
 
--- ---- after a whole answer the dialogue has ended
+-- ---- after a whole reaction the dialogue has ended
 
 whole_payment : (full : Bool) (chosen : Play) (tail : ℕ) (book : List BookEntry) (amount : ℕ) → (let done = cond full (reaction.Aborted 0x83) (payment chosen book amount) in cuts done ≡ false → has_ended Payment (read_messages tail done) ≡ true)
 whole_payment true chosen tail book amount goes_on = refl
 whole_payment false play.Approve tail book amount goes_on = refl
-whole_payment false (play.Decline code) tail book amount goes_on = refl
+whole_payment false (play.Decline result_code) tail book amount goes_on = refl
 whole_payment false play.CutAfterBook tail book amount goes_on = absurd cc
 whole_payment false play.DropAtOnce tail book amount goes_on = absurd cc
 
@@ -309,25 +309,25 @@ whole_enquiry : (last : Option BookEntry) (tail own : ℕ) → has_ended Enquiry
 whole_enquiry None tail own = refl
 whole_enquiry (Some entry) tail own = refl
 
-pub whole_answer : (tail own : ℕ) (chosen : Play) (book : List BookEntry) (asked : Command) (which : DialogueKind) → dialogue_kind_of asked ≡ Some which
+pub whole_reaction : (tail own : ℕ) (chosen : Play) (book : List BookEntry) (asked : Command) (which : DialogueKind) → dialogue_kind_of asked ≡ Some which
     → cuts (at_command own chosen book asked) ≡ false → has_ended which (read_messages tail (at_command own chosen book asked)) ≡ true
-whole_answer tail own chosen book (command.Register password config currency) which e goes_on =
+whole_reaction tail own chosen book (command.Register password config currency) which e goes_on =
     let P : DialogueKind → Type 0 = λ k. has_ended k (Ack ∷ Completion ∷ []) ≡ true in
     subst P (kind_is Registration which e) refl
-whole_answer tail own chosen book (command.Authorise amount currency) which e goes_on =
+whole_reaction tail own chosen book (command.Authorise amount currency) which e goes_on =
     let P : DialogueKind → Type 0 = λ k. has_ended k (read_messages tail (at_command own chosen book (command.Authorise amount currency))) ≡ true in
     subst P (kind_is Payment which e) (whole_payment (is_full book) chosen tail book amount goes_on)
-whole_answer tail own chosen book (command.Enquire password) which e goes_on =
+whole_reaction tail own chosen book (command.Enquire password) which e goes_on =
     let P : DialogueKind → Type 0 = λ k. has_ended k (read_messages tail (at_command own chosen book (command.Enquire password))) ≡ true in
     subst P (kind_is Enquiry which e) (whole_enquiry (last_book_entry book) tail own)
-whole_answer tail own chosen book (command.Reverse password receipt) which e goes_on =
+whole_reaction tail own chosen book (command.Reverse password receipt) which e goes_on =
     let P : DialogueKind → Type 0 = λ k. has_ended k (read_messages tail (at_command own chosen book (command.Reverse password receipt))) ≡ true in
     subst P (kind_is Reversal which e) (whole_reversal (is_full book) (last_payment receipt book) tail book)
-whole_answer tail own chosen book (command.EndOfDay password) which e goes_on =
+whole_reaction tail own chosen book (command.EndOfDay password) which e goes_on =
     let P : DialogueKind → Type 0 = λ k. has_ended k (Ack ∷ Completion ∷ []) ≡ true in
     subst P (kind_is EndOfDay which e) refl
-whole_answer tail own chosen book command.Stop which e goes_on = absurd (no_kind which e)
-whole_answer tail own chosen book (command.Show display_lines) which e goes_on =
+whole_reaction tail own chosen book command.Stop which e goes_on = absurd (no_kind which e)
+whole_reaction tail own chosen book (command.Show display_lines) which e goes_on =
     let P : DialogueKind → Type 0 = λ k. has_ended k (Ack ∷ []) ≡ true in
     subst P (kind_is Display which e) refl
 

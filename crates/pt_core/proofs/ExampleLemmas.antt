@@ -13,11 +13,11 @@ use Rattle.pt_core.specs.declared.reaction.Reaction.{Reaction}
 use Rattle.pt_core.specs.declared.reaction.Reaction.TheVariants as reaction
 use Rattle.pt_core.specs.Table.{at_command}
 use Rattle.pt_core.specs.Exchange.{Hears, Links}
-use Rattle.pt_core.specs.Example.{ExampleBook, ExampleEnd, ExampleHearing, ExampleLastTrace, ExampleMet, ExampleSharedCause, acknowledgement, approval, approved_came, known_reversal, long_book, payment_bytes, payment_entry, played_dialogue}
+use Rattle.pt_core.specs.Example.{ExampleBook, ExampleEnd, ExampleHearing, ExampleLastTrace, ExampleMet, ExampleSharedCause, ExampleSince, acknowledgement, approval, approved_came, known_reversal, long_book, payment_bytes, payment_entry, played_dialogue}
 
 pub example_met : ExampleMet
 unfolding decode_apdus decode_apdus_within decode_command
-example_met = record { part = refl; whole = refl; answer = refl; three = refl; cut = refl }
+example_met = record { part = refl; whole = refl; sent_bytes = refl; three = refl; cut = refl; new_link = refl }
 
 pub example_book : ExampleBook
 unfolding decode_apdus decode_apdus_within decode_command
@@ -25,7 +25,7 @@ example_book = record { reversed = refl; numbers = (refl, (refl, tt)); unknown =
 
 pub example_end : ExampleEnd
 unfolding decode_command
-example_end = record { answered_first = ([], refl); ends = refl; true_end = (refl, refl) }
+example_end = record { spells = refl; begins = refl; sent_first = ([], refl); ends = refl; true_end = (refl, refl) }
 
 pub example_hearing : ExampleHearing
 unfolding decode_apdus decode_apdus_within decode_command decode_pt_message decode_status decode_status_within decode_status_field decode_field_value
@@ -49,6 +49,10 @@ example_hearing = record {
     ends = refl;
   };
 }
+
+pub example_since : ExampleSince
+unfolding decode_apdus decode_apdus_within decode_command
+example_since = record { one_link = tt; all_heard = refl; since = refl }
 
 two_more : (before all : ℕ) → before ≡ 0 → all ≡ 2 → before + 2 ≤ all
 two_more before all is_before is_all = omega arith

@@ -1,4 +1,4 @@
--- How requests, answers and the book grow with what a terminal meets.
+-- How requests, what is sent and the book grow with what a terminal meets.
 use Rattle.std.proofs.Common.{◌≡◌, ℕ, zero, suc, ◌+◌, ◌<◌, ◌≤◌, Bool, true, false, cond, List, [], ◌∷◌, ◌++◌, length, drop, refl, sym, ap, subst, ◌∙◌, append_assoc, append-nil, arith}
 use Rattle.std.proofs.lemmas.List.{length-append}
 use Rattle.std.specs.List.{AllByRecursion}
@@ -10,7 +10,7 @@ use Rattle.zvt_msg.specs.declared.command.Command.{Command}
 use Rattle.zvt_msg.specs.CommandDecode.{decode_command}
 use Rattle.pt_core.specs.declared.book.BookEntry.{BookEntry}
 use Rattle.pt_core.specs.Table.{bytes_of, cuts, entries_of}
-use Rattle.pt_core.specs.History.{Setting, Met, Chunk, all_handled, answers_to, book_of, earlier, handled, is_cut_by, link_bytes, play_left, reaction_after, requests}
+use Rattle.pt_core.specs.History.{Setting, Met, Chunk, all_handled, sent_for, book_of, earlier, handled, is_cut_by, link_bytes, play_left, reaction_after, requests}
 use Rattle.pt_core.specs.Honest.{Books}
 use Rattle.pt_core.proofs.PrefixLemmas.{prefix_stays}
 use Rattle.pt_core.proofs.SplitLemmas.{Laws}
@@ -60,21 +60,21 @@ handled_append setting before (apdu ∷ xs) ys =
     handled_choice (cuts (reaction_after setting before apdu)) (is_cut_by setting (apdu ∷ before) xs) (apdu ∷ before) (handled setting (apdu ∷ before) (xs ++ ys)) (handled setting (apdu ∷ before) xs)
     (λ (l : List ApduValue). handled setting l ys) (handled_append setting (apdu ∷ before) xs ys)
 
-answers_join : (is : Bool) (bytes first more : List ℕ) → bytes ++ cond is first (first ++ more) ≡ cond is (bytes ++ first) ((bytes ++ first) ++ more)
-answers_join true bytes first more = refl
-answers_join false bytes first more = sym (append_assoc bytes first more)
+sent_join : (is : Bool) (bytes first more : List ℕ) → bytes ++ cond is first (first ++ more) ≡ cond is (bytes ++ first) ((bytes ++ first) ++ more)
+sent_join true bytes first more = refl
+sent_join false bytes first more = sym (append_assoc bytes first more)
 
-answers_choice : (cut is : Bool) (bytes all first : List ℕ) (here last : List ApduValue) (more : List ApduValue → List ℕ) → all ≡ cond is first (first ++ more last)
+sent_choice : (cut is : Bool) (bytes all first : List ℕ) (here last : List ApduValue) (more : List ApduValue → List ℕ) → all ≡ cond is first (first ++ more last)
     → cond cut bytes (bytes ++ all) ≡ cond (cond cut true is) (cond cut bytes (bytes ++ first)) (cond cut bytes (bytes ++ first) ++ more (cond cut here last))
-answers_choice true is bytes all first here last more e = refl
-answers_choice false is bytes all first here last more e = ap (λ (a : List ℕ). bytes ++ a) e ∙ answers_join is bytes first (more last)
+sent_choice true is bytes all first here last more e = refl
+sent_choice false is bytes all first here last more e = ap (λ (a : List ℕ). bytes ++ a) e ∙ sent_join is bytes first (more last)
 
-pub answers_append : (setting : Setting) (before xs ys : List ApduValue)
-    → answers_to setting before (xs ++ ys) ≡ cond (is_cut_by setting before xs) (answers_to setting before xs) (answers_to setting before xs ++ answers_to setting (handled setting before xs) ys)
-answers_append setting before [] ys = refl
-answers_append setting before (apdu ∷ xs) ys =
-    answers_choice (cuts (reaction_after setting before apdu)) (is_cut_by setting (apdu ∷ before) xs) (bytes_of (reaction_after setting before apdu)) (answers_to setting (apdu ∷ before) (xs ++ ys)) (answers_to setting (apdu ∷ before) xs)
-    (apdu ∷ before) (handled setting (apdu ∷ before) xs) (λ (l : List ApduValue). answers_to setting l ys) (answers_append setting (apdu ∷ before) xs ys)
+pub sent_append : (setting : Setting) (before xs ys : List ApduValue)
+    → sent_for setting before (xs ++ ys) ≡ cond (is_cut_by setting before xs) (sent_for setting before xs) (sent_for setting before xs ++ sent_for setting (handled setting before xs) ys)
+sent_append setting before [] ys = refl
+sent_append setting before (apdu ∷ xs) ys =
+    sent_choice (cuts (reaction_after setting before apdu)) (is_cut_by setting (apdu ∷ before) xs) (bytes_of (reaction_after setting before apdu)) (sent_for setting (apdu ∷ before) (xs ++ ys)) (sent_for setting (apdu ∷ before) xs)
+    (apdu ∷ before) (handled setting (apdu ∷ before) xs) (λ (l : List ApduValue). sent_for setting l ys) (sent_append setting (apdu ∷ before) xs ys)
 
 -- these requests are handled after those
 abbrev pub Follows : List ApduValue → List ApduValue → Type 0

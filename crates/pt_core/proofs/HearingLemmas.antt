@@ -24,12 +24,12 @@ use Rattle.pt_core.specs.declared.play.Play.{Play}
 use Rattle.pt_core.specs.declared.reaction.Reaction.{Reaction}
 use Rattle.pt_core.specs.Table.{at_command, by_command, bytes_of, cuts, entries_of}
 use Rattle.pt_core.specs.Ends.{IsTrueEnd}
-use Rattle.pt_core.specs.History.{Setting, Met, all_handled, answered, answers_to, book_of, earlier, handled, is_cut_by, link_bytes, play_left, reaction_after, requests}
-use Rattle.pt_core.specs.Exchange.{Exchange, Links, Sends, Hears, AreOnOneLink, BringsEnd, HearsAnswers, IsTrueHearing, answered_first, handled_first, heard_on_link, message_in, messages_in, met_of}
+use Rattle.pt_core.specs.History.{Setting, Met, all_handled, sent_on_link, sent_for, book_of, earlier, handled, is_cut_by, link_bytes, play_left, reaction_after, requests}
+use Rattle.pt_core.specs.Exchange.{Exchange, Links, Sends, Hears, AreOnOneLink, BringsEnd, HearsSent, IsTrueHearing, sent_first, handled_first, heard_on_link, message_in, messages_in, met_of}
 use Rattle.pt_core.proofs.SplitLemmas.{Laws}
-use Rattle.pt_core.proofs.GrowthLemmas.{Follows, added, answers_append, apdus_grow, book_added, handled_append, handled_follows}
-use Rattle.pt_core.proofs.AnswerLemmas.{Digits, ReadLaws, answer_fits, answer_read}
-use Rattle.pt_core.proofs.EndLemmas.{end_stays, read_messages, some_is, taken_first, true_end, whole_answer}
+use Rattle.pt_core.proofs.GrowthLemmas.{Follows, added, sent_append, apdus_grow, book_added, handled_append, handled_follows}
+use Rattle.pt_core.proofs.ReactionLemmas.{Digits, ReadLaws, reaction_fits, reaction_read}
+use Rattle.pt_core.proofs.EndLemmas.{end_stays, read_messages, some_is, taken_first, true_end, whole_reaction}
 
 -- what the laws of the crates below say
 pub record AllLaws : Type 0 where
@@ -38,7 +38,7 @@ pub record AllLaws : Type 0 where
   pub digits : Digits
   pub ended : (dialogue : Dialogue) (came : List Came) → has_ended dialogue.dialogue_kind (messages came) ≡ is_some (end_of dialogue came)
 
--- ---- a dialogue whose messages are the first of an answer, or more
+-- ---- a dialogue whose messages are the first of what is sent for a request, or more
 
 prefix_choice : (xs ys zs : List MessageValue) → IsPrefix xs (ys ++ zs) → IsPrefix xs ys ⊎ IsPrefix ys xs
 prefix_choice [] ys zs prefix = inl (ys, refl)
@@ -86,19 +86,19 @@ came_split [] (a ∷ heard) more e = absurd cc
 came_split (StopWished ∷ came) (a ∷ heard) more e = skipped_split StopWished came (a ∷ heard) (λ c. refl) (came_split came (a ∷ heard) more e)
 came_split (Message Other at ∷ came) (a ∷ heard) more e = skipped_split (Message Other at) came (a ∷ heard) (λ c. refl) (came_split came (a ∷ heard) more e)
 came_split (Message Ack at ∷ came) (a ∷ heard) more e = taken_split Ack at came a heard more (λ other. cc) e (came_split came heard more)
-came_split (Message (Nack code) at ∷ came) (a ∷ heard) more e = taken_split (Nack code) at came a heard more (λ other. cc) e (came_split came heard more)
-came_split (Message (Intermediate code) at ∷ came) (a ∷ heard) more e = taken_split (Intermediate code) at came a heard more (λ other. cc) e (came_split came heard more)
+came_split (Message (Nack error_code) at ∷ came) (a ∷ heard) more e = taken_split (Nack error_code) at came a heard more (λ other. cc) e (came_split came heard more)
+came_split (Message (Intermediate intermediate_status) at ∷ came) (a ∷ heard) more e = taken_split (Intermediate intermediate_status) at came a heard more (λ other. cc) e (came_split came heard more)
 came_split (Message (Line text) at ∷ came) (a ∷ heard) more e = taken_split (Line text) at came a heard more (λ other. cc) e (came_split came heard more)
 came_split (Message (Block objects) at ∷ came) (a ∷ heard) more e = taken_split (Block objects) at came a heard more (λ other. cc) e (came_split came heard more)
 came_split (Message (Status fields) at ∷ came) (a ∷ heard) more e = taken_split (Status fields) at came a heard more (λ other. cc) e (came_split came heard more)
 came_split (Message Completion at ∷ came) (a ∷ heard) more e = taken_split Completion at came a heard more (λ other. cc) e (came_split came heard more)
-came_split (Message (Abort code) at ∷ came) (a ∷ heard) more e = taken_split (Abort code) at came a heard more (λ other. cc) e (came_split came heard more)
+came_split (Message (Abort result_code) at ∷ came) (a ∷ heard) more e = taken_split (Abort result_code) at came a heard more (λ other. cc) e (came_split came heard more)
 
 some_end : (o : Option Heard) → is_some o ≡ true → (end : Heard) × (o ≡ Some end)
 some_end None e = absurd cc
 some_end (Some end) e = (end, refl)
 
--- the messages reach beyond the answer: the dialogue ended with it
+-- the messages reach beyond what was sent for the command: the dialogue ended with that
 beyond_end : AllLaws → (tail own : ℕ) (chosen : Play) (book : List BookEntry) (class : ℕ) (asked : Option Command) (command : Command) (dialogue : Dialogue) (came : List Came) (end : Heard)
     → asked ≡ Some command → dialogue_kind_of command ≡ Some dialogue.dialogue_kind → cuts (by_command own chosen book class asked) ≡ false
     → IsPrefix (read_messages tail (by_command own chosen book class asked)) (messages came) → end_of dialogue came ≡ Some end → IsTrueEnd book (entries_of (by_command own chosen book class asked)) end
@@ -107,7 +107,7 @@ beyond_end laws tail own chosen book class asked command dialogue came end spell
     let split = came_split came (read_messages tail done) beyond.0 beyond.1 in
     let P : Option Command → Type 0 = λ o. cuts (by_command own chosen book class o) ≡ false → has_ended dialogue.dialogue_kind (read_messages tail (by_command own chosen book class o)) ≡ true in
     let whole : has_ended dialogue.dialogue_kind (read_messages tail done) ≡ true =
-    subst P (sym spells) (whole_answer tail own chosen book command dialogue.dialogue_kind begins) goes_on in
+    subst P (sym spells) (whole_reaction tail own chosen book command dialogue.dialogue_kind begins) goes_on in
     let ended : is_some (end_of dialogue split.first) ≡ true =
     sym (laws.ended dialogue split.first) ∙ ap (λ (l : List MessageValue). has_ended dialogue.dialogue_kind l) split.is ∙ whole in
     let found = some_end (end_of dialogue split.first) ended in
@@ -133,8 +133,8 @@ ends_choice laws tail own chosen book class asked command dialogue came end more
 
 -- ---- what was heard on the link
 
-hears_at : (setting : Setting) (after : List Exchange) (bytes : List ℕ) (before : List Exchange) → HearsAnswers setting (after ++ Hears bytes ∷ before)
-    → IsPrefix (heard_on_link before ++ bytes) (answered setting (met_of before))
+hears_at : (setting : Setting) (after : List Exchange) (bytes : List ℕ) (before : List Exchange) → HearsSent setting (after ++ Hears bytes ∷ before)
+    → IsPrefix (heard_on_link before ++ bytes) (sent_on_link setting (met_of before))
 hears_at setting [] bytes before hears = hears.0
 hears_at setting (Links ∷ after) bytes before hears = hears_at setting after bytes before hears
 hears_at setting (Sends more ∷ after) bytes before hears = hears_at setting after bytes before hears
@@ -164,13 +164,13 @@ heard_split (Sends bytes ∷ after) before same = heard_split after before same
 heard_split (Hears bytes ∷ after) before same =
     ap (λ (h : List ℕ). h ++ bytes) (heard_split after before same) ∙ append_assoc (heard_on_link before) (heard_on_link after) bytes
 
--- where all was heard before, what is heard after the first answers is what is heard since
-pub heard_since : (setting : Setting) (after before : List Exchange) → AreOnOneLink after → heard_on_link before ≡ answered setting (met_of before)
-    → drop (length (answered_first setting (after ++ before) (requests (met_of before)))) (heard_on_link (after ++ before)) ≡ heard_on_link after
+-- where all was heard before, what is heard after what was sent first is what is heard since
+pub heard_since : (setting : Setting) (after before : List Exchange) → AreOnOneLink after → heard_on_link before ≡ sent_on_link setting (met_of before)
+    → drop (length (sent_first setting (after ++ before) (requests (met_of before)))) (heard_on_link (after ++ before)) ≡ heard_on_link after
 heard_since setting after before same all =
     let heard = heard_on_link (after ++ before) in
-    let first : answered_first setting (after ++ before) (requests (met_of before)) ≡ heard_on_link before =
-    ap (λ (s : List ApduValue). answers_to setting s (requests (met_of before))) (one_link setting after before same).earlier_is ∙ sym all in
+    let first : sent_first setting (after ++ before) (requests (met_of before)) ≡ heard_on_link before =
+    ap (λ (s : List ApduValue). sent_for setting s (requests (met_of before))) (one_link setting after before same).earlier_is ∙ sym all in
     ap (λ (f : List ℕ). drop (length f) heard) first
     ∙ ap (drop (length (heard_on_link before))) (heard_split after before same)
     ∙ drop-append_seam (heard_on_link before) (heard_on_link after)
@@ -189,11 +189,11 @@ requests_choice (x ∷ known) new (y ∷ first) apdu later e =
       | inr partly ↦ inr (partly.0, ap (λ (a : ApduValue). a ∷ first) (sym head) ∙ ap (λ (l : List ApduValue). x ∷ l) partly.1)
     ]
 
--- what was heard beyond the answers to the first requests is of the answer to the next one, which was handled
+-- what was heard beyond what was sent for the first requests is of what was sent for the next one, which was handled
 record HeardNext (setting : Setting) (before known first : List ApduValue) (apdu : ApduValue) (heard : List ℕ) : Type 0 where
   more : List ApduValue
   handled_is : handled setting before known ≡ handled setting (handled setting before first) (apdu ∷ more)
-  part : IsPrefix (drop (length (answers_to setting before first)) heard) (answers_to setting (handled setting before first) (apdu ∷ more))
+  part : IsPrefix (drop (length (sent_for setting before first)) heard) (sent_for setting (handled setting before first) (apdu ∷ more))
 
 no_shorter : (cut : Bool) (bytes more : List ℕ) → length bytes ≤ length (cond cut bytes (bytes ++ more))
 no_shorter true bytes more = omega arith
@@ -203,20 +203,20 @@ prefix_size : (heard bytes : List ℕ) → IsPrefix heard bytes → length heard
 prefix_size heard bytes (rest, is) = omega (arith, ap length is, length-append heard rest)
 
 next_by : (setting : Setting) (before known first : List ApduValue) (apdu : ApduValue) (heard : List ℕ) (more : List ApduValue) (cut : Bool)
-    → is_cut_by setting before first ≡ cut → known ≡ first ++ apdu ∷ more → IsPrefix heard (answers_to setting before known)
-    → length (answers_to setting before first) < length heard → HeardNext setting before known first apdu heard
+    → is_cut_by setting before first ≡ cut → known ≡ first ++ apdu ∷ more → IsPrefix heard (sent_for setting before known)
+    → length (sent_for setting before first) < length heard → HeardNext setting before known first apdu heard
 next_by setting before known first apdu heard more true cut is prefix beyond =
-    let here = answers_to setting before first in
-    let all : answers_to setting before known ≡ here =
-    ap (answers_to setting before) is ∙ answers_append setting before first (apdu ∷ more)
-    ∙ ap (λ (c : Bool). cond c here (here ++ answers_to setting (handled setting before first) (apdu ∷ more))) cut in
-    absurd (omega (arith, beyond, prefix_size heard (answers_to setting before known) prefix, ap length all))
+    let here = sent_for setting before first in
+    let all : sent_for setting before known ≡ here =
+    ap (sent_for setting before) is ∙ sent_append setting before first (apdu ∷ more)
+    ∙ ap (λ (c : Bool). cond c here (here ++ sent_for setting (handled setting before first) (apdu ∷ more))) cut in
+    absurd (omega (arith, beyond, prefix_size heard (sent_for setting before known) prefix, ap length all))
 next_by setting before known first apdu heard more false cut is (rest, parts) beyond =
-    let here = answers_to setting before first in
+    let here = sent_for setting before first in
     let last = handled setting before first in
-    let next = answers_to setting last (apdu ∷ more) in
-    let all : answers_to setting before known ≡ here ++ next =
-    ap (answers_to setting before) is ∙ answers_append setting before first (apdu ∷ more) ∙ ap (λ (c : Bool). cond c here (here ++ next)) cut in
+    let next = sent_for setting last (apdu ∷ more) in
+    let all : sent_for setting before known ≡ here ++ next =
+    ap (sent_for setting before) is ∙ sent_append setting before first (apdu ∷ more) ∙ ap (λ (c : Bool). cond c here (here ++ next)) cut in
     record {
       more = more;
       handled_is = ap (handled setting before) is ∙ handled_append setting before first (apdu ∷ more) ∙ ap (λ (c : Bool). cond c last (handled setting last (apdu ∷ more))) cut;
@@ -225,13 +225,13 @@ next_by setting before known first apdu heard more false cut is (rest, parts) be
 
 heard_next : (setting : Setting) (before known first : List ApduValue) (apdu : ApduValue) (heard : List ℕ)
     → ((more : List ApduValue) × (known ≡ first ++ apdu ∷ more)) ⊎ ((more : List ApduValue) × (first ≡ known ++ more))
-    → IsPrefix heard (answers_to setting before known) → length (answers_to setting before first) < length heard → HeardNext setting before known first apdu heard
+    → IsPrefix heard (sent_for setting before known) → length (sent_for setting before first) < length heard → HeardNext setting before known first apdu heard
 heard_next setting before known first apdu heard (inl (more, is)) prefix beyond = next_by setting before known first apdu heard more (is_cut_by setting before first) refl is prefix beyond
 heard_next setting before known first apdu heard (inr (more, is)) prefix beyond =
-    let here = answers_to setting before known in
-    let all : answers_to setting before first ≡ cond (is_cut_by setting before known) here (here ++ answers_to setting (handled setting before known) more) =
-    ap (answers_to setting before) is ∙ answers_append setting before known more in
-    absurd (omega (arith, beyond, prefix_size heard here prefix, no_shorter (is_cut_by setting before known) here (answers_to setting (handled setting before known) more), ap length all))
+    let here = sent_for setting before known in
+    let all : sent_for setting before first ≡ cond (is_cut_by setting before known) here (here ++ sent_for setting (handled setting before known) more) =
+    ap (sent_for setting before) is ∙ sent_append setting before known more in
+    absurd (omega (arith, beyond, prefix_size heard here prefix, no_shorter (is_cut_by setting before known) here (sent_for setting (handled setting before known) more), ap length all))
 
 -- ---- the messages that were heard
 
@@ -246,27 +246,27 @@ messages_grow laws heard bytes (rest, is) =
     let grows = apdus_grow laws heard rest in
     (filter_map message_of grows.0, ap messages_in is ∙ ap (filter_map message_of) grows.1 ∙ filter_map-append message_of (decode_apdus heard).apdus grows.0)
 
--- the messages of the answers that begin with one
+-- the messages that are sent, beginning with those for one request
 record NextRead (done : Reaction) (bytes : List ℕ) : Type 0 where
   more : List MessageValue
   none : cuts done ≡ true → more ≡ []
   is : messages_in bytes ≡ read_messages 16 done ++ more
 
 read_by : AllLaws → (setting : Setting) (before : List ApduValue) (apdu : ApduValue) (more : List ApduValue) (cut : Bool) → cuts (reaction_after setting before apdu) ≡ cut
-    → NextRead (reaction_after setting before apdu) (cond cut (bytes_of (reaction_after setting before apdu)) (bytes_of (reaction_after setting before apdu) ++ answers_to setting (apdu ∷ before) more))
+    → NextRead (reaction_after setting before apdu) (cond cut (bytes_of (reaction_after setting before apdu)) (bytes_of (reaction_after setting before apdu) ++ sent_for setting (apdu ∷ before) more))
 read_by laws setting before apdu more true cut =
     let done = reaction_after setting before apdu in
     record {
       more = messages_in [];
       none = λ _. no_messages laws.stream;
-      is = ap messages_in (sym (append-nil (bytes_of done))) ∙ answer_read laws.stream laws.read done [] (answer_fits laws.digits setting before apdu);
+      is = ap messages_in (sym (append-nil (bytes_of done))) ∙ reaction_read laws.stream laws.read done [] (reaction_fits laws.digits setting before apdu);
     }
 read_by laws setting before apdu more false cut =
     let done = reaction_after setting before apdu in
     record {
-      more = messages_in (answers_to setting (apdu ∷ before) more);
+      more = messages_in (sent_for setting (apdu ∷ before) more);
       none = λ cuts_. absurd (let never : false ≡ true = sym cut ∙ cuts_ in cc);
-      is = answer_read laws.stream laws.read done (answers_to setting (apdu ∷ before) more) (answer_fits laws.digits setting before apdu);
+      is = reaction_read laws.stream laws.read done (sent_for setting (apdu ∷ before) more) (reaction_fits laws.digits setting before apdu);
     }
 
 -- ---- a hearing that brings an end
@@ -285,28 +285,28 @@ follows_next : (cut : Bool) (here last : List ApduValue) → Follows last here �
 follows_next true here last follows = ([], refl)
 follows_next false here last follows = follows
 
-pub true_hearing : AllLaws → (setting : Setting) (exchanges : List Exchange) → HearsAnswers setting exchanges → (first : List ApduValue) (apdu : ApduValue) (end : Heard) (before : List Exchange)
+pub true_hearing : AllLaws → (setting : Setting) (exchanges : List Exchange) → HearsSent setting exchanges → (first : List ApduValue) (apdu : ApduValue) (end : Heard) (before : List Exchange)
     → BringsEnd setting exchanges first apdu end before → IsTrueHearing setting before (handled_first setting exchanges first) apdu end
 true_hearing laws setting exchanges hears first apdu end before brings =
-    let P : List Exchange → Type 0 = λ x. HearsAnswers setting x in
+    let P : List Exchange → Type 0 = λ x. HearsSent setting x in
     let L : List Exchange → Type 0 = λ x. OneLink setting x (Hears brings.bytes ∷ before) in
     let link : OneLink setting exchanges (Hears brings.bytes ∷ before) = subst L (sym brings.parts) (one_link setting brings.after (Hears brings.bytes ∷ before) brings.one_link) in
     let start = earlier setting (met_of exchanges) in
     let known = requests (met_of before) in
     let heard = heard_on_link before ++ brings.bytes in
-    let A : List ApduValue → Type 0 = λ s. IsPrefix heard (answers_to setting s known) in
-    let prefix : IsPrefix heard (answers_to setting start known) = subst A (sym link.earlier_is) (hears_at setting brings.after brings.bytes before (subst P brings.parts hears)) in
+    let A : List ApduValue → Type 0 = λ s. IsPrefix heard (sent_for setting s known) in
+    let prefix : IsPrefix heard (sent_for setting start known) = subst A (sym link.earlier_is) (hears_at setting brings.after brings.bytes before (subst P brings.parts hears)) in
     let grows = apdus_grow laws.stream (link_bytes (met_of before)) link.bytes_grow.0 in
     let all : known ++ grows.0 ≡ first ++ apdu ∷ brings.later =
     sym grows.1 ∙ ap (λ (b : List ℕ). (decode_apdus b).apdus) (sym link.bytes_grow.1) ∙ brings.sent in
-    let beyond = size_choice laws brings.dialogue brings.came end heard (answered_first setting exchanges first) brings.heard brings.ends (cases_lt (length (answered_first setting exchanges first)) (length heard)) in
+    let beyond = size_choice laws brings.dialogue brings.came end heard (sent_first setting exchanges first) brings.heard brings.ends (cases_lt (length (sent_first setting exchanges first)) (length heard)) in
     let next = heard_next setting start known first apdu heard (requests_choice known grows.0 first apdu brings.later all) prefix beyond in
     let last = handled setting start first in
     let done = reaction_after setting last apdu in
     let read = read_by laws setting last apdu next.more (cuts done) refl in
-    let messages_first = messages_grow laws.stream (drop (length (answered_first setting exchanges first)) heard) (answers_to setting last (apdu ∷ next.more)) next.part in
+    let messages_first = messages_grow laws.stream (drop (length (sent_first setting exchanges first)) heard) (sent_for setting last (apdu ∷ next.more)) next.part in
     let M : List MessageValue → Type 0 = λ l. IsPrefix l (read_messages 16 done ++ read.more) in
-    let N : List MessageValue → Type 0 = λ l. IsPrefix (messages_in (drop (length (answered_first setting exchanges first)) heard)) l in
+    let N : List MessageValue → Type 0 = λ l. IsPrefix (messages_in (drop (length (sent_first setting exchanges first)) heard)) l in
     let came_first : IsPrefix (messages brings.came) (read_messages 16 done ++ read.more) = subst M (sym brings.heard) (subst N read.is messages_first) in
     let follows = follows_next (cuts done) (apdu ∷ last) (handled setting (apdu ∷ last) next.more) (handled_follows setting (apdu ∷ last) next.more) in
     let handled_then : all_handled setting (met_of before) ≡ follows.0 ++ apdu ∷ last =

@@ -1,4 +1,4 @@
--- What a terminal keeps and answers is what its history says.
+-- What a terminal keeps and sends is what its history says.
 use Rattle.std.proofs.Common.{◌≡◌, ℕ, zero, suc, ◌+◌, Bool, true, false, cond, List, [], ◌∷◌, ◌++◌, drop, Option, None, Some, refl, sym, ap, ◌∙◌, arith}
 use Rattle.std.proofs.lemmas.List.{drop-drop, append-nil}
 use Rattle.std.specs.Prelude.{◌||◌, slice_get, unwrap_or}
@@ -10,7 +10,7 @@ use Rattle.pt_core.specs.declared.play.Play.{Play}
 use Rattle.pt_core.specs.declared.play.Play.TheVariants as play
 use Rattle.pt_core.specs.Table.{bytes_of, cuts, entries_of, reaction_at, is_authorisation}
 use Rattle.pt_core.specs.Serving.{AccountValue, Served, TerminalValue, account_after, after_bytes, first_play, heard, heard_by_terminal, is_bad, connection_after, reaction_by, served, next_terminal, with_rest}
-use Rattle.pt_core.specs.History.{Setting, Met, Chunk, terminal_account, all_handled, answered, answers_to, book_of, count_authorisations, earlier, handled, has_cut, is_cut_by, link_bytes, reaction_after, requests, terminal_after}
+use Rattle.pt_core.specs.History.{Setting, Met, Chunk, terminal_account, all_handled, sent_on_link, sent_for, book_of, count_authorisations, earlier, handled, has_cut, is_cut_by, link_bytes, reaction_after, requests, terminal_after}
 use Rattle.pt_core.proofs.SplitLemmas.{Laws, joined, joins}
 
 -- ---- the plays that are left
@@ -43,7 +43,7 @@ step_reaction setting before apdu = ap (λ (p : Play). reaction_at setting.none 
 -- what requests come to, with these before them
 abbrev pub link_served : Setting → List ApduValue → List ApduValue → Served
 link_served setting before apdus = record {
-  bytes = answers_to setting before apdus;
+  bytes = sent_for setting before apdus;
   account = terminal_account setting (handled setting before apdus);
   cut = is_cut_by setting before apdus;
 }
@@ -67,14 +67,14 @@ served_is setting before (apdu ∷ apdus) =
     ∙ ap (λ r. let s : Served = cond (cuts r) (record { bytes = bytes_of r; account = terminal_account setting (apdu ∷ before); cut = true }) (after_bytes (bytes_of r) (served (terminal_account setting (apdu ∷ before)) apdus)) in s) (step_reaction setting before apdu)
     ∙ ap (λ (m : Served). let s : Served = cond (cuts reaction) (record { bytes = bytes_of reaction; account = terminal_account setting (apdu ∷ before); cut = true }) (after_bytes (bytes_of reaction) m) in s) (served_is setting (apdu ∷ before) apdus)
     ∙ served_choice (cuts reaction) (bytes_of reaction) more.bytes (terminal_account setting (apdu ∷ before)) more.account more.cut
-    ∙ ap (λ (a : AccountValue). let s : Served = record { bytes = answers_to setting before (apdu ∷ apdus); account = a; cut = is_cut_by setting before (apdu ∷ apdus) } in s) (account_choice (cuts reaction) setting (apdu ∷ before) (handled setting (apdu ∷ before) apdus))
+    ∙ ap (λ (a : AccountValue). let s : Served = record { bytes = sent_for setting before (apdu ∷ apdus); account = a; cut = is_cut_by setting before (apdu ∷ apdus) } in s) (account_choice (cuts reaction) setting (apdu ∷ before) (handled setting (apdu ∷ before) apdus))
 
 -- ---- all that was met
 
 -- what the bytes of the present link came to
 abbrev pub met_served : Setting → List Met → Served
 met_served setting met = record {
-  bytes = answered setting met;
+  bytes = sent_on_link setting met;
   account = terminal_account setting (all_handled setting met);
   cut = has_cut setting met;
 }
@@ -88,12 +88,12 @@ with_bad false bytes account prefix = refl
 pub met_is : (setting : Setting) (met : List Met) → heard (terminal_account setting (earlier setting met)) (link_bytes met) ≡ met_served setting met
 met_is setting met =
     ap (λ (s : Served). with_rest s (decode_apdus (link_bytes met)).rest) (served_is setting (earlier setting met) (requests met))
-    ∙ with_bad (is_cut_by setting (earlier setting met) (requests met)) (answered setting met) (terminal_account setting (all_handled setting met)) (decode_apdu (decode_apdus (link_bytes met)).rest)
+    ∙ with_bad (is_cut_by setting (earlier setting met) (requests met)) (sent_on_link setting met) (terminal_account setting (all_handled setting met)) (decode_apdu (decode_apdus (link_bytes met)).rest)
 
 -- all that bytes on the connection change
 pub record Adds (setting : Setting) (met : List Met) (bytes : List ℕ) : Type 0 where
   pub terminal : next_terminal (terminal_after setting met) bytes ≡ terminal_after setting (Chunk bytes ∷ met)
-  pub answer : answered setting (Chunk bytes ∷ met) ≡ answered setting met ++ (heard_by_terminal (terminal_after setting met) (terminal_after setting met).connection bytes).bytes
+  pub sent_bytes : sent_on_link setting (Chunk bytes ∷ met) ≡ sent_on_link setting met ++ (heard_by_terminal (terminal_after setting met) (terminal_after setting met).connection bytes).bytes
   pub cut : has_cut setting (Chunk bytes ∷ met) ≡ (has_cut setting met || (heard_by_terminal (terminal_after setting met) (terminal_after setting met).connection bytes).cut)
 
 same_terminal : {a b : AccountValue} → {x y : Option (List ℕ)} → a ≡ b → x ≡ y → (let t : TerminalValue = record { account = a; connection = x } in t) ≡ record { account = b; connection = y }
@@ -106,7 +106,7 @@ adds_by : (setting : Setting) (met : List Met) (bytes : List ℕ) (cut : Bool)
     → has_cut setting met ≡ cut → Adds setting met bytes
 adds_by setting met bytes true all rest is =
     let cut_connection : (terminal_after setting met).connection ≡ None = ap (λ (c : Bool). cond c None (Some (decode_apdus (link_bytes met)).rest)) is in
-    let all_is : met_served setting (Chunk bytes ∷ met) ≡ met_served setting met = all ∙ ap (λ (c : Bool). cond c (met_served setting met) (after_bytes (answered setting met) (heard (terminal_account setting (all_handled setting met)) ((decode_apdus (link_bytes met)).rest ++ bytes)))) is in
+    let all_is : met_served setting (Chunk bytes ∷ met) ≡ met_served setting met = all ∙ ap (λ (c : Bool). cond c (met_served setting met) (after_bytes (sent_on_link setting met) (heard (terminal_account setting (all_handled setting met)) ((decode_apdus (link_bytes met)).rest ++ bytes)))) is in
     let still : has_cut setting (Chunk bytes ∷ met) ≡ true = ap (λ (s : Served). s.cut) all_is ∙ is in
     let account_is : (heard_by_terminal (terminal_after setting met) (terminal_after setting met).connection bytes).account ≡ terminal_account setting (all_handled setting (Chunk bytes ∷ met)) =
     ap (λ (l : Option (List ℕ)). (heard_by_terminal (terminal_after setting met) l bytes).account) cut_connection ∙ ap (λ (s : Served). s.account) (sym all_is) in
@@ -115,7 +115,7 @@ adds_by setting met bytes true all rest is =
     ∙ ap (λ (c : Bool). cond c None (Some (decode_apdus (link_bytes met ++ bytes)).rest)) (sym still) in
     record {
       terminal = same_terminal account_is connection_is;
-      answer = ap (λ (s : Served). s.bytes) all_is ∙ sym (append-nil (answered setting met)) ∙ ap (λ (l : Option (List ℕ)). answered setting met ++ (heard_by_terminal (terminal_after setting met) l bytes).bytes) (sym cut_connection);
+      sent_bytes = ap (λ (s : Served). s.bytes) all_is ∙ sym (append-nil (sent_on_link setting met)) ∙ ap (λ (l : Option (List ℕ)). sent_on_link setting met ++ (heard_by_terminal (terminal_after setting met) l bytes).bytes) (sym cut_connection);
       cut = still ∙ ap (λ (c : Bool). c || (heard_by_terminal (terminal_after setting met) (terminal_after setting met).connection bytes).cut) (sym is);
     }
 adds_by setting met bytes false all rest is =
@@ -123,7 +123,7 @@ adds_by setting met bytes false all rest is =
     let account = terminal_account setting (all_handled setting met) in
     let here = heard account (waiting ++ bytes) in
     let open_connection : (terminal_after setting met).connection ≡ Some waiting = ap (λ (c : Bool). cond c None (Some waiting)) is in
-    let all_is : met_served setting (Chunk bytes ∷ met) ≡ after_bytes (answered setting met) here = all ∙ ap (λ (c : Bool). cond c (met_served setting met) (after_bytes (answered setting met) here)) is in
+    let all_is : met_served setting (Chunk bytes ∷ met) ≡ after_bytes (sent_on_link setting met) here = all ∙ ap (λ (c : Bool). cond c (met_served setting met) (after_bytes (sent_on_link setting met) here)) is in
     let account_is : (heard_by_terminal (terminal_after setting met) (terminal_after setting met).connection bytes).account ≡ terminal_account setting (all_handled setting (Chunk bytes ∷ met)) =
     ap (λ (l : Option (List ℕ)). (heard_by_terminal (terminal_after setting met) l bytes).account) open_connection ∙ ap (λ (s : Served). s.account) (sym all_is) in
     let connection_is : connection_after (terminal_after setting met) (terminal_after setting met).connection bytes ≡ (terminal_after setting (Chunk bytes ∷ met)).connection =
@@ -132,7 +132,7 @@ adds_by setting met bytes false all rest is =
     ∙ ap (λ (c : Bool). cond c None (Some (decode_apdus (link_bytes met ++ bytes)).rest)) (ap (λ (s : Served). s.cut) (sym all_is)) in
     record {
       terminal = same_terminal account_is connection_is;
-      answer = ap (λ (s : Served). s.bytes) all_is ∙ ap (λ (l : Option (List ℕ)). answered setting met ++ (heard_by_terminal (terminal_after setting met) l bytes).bytes) (sym open_connection);
+      sent_bytes = ap (λ (s : Served). s.bytes) all_is ∙ ap (λ (l : Option (List ℕ)). sent_on_link setting met ++ (heard_by_terminal (terminal_after setting met) l bytes).bytes) (sym open_connection);
       cut = ap (λ (s : Served). s.cut) all_is
           ∙ ap (λ (l : Option (List ℕ)). (heard_by_terminal (terminal_after setting met) l bytes).cut) (sym open_connection)
           ∙ ap (λ (c : Bool). c || (heard_by_terminal (terminal_after setting met) (terminal_after setting met).connection bytes).cut) (sym is);

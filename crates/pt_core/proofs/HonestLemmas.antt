@@ -26,7 +26,7 @@ authorised : (full : Bool) (chosen : Play) (book : List BookEntry) (amount curre
     → Books book (Some (command.Authorise amount currency)) (entries_of (cond full (reaction.Aborted 0x83) (payment chosen book amount)))
 authorised true chosen book amount currency room = tt
 authorised false play.Approve book amount currency room = ((refl, refl), follows book amount false room)
-authorised false (play.Decline code) book amount currency room = tt
+authorised false (play.Decline result_code) book amount currency room = tt
 authorised false play.CutAfterBook book amount currency room = ((refl, refl), follows book amount false room)
 authorised false play.DropAtOnce book amount currency room = tt
 

@@ -1,4 +1,5 @@
-pub mod AnswerLemmas
+-- The lemmas of the played terminal, its book and its history.
+pub mod ReactionLemmas
 pub mod BookLemmas
 pub mod CauseLemmas
 pub mod EndLemmas

@@ -10,7 +10,7 @@ use Rattle.pt_core.specs.Table.{bytes_of, cuts}
 use Rattle.pt_core.specs.Serving.{AccountValue, Served, account_after, after_bytes, heard, reaction_by}
 use Rattle.pt_core.proofs.SplitLemmas.{Laws, heard_whole, heard_incomplete, heard_bad, joined, joins}
 
--- from these bytes before: these bytes were answered since, and the others are still to be heard
+-- from these bytes before: these bytes were sent since, and the others are still to be heard
 pub record Progress (start : AccountValue) (bytes written : List ℕ) (account : AccountValue) (left out : List ℕ) : Type 0 where
   pub added : List ℕ
   pub all : heard start bytes ≡ after_bytes added (heard account left)
@@ -20,7 +20,7 @@ pub record Progress (start : AccountValue) (bytes written : List ℕ) (account :
 pub begun : (account : AccountValue) (bytes out : List ℕ) → Progress account bytes out account bytes out
 begun account bytes out = record { added = []; all = refl; rest = refl; out_is = sym (append-nil out) }
 
--- what comes when more was answered
+-- what comes when more was sent
 regroup : (added here : List ℕ) (more : Served) → after_bytes added (after_bytes here more) ≡ after_bytes (added ++ here) more
 regroup added here more = ap (λ (b : List ℕ). let s : Served = record { bytes = b; account = more.account; cut = more.cut } in s) (sym (append_assoc added here more.bytes))
 

@@ -21,13 +21,13 @@ IsReported (Some entry) trace approved = (trace ≡ entry.number) × (approved �
 -- entry. Each entry is approved (`FollowsEntry`), so that it isn't said again here.
 abbrev pub IsTrueEnd : List BookEntry → List BookEntry → Heard → Type 0
 IsTrueEnd book booked (heard.Begun stop) = Unit {0}
-IsTrueEnd book booked (heard.Note code) = Unit {0}
+IsTrueEnd book booked (heard.Note intermediate_status) = Unit {0}
 IsTrueEnd book booked heard.Line = Unit {0}
 IsTrueEnd book booked heard.Block = Unit {0}
 IsTrueEnd book booked heard.Seen = Unit {0}
 IsTrueEnd book booked (heard.Approved figures) = (entry : BookEntry) × (booked ≡ entry ∷ []) × (figures ≡ entry_figures entry)
 IsTrueEnd book booked heard.Done = booked ≡ []
-IsTrueEnd book booked (heard.Told trace approved code) = IsReported (last_book_entry book) trace approved
-IsTrueEnd book booked (heard.Declined code trace) = (booked ≡ []) × (trace ≡ None)
+IsTrueEnd book booked (heard.Told trace approved result_code) = IsReported (last_book_entry book) trace approved
+IsTrueEnd book booked (heard.Declined result_code trace) = (booked ≡ []) × (trace ≡ None)
 IsTrueEnd book booked heard.Unclear = Unit {0}
 IsTrueEnd book booked heard.Stray = Unit {0}

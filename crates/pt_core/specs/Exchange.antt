@@ -1,5 +1,5 @@
 -- What the gateway does on the connection of a played terminal, what it hears there, and the book with its places.
-use Rattle.std.specs.Prelude.{◌≡◌, ℕ, ◌+◌, ◌≤◌, List, [], ◌≢◌, ◌∷◌, ◌++◌, length, drop, map, slice_get, Option, None, Some, Result, Ok, Err, All}
+use Rattle.std.specs.Prelude.{◌≡◌, ℕ, ◌+◌, ◌≤◌, List, [], ◌≢◌, ◌∷◌, ◌++◌, length, drop, map, slice_get, Option, None, Some, Result, Ok, Err, All, IsTrue}
 use Rattle.std.specs.List.{filter_map}
 use Rattle.gw_bytes.specs.Bytes.{IsPrefix}
 use Rattle.zvt_apdu.specs.Grammar.{ApduValue}
@@ -14,10 +14,10 @@ use Rattle.zvt_talk.specs.Dialogue.{Dialogue, dialogue_kind_of}
 use Rattle.zvt_talk.specs.Came.{Came, messages}
 use Rattle.zvt_talk.specs.Talk.{end_of}
 use Rattle.pt_core.specs.declared.book.BookEntry.{BookEntry}
-use Rattle.pt_core.specs.Book.{last_trace}
+use Rattle.pt_core.specs.Book.{all_fit, last_trace}
 use Rattle.pt_core.specs.Table.{entries_of}
 use Rattle.pt_core.specs.Ends.{IsTrueEnd}
-use Rattle.pt_core.specs.History.{Setting, Met, NewLink, Chunk, all_handled, answered, answers_to, book_after, book_of, earlier, handled, reaction_after, requests}
+use Rattle.pt_core.specs.History.{Setting, Met, NewLink, Chunk, all_handled, sent_on_link, sent_for, book_after, book_of, earlier, handled, reaction_after, requests}
 use Rattle.pt_core.specs.Honest.{AreEntriesNumbered, FollowsEntry, IsCausedBy}
 
 -- what the gateway does on the connection
@@ -45,13 +45,13 @@ heard_on_link (Links ∷ exchanges) = []
 heard_on_link (Sends bytes ∷ exchanges) = heard_on_link exchanges
 heard_on_link (Hears bytes ∷ exchanges) = heard_on_link exchanges ++ bytes
 
--- at each hearing, what was heard on the link is a prefix of what the terminal had answered on it
-abbrev pub HearsAnswers : Setting → List Exchange → Type 0
-HearsAnswers setting [] = Unit {0}
-HearsAnswers setting (Links ∷ exchanges) = HearsAnswers setting exchanges
-HearsAnswers setting (Sends bytes ∷ exchanges) = HearsAnswers setting exchanges
-HearsAnswers setting (Hears bytes ∷ exchanges) =
-    IsPrefix (heard_on_link exchanges ++ bytes) (answered setting (met_of exchanges)) × HearsAnswers setting exchanges
+-- at each hearing, what was heard on the link is a prefix of what the terminal had sent on it
+abbrev pub HearsSent : Setting → List Exchange → Type 0
+HearsSent setting [] = Unit {0}
+HearsSent setting (Links ∷ exchanges) = HearsSent setting exchanges
+HearsSent setting (Sends bytes ∷ exchanges) = HearsSent setting exchanges
+HearsSent setting (Hears bytes ∷ exchanges) =
+    IsPrefix (heard_on_link exchanges ++ bytes) (sent_on_link setting (met_of exchanges)) × HearsSent setting exchanges
 
 -- there is no new link among them
 abbrev pub AreOnOneLink : List Exchange → Type 0
@@ -126,16 +126,16 @@ message_in (Err fault) = None
 abbrev pub messages_in : List ℕ → List MessageValue
 messages_in bytes = filter_map (λ apdu. message_in (decode_pt_message apdu)) (decode_apdus bytes).apdus
 
--- the bytes that are answered to these first requests of the present link
-abbrev pub answered_first : Setting → List Exchange → List ApduValue → List ℕ
-answered_first setting exchanges first = answers_to setting (earlier setting (met_of exchanges)) first
+-- the bytes that are sent for these first requests of the present link
+abbrev pub sent_first : Setting → List Exchange → List ApduValue → List ℕ
+sent_first setting exchanges first = sent_for setting (earlier setting (met_of exchanges)) first
 
 -- all the requests that are handled before the one that follows these on the present link
 abbrev pub handled_first : Setting → List Exchange → List ApduValue → List ApduValue
 handled_first setting exchanges first = handled setting (earlier setting (met_of exchanges)) first
 
 -- On the present link, a hearing brings the end of the dialogue of a command: the request that follows these first ones is
--- the command, and what was heard by then after the answers to the first ones are the messages of its dialogue.
+-- the command, and what was heard by then after what was sent for the first ones are the messages of its dialogue.
 pub record BringsEnd (setting : Setting) (exchanges : List Exchange) (first : List ApduValue) (apdu : ApduValue) (end : Heard) (before : List Exchange) : Type 0 where
   -- the exchanges after the hearing, and its bytes
   pub after : List Exchange
@@ -151,7 +151,7 @@ pub record BringsEnd (setting : Setting) (exchanges : List Exchange) (first : Li
   pub dialogue : Dialogue
   pub begins : dialogue_kind_of command ≡ Some dialogue.dialogue_kind
   pub came : List Came
-  pub heard : messages came ≡ messages_in (drop (length (answered_first setting exchanges first)) (heard_on_link (Hears bytes ∷ before)))
+  pub heard : messages came ≡ messages_in (drop (length (sent_first setting exchanges first)) (heard_on_link (Hears bytes ∷ before)))
   pub ends : end_of dialogue came ≡ Some end
 
 -- The end is true of the book, and each entry that the command books was in the book before the hearing.
@@ -187,6 +187,8 @@ pub record IsHonestForConnection (setting : Setting) (exchanges : List Exchange)
   -- the trace numbers rise from 1 to at most 999,999
   pub numbers : AreEntriesNumbered 1 (book_after setting (met_of exchanges))
   pub few : length (book_after setting (met_of exchanges)) ≤ last_trace
+  -- each entry fits a status
+  pub fit : IsTrue (all_fit (book_after setting (met_of exchanges)))
   -- each end of a dialogue is true of the entries before the hearing that brings it
   pub ends : (first : List ApduValue) (apdu : ApduValue) (end : Heard) (before : List Exchange)
       → BringsEnd setting exchanges first apdu end before → IsTrueHearing setting before (handled_first setting exchanges first) apdu end

@@ -1,4 +1,4 @@
--- What a played terminal answers and books, by all that it met: the new links, and what it heard on them.
+-- What a played terminal sends and books, by all that it met: the new links, and what it heard on them.
 use Rattle.std.specs.Prelude.{ℕ, ◌+◌, List, [], ◌∷◌, ◌++◌, drop, None, Some, Bool, true, false, ◌||◌, slice_get, unwrap_or, if◌then◌else◌}
 use Rattle.zvt_apdu.specs.Grammar.{ApduValue}
 use Rattle.zvt_apdu.specs.Decode.{decode_apdu}
@@ -11,7 +11,7 @@ use Rattle.pt_core.specs.declared.reaction.Reaction.{Reaction}
 use Rattle.pt_core.specs.Table.{reaction_at, bytes_of, entries_of, cuts, is_authorisation}
 use Rattle.pt_core.specs.Serving.{AccountValue, TerminalValue, is_bad}
 
--- what a terminal is set up with: the code by which an enquiry is answered where there is no transaction, and the plays
+-- what a terminal is set up with: the result code with which an enquiry is aborted where there is no transaction, and the plays
 pub record Setting : Type 0 where
   pub none : ℕ
   pub plays : List Play
@@ -58,12 +58,12 @@ is_cut_by setting before [] = false
 is_cut_by setting before (apdu ∷ apdus) =
     if cuts (reaction_after setting before apdu) then true else is_cut_by setting (apdu ∷ before) apdus
 
--- the bytes that are answered to them
-abbrev pub answers_to : Setting → List ApduValue → List ApduValue → List ℕ
-answers_to setting before [] = []
-answers_to setting before (apdu ∷ apdus) =
+-- the bytes that are sent for them
+abbrev pub sent_for : Setting → List ApduValue → List ApduValue → List ℕ
+sent_for setting before [] = []
+sent_for setting before (apdu ∷ apdus) =
     if cuts (reaction_after setting before apdu) then bytes_of (reaction_after setting before apdu)
-    else bytes_of (reaction_after setting before apdu) ++ answers_to setting (apdu ∷ before) apdus
+    else bytes_of (reaction_after setting before apdu) ++ sent_for setting (apdu ∷ before) apdus
 
 -- ---- all that was met, the newest first
 
@@ -95,9 +95,9 @@ book_after setting met = book_of setting (all_handled setting met)
 abbrev pub has_cut : Setting → List Met → Bool
 has_cut setting met = is_cut_by setting (earlier setting met) (requests met) || is_bad (decode_apdu (decode_apdus (link_bytes met)).rest)
 
--- all the bytes answered on the present link
-abbrev pub answered : Setting → List Met → List ℕ
-answered setting met = answers_to setting (earlier setting met) (requests met)
+-- all the bytes sent on the present link
+abbrev pub sent_on_link : Setting → List Met → List ℕ
+sent_on_link setting met = sent_for setting (earlier setting met) (requests met)
 
 -- ---- what a terminal keeps
 

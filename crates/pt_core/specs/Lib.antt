@@ -1,3 +1,4 @@
+-- The definitions of the played terminal: how it reacts, its book, and what is true of both.
 pub mod Book
 pub mod Ends
 pub mod Example

@@ -1,4 +1,4 @@
--- What a played terminal answers and keeps, by the few facts alone that it keeps.
+-- What a played terminal sends and keeps, by the few facts alone that it keeps.
 use Rattle.std.specs.Prelude.{ℕ, List, [], ◌∷◌, ◌++◌, drop, Option, None, Some, Bool, true, false, if◌then◌else◌}
 use Rattle.zvt_apdu.specs.Grammar.{ApduValue}
 use Rattle.zvt_apdu.specs.Decode.{DecodedApdu, decode_apdu}
@@ -10,7 +10,7 @@ use Rattle.pt_core.specs.declared.play.Play.TheVariants as play
 use Rattle.pt_core.specs.declared.reaction.Reaction.{Reaction}
 use Rattle.pt_core.specs.Table.{reaction_at, bytes_of, entries_of, cuts, is_authorisation}
 
--- the code by which an enquiry is answered where there is no transaction, the plays that are left, and the book
+-- the result code with which an enquiry is aborted where there is no transaction, the plays that are left, and the book
 pub record AccountValue : Type 0 where
   pub none : ℕ
   pub plays : List Play
@@ -41,13 +41,13 @@ account_after account apdu = record account {
   book = account.book ++ entries_of (reaction_by account apdu);
 }
 
--- what requests came to: the bytes that were answered, the account, and whether the connection was cut
+-- what requests came to: the bytes that were sent, the account, and whether the connection was cut
 pub record Served : Type 0 where
   pub bytes : List ℕ
   pub account : AccountValue
   pub cut : Bool
 
--- these bytes were answered before
+-- these bytes were sent before
 abbrev pub after_bytes : List ℕ → Served → Served
 after_bytes bytes served = record served { bytes = bytes ++ served.bytes }
 

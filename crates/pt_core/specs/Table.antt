@@ -19,7 +19,7 @@ use Rattle.pt_core.specs.Book.{fits_status, is_full, next_entry, last_book_entry
 -- a payment, by the play that is used up at it
 abbrev pub payment : Play → List BookEntry → ℕ → Reaction
 payment play.Approve book amount = reaction.Approved (next_entry book amount false)
-payment (play.Decline code) book amount = reaction.Aborted code
+payment (play.Decline result_code) book amount = reaction.Aborted result_code
 payment play.CutAfterBook book amount = reaction.Booked (next_entry book amount false)
 payment play.DropAtOnce book amount = reaction.Dropped
 
@@ -52,7 +52,7 @@ abbrev pub by_command : ℕ → Play → List BookEntry → ℕ → Option Comma
 by_command none play book class None = at_other class
 by_command none play book class (Some command) = at_command none play book command
 
--- what a terminal does at an APDU: `none` is the code by which it says that it has no transaction
+-- what a terminal does at an APDU: `none` is the result code by which it says that it has no transaction
 abbrev pub reaction_at : ℕ → Play → List BookEntry → ApduValue → Reaction
 reaction_at none play book apdu = by_command none play book apdu.class (decode_command apdu)
 
@@ -69,7 +69,7 @@ status_of_entry entry = record {
   tail = 0;
 }
 
--- the messages that are answered, in order
+-- the messages that are sent, in order
 abbrev pub messages_of : Reaction → List MessageValue
 messages_of reaction.Silent = []
 messages_of reaction.Acknowledged = MessageValue.Ack ∷ []
@@ -77,7 +77,7 @@ messages_of reaction.Refused = MessageValue.Nack 0x83 ∷ []
 messages_of reaction.Completed = MessageValue.Ack ∷ MessageValue.Completion ∷ []
 messages_of (reaction.Approved entry) = MessageValue.Ack ∷ MessageValue.Status (status_of_entry entry) ∷ MessageValue.Completion ∷ []
 messages_of (reaction.Reported entry) = MessageValue.Ack ∷ MessageValue.Status (status_of_entry entry) ∷ MessageValue.Completion ∷ []
-messages_of (reaction.Aborted code) = MessageValue.Ack ∷ MessageValue.Abort (Some code) ∷ []
+messages_of (reaction.Aborted result_code) = MessageValue.Ack ∷ MessageValue.Abort (Some result_code) ∷ []
 messages_of (reaction.Booked entry) = MessageValue.Ack ∷ []
 messages_of reaction.Dropped = []
 
@@ -86,7 +86,7 @@ abbrev pub all_written : List MessageValue → List ℕ
 all_written [] = []
 all_written (message ∷ messages) = canonical_pt_message message ++ all_written messages
 
--- the bytes that are answered
+-- the bytes that are sent
 abbrev pub bytes_of : Reaction → List ℕ
 bytes_of reaction = all_written (messages_of reaction)
 
@@ -98,7 +98,7 @@ entries_of reaction.Refused = []
 entries_of reaction.Completed = []
 entries_of (reaction.Approved entry) = entry ∷ []
 entries_of (reaction.Reported entry) = []
-entries_of (reaction.Aborted code) = []
+entries_of (reaction.Aborted result_code) = []
 entries_of (reaction.Booked entry) = entry ∷ []
 entries_of reaction.Dropped = []
 
@@ -110,11 +110,11 @@ reported_fits reaction.Refused = true
 reported_fits reaction.Completed = true
 reported_fits (reaction.Approved entry) = fits_status entry
 reported_fits (reaction.Reported entry) = fits_status entry
-reported_fits (reaction.Aborted code) = true
+reported_fits (reaction.Aborted result_code) = true
 reported_fits (reaction.Booked entry) = true
 reported_fits reaction.Dropped = true
 
--- the connection is cut after the answer
+-- the connection is cut after them
 abbrev pub cuts : Reaction → Bool
 cuts reaction.Silent = false
 cuts reaction.Acknowledged = false
@@ -122,7 +122,7 @@ cuts reaction.Refused = false
 cuts reaction.Completed = false
 cuts (reaction.Approved entry) = false
 cuts (reaction.Reported entry) = false
-cuts (reaction.Aborted code) = false
+cuts (reaction.Aborted result_code) = false
 cuts (reaction.Booked entry) = true
 cuts reaction.Dropped = true
 

@@ -8,7 +8,7 @@ use crate::play::Plays;
 /// The plays that are left, and the entries.
 #[derive(Debug, Drop)]
 pub(crate) struct Account<'a> {
-    /// The code by which the terminal says that it has no transaction.
+    /// The result code by which the terminal says that it has no transaction.
     pub(crate) none: u8,
     pub(crate) plays: &'a Plays,
     /// How many plays are used up.

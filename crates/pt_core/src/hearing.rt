@@ -13,8 +13,8 @@ use zvt_apdu::{ApduReader, law_decode_apdus};
 /// The most bytes that a reader takes at once.
 const CHUNK: usize = 4096;
 
-/// An answer to one request has at most so many bytes.
-const ANSWER: usize = 32;
+/// What is sent for one request has at most so many bytes.
+const REACTION: usize = 32;
 
 impl Account<'_> {
     /// Serves the requests that these bytes complete. True where the connection is cut.
@@ -35,7 +35,7 @@ impl Account<'_> {
         ensures account_stays { OnErr result (account_value self.new ≡ account_value self.old) }
         ensures reader_stays { OnErr result (reader.new ≡ reader.old) }
     {
-        out.reserve(bytes.len().checked_mul(ANSWER).ok_or(AllocError)?)?;
+        out.reserve(bytes.len().checked_mul(REACTION).ok_or(AllocError)?)?;
         self.entries.reserve(bytes.len())?;
         let cut = self.hear_chunks(reader, bytes, out);
         if cut {
@@ -44,11 +44,11 @@ impl Account<'_> {
         Ok(cut)
     }
 
-    /// Serves the requests that these bytes complete, as `hear` does, where there is room for every answer and every entry. It is
+    /// Serves the requests that these bytes complete, as `hear` does, where there is room for what is sent for each and every entry. It is
     /// apart from it so that no memory is asked for once a byte is heard.
     fn hear_chunks(&mut self, reader: &mut ApduReader, bytes: &[u8], out: &mut Vec<u8>) -> bool
         requires waits { decode_apdu reader.old ≡ DecodedApdu.Incomplete }
-        requires answer_room { vec_len out.old + 32 * length bytes.now ≤ vec_capacity out.old }
+        requires sent_room { vec_len out.old + 32 * length bytes.now ≤ vec_capacity out.old }
         requires book_room { vec_len self.old.entries + length bytes.now ≤ vec_capacity self.old.entries }
         ensures account { account_value self.new ≡ (heard (account_value self.old) (reader.old ++ bytes.now)).account }
         ensures bytes { out.new.items ≡ out.old.items ++ (heard (account_value self.old) (reader.old ++ bytes.now)).bytes }
@@ -73,7 +73,7 @@ impl Account<'_> {
 
     /// Serves the requests that wait whole. True where the connection is cut, at one of them or at what can't begin one.
     fn serve_all(&mut self, reader: &mut ApduReader, out: &mut Vec<u8>) -> bool
-        requires answer_room { vec_len out.old + 32 * length (decode_apdus reader.old).apdus ≤ vec_capacity out.old }
+        requires sent_room { vec_len out.old + 32 * length (decode_apdus reader.old).apdus ≤ vec_capacity out.old }
         requires book_room { vec_len self.old.entries + length (decode_apdus reader.old).apdus ≤ vec_capacity self.old.entries }
         ensures account { account_value self.new ≡ (heard (account_value self.old) reader.old).account }
         ensures bytes { out.new.items ≡ out.old.items ++ (heard (account_value self.old) reader.old).bytes }
@@ -82,8 +82,8 @@ impl Account<'_> {
         ensures plays { self.new.plays ≡ self.old.plays }
         ensures rest { OnFalse result (reader.new ≡ (decode_apdus reader.old).rest) }
         ensures waits { OnFalse result (decode_apdu reader.new ≡ DecodedApdu.Incomplete) }
-        ensures answer_len { vec_len out.new ≤ vec_len out.old + 32 * length (decode_apdus reader.old).apdus }
-        ensures answer_capacity { vec_capacity out.old ≤ vec_capacity out.new }
+        ensures sent_len { vec_len out.new ≤ vec_len out.old + 32 * length (decode_apdus reader.old).apdus }
+        ensures sent_capacity { vec_capacity out.old ≤ vec_capacity out.new }
         ensures book_len { vec_len self.new.entries ≤ vec_len self.old.entries + length (decode_apdus reader.old).apdus }
         ensures book_capacity { vec_capacity self.old.entries ≤ vec_capacity self.new.entries }
     {

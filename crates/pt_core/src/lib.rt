@@ -1,4 +1,4 @@
-//! The ZVT terminal (PA00P015) that the project plays: it answers each whole command at once, by its plays, and keeps a
+//! The ZVT terminal (PA00P015) that the project plays: it reacts to each whole command at once, by its plays, and keeps a
 //! book.
 #![tactic(auto)]
 

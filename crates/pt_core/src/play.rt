@@ -8,7 +8,7 @@ use std::marker::Model;
 pub enum Play {
     /// Approves it.
     Approve,
-    /// Declines it with this code.
+    /// Declines it with this result code.
     Decline(u8),
     /// Approves it in its book, and cuts the connection before it says so.
     CutAfterBook,

@@ -9,7 +9,7 @@ use arrayvec::ArrayVec;
 use zvt_bmp::Fields;
 use zvt_msg::{PtMessage, write_pt};
 
-/// The code by which a command is refused that the terminal doesn't know.
+/// The error code by which a command is refused that the terminal doesn't know.
 const UNKNOWN: u8 = 0x83;
 
 /// What the terminal does at one request.
@@ -27,7 +27,7 @@ pub(crate) enum Reaction {
     Approved(BookEntry),
     /// Reports the entry, which is booked already.
     Reported(BookEntry),
-    /// Acknowledges it, and aborts with this code.
+    /// Acknowledges it, and aborts with this result code.
     Aborted(u8),
     /// Books the entry, acknowledges, and cuts the connection.
     Booked(BookEntry),
@@ -52,14 +52,14 @@ impl Reaction {
         }
     }
 
-    /// Whether the connection is cut after the answer.
+    /// Whether the connection is cut after the messages.
     pub(crate) fn cuts(&self) -> bool
         ensures { result ≡ cuts self.now }
     {
         matches!(self, Reaction::Booked(_) | Reaction::Dropped)
     }
 
-    /// Writes the answer.
+    /// Writes the messages.
     pub(crate) fn write(&self, out: &mut ArrayVec<u8, 512>)
         requires fits { IsTrue (reported_fits self.now) }
         requires empty { out.old.items ≡ [] }
@@ -79,9 +79,9 @@ impl Reaction {
                 write_pt(&PtMessage::Status(status_of_entry(entry)), out);
                 write_pt(&PtMessage::Completion, out);
             }
-            Reaction::Aborted(code) => {
+            Reaction::Aborted(result_code) => {
                 write_pt(&PtMessage::Ack, out);
-                write_pt(&PtMessage::Abort(Some(*code)), out);
+                write_pt(&PtMessage::Abort(Some(*result_code)), out);
             }
         }
     }

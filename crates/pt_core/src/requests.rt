@@ -23,24 +23,24 @@ const LAST_TRACE: usize = GREATEST_TRACE as usize;
 /// How many receipt numbers there are, with 0.
 const RECEIPTS: u32 = GREATEST_RECEIPT as u32 + 1;
 
-/// The code of a payment or a reversal after the last trace number.
+/// The result code of a payment or a reversal after the last trace number.
 const FULL: u8 = 0x83;
 
-/// The code of a reversal of no payment.
+/// The result code of a reversal of no payment.
 const NO_PAYMENT: u8 = 0xB4;
 
 impl Account<'_> {
-    /// Does what the request asks for, and appends the answer. True where the connection is cut after it.
+    /// Does what the request asks for, and appends what is sent. True where the connection is cut after it.
     pub(crate) fn serve(&mut self, apdu: &Apdu<'_>, out: &mut Vec<u8>) -> bool
-        requires answer_room { vec_len out.old + 32 ≤ vec_capacity out.old }
+        requires sent_room { vec_len out.old + 32 ≤ vec_capacity out.old }
         requires book_room { vec_len self.old.entries + 1 ≤ vec_capacity self.old.entries }
         ensures account { account_value self.new ≡ account_after (account_value self.old) (value_of apdu.now) }
         ensures bytes { out.new.items ≡ out.old.items ++ bytes_of (reaction_by (account_value self.old) (value_of apdu.now)) }
         ensures cut { result ≡ cuts (reaction_by (account_value self.old) (value_of apdu.now)) }
         ensures none { self.new.none ≡ self.old.none }
         ensures plays { self.new.plays ≡ self.old.plays }
-        ensures answer_len { vec_len out.new ≤ vec_len out.old + 32 }
-        ensures answer_capacity { vec_capacity out.old ≤ vec_capacity out.new }
+        ensures sent_len { vec_len out.new ≤ vec_len out.old + 32 }
+        ensures sent_capacity { vec_capacity out.old ≤ vec_capacity out.new }
         ensures book_len { vec_len self.new.entries ≤ vec_len self.old.entries + 1 }
         ensures book_capacity { vec_capacity self.old.entries ≤ vec_capacity self.new.entries }
     {
@@ -50,7 +50,7 @@ impl Account<'_> {
         let reaction = self.reaction(apdu.class, &command);
         self.use_play(&command);
         self.book(reaction.entry());
-        append_answer(&reaction, out);
+        append_reaction(&reaction, out);
         reaction.cuts()
     }
 
@@ -98,7 +98,7 @@ impl Account<'_> {
         }
         match self.play() {
             Play::Approve => Reaction::Approved(self.next_entry(amount, false)),
-            Play::Decline(code) => Reaction::Aborted(code),
+            Play::Decline(result_code) => Reaction::Aborted(result_code),
             Play::CutAfterBook => Reaction::Booked(self.next_entry(amount, false)),
             Play::DropAtOnce => Reaction::Dropped,
         }
@@ -218,14 +218,14 @@ fn find_payment(entries: &[BookEntry], receipt: u16) -> Option<BookEntry>
     None
 }
 
-fn append_answer(reaction: &Reaction, out: &mut Vec<u8>)
+fn append_reaction(reaction: &Reaction, out: &mut Vec<u8>)
     requires fits { IsTrue (reported_fits reaction.now) }
     requires room { vec_len out.old + 32 ≤ vec_capacity out.old }
     ensures bytes { out.new.items ≡ out.old.items ++ bytes_of reaction.now }
     ensures len { vec_len out.new ≤ vec_len out.old + 32 }
     ensures capacity { vec_capacity out.old ≤ vec_capacity out.new }
 {
-    let mut answer = ArrayVec::new();
-    reaction.write(&mut answer);
-    out.extend_from_slice(answer.as_slice()).unwrap();
+    let mut written = ArrayVec::new();
+    reaction.write(&mut written);
+    out.extend_from_slice(written.as_slice()).unwrap();
 }

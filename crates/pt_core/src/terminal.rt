@@ -2,7 +2,7 @@
 ghost use Rattle.std.specs.Prelude.{◌≡◌, ◌++◌, ◌||◌, ◌∷◌, [], List, Some, IfOk, OnErr};
 ghost use Rattle.gw_base.specs.Setup.{IsPt};
 ghost use Rattle.pt_core.specs.Serving.{heard_by_terminal, next_terminal};
-ghost use Rattle.pt_core.specs.History.{Setting, Met, NewLink, Chunk, answered, book_after, has_cut, terminal_after};
+ghost use Rattle.pt_core.specs.History.{Setting, Met, NewLink, Chunk, sent_on_link, book_after, has_cut, terminal_after};
 
 use crate::account::Account;
 use crate::book::Book;
@@ -13,7 +13,7 @@ use std::alloc::{AllocError, Global};
 use std::marker::Model;
 use zvt_apdu::ApduReader;
 
-/// What the terminal answers to the bytes of one call.
+/// What the terminal does at the bytes of one call.
 #[derive(Clone, Debug, Drop)]
 pub struct Answer {
     /// What it sends, perhaps nothing.
@@ -22,7 +22,7 @@ pub struct Answer {
     pub cut: bool,
 }
 
-/// A terminal that answers each whole command at once.
+/// A terminal that reacts to each whole command at once.
 ///
 /// Contracts see it as its account and what waits on its connection; the history of a terminal is all the links and bytes
 /// that it met, the newest first.
@@ -54,7 +54,7 @@ impl Model for Terminal {
 }
 
 impl Terminal {
-    /// A terminal that has met nothing yet. It says by the setup's code that it has no transaction.
+    /// A terminal that has met nothing yet. It says by the setup's result code that it has no transaction.
     pub fn new(alloc: Global, setup: &Pt, outcomes: Plays) -> Result<Terminal, AllocError>
         requires { IsPt setup.now }
         ensures { IfOk result (λ terminal. terminal ≡ terminal_after (record { none = setup.now.none; plays = outcomes }) []) }
@@ -83,23 +83,23 @@ impl Terminal {
         self.is_cut = false;
     }
 
-    /// Bytes on the present link: what is answered to the commands that they complete.
+    /// Bytes on the present link: what is sent for the commands that they complete.
     ///
     /// Without memory nothing is heard.
     pub fn on_bytes(&mut self, alloc: Global, bytes: &[u8]) -> Result<Answer, AllocError>
         // After all that was met, the bytes do what the table says.
-        ensures added { IfOk result (λ answer. (setting : Setting) (met : List Met) → self.old ≡ terminal_after setting met
+        ensures added { IfOk result (λ done. (setting : Setting) (met : List Met) → self.old ≡ terminal_after setting met
             → self.new ≡ terminal_after setting (Chunk bytes.now ∷ met)) }
-        ensures answered { IfOk result (λ answer. (setting : Setting) (met : List Met) → self.old ≡ terminal_after setting met
-            → answered setting (Chunk bytes.now ∷ met) ≡ answered setting met ++ answer.bytes) }
-        ensures cut { IfOk result (λ answer. (setting : Setting) (met : List Met) → self.old ≡ terminal_after setting met
-            → has_cut setting (Chunk bytes.now ∷ met) ≡ (has_cut setting met || answer.cut)) }
+        ensures sent { IfOk result (λ done. (setting : Setting) (met : List Met) → self.old ≡ terminal_after setting met
+            → sent_on_link setting (Chunk bytes.now ∷ met) ≡ sent_on_link setting met ++ done.bytes) }
+        ensures cut { IfOk result (λ done. (setting : Setting) (met : List Met) → self.old ≡ terminal_after setting met
+            → has_cut setting (Chunk bytes.now ∷ met) ≡ (has_cut setting met || done.cut)) }
         ensures err { OnErr result (self.new ≡ self.old) }
 
-        // What is kept and answered, by what was kept before and the bytes.
-        ensures next { IfOk result (λ answer. self.new ≡ next_terminal self.old bytes.now) }
-        ensures bytes { IfOk result (λ answer. answer.bytes ≡ (heard_by_terminal self.old self.old.connection bytes.now).bytes) }
-        ensures cuts { IfOk result (λ answer. answer.cut ≡ (heard_by_terminal self.old self.old.connection bytes.now).cut) }
+        // What is kept and sent, by what was kept before and the bytes.
+        ensures next { IfOk result (λ done. self.new ≡ next_terminal self.old bytes.now) }
+        ensures bytes { IfOk result (λ done. done.bytes ≡ (heard_by_terminal self.old self.old.connection bytes.now).bytes) }
+        ensures cuts { IfOk result (λ done. done.cut ≡ (heard_by_terminal self.old self.old.connection bytes.now).cut) }
     {
         law_met();
         self.hear(alloc, bytes)
@@ -107,9 +107,9 @@ impl Terminal {
 
     fn hear(&mut self, alloc: Global, bytes: &[u8]) -> Result<Answer, AllocError>
         ensures err { OnErr result (self.new ≡ self.old) }
-        ensures next { IfOk result (λ answer. self.new ≡ next_terminal self.old bytes.now) }
-        ensures bytes { IfOk result (λ answer. answer.bytes ≡ (heard_by_terminal self.old self.old.connection bytes.now).bytes) }
-        ensures cuts { IfOk result (λ answer. answer.cut ≡ (heard_by_terminal self.old self.old.connection bytes.now).cut) }
+        ensures next { IfOk result (λ done. self.new ≡ next_terminal self.old bytes.now) }
+        ensures bytes { IfOk result (λ done. done.bytes ≡ (heard_by_terminal self.old self.old.connection bytes.now).bytes) }
+        ensures cuts { IfOk result (λ done. done.cut ≡ (heard_by_terminal self.old self.old.connection bytes.now).cut) }
     {
         let mut out = Vec::new(alloc);
         if self.is_cut {

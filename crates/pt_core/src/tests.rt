@@ -1,11 +1,11 @@
-//! Tests: what a played terminal answers to a stream of commands, and what its book holds then.
+//! Tests: what a played terminal sends for a stream of commands, and what its book holds then.
 use crate::{BookEntry, Play, Plays, Terminal};
 use gw_base::{Currency, Ident, Pt, Text};
 use std::alloc::{AllocError, Global};
 use std::process::Abort;
 use std::test::Fail;
 
-/// What is sent, what is answered, and whether the connection is cut then. Without bytes to send it is a new link.
+/// What it gets, what it sends then, and whether the connection is cut then. Without bytes that it gets it is a new link.
 type Row = (&'static [u8], &'static [u8], bool);
 
 const PAY: &[u8] = b"\x06\x01\x0a\x04\x00\x00\x00\x00\x10\x99\x49\x09\x78";
@@ -157,13 +157,13 @@ fn rows(rt: HostRuntime) -> Result<(), Fail> {
         if sent.is_empty() {
             terminal.on_link();
         }
-        let answer = terminal.on_bytes(rt.alloc(), sent)?;
+        let got = terminal.on_bytes(rt.alloc(), sent)?;
         assert!(rt;
-            answer.bytes.as_slice() == *bytes,
+            got.bytes.as_slice() == *bytes,
             "row {row}: {:?}",
-            answer.bytes
+            got.bytes
         );
-        assert_eq!(rt; answer.cut, *cut, "row {row}");
+        assert_eq!(rt; got.cut, *cut, "row {row}");
     }
     assert!(rt; terminal.book().as_slice() == BOOK.as_slice());
     Ok(())

@@ -51,10 +51,10 @@ there (Some value) most h = by (string_of value) refl h
     by None e k = absurd k
     by (Some text) e k = record { text = text; is = e; ident = k }
 
-service_parts : (class : ClassType) (category : List ℕ) (kind : KindType) (s : List ℕ) (device : Option (List ℕ)) (sale poi : List ℕ) (request : SaleRequest)
-    → IsIdent 10 s → IsMet service_row (body_object (parted class category kind (Some s) device sale poi) request)
+service_parts : (class : ClassType) (category : List ℕ) (message_type : KindType) (s : List ℕ) (device : Option (List ℕ)) (sale poi : List ℕ) (request : SaleRequest)
+    → IsIdent 10 s → IsMet service_row (body_object (parted class category message_type (Some s) device sale poi) request)
 unfolding tree_at IsMet
-service_parts class category kind s device sale poi request h = h
+service_parts class category message_type s device sale poi request h = h
 
 -- a ServiceID that was read is there again
 pub service_again : (body : Tree) (header : Header) (request : SaleRequest) → IsMet service_row body → HeaderHolds body header
@@ -80,24 +80,24 @@ amount_fact path tree n e = read_is_amount (option_and_then numeral_of (tree_at 
 
 -- ---- Payment
 
-payment_met : (header : Header) (transaction stamp currency : List ℕ) (amount : ℕ) (kind : Option (List ℕ))
-    → IsMet service_row (body_object header (requests.Payment (record { transaction = transaction; stamp = stamp; currency = currency; amount = amount; kind = kind })))
+payment_met : (header : Header) (transaction stamp currency : List ℕ) (amount : ℕ) (payment_type : Option (List ℕ))
+    → IsMet service_row (body_object header (requests.Payment (record { transaction = transaction; stamp = stamp; currency = currency; amount = amount; kind = payment_type })))
     → IsIdent 80 transaction → IsIdent 35 stamp → TextHasForm forms.Currency currency → IsAmount amount
-    → AreMet payment_rows (body_object header (requests.Payment (record { transaction = transaction; stamp = stamp; currency = currency; amount = amount; kind = kind })))
+    → AreMet payment_rows (body_object header (requests.Payment (record { transaction = transaction; stamp = stamp; currency = currency; amount = amount; kind = payment_type })))
 unfolding tree_at IsMet
 payment_met header transaction stamp currency amount None service t s c a =
     (service, (refl, (refl, (refl, (t, (s, (refl, (refl, (c, (money_is_amount amount a, (tt, (tt, tt))))))))))))
-payment_met header transaction stamp currency amount (Some kind) service t s c a =
+payment_met header transaction stamp currency amount (Some payment_type) service t s c a =
     (service, (refl, (refl, (refl, (t, (s, (refl, (refl, (c, (money_is_amount amount a, (refl, (tt, tt))))))))))))
 
-payment_asks : (header : Header) (transaction stamp currency : List ℕ) (amount : ℕ) (kind : Option (List ℕ)) → IsAmount amount
-    → IsPayment (body_object header (requests.Payment (record { transaction = transaction; stamp = stamp; currency = currency; amount = amount; kind = kind })))
-    (record { transaction = transaction; stamp = stamp; currency = currency; amount = amount; kind = kind })
+payment_asks : (header : Header) (transaction stamp currency : List ℕ) (amount : ℕ) (payment_type : Option (List ℕ)) → IsAmount amount
+    → IsPayment (body_object header (requests.Payment (record { transaction = transaction; stamp = stamp; currency = currency; amount = amount; kind = payment_type })))
+    (record { transaction = transaction; stamp = stamp; currency = currency; amount = amount; kind = payment_type })
 unfolding tree_at
 payment_asks header transaction stamp currency amount None a =
-    record { transaction = refl; stamp = refl; currency = refl; amount = money_again amount a; kind = refl }
-payment_asks header transaction stamp currency amount (Some kind) a =
-    record { transaction = refl; stamp = refl; currency = refl; amount = money_again amount a; kind = refl }
+    record { transaction = refl; stamp = refl; currency = refl; amount = money_again amount a; payment_type = refl }
+payment_asks header transaction stamp currency amount (Some payment_type) a =
+    record { transaction = refl; stamp = refl; currency = refl; amount = money_again amount a; payment_type = refl }
 
 -- a body that holds what its request asks
 pub record Again (header : Header) (request : SaleRequest) : Type 0 where
@@ -476,7 +476,7 @@ request_again tree header request p =
         request_of = record {
           under = refl;
           header_is = header_again header request (header_facts p.0 header r.request_of.header_is);
-          kind = r.request_of.kind;
+          message_type = r.request_of.message_type;
         };
         category = r.category;
         members = again.members;

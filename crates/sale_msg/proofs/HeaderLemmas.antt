@@ -62,7 +62,7 @@ absent_fact body header h e =
   where
     by : MayBeAbsent ByHeader body → MayLack header
     by (inl d) = inl (sym h.values.class ∙ d)
-    by (inr n) = inr (sym h.values.kind ∙ n)
+    by (inr n) = inr (sym h.values.message_type ∙ n)
 
 pub kind_fact : (path reported : List ℕ) (presence : Presence) (tree : Tree) (text : List ℕ)
     → IsMet (record { within = path; path = reported; presence = presence; form = forms.RequestKind }) tree
@@ -77,7 +77,7 @@ pub record HeaderFacts (header : Header) : Type 0 where
   pub device : (text : List ℕ) → header.device ≡ Some text → IsIdent 10 text
   pub sale : IsIdent 40 header.sale
   pub poi : IsIdent 40 header.poi
-  pub kind : TextHasForm forms.RequestKind (kind_name header.kind)
+  pub message_type : TextHasForm forms.RequestKind (kind_name header.kind)
   pub absent : header.service ≡ None → MayLack header
 
 pub header_facts : (body : Tree) (header : Header) → HasHeader envelopes.Request body header → HeaderFacts header
@@ -87,26 +87,26 @@ header_facts body header h = record {
   device = λ text e. ident_fact (codes "MessageHeader.DeviceID") _ Optional 10 body text h.members.1.1.1.1.1.1.0 (h.values.device ∙ e);
   sale = ident_fact (codes "MessageHeader.SaleID") _ Required 40 body header.sale h.members.1.1.1.1.1.1.1.0 h.values.sale;
   poi = ident_fact (codes "MessageHeader.POIID") _ Required 40 body header.poi h.members.1.1.1.1.1.1.1.1.0 h.values.poi;
-  kind = kind_fact (codes "MessageHeader.MessageType") _ Required body (kind_name header.kind) h.members.1.1.1.1.0 h.values.kind;
+  message_type = kind_fact (codes "MessageHeader.MessageType") _ Required body (kind_name header.kind) h.members.1.1.1.1.0 h.values.message_type;
   absent = absent_fact body header h;
 }
 
 -- the members of a written header, by its parts
 abbrev pub parted : ClassType → List ℕ → KindType → Option (List ℕ) → Option (List ℕ) → List ℕ → List ℕ → Header
-parted class category kind service device sale poi =
-    record { class = class; category = category; kind = kind; service = service; device = device; sale = sale; poi = poi }
+parted class category message_type service device sale poi =
+    record { class = class; category = category; kind = message_type; service = service; device = device; sale = sale; poi = poi }
 
-header_parts : (class : ClassType) (category : List ℕ) (kind : KindType) (service device : Option (List ℕ)) (sale poi : List ℕ) (request : SaleRequest)
-    → HeaderHolds (body_object (parted class category kind service device sale poi) request) (parted class category kind service device sale poi)
+header_parts : (class : ClassType) (category : List ℕ) (message_type : KindType) (service device : Option (List ℕ)) (sale poi : List ℕ) (request : SaleRequest)
+    → HeaderHolds (body_object (parted class category message_type service device sale poi) request) (parted class category message_type service device sale poi)
 unfolding tree_at
-header_parts class category kind None None sale poi request =
-    record { class = refl; category = refl; kind = refl; service = refl; device = refl; sale = refl; poi = refl }
-header_parts class category kind None (Some d) sale poi request =
-    record { class = refl; category = refl; kind = refl; service = refl; device = refl; sale = refl; poi = refl }
-header_parts class category kind (Some s) None sale poi request =
-    record { class = refl; category = refl; kind = refl; service = refl; device = refl; sale = refl; poi = refl }
-header_parts class category kind (Some s) (Some d) sale poi request =
-    record { class = refl; category = refl; kind = refl; service = refl; device = refl; sale = refl; poi = refl }
+header_parts class category message_type None None sale poi request =
+    record { class = refl; category = refl; message_type = refl; service = refl; device = refl; sale = refl; poi = refl }
+header_parts class category message_type None (Some d) sale poi request =
+    record { class = refl; category = refl; message_type = refl; service = refl; device = refl; sale = refl; poi = refl }
+header_parts class category message_type (Some s) None sale poi request =
+    record { class = refl; category = refl; message_type = refl; service = refl; device = refl; sale = refl; poi = refl }
+header_parts class category message_type (Some s) (Some d) sale poi request =
+    record { class = refl; category = refl; message_type = refl; service = refl; device = refl; sale = refl; poi = refl }
 
 -- the written header has the values again
 pub header_holds_again : (header : Header) (request : SaleRequest) → HeaderHolds (body_object header request) header
@@ -116,18 +116,18 @@ header_holds_again header request =
 version_again : TextHasForm forms.Version (codes "3.0")
 version_again = (codes "0", refl)
 
-met_parts : (class : ClassType) (category : List ℕ) (kind : KindType) (service device : Option (List ℕ)) (sale poi : List ℕ) (request : SaleRequest)
-    → HeaderFacts (parted class category kind service device sale poi)
-    → AreMet (header_rows envelopes.Request) (body_object (parted class category kind service device sale poi) request)
+met_parts : (class : ClassType) (category : List ℕ) (message_type : KindType) (service device : Option (List ℕ)) (sale poi : List ℕ) (request : SaleRequest)
+    → HeaderFacts (parted class category message_type service device sale poi)
+    → AreMet (header_rows envelopes.Request) (body_object (parted class category message_type service device sale poi) request)
 unfolding tree_at IsMet
-met_parts class category kind None None sale poi request f =
-    (refl, (version_again, ((class, refl), (f.category, (f.kind, (f.absent refl, (tt, (f.sale, (f.poi, tt)))))))))
-met_parts class category kind None (Some d) sale poi request f =
-    (refl, (version_again, ((class, refl), (f.category, (f.kind, (f.absent refl, (f.device d refl, (f.sale, (f.poi, tt)))))))))
-met_parts class category kind (Some s) None sale poi request f =
-    (refl, (version_again, ((class, refl), (f.category, (f.kind, (f.service s refl, (tt, (f.sale, (f.poi, tt)))))))))
-met_parts class category kind (Some s) (Some d) sale poi request f =
-    (refl, (version_again, ((class, refl), (f.category, (f.kind, (f.service s refl, (f.device d refl, (f.sale, (f.poi, tt)))))))))
+met_parts class category message_type None None sale poi request f =
+    (refl, (version_again, ((class, refl), (f.category, (f.message_type, (f.absent refl, (tt, (f.sale, (f.poi, tt)))))))))
+met_parts class category message_type None (Some d) sale poi request f =
+    (refl, (version_again, ((class, refl), (f.category, (f.message_type, (f.absent refl, (f.device d refl, (f.sale, (f.poi, tt)))))))))
+met_parts class category message_type (Some s) None sale poi request f =
+    (refl, (version_again, ((class, refl), (f.category, (f.message_type, (f.service s refl, (tt, (f.sale, (f.poi, tt)))))))))
+met_parts class category message_type (Some s) (Some d) sale poi request f =
+    (refl, (version_again, ((class, refl), (f.category, (f.message_type, (f.service s refl, (f.device d refl, (f.sale, (f.poi, tt)))))))))
 
 pub header_again : (header : Header) (request : SaleRequest) → HeaderFacts header → HasHeader envelopes.Request (body_object header request) header
 header_again header request f = record {

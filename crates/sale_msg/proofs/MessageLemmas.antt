@@ -55,18 +55,18 @@ pub header_laxer : (envelope : Envelope) (tree : Tree) → AreMet (header_rows e
 header_laxer envelopes.Request tree h = (h.0, (h.1.0, (h.1.1.0, (h.1.1.1.0, (kind_row tree h.1.1.1.1.0, h.1.1.1.1.1)))))
 header_laxer envelopes.Response tree h = h
 
-kind_of_name : (kind : KindType) → (kind_name kinds.Request ≡ kind_name kind) ⊎ (kind_name kinds.Notification ≡ kind_name kind)
-    → kind ≢ kinds.Request → kind ≡ kinds.Notification
+kind_of_name : (message_type : KindType) → (kind_name kinds.Request ≡ kind_name message_type) ⊎ (kind_name kinds.Notification ≡ kind_name message_type)
+    → message_type ≢ kinds.Request → message_type ≡ kinds.Notification
 kind_of_name kinds.Request e other = absurd (other refl)
 kind_of_name kinds.Response (inl e) other = absurd cc
 kind_of_name kinds.Response (inr e) other = absurd cc
 kind_of_name kinds.Notification e other = refl
 
-kind_text : (found : Option Tree) (kind : KindType) → MatchOption found ⊥ (HasForm forms.RequestKind)
-    → option_and_then string_of found ≡ Some (kind_name kind)
-    → (kind_name kinds.Request ≡ kind_name kind) ⊎ (kind_name kinds.Notification ≡ kind_name kind)
-kind_text None kind h e = elim h [ ]
-kind_text (Some value) kind h e =
+kind_text : (found : Option Tree) (message_type : KindType) → MatchOption found ⊥ (HasForm forms.RequestKind)
+    → option_and_then string_of found ≡ Some (kind_name message_type)
+    → (kind_name kinds.Request ≡ kind_name message_type) ⊎ (kind_name kinds.Notification ≡ kind_name message_type)
+kind_text None message_type h e = elim h [ ]
+kind_text (Some value) message_type h e =
     let P : Option (List ℕ) → Type 0 = λ text. MatchOption text ⊥ (TextHasForm forms.RequestKind) in subst P e h
 
 -- a message under `SaleToPOIRequest` that is no request is a notification
@@ -75,7 +75,7 @@ pub kind_is_notification : (body : Tree) (header : Header) → HasHeader envelop
 unfolding IsMet
 kind_is_notification body header h other =
     kind_of_name header.kind
-    (kind_text (tree_at (codes "MessageHeader.MessageType") body) header.kind h.members.1.1.1.1.0 h.values.kind) other
+    (kind_text (tree_at (codes "MessageHeader.MessageType") body) header.kind h.members.1.1.1.1.0 h.values.message_type) other
 
 -- ---- bodies
 

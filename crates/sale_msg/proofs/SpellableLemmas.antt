@@ -86,7 +86,7 @@ payment_spellable body ask part k =
     let stamp = text_utf8 (codes "PaymentRequest.SaleData.SaleTransactionID.TimeStamp") body ask.stamp part k.stamp in
     let currency = text_utf8 (codes "PaymentRequest.PaymentTransaction.AmountsReq.Currency") body ask.currency part k.currency in
     let amount = amount_fact (codes "PaymentRequest.PaymentTransaction.AmountsReq.RequestedAmount") body ask.amount k.amount in
-    let payment_type = optional_utf8 (codes "PaymentRequest.PaymentData.PaymentType") body ask.kind part k.kind in
+    let payment_type = optional_utf8 (codes "PaymentRequest.PaymentData.PaymentType") body ask.kind part k.payment_type in
     object_at 2 (payment_members ask) (omega arith) (payment_distinct ask.transaction ask.stamp ask.currency ask.amount ask.kind) (
       ascii_utf8 (codes "SaleData") refl,
       only_at 3 (codes "SaleTransactionID") (sale_object ask.transaction ask.stamp) (omega arith) (ascii_utf8 (codes "SaleTransactionID") refl)

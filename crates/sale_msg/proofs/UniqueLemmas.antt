@@ -147,7 +147,7 @@ header_one : (body : Tree) (a b : Header) → HeaderHolds body a → HeaderHolds
 header_one body a b h k =
     let class = class_one a.class b.class (some_one _ (class_name a.class) (class_name b.class) h.class k.class) in
     let category : a.category ≡ b.category = some_one _ a.category b.category h.category k.category in
-    let kind = kind_one a.kind b.kind (some_one _ (kind_name a.kind) (kind_name b.kind) h.kind k.kind) in
+    let message_type = kind_one a.kind b.kind (some_one _ (kind_name a.kind) (kind_name b.kind) h.message_type k.message_type) in
     let service : a.service ≡ b.service = sym h.service ∙ k.service in
     let device : a.device ≡ b.device = sym h.device ∙ k.device in
     let sale : a.sale ≡ b.sale = some_one _ a.sale b.sale h.sale k.sale in
@@ -155,7 +155,7 @@ header_one body a b h k =
     λ i. record {
       class = class i;
       category = category i;
-      kind = kind i;
+      kind = message_type i;
       service = service i;
       device = device i;
       sale = sale i;
@@ -168,8 +168,8 @@ payment_one body a b h k =
     let stamp : a.stamp ≡ b.stamp = some_one _ a.stamp b.stamp h.stamp k.stamp in
     let currency : a.currency ≡ b.currency = some_one _ a.currency b.currency h.currency k.currency in
     let amount : a.amount ≡ b.amount = some_one _ a.amount b.amount h.amount k.amount in
-    let kind : a.kind ≡ b.kind = sym h.kind ∙ k.kind in
-    λ i. record { transaction = transaction i; stamp = stamp i; currency = currency i; amount = amount i; kind = kind i }
+    let payment_type : a.kind ≡ b.kind = sym h.payment_type ∙ k.payment_type in
+    λ i. record { transaction = transaction i; stamp = stamp i; currency = currency i; amount = amount i; kind = payment_type i }
 
 reversal_one : (body : Tree) (a b : ReversalAsk) → IsReversal body a → IsReversal body b → a ≡ b
 reversal_one body a b h k =
@@ -260,7 +260,7 @@ request_is_headed message b c g h e r s =
     let p = one_under_envelope envelopes.Request e message b c r.under s.under in
     let P : Tree → Type 0 = λ t. HeaderHolds t g in
     let q : g ≡ h = header_one c g h (subst P p.body r.header_is.values) s.header_is.values in
-    by s.silent p.envelope (sym r.kind ∙ ap (λ (x : Header). x.kind) q)
+    by s.silent p.envelope (sym r.message_type ∙ ap (λ (x : Header). x.kind) q)
   where
     by : (e ≡ envelopes.Response) ⊎ (h.kind ≡ kinds.Notification) → envelopes.Request ≡ e → kinds.Request ≡ h.kind → ⊥
     by (inl f) i j = let x : envelopes.Request ≡ envelopes.Response = i ∙ f in absurd cc

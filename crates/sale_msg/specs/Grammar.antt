@@ -44,7 +44,7 @@ pub record LacksEnvelope (message : Tree) : Type 0 where
 pub record HeaderHolds (body : Tree) (header : Header) : Type 0 where
   pub class : text_at (codes "MessageHeader.MessageClass") body ≡ Some (class_name header.class)
   pub category : text_at (codes "MessageHeader.MessageCategory") body ≡ Some header.category
-  pub kind : text_at (codes "MessageHeader.MessageType") body ≡ Some (kind_name header.kind)
+  pub message_type : text_at (codes "MessageHeader.MessageType") body ≡ Some (kind_name header.kind)
   pub service : text_at (codes "MessageHeader.ServiceID") body ≡ header.service
   pub device : text_at (codes "MessageHeader.DeviceID") body ≡ header.device
   pub sale : text_at (codes "MessageHeader.SaleID") body ≡ Some header.sale
@@ -65,7 +65,7 @@ pub record IsPayment (body : Tree) (ask : PaymentAsk) : Type 0 where
   pub stamp : text_at (codes "PaymentRequest.SaleData.SaleTransactionID.TimeStamp") body ≡ Some ask.stamp
   pub currency : text_at (codes "PaymentRequest.PaymentTransaction.AmountsReq.Currency") body ≡ Some ask.currency
   pub amount : amount_at (codes "PaymentRequest.PaymentTransaction.AmountsReq.RequestedAmount") body ≡ Some ask.amount
-  pub kind : text_at (codes "PaymentRequest.PaymentData.PaymentType") body ≡ ask.kind
+  pub payment_type : text_at (codes "PaymentRequest.PaymentData.PaymentType") body ≡ ask.kind
 
 -- what a Reversal asks
 pub record IsReversal (body : Tree) (ask : ReversalAsk) : Type 0 where
@@ -144,7 +144,7 @@ IsBodyFlaw category body flaw =
 pub record IsRequestOf (message body : Tree) (header : Header) : Type 0 where
   pub under : IsUnderEnvelope envelopes.Request message body
   pub header_is : HasHeader envelopes.Request body header
-  pub kind : header.kind ≡ kinds.Request
+  pub message_type : header.kind ≡ kinds.Request
 
 -- the message is this request
 pub record IsRequest (message body : Tree) (header : Header) (request : SaleRequest) : Type 0 where

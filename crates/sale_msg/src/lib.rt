@@ -4,12 +4,11 @@
 //! form. Rows are met in their order, and the first that isn't is the fault. What no row names is ignored.
 //!
 //! ```
-//! let tree = json_text::read(alloc, text)?;
-//! match sale_msg::read_message(alloc, &tree)? {
-//!     Incoming::Request(header, SaleRequest::Payment(ask)) => ..,
-//!     Incoming::Request(header, request) => ..,
-//!     Incoming::Silent => {} // a response or a notification, which gets no reply
-//! }
+//! let tree = json_text::read(alloc, text)?; // a Payment of 10.99 from the till S1
+//! let incoming = sale_msg::read_message(alloc, &tree)?; // `Silent`: a response or a notification, which gets no reply
+//! let Incoming::Request(header, SaleRequest::Payment(ask)) = &incoming else { .. };
+//! assert_eq!(header.sale.as_bytes(), b"S1");
+//! assert_eq!(ask.amount, 1_099);
 //! ```
 #![tactic(auto)]
 

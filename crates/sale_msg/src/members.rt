@@ -169,7 +169,7 @@ pub(crate) fn message_type(tree: &Json, path: &str) -> Kind
         None => unreachable!(),
         Some(text) => match Kind::from_name(text.as_bytes()) {
             None => unreachable!(),
-            Some(kind) => kind,
+            Some(message_type) => message_type,
         },
     }
 }

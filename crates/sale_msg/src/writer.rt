@@ -5,7 +5,7 @@ ghost use Rattle.json_text.specs.Canonical.{canonical, canonical_first, canonica
 ghost use Rattle.json_text.specs.Tree.{boolean, object};
 ghost use Rattle.sale_msg.specs.inner.OptionalParts.{money_part, optional_part, texts_part};
 ghost use Rattle.sale_values.specs.Money.{money_text};
-ghost use Rattle.sale_values.specs.Parts.{part_text, parts_text};
+ghost use Rattle.sale_values.specs.PartBytes.{part_text, parts_text};
 ghost use Rattle.sale_msg.specs.Canonical.{body_members, body_name, output_elements, display_output_tree, payment_members, referring_members, request_tree, reversal_members, text_elements};
 
 use crate::paths;

@@ -16,7 +16,7 @@ use Rattle.sale_values.specs.declared.header.Header.{Header}
 use Rattle.sale_values.specs.declared.names.Class.{Class}
 use Rattle.sale_values.specs.declared.names.Class.TheVariants as class
 use Rattle.sale_values.specs.declared.names.Kind.{Kind}
-use Rattle.sale_values.specs.declared.names.Kind.TheVariants as kind
+use Rattle.sale_values.specs.declared.names.Kind.TheVariants as kinds
 use Rattle.sale_values.specs.declared.names.Period.{Period}
 use Rattle.sale_values.specs.declared.names.Period.TheVariants as period
 use Rattle.sale_values.specs.Names.{class_name, kind_name, period_name}
@@ -32,7 +32,7 @@ use Rattle.sale_reply.specs.declared.reply.Told.TheVariants.{PaymentApproved, Pa
 use Rattle.gw_base.specs.declared.figures.Money.{Money}
 use Rattle.json_text.specs.FaultText.{kind_text}
 use Rattle.sale_reply.specs.Names.{result_name, status_name, result_of, paid_result}
-use Rattle.sale_reply.specs.inner.Parts.{more_outputs, canonical_outputs}
+use Rattle.sale_reply.specs.inner.CanonicalMembers.{more_outputs, canonical_outputs}
 use Rattle.sale_reply.specs.Limits.{IsHeaderWithinLimits, IsVerdictWithinLimits, IsTotalWithinLimits, IsToldWithinLimits, IsShownWithinLimits}
 use Rattle.sale_reply.specs.Reply.{header_tree, result_tree, success_tree, verdict_tree, sale_data, poi_data, payment_result, total, totals, approved_body, result_body, diagnosis_body, print_body, plain_body, output_result_tree, display_body}
 use Rattle.sale_reply.proofs.CanonicalLemmas.{header_parts, result_parts, sale_data_parts, poi_data_parts, payment_result_parts, total_parts, totals_parts, approved_parts, approved_result, declined_parts, reversed_parts, unreversed_parts, reconciled_parts, diagnosis_parts, print_parts, plain_parts, output_parts, display_parts}
@@ -48,9 +48,9 @@ class_size class.Device = lit≤ tt
 class_size class.Event = lit≤ tt
 
 kind_size : (k : Kind) → length (kind_name k) ≤ 20
-kind_size kind.Request = lit≤ tt
-kind_size kind.Response = lit≤ tt
-kind_size kind.Notification = lit≤ tt
+kind_size kinds.Request = lit≤ tt
+kind_size kinds.Response = lit≤ tt
+kind_size kinds.Notification = lit≤ tt
 
 pub period_size : (p : Period) → length (period_name p) ≤ 30
 period_size period.SaleReconciliation = lit≤ tt
@@ -136,10 +136,10 @@ sale_data_size transaction stamp t s = within 1200 (same_size (sale_data_parts t
     (both (first_text_size (known (codes "TransactionID")) (ident_size transaction t))
     (both (next_text_size (known (codes "TimeStamp")) (ident_size stamp s)) (known (125 ∷ 125 ∷ [])))))))) (lit≤ tt)
 
-pub poi_data_size : StampSizes → (number receipt : ℕ) (mark : PoiMark) → mark.slot < 2 ^ 32 → IsAtMost (canonical (poi_data number receipt mark)) 800
-poi_data_size stamps number receipt mark slot = within 800 (same_size (poi_data_parts number receipt mark)
+pub poi_data_size : StampSizes → (trace receipt : ℕ) (mark : PoiMark) → mark.slot < 2 ^ 32 → IsAtMost (canonical (poi_data trace receipt mark)) 800
+poi_data_size stamps trace receipt mark slot = within 800 (same_size (poi_data_parts trace receipt mark)
     (both (known (123 ∷ [])) (both (first_name_size (known (codes "POITransactionID"))) (both (known (123 ∷ []))
-    (both (first_text_size (known (codes "TransactionID")) (transaction_size number receipt mark.slot slot))
+    (both (first_text_size (known (codes "TransactionID")) (transaction_size trace receipt mark.slot slot))
     (both (next_text_size (known (codes "TimeStamp")) (sized (stamp_of mark.moment) 20 (omega (arith, stamps mark.moment)))) (known (125 ∷ 125 ∷ [])))))))) (lit≤ tt)
 
 pub payment_result_size : (c : Currency) (units : ℕ) → units < 2 ^ 64 → IsAtMost (canonical (payment_result c units)) 400
@@ -176,18 +176,18 @@ result_body_approved stamps transaction stamp mark outcome paid t s slot units =
 pub result_body_size : StampSizes → (told : Told) → IsToldWithinLimits told → IsAtMost (canonical (result_body told)) 6000
 result_body_size stamps (PaymentApproved transaction stamp mark requested paid) is =
     same_size (approved_result transaction stamp mark requested paid)
-    (result_body_approved stamps transaction stamp mark (paid_result requested paid.minor) paid is.0 is.1 is.2 is.3)
+    (result_body_approved stamps transaction stamp mark (paid_result requested paid.minor) paid is.0 is.1 is.2.slot_fits is.3)
 result_body_size stamps (PaymentDeclined transaction stamp mark condition) is = within 6000 (same_size (declined_parts transaction stamp mark condition)
     (both (known (123 ∷ [])) (both (first_name_size (known (codes "Response"))) (both (result_tree_size result.Failure (Some condition) None tt)
     (both (next_name_size (known (codes "SaleData"))) (both (sale_data_size transaction stamp is.0 is.1)
-    (both (next_name_size (known (codes "POIData"))) (both (poi_data_size stamps 0 0 mark is.2) (known (125 ∷ [])))))))))) (lit≤ tt)
+    (both (next_name_size (known (codes "POIData"))) (both (poi_data_size stamps 0 0 mark is.2.slot_fits) (known (125 ∷ [])))))))))) (lit≤ tt)
 result_body_size stamps (ReversalApproved mark reversed) is = within 6000 (same_size (reversed_parts mark reversed)
     (both (known (123 ∷ [])) (both (first_name_size (known (codes "Response"))) (both success_size
-    (both (next_name_size (known (codes "POIData"))) (both (poi_data_size stamps mark.number mark.receipt mark is.0)
+    (both (next_name_size (known (codes "POIData"))) (both (poi_data_size stamps mark.number mark.receipt mark is.0.slot_fits)
     (both (next_number_size (known (codes "ReversedAmount")) (money_size reversed.minor is.1)) (known (125 ∷ []))))))))) (lit≤ tt)
 result_body_size stamps (ReversalDeclined mark condition) is = within 6000 (same_size (unreversed_parts mark condition)
     (both (known (123 ∷ [])) (both (first_name_size (known (codes "Response"))) (both (result_tree_size result.Failure (Some condition) None tt)
-    (both (next_name_size (known (codes "POIData"))) (both (poi_data_size stamps 0 0 mark is) (known (125 ∷ [])))))))) (lit≤ tt)
+    (both (next_name_size (known (codes "POIData"))) (both (poi_data_size stamps 0 0 mark is.slot_fits) (known (125 ∷ [])))))))) (lit≤ tt)
 result_body_size stamps (Reconciled period currency debit reversed) is = within 6000 (same_size (reconciled_parts period currency debit reversed)
     (both (known (123 ∷ [])) (both (first_name_size (known (codes "Response"))) (both success_size
     (both (next_text_size (known (codes "ReconciliationType")) (sized (period_name period) 30 (period_size period)))

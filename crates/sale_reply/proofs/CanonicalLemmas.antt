@@ -23,8 +23,9 @@ use Rattle.sale_reply.specs.declared.reply.ReplyResult.{ReplyResult}
 use Rattle.sale_reply.specs.declared.reply.Told.TheVariants.{PaymentApproved, PaymentDeclined, ReversalApproved, ReversalDeclined, Reconciled}
 use Rattle.sale_reply.specs.Names.{result_name, status_name, paid_result}
 use Rattle.sale_values.specs.Money.{money_text}
-use Rattle.sale_reply.specs.Texts.{transaction_text, intermediate_text, detail_text}
-use Rattle.sale_reply.specs.inner.Parts.{first_name, next_name, first_text, next_text, next_optional, next_number, message_prefix, content_prefix, canonical_outputs, canonical_lines}
+use Rattle.gw_base.specs.Transaction.{transaction_text}
+use Rattle.sale_reply.specs.Texts.{intermediate_text, detail_text}
+use Rattle.sale_reply.specs.inner.CanonicalMembers.{first_name, next_name, first_text, next_text, next_optional, next_number, message_prefix, content_prefix, canonical_outputs, canonical_lines}
 use Rattle.sale_reply.specs.Reply.{header_tree, message_tree, result_tree, verdict_tree, success_tree, failure_tree, plain_body, sale_data, poi_data, approved_data, declined_data, payment_result, total, totals, approved_body, result_body, repeated_message, status_body, diagnosis_body, output_result_tree, print_body, text_tree, content, display_request_body, display_body, print_request_body, event_body, tree_of}
 use Rattle.sale_reply.specs.declared.reply.SaleReply.{SaleReply}
 use Rattle.sale_reply.specs.declared.reply.SaleReply.TheVariants as reply
@@ -84,13 +85,13 @@ pub sale_data_parts : (transaction stamp : List ℕ) →
 unfolding sale_data first_name first_text next_text
 sale_data_parts transaction stamp = simp append_assoc
 
-pub poi_data_parts : (number receipt : ℕ) (mark : PoiMark) →
+pub poi_data_parts : (trace receipt : ℕ) (mark : PoiMark) →
     prefix ++ (first_name (codes "POITransactionID") ++ (prefix
-    ++ (first_text (codes "TransactionID") (transaction_text number receipt mark.slot)
+    ++ (first_text (codes "TransactionID") (transaction_text trace receipt mark.slot)
     ++ (next_text (codes "TimeStamp") (stamp_of mark.moment) ++ 125 ∷ 125 ∷ []))))
-    ≡ canonical (poi_data number receipt mark)
+    ≡ canonical (poi_data trace receipt mark)
 unfolding poi_data first_name first_text next_text
-poi_data_parts number receipt mark = simp append_assoc
+poi_data_parts trace receipt mark = simp append_assoc
 
 pub payment_result_parts : (currency : Currency) (units : ℕ) →
     prefix ++ (first_name (codes "AmountsResp") ++ (prefix ++ (first_text (codes "Currency") (currency_letters currency)

@@ -14,7 +14,7 @@ use Rattle.sale_reply.specs.declared.reply.Shown.{Shown}
 use Rattle.sale_reply.specs.inner.Appends.{Appends}
 use Rattle.sale_reply.specs.Texts.{line_text}
 use Rattle.sale_reply.specs.Reply.{output_result_tree, text_tree, line_trees}
-use Rattle.sale_reply.specs.inner.Parts.{next_optional, more_outputs, more_lines, canonical_outputs, canonical_lines}
+use Rattle.sale_reply.specs.inner.CanonicalMembers.{next_optional, more_outputs, more_lines, canonical_outputs, canonical_lines}
 
 -- two parts
 pub and_then : {old mid new p q : List ℕ} → Appends old mid p → Appends mid new q → Appends old new (p ++ q)

@@ -9,7 +9,7 @@ use Rattle.sale_reply.specs.declared.reply.SaleReply.{SaleReply}
 use Rattle.sale_reply.specs.declared.reply.SaleReply.TheVariants as reply
 use Rattle.sale_reply.specs.declared.reply.Detail.{Detail}
 use Rattle.sale_reply.specs.Limits.{IsDetailWithinLimits, IsHeaderWithinLimits, IsWithinLimits}
-use Rattle.sale_reply.specs.inner.Parts.{message_prefix}
+use Rattle.sale_reply.specs.inner.CanonicalMembers.{message_prefix}
 use Rattle.sale_reply.specs.Reply.{message_tree, plain_body, verdict_tree, result_body, status_body, diagnosis_body, display_body, print_body, display_request_body, event_body, event_header, event_tree, print_request_body, tree_of}
 use Rattle.sale_reply.proofs.CanonicalLemmas.{prefix_parts, message_parts, status_parts}
 use Rattle.sale_reply.proofs.LimitLemmas.{event_header_within}

@@ -14,7 +14,7 @@ use Rattle.sale_reply.specs.declared.reply.Detail.TheVariants.{Json, Header, Bod
 use Rattle.json_text.specs.FaultText.{kind_text}
 use Rattle.sale_reply.specs.Texts.{line_text, intermediate_text, detail_text}
 use Rattle.sale_reply.specs.Limits.{IsDetailWithinLimits}
-use Rattle.sale_reply.specs.inner.Parts.{content_prefix, more_lines, canonical_lines}
+use Rattle.sale_reply.specs.inner.CanonicalMembers.{content_prefix, more_lines, canonical_lines}
 use Rattle.sale_reply.specs.Reply.{text_tree, display_request_body, print_request_body, event_body}
 use Rattle.sale_reply.proofs.PartLemmas.{shown_byte, line_is}
 use Rattle.sale_reply.proofs.CanonicalLemmas.{text_parts, show_parts, paper_parts, content_prefix_parts, event_body_parts}

@@ -6,8 +6,8 @@ use Rattle.std.proofs.lemmas.Fmt.{length-decimal-le}
 use Rattle.json_text.specs.Canonical.{canonical_string, canonical_byte}
 use Rattle.gw_base.specs.Digits.{digits}
 use Rattle.sale_values.specs.Money.{money_text}
-use Rattle.sale_reply.specs.Texts.{transaction_text}
-use Rattle.sale_reply.specs.inner.Parts.{first_name, next_name, first_text, next_text, next_optional, next_number}
+use Rattle.gw_base.specs.Transaction.{transaction_text}
+use Rattle.sale_reply.specs.inner.CanonicalMembers.{first_name, next_name, first_text, next_text, next_optional, next_number}
 
 -- the text has at most so many bytes
 pub record IsAtMost (text : List ℕ) (most : ℕ) : Type 0 where
@@ -95,9 +95,9 @@ money_size units fits =
     both (decimal_size (units / 100) (omega (arith, fits)))
     (both (known (0x2E ∷ [])) (sized (digits 2 (units % 100)) 2 (omega (arith, digits_size 2 (units % 100)))))
 
-pub transaction_size : (number receipt slot : ℕ) → slot < 2 ^ 32 → IsAtMost (transaction_text number receipt slot) 32
+pub transaction_size : (trace receipt slot : ℕ) → slot < 2 ^ 32 → IsAtMost (transaction_text trace receipt slot) 32
 unfolding transaction_text
-transaction_size number receipt slot fits =
-    both (sized (digits 6 number) 6 (omega (arith, digits_size 6 number)))
+transaction_size trace receipt slot fits =
+    both (sized (digits 6 trace) 6 (omega (arith, digits_size 6 trace)))
     (both (known (0x2D ∷ [])) (both (sized (digits 4 receipt) 4 (omega (arith, digits_size 4 receipt)))
     (both (known (0x2D ∷ [])) (decimal_size slot (omega (arith, fits))))))

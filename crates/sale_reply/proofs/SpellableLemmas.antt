@@ -39,7 +39,8 @@ use Rattle.sale_reply.specs.declared.reply.Verdict.{Verdict}
 use Rattle.sale_reply.specs.Limits.{IsDetailWithinLimits, IsHeaderWithinLimits, IsMarkWithinLimits, IsShownWithinLimits, IsToldWithinLimits, IsTotalWithinLimits, IsVerdictWithinLimits, IsWithinLimits}
 use Rattle.sale_reply.specs.Names.{paid_result, result_name, result_of, status_name}
 use Rattle.sale_reply.specs.Reply.{approved_body, approved_data, content, declined_data, diagnosis_body, display_body, event_tree, event_body, event_header, failure_tree, header_tree, identified, line_trees, message_tree, output_result_tree, print_request_body, payment_result, plain_body, poi_data, print_body, repeated_message, result_tree, sale_data, display_request_body, status_body, success_tree, text_tree, result_body, total, totals, tree_of, verdict_tree}
-use Rattle.sale_reply.specs.Texts.{detail_text, line_text, intermediate_text, transaction_text}
+use Rattle.gw_base.specs.Transaction.{transaction_text}
+use Rattle.sale_reply.specs.Texts.{detail_text, line_text, intermediate_text}
 use Rattle.sale_reply.proofs.LimitLemmas.{event_header_within}
 use Rattle.sale_reply.proofs.TextLemmas.{code_utf8, condition_utf8, detail_utf8, line_utf8, notification_new, optional_ident_utf8, printable_utf8, request_new, response_new, result_utf8, status_text_utf8, status_utf8, transaction_utf8}
 
@@ -96,13 +97,13 @@ sale_texts d transaction stamp room t s =
     only_at d (codes "SaleTransactionID") (object (identified transaction stamp)) (omega arith) (ascii_utf8 (codes "SaleTransactionID") refl)
     (identified_texts (suc d) transaction stamp (omega arith) (ident_utf8 80 transaction t) (ident_utf8 35 stamp s))
 
-poi_texts : StampsPrintable → (d number receipt : ℕ) (mark : PoiMark) → d < 30 → IsMarkWithinLimits mark → IsSpellableAt d (poi_data number receipt mark)
+poi_texts : StampsPrintable → (d trace receipt : ℕ) (mark : PoiMark) → d < 30 → IsMarkWithinLimits mark → IsSpellableAt d (poi_data trace receipt mark)
 unfolding poi_data
-poi_texts stamps d number receipt mark room is =
-    only_at d (codes "POITransactionID") (object (identified (transaction_text number receipt mark.slot) (stamp_of mark.moment))) (omega arith)
+poi_texts stamps d trace receipt mark room is =
+    only_at d (codes "POITransactionID") (object (identified (transaction_text trace receipt mark.slot) (stamp_of mark.moment))) (omega arith)
     (ascii_utf8 (codes "POITransactionID") refl)
-    (identified_texts (suc d) (transaction_text number receipt mark.slot) (stamp_of mark.moment) (omega arith)
-    (transaction_utf8 number receipt mark.slot is) (printable_utf8 (stamp_of mark.moment) (stamps mark.moment)))
+    (identified_texts (suc d) (transaction_text trace receipt mark.slot) (stamp_of mark.moment) (omega arith)
+    (transaction_utf8 trace receipt mark.slot is.slot_fits) (printable_utf8 (stamp_of mark.moment) (stamps mark.moment)))
 
 payment_texts : (d : ℕ) (currency : Currency) (units : ℕ) → d < 30 → units < 2 ^ 64 → IsSpellableAt d (payment_result currency units)
 unfolding payment_result

@@ -28,7 +28,8 @@ use Rattle.sale_reply.specs.declared.reply.ReplyResult.TheVariants as results
 use Rattle.sale_reply.specs.Limits.{IsDetailWithinLimits}
 use Rattle.json_text.specs.FaultText.{kind_text}
 use Rattle.sale_reply.specs.Names.{result_name, status_name}
-use Rattle.sale_reply.specs.Texts.{detail_text, line_text, intermediate_text, transaction_text}
+use Rattle.gw_base.specs.Transaction.{transaction_text}
+use Rattle.sale_reply.specs.Texts.{detail_text, line_text, intermediate_text}
 use Rattle.gw_bytes.specs.Hex.{upper_digit}
 
 -- ---- closed lists
@@ -44,7 +45,7 @@ status_utf8 statuses.Busy = ascii_utf8 (codes "Busy") refl
 status_utf8 statuses.Maintenance = ascii_utf8 (codes "Maintenance") refl
 status_utf8 statuses.Unreachable = ascii_utf8 (codes "Unreachable") refl
 
-fault_utf8 : (kind : FaultKind) → IsUtf8 (kind_text kind)
+fault_utf8 : (fault_kind : FaultKind) → IsUtf8 (kind_text fault_kind)
 fault_utf8 faults.NotJson = ascii_utf8 (codes "NotJson") refl
 fault_utf8 faults.TooDeep = ascii_utf8 (codes "TooDeep") refl
 fault_utf8 faults.Repeated = ascii_utf8 (codes "Repeated") refl
@@ -107,10 +108,10 @@ decimal_utf8 n h = IsUtf8-from_ascii (decimal n) (IsAscii-decimal n h)
 hyphen_utf8 : IsUtf8 (0x2D ∷ [])
 hyphen_utf8 = ascii_utf8 (0x2D ∷ []) refl
 
-pub transaction_utf8 : (number receipt slot : ℕ) → slot < 2 ^ 32 → IsUtf8 (transaction_text number receipt slot)
+pub transaction_utf8 : (trace receipt slot : ℕ) → slot < 2 ^ 32 → IsUtf8 (transaction_text trace receipt slot)
 unfolding transaction_text
-transaction_utf8 number receipt slot small =
-    IsUtf8-append (digits 6 number) (0x2D ∷ digits 4 receipt ++ 0x2D ∷ decimal slot) (digits_utf8 6 number)
+transaction_utf8 trace receipt slot small =
+    IsUtf8-append (digits 6 trace) (0x2D ∷ digits 4 receipt ++ 0x2D ∷ decimal slot) (digits_utf8 6 trace)
     (IsUtf8-append (0x2D ∷ digits 4 receipt) (0x2D ∷ decimal slot)
     (IsUtf8-append (0x2D ∷ []) (digits 4 receipt) hyphen_utf8 (digits_utf8 4 receipt))
     (IsUtf8-append (0x2D ∷ []) (decimal slot) hyphen_utf8 (decimal_utf8 slot (omega arith))))

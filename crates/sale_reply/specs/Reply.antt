@@ -8,6 +8,7 @@ use Rattle.gw_base.specs.declared.figures.Money.{Money}
 use Rattle.gw_base.specs.Condition.{name_of}
 use Rattle.gw_base.specs.Currency.{currency_letters}
 use Rattle.gw_base.specs.Moment.{stamp_of}
+use Rattle.gw_base.specs.Transaction.{transaction_text}
 use Rattle.sale_values.specs.declared.header.Header.{Header}
 use Rattle.sale_values.specs.declared.names.Class.TheVariants as classes
 use Rattle.sale_values.specs.declared.names.Kind.TheVariants as kinds
@@ -27,7 +28,7 @@ use Rattle.sale_values.specs.CanonicalHeader.{header_members}
 use Rattle.sale_values.specs.Money.{money_text}
 use Rattle.sale_values.specs.MemberShapes.{text_member, optional_member, number_member, object_member, only}
 use Rattle.sale_reply.specs.Names.{result_name, status_name, result_of, paid_result}
-use Rattle.sale_reply.specs.Texts.{transaction_text, intermediate_text, line_text, detail_text}
+use Rattle.sale_reply.specs.Texts.{intermediate_text, line_text, detail_text}
 
 -- a message header
 unfoldable pub header_tree : Header → Tree
@@ -81,8 +82,8 @@ sale_data transaction stamp = only (codes "SaleTransactionID") (object (identifi
 
 -- the gateway's identification of a transaction, with the numbers of the terminal
 unfoldable pub poi_data : ℕ → ℕ → PoiMark → Tree
-poi_data number receipt mark = only (codes "POITransactionID")
-    (object (identified (transaction_text number receipt mark.slot) (stamp_of mark.moment)))
+poi_data trace receipt mark = only (codes "POITransactionID")
+    (object (identified (transaction_text trace receipt mark.slot) (stamp_of mark.moment)))
 
 -- an approved entry has the terminal's numbers
 abbrev pub approved_data : PoiMark → Tree

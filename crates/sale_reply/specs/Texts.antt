@@ -1,16 +1,11 @@
 -- The texts that a reply puts together.
-use Rattle.std.specs.Prelude.{ℕ, ◌/◌, ◌%◌, List, [], ◌∷◌, ◌++◌, codes, decimal, map}
+use Rattle.std.specs.Prelude.{ℕ, ◌/◌, ◌%◌, List, [], ◌∷◌, ◌++◌, codes, map}
 use Rattle.std.specs.Str.{encode_utf8_all}
 use Rattle.gw_bytes.specs.Hex.{upper_digit}
-use Rattle.gw_base.specs.Digits.{digits}
 use Rattle.gw_base.specs.Text437.{char_of}
 use Rattle.json_text.specs.FaultText.{fault_text}
 use Rattle.sale_reply.specs.declared.reply.Detail.{Detail}
 use Rattle.sale_reply.specs.declared.reply.Detail.TheVariants.{Json, Header, Body, Abort}
-
--- a POITransactionID: six digits of the trace number, four of the receipt number, and the slot
-unfoldable pub transaction_text : ℕ → ℕ → ℕ → List ℕ
-transaction_text number receipt slot = digits 6 number ++ (0x2D ∷ digits 4 receipt ++ 0x2D ∷ decimal slot)
 
 -- the text of a cashier's display for an intermediate status: its code in two digits of base 16
 unfoldable pub intermediate_text : ℕ → List ℕ

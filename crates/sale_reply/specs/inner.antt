@@ -1,3 +1,3 @@
 -- Definitions that serve private functions alone.
 pub mod Appends
-pub mod Parts
+pub mod CanonicalMembers

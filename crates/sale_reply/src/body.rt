@@ -3,14 +3,14 @@ ghost use Rattle.std.specs.Prelude.{◌≡◌, codes, option_map};
 ghost use Rattle.json_text.specs.Canonical.{canonical};
 ghost use Rattle.gw_base.specs.Condition.{name_of};
 ghost use Rattle.sale_reply.specs.Names.{result_of, paid_result};
-ghost use Rattle.sale_reply.specs.inner.Parts.{next_optional};
+ghost use Rattle.sale_reply.specs.inner.CanonicalMembers.{next_optional};
 ghost use Rattle.sale_reply.specs.inner.Appends.{Appends};
 ghost use Rattle.sale_reply.specs.Reply.{result_tree, verdict_tree, success_tree, sale_data, poi_data, payment_result, total, totals, approved_body, result_body, plain_body, diagnosis_body, print_body, event_body};
 
 use crate::buffer::Out;
 use crate::reply::{Detail, GlobalStatus, PoiMark, ReplyResult, Told, Verdict};
-use crate::text::{details, transaction};
-use gw_base::{Condition, Currency, Ident, Money, stamp};
+use crate::text::details;
+use gw_base::{Condition, Currency, Ident, Money, stamp, transaction_text};
 use itoa::Buffer;
 use sale_values::{Period, money};
 
@@ -88,15 +88,15 @@ fn write_sale_data(transaction: &Ident<80>, stamp: &Ident<35>, out: &mut Out)
     out.raw(b"}}");
 }
 
-fn write_poi_data(number: u32, receipt: u16, mark: &PoiMark, out: &mut Out)
-    ensures { Appends out.old out.new (canonical (poi_data number receipt mark.now)) }
+fn write_poi_data(trace: u32, receipt: u16, mark: &PoiMark, out: &mut Out)
+    ensures { Appends out.old out.new (canonical (poi_data trace receipt mark.now)) }
 {
     out.raw(b"{");
     out.first_name(b"POITransactionID");
     out.raw(b"{");
     out.first_text(
         b"TransactionID",
-        transaction(number, receipt, mark.slot).as_slice(),
+        transaction_text(trace, receipt, mark.slot).as_slice(),
     );
     out.next_text(b"TimeStamp", &stamp(mark.moment));
     out.raw(b"}}");
@@ -245,11 +245,11 @@ fn write_totals(currency: Currency, debit: &(u32, u64), reversed: &(u32, u64), o
     out.raw(b"]}");
 }
 
-fn write_total(kind: &[u8], sum: &(u32, u64), out: &mut Out)
-    ensures { Appends out.old out.new (canonical (total kind.now sum.now)) }
+fn write_total(transaction_type: &[u8], sum: &(u32, u64), out: &mut Out)
+    ensures { Appends out.old out.new (canonical (total transaction_type.now sum.now)) }
 {
     out.raw(b"{");
-    out.first_text(b"TransactionType", kind);
+    out.first_text(b"TransactionType", transaction_type);
     out.next_number(b"TransactionCount", Buffer::new().format(sum.0).as_bytes());
     out.next_number(b"TransactionAmount", money(sum.1).as_slice());
     out.raw(b"}");

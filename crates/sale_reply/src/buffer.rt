@@ -3,8 +3,8 @@ ghost use Rattle.std.specs.Prelude.{◌≡◌, ◌<◌, ◌≤◌, [], ◌∷◌
 ghost use Rattle.sale_reply.specs.Texts.{line_text};
 ghost use Rattle.json_text.specs.Canonical.{canonical_string, canonical_byte};
 ghost use Rattle.sale_frame.specs.Grammar.{frame};
-ghost use Rattle.sale_values.specs.Parts.{part_text, parts_text};
-ghost use Rattle.sale_reply.specs.inner.Parts.{first_name, next_name, first_text, next_text, next_optional, next_number};
+ghost use Rattle.sale_values.specs.PartBytes.{part_text, parts_text};
+ghost use Rattle.sale_reply.specs.inner.CanonicalMembers.{first_name, next_name, first_text, next_text, next_optional, next_number};
 ghost use Rattle.sale_reply.specs.inner.Appends.{Appends};
 
 use gw_base::{Ident, char_of_437};

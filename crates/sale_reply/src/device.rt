@@ -3,7 +3,7 @@ ghost use Rattle.std.specs.Prelude.{map};
 ghost use Rattle.json_text.specs.Canonical.{canonical};
 ghost use Rattle.sale_reply.specs.Texts.{line_text};
 ghost use Rattle.sale_reply.specs.inner.Appends.{Appends};
-ghost use Rattle.sale_reply.specs.inner.Parts.{content_prefix, more_outputs, more_lines, canonical_outputs, canonical_lines};
+ghost use Rattle.sale_reply.specs.inner.CanonicalMembers.{content_prefix, more_outputs, more_lines, canonical_outputs, canonical_lines};
 ghost use Rattle.sale_reply.specs.Reply.{output_result_tree, display_body, text_tree, display_request_body, print_request_body};
 
 use crate::body::write_verdict;
@@ -21,7 +21,7 @@ pub(crate) fn write_display(outputs: &[Shown], out: &mut Out)
     out.raw(b"]}");
 }
 
-#[tactic(auto, unfolding(crate::specs::inner::Parts::canonical_outputs))]
+#[tactic(auto, unfolding(crate::specs::inner::CanonicalMembers::canonical_outputs))]
 fn write_outputs(outputs: &[Shown], out: &mut Out)
     ensures { Appends out.old out.new (canonical_outputs outputs.now) }
 {
@@ -31,7 +31,7 @@ fn write_outputs(outputs: &[Shown], out: &mut Out)
     }
 }
 
-#[tactic(auto, unfolding(crate::specs::inner::Parts::more_outputs))]
+#[tactic(auto, unfolding(crate::specs::inner::CanonicalMembers::more_outputs))]
 fn write_more_outputs(outputs: &[Shown], out: &mut Out)
     ensures { Appends out.old out.new (more_outputs outputs.now) }
 {
@@ -94,7 +94,7 @@ pub(crate) fn write_print_request(lines: &[&[u8]], out: &mut Out)
     out.raw(b"]}}}");
 }
 
-#[tactic(auto, unfolding(crate::specs::inner::Parts::canonical_lines))]
+#[tactic(auto, unfolding(crate::specs::inner::CanonicalMembers::canonical_lines))]
 fn write_lines(lines: &[&[u8]], out: &mut Out)
     ensures { Appends out.old out.new (canonical_lines lines.now) }
 {
@@ -104,7 +104,7 @@ fn write_lines(lines: &[&[u8]], out: &mut Out)
     }
 }
 
-#[tactic(auto, unfolding(crate::specs::inner::Parts::more_lines))]
+#[tactic(auto, unfolding(crate::specs::inner::CanonicalMembers::more_lines))]
 fn write_more_lines(lines: &[&[u8]], out: &mut Out)
     ensures { Appends out.old out.new (more_lines lines.now) }
 {

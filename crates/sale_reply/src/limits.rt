@@ -4,12 +4,12 @@ ghost use Rattle.gw_base.specs.Ident.{IsIdent};
 ghost use Rattle.json_text.specs.Canonical.{canonical};
 ghost use Rattle.json_text.specs.Grammar.{Spells};
 ghost use Rattle.sale_reply.specs.declared.reply.SaleReply.{SaleReply};
-ghost use Rattle.sale_reply.specs.Limits.{IsDetailWithinLimits, IsHeaderWithinLimits, IsShownWithinLimits, IsToldWithinLimits, IsPrintRequest, IsTotalWithinLimits, IsWithinLimits};
+ghost use Rattle.sale_reply.specs.Limits.{HasMark, HasUnlimitedParts, IsDetailWithinLimits, IsHeaderWithinLimits, IsMarkWithinLimits, IsShownWithinLimits, IsToldWithinLimits, IsTotalWithinLimits, IsWithinLimits};
 ghost use Rattle.sale_reply.specs.Reply.{tree_of};
 
-use crate::reply::{Detail, MOST_LINES, SaleReply, Shown, Told};
+use crate::reply::{Detail, PoiMark, SaleReply, Shown, Told};
 use gw_base::{Ident, law_stamp};
-use gw_bytes::LONGEST_APDU_DATA;
+use gw_bytes::{GREATEST_RECEIPT, GREATEST_TRACE, LONGEST_APDU_DATA, MOST_PRINTED_LINES};
 use json_text::spellable_trees_have_texts;
 use sale_values::Header;
 
@@ -17,11 +17,11 @@ use sale_values::Header;
 /// APDU of a terminal, which has no more data than this.
 const MOST_LINE_BYTES: usize = LONGEST_APDU_DATA as usize;
 
-/// Whether the message's parts lie within the limits of this profile. Only a print request can have too much, since
-/// the types of all others see to it.
+/// Whether the message's parts lie within the limits of this profile. Only a print request can have too much, and only
+/// the numbers of a transaction too many digits, since the types of all other parts see to it.
 pub fn is_within_limits(reply: &SaleReply<'_>) -> bool
     ensures within { IsTrue result ↔ IsWithinLimits reply.now }
-    ensures others { IsPrintRequest reply.now ⊎ IsTrue result }
+    ensures others { HasUnlimitedParts reply.now ⊎ IsTrue result }
 {
     match reply {
         SaleReply::PrintRequest { header, lines } => {
@@ -35,8 +35,7 @@ pub fn is_within_limits(reply: &SaleReply<'_>) -> bool
         }
         SaleReply::Told { header, told } => {
             law_header(header);
-            law_result_body(told);
-            true
+            is_result_body_within_limits(told)
         }
         SaleReply::Status {
             header,
@@ -45,8 +44,7 @@ pub fn is_within_limits(reply: &SaleReply<'_>) -> bool
         } => {
             law_header(header);
             law_header(repeated);
-            law_result_body(told);
-            true
+            is_result_body_within_limits(told)
         }
         SaleReply::Display { header, outputs } => {
             law_header(header);
@@ -90,7 +88,7 @@ pub fn is_within_limits(reply: &SaleReply<'_>) -> bool
 fn are_within_limits(lines: &[&[u8]]) -> bool
     ensures { IsTrue result ↔ (length lines.now ≤ 400) × (sum_by (λ line. length line.now) lines.now ≤ 12000) }
 {
-    if lines.len() > MOST_LINES {
+    if lines.len() > MOST_PRINTED_LINES {
         return false;
     }
     let mut room = MOST_LINE_BYTES;
@@ -101,6 +99,59 @@ fn are_within_limits(lines: &[&[u8]]) -> bool
         room -= line.len();
     }
     true
+}
+
+/// Whether the numbers of a transaction have no more than their digits.
+fn is_mark_within_limits(mark: &PoiMark) -> bool
+    ensures { IsTrue result ↔ IsMarkWithinLimits mark.now }
+{
+    law_u32(mark.slot);
+    mark.number <= GREATEST_TRACE && mark.receipt <= GREATEST_RECEIPT
+}
+
+/// Whether the parts of a result body lie within the limits.
+fn is_result_body_within_limits(told: &Told) -> bool
+    ensures within { IsTrue result ↔ IsToldWithinLimits told.now }
+    ensures others { HasMark told.now ⊎ IsTrue result }
+{
+    match told {
+        Told::PaymentApproved {
+            transaction,
+            stamp,
+            mark,
+            paid,
+            ..
+        } => {
+            law_ident(transaction);
+            law_ident(stamp);
+            law_u64(paid.minor);
+            is_mark_within_limits(mark)
+        }
+        Told::PaymentDeclined {
+            transaction,
+            stamp,
+            mark,
+            ..
+        } => {
+            law_ident(transaction);
+            law_ident(stamp);
+            is_mark_within_limits(mark)
+        }
+        Told::ReversalApproved { mark, reversed } => {
+            law_u64(reversed.minor);
+            is_mark_within_limits(mark)
+        }
+        Told::ReversalDeclined { mark, .. } => is_mark_within_limits(mark),
+        Told::Reconciled {
+            debit,
+            reversed,
+            ..
+        } => {
+            law_total(debit);
+            law_total(reversed);
+            true
+        }
+    }
 }
 
 // For the prover alone: what follows holds by the types of the arguments, and these functions do nothing. A contract
@@ -153,50 +204,6 @@ fn law_header(header: &Header)
     law_optional(&header.device);
     law_ident(&header.sale);
     law_ident(&header.poi);
-}
-
-fn law_result_body(told: &Told)
-    ensures { IsToldWithinLimits told.now }
-{
-    match told {
-        Told::PaymentApproved {
-            transaction,
-            stamp,
-            mark,
-            paid,
-            ..
-        } => {
-            law_ident(transaction);
-            law_ident(stamp);
-            law_u32(mark.slot);
-            law_u64(paid.minor);
-        }
-        Told::PaymentDeclined {
-            transaction,
-            stamp,
-            mark,
-            ..
-        } => {
-            law_ident(transaction);
-            law_ident(stamp);
-            law_u32(mark.slot);
-        }
-        Told::ReversalApproved { mark, reversed } => {
-            law_u32(mark.slot);
-            law_u64(reversed.minor);
-        }
-        Told::ReversalDeclined { mark, .. } => {
-            law_u32(mark.slot);
-        }
-        Told::Reconciled {
-            debit,
-            reversed,
-            ..
-        } => {
-            law_total(debit);
-            law_total(reversed);
-        }
-    }
 }
 
 fn law_outputs(outputs: &[Shown])

@@ -6,9 +6,6 @@ use gw_base::{Condition, Currency, Ident, Money};
 use json_text::JsonFault;
 use sale_values::{Header, Period};
 
-/// The most lines of a print request: as many as a reader of a terminal's block gives.
-pub(crate) const MOST_LINES: usize = 400;
-
 /// nexo's `POITransactionID`: the numbers that the terminal reported, the slot of the record of the
 /// intent, and the moment of the outcome.
 #[derive(Clone, Copy, Debug, PartialEq, Eq)]

@@ -7,11 +7,11 @@ use sale_values::{Class, Header, Kind, Period};
 use std::process::Abort;
 use std::test::Fail;
 
-fn header(class: Class, category: &[u8], kind: Kind) -> Option<Header> {
+fn header(class: Class, category: &[u8], message_type: Kind) -> Option<Header> {
     Some(Header {
         class,
         category: Ident::of(category)?,
-        kind,
+        kind: message_type,
         service: Ident::of(b"1"),
         device: None,
         sale: Ident::of(b"S1")?,
@@ -185,6 +185,44 @@ fn outcomes(rt: HostRuntime) -> Result<(), Fail> {
     Ok(())
 }
 
+/// Whether a declined reversal with these numbers is written.
+fn is_decline_written(trace: u32, receipt: u16, out: &mut Out) -> bool {
+    match header(Class::Service, b"Reversal", Kind::Response) {
+        Some(header) => {
+            let declined = SaleReply::Told {
+                header,
+                told: Told::ReversalDeclined {
+                    mark: PoiMark {
+                        number: trace,
+                        receipt,
+                        slot: 0,
+                        moment: 0,
+                    },
+                    condition: Condition::Refusal,
+                },
+            };
+            put(&declined, out)
+        }
+        None => false,
+    }
+}
+
+#[test]
+fn numbers_past_their_digits(rt: HostRuntime) -> Result<(), Fail> {
+    let mut out = Out::new(rt.alloc())?;
+    let rows = [
+        (999_999, 9_999, true),
+        (1_000_000, 9_999, false),
+        (1_000_123, 17, false),
+        (999_999, 10_000, false),
+        (123, 10_017, false),
+    ];
+    for (trace, receipt, is_written) in rows {
+        assert_eq!(rt; is_decline_written(trace, receipt, &mut out), is_written);
+    }
+    Ok(())
+}
+
 #[test]
 fn devices(rt: HostRuntime) -> Result<(), Fail> {
     let mut out = Out::new(rt.alloc())?;
@@ -259,7 +297,10 @@ fn device_requests_and_events(rt: HostRuntime) -> Result<(), Fail> {
 #[test]
 fn details_of_rejects(rt: HostRuntime) -> Result<(), Fail> {
     let mut out = Out::new(rt.alloc())?;
-    let fault = |kind, offset| Detail::Json(JsonFault { at: offset, kind });
+    let fault = |fault_kind, offset| Detail::Json(JsonFault {
+        at: offset,
+        kind: fault_kind,
+    });
     let rows = [
         (fault(FaultKind::Repeated, 9), "json Repeated 9"),
         (fault(FaultKind::NotJson, 7), "json NotJson 7"),

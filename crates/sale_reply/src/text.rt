@@ -1,7 +1,6 @@
 //! The texts that a reply puts together.
 ghost use Rattle.std.specs.Prelude.{◌≡◌, ◌≤◌, ◌<◌, ◌++◌, length};
-ghost use Rattle.gw_base.specs.Digits.{digits};
-ghost use Rattle.sale_reply.specs.Texts.{transaction_text, intermediate_text, detail_text};
+ghost use Rattle.sale_reply.specs.Texts.{intermediate_text, detail_text};
 
 use crate::reply::Detail;
 use arrayvec::ArrayVec;
@@ -9,43 +8,6 @@ use gw_base::Ident;
 use gw_bytes::upper_hex_digit;
 use itoa::Buffer;
 use json_text::JsonFault;
-
-/// A POITransactionID's `TransactionID`.
-#[tactic(auto, unfolding(crate::specs::Texts::transaction_text))]
-pub(crate) fn transaction(number: u32, receipt: u16, slot: u32) -> ArrayVec<u8, 24>
-    ensures { result.items ≡ transaction_text number receipt slot }
-{
-    // 6 and 4 digits, up to 10 of a slot, and two dashes: 22 bytes at most.
-    let mut text = ArrayVec::new();
-    text.try_extend_from_slice(&last_digits::<6>(u64::from(number)))
-        .unwrap();
-    text.push(b'-');
-    text.try_extend_from_slice(&last_digits::<4>(u64::from(receipt)))
-        .unwrap();
-    text.push(b'-');
-    text.try_extend_from_slice(Buffer::new().format(slot).as_bytes())
-        .unwrap();
-    text
-}
-
-/// The last digits of a number, with leading zeros.
-fn last_digits<const N: usize>(value: u64) -> [u8; N]
-    ensures { result ≡ digits N value }
-{
-    let mut cells = [b'0'; N];
-    fill_digits(value, &mut cells);
-    cells
-}
-
-fn fill_digits(value: u64, cells: &mut [u8])
-    ensures { cells.new ≡ digits (length cells.old) value }
-{
-    let mut rest = value;
-    for index in (0..cells.len()).rev() {
-        cells[index] = b'0' + (rest % 10) as u8;
-        rest /= 10;
-    }
-}
 
 /// The text of a cashier's display for an intermediate status of the terminal.
 #[tactic(auto, unfolding(crate::specs::Texts::intermediate_text))]

@@ -3,7 +3,7 @@ ghost use Rattle.std.specs.Prelude.{◌≡◌, ◌≤◌, codes, length};
 ghost use Rattle.json_text.specs.Canonical.{canonical};
 ghost use Rattle.sale_frame.specs.Grammar.{frame};
 ghost use Rattle.sale_reply.specs.inner.Appends.{Appends};
-ghost use Rattle.sale_reply.specs.inner.Parts.{message_prefix};
+ghost use Rattle.sale_reply.specs.inner.CanonicalMembers.{message_prefix};
 ghost use Rattle.sale_reply.specs.Reply.{header_tree, event_header, status_body, result_body, event_tree, tree_of};
 
 use crate::body::{

@@ -22,9 +22,9 @@ fn headed(alloc: Global, envelope: &str, header: &str) -> Result<String, AllocEr
 }
 
 /// The body of a Payment of this amount.
-fn payment(alloc: Global, amount: &str) -> Result<String, AllocError> {
+fn payment(alloc: Global, amount_text: &str) -> Result<String, AllocError> {
     format!(in alloc;
-        "{{\"SaleData\":{{\"OperatorID\":\"5\",\"SaleTransactionID\":{{\"TransactionID\":\"27908\",\"TimeStamp\":\"2025-03-07T10:11:04+00:00\"}}}},\"PaymentTransaction\":{{\"AmountsReq\":{{\"Currency\":\"EUR\",\"RequestedAmount\":{amount}}},\"TransactionConditions\":{{\"LoyaltyHandling\":\"Forbidden\"}}}},\"PaymentData\":{{\"PaymentType\":\"Normal\"}}}}"
+        "{{\"SaleData\":{{\"OperatorID\":\"5\",\"SaleTransactionID\":{{\"TransactionID\":\"27908\",\"TimeStamp\":\"2025-03-07T10:11:04+00:00\"}}}},\"PaymentTransaction\":{{\"AmountsReq\":{{\"Currency\":\"EUR\",\"RequestedAmount\":{amount_text}}},\"TransactionConditions\":{{\"LoyaltyHandling\":\"Forbidden\"}}}},\"PaymentData\":{{\"PaymentType\":\"Normal\"}}}}"
     )
 }
 
@@ -78,11 +78,11 @@ fn amounts(rt: HostRuntime) -> Result<(), Fail> {
         ("10000000000", None),
         ("\"10\"", None),
     ];
-    for (amount, units) in rows {
-        let body = payment(alloc, amount)?;
+    for (amount_text, units) in rows {
+        let body = payment(alloc, amount_text)?;
         let text = request(alloc, "Payment", body.as_str())?;
         let read = amount_of(alloc, text.as_str());
-        assert_eq!(rt; read, units, "of {amount}");
+        assert_eq!(rt; read, units, "of {amount_text}");
         if units.is_none() {
             assert_eq!(rt;
                 fault(alloc, text.as_str())?.as_str(),
@@ -93,6 +93,7 @@ fn amounts(rt: HostRuntime) -> Result<(), Fail> {
     Ok(())
 }
 
+/// The example of `sale_msg`'s first page.
 #[test]
 fn usual_payment(rt: HostRuntime) -> Result<(), Fail> {
     let alloc = rt.alloc();

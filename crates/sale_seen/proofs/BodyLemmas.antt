@@ -16,7 +16,7 @@ use Rattle.sale_reply.specs.declared.reply.ReplyResult.TheVariants as results
 use Rattle.sale_reply.specs.declared.reply.Told.{Told}
 use Rattle.sale_reply.specs.declared.reply.Told.TheVariants.{PaymentApproved, PaymentDeclined, ReversalApproved, ReversalDeclined, Reconciled}
 use Rattle.sale_reply.specs.declared.reply.Verdict.{Verdict}
-use Rattle.sale_seen.specs.ReplyMembers.{OutcomeValue, amount_in, by_category, condition_in, outcome_in, outcome_of, repeated_in, transaction_in}
+use Rattle.sale_seen.specs.ReplyMembers.{OutcomeValue, amount_text_in, by_category, condition_in, outcome_in, outcome_of, repeated_in, transaction_in}
 use Rattle.sale_seen.specs.Transaction.{IsTransactionIdentifier}
 use Rattle.sale_seen.specs.Grammar.{FindsMember, NamesCondition, IsAmountMember, IsTransactionText}
 use Rattle.sale_seen.specs.Expected.{expected_condition, expected_amount, expected_result, expected_transaction, paid_minor, reversed_minor, text_of_outcome}
@@ -61,7 +61,7 @@ pub record IsAlone (body : Tree) : Type 0 where
 -- a body of this category has this outcome
 pub record HasOutcome (outcome : OutcomeValue) (told : Told) : Type 0 where
   pub transaction : transaction_in outcome ≡ expected_transaction outcome.category told
-  pub amount : amount_in outcome ≡ option_map money_text (expected_amount outcome.category told)
+  pub amount_text : amount_text_in outcome ≡ option_map money_text (expected_amount outcome.category told)
 
 -- ---- by category
 
@@ -110,9 +110,9 @@ alone_transaction category body own =
     let text = text_at (codes "POIData.POITransactionID.TransactionID") body in
     alone transaction_in category body own.repeated (neither category text text own.transaction own.transaction)
 
-pub alone_amount : (category : List ℕ) (body : Tree) → IsAlone body → option_and_then amount_in (outcome_in category body) ≡ None
+pub alone_amount : (category : List ℕ) (body : Tree) → IsAlone body → option_and_then amount_text_in (outcome_in category body) ≡ None
 alone_amount category body own =
-    alone amount_in category body own.repeated
+    alone amount_text_in category body own.repeated
     (neither category (option_and_then numeral_of (tree_at (codes "PaymentResult.AmountsResp.AuthorizedAmount") body))
     (option_and_then numeral_of (tree_at (codes "ReversedAmount") body)) (ap (option_and_then numeral_of) own.paid) (ap (option_and_then numeral_of) own.reversed))
 
@@ -211,7 +211,7 @@ body_reversed (Reconciled period currency debit reversed) = refl
 pub body_outcome : (category : List ℕ) (told : Told) → HasOutcome (outcome_of category (result_body told)) told
 body_outcome category told = record {
   transaction = ap (λ text. by_category category text text) (body_text told);
-  amount = either money_text category (paid_minor told) (reversed_minor told)
+  amount_text = either money_text category (paid_minor told) (reversed_minor told)
       (option_and_then numeral_of (tree_at (codes "PaymentResult.AmountsResp.AuthorizedAmount") (result_body told)))
       (option_and_then numeral_of (tree_at (codes "ReversedAmount") (result_body told))) (body_paid told) (body_reversed told);
 }
@@ -219,10 +219,10 @@ body_outcome category told = record {
 -- ---- what an outcome is identified by, and its amount
 
 text_fits : (told : Told) → IsToldWithinLimits told → IfSome (text_of_outcome told) IsTransactionIdentifier
-text_fits (PaymentApproved transaction stamp mark requested paid) h = transaction_is mark.number mark.receipt mark.slot h.2
-text_fits (PaymentDeclined transaction stamp mark condition) h = transaction_is 0 0 mark.slot h.2
-text_fits (ReversalApproved mark reversed) h = transaction_is mark.number mark.receipt mark.slot h.0
-text_fits (ReversalDeclined mark condition) h = transaction_is 0 0 mark.slot h
+text_fits (PaymentApproved transaction stamp mark requested paid) h = transaction_is mark.number mark.receipt mark.slot h.2.slot_fits
+text_fits (PaymentDeclined transaction stamp mark condition) h = transaction_is 0 0 mark.slot h.2.slot_fits
+text_fits (ReversalApproved mark reversed) h = transaction_is mark.number mark.receipt mark.slot h.0.slot_fits
+text_fits (ReversalDeclined mark condition) h = transaction_is 0 0 mark.slot h.slot_fits
 text_fits (Reconciled period currency debit reversed) h = tt
 
 pub transaction_fits : (category : List ℕ) (told : Told) → IsToldWithinLimits told → IfSome (expected_transaction category told) IsTransactionIdentifier

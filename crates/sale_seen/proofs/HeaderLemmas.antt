@@ -27,28 +27,28 @@ object_of_reply header body = object
 
 -- a header by its parts
 abbrev pub parted : ClassType → List ℕ → KindType → Option (List ℕ) → Option (List ℕ) → List ℕ → List ℕ → Header
-parted class category kind service device sale poi =
-    record { class = class; category = category; kind = kind; service = service; device = device; sale = sale; poi = poi }
+parted class category message_type service device sale poi =
+    record { class = class; category = category; kind = message_type; service = service; device = device; sale = sale; poi = poi }
 
-header_parts : (class : ClassType) (category : List ℕ) (kind : KindType) (service device : Option (List ℕ)) (sale poi : List ℕ) (body : Tree)
-    → HeaderHolds (object_of_reply (parted class category kind service device sale poi) body) (parted class category kind service device sale poi)
+header_parts : (class : ClassType) (category : List ℕ) (message_type : KindType) (service device : Option (List ℕ)) (sale poi : List ℕ) (body : Tree)
+    → HeaderHolds (object_of_reply (parted class category message_type service device sale poi) body) (parted class category message_type service device sale poi)
 unfolding tree_at header_tree
-header_parts class category kind None None sale poi body =
-    record { class = refl; category = refl; kind = refl; service = refl; device = refl; sale = refl; poi = refl }
-header_parts class category kind None (Some d) sale poi body =
-    record { class = refl; category = refl; kind = refl; service = refl; device = refl; sale = refl; poi = refl }
-header_parts class category kind (Some s) None sale poi body =
-    record { class = refl; category = refl; kind = refl; service = refl; device = refl; sale = refl; poi = refl }
-header_parts class category kind (Some s) (Some d) sale poi body =
-    record { class = refl; category = refl; kind = refl; service = refl; device = refl; sale = refl; poi = refl }
+header_parts class category message_type None None sale poi body =
+    record { class = refl; category = refl; message_type = refl; service = refl; device = refl; sale = refl; poi = refl }
+header_parts class category message_type None (Some d) sale poi body =
+    record { class = refl; category = refl; message_type = refl; service = refl; device = refl; sale = refl; poi = refl }
+header_parts class category message_type (Some s) None sale poi body =
+    record { class = refl; category = refl; message_type = refl; service = refl; device = refl; sale = refl; poi = refl }
+header_parts class category message_type (Some s) (Some d) sale poi body =
+    record { class = refl; category = refl; message_type = refl; service = refl; device = refl; sale = refl; poi = refl }
 
 -- a header without ServiceID is of class Device, or a notification's
 abbrev MayLack : ClassType → KindType → Type 0
-MayLack class kind = (Some (class_name class) ≡ Some (codes "Device")) ⊎ (Some (kind_name kind) ≡ Some (codes "Notification"))
+MayLack class message_type = (Some (class_name class) ≡ Some (codes "Device")) ⊎ (Some (kind_name message_type) ≡ Some (codes "Notification"))
 
-may_lack : (class : ClassType) (kind : KindType) → (class ≡ classes.Device) ⊎ (kind ≡ kinds.Notification) → MayLack class kind
-may_lack class kind (inl e) = inl (ap (λ c. Some (class_name c)) e)
-may_lack class kind (inr e) = inr (ap (λ k. Some (kind_name k)) e)
+may_lack : (class : ClassType) (message_type : KindType) → (class ≡ classes.Device) ⊎ (message_type ≡ kinds.Notification) → MayLack class message_type
+may_lack class message_type (inl e) = inl (ap (λ c. Some (class_name c)) e)
+may_lack class message_type (inr e) = inr (ap (λ k. Some (kind_name k)) e)
 
 -- what the category is
 abbrev Letters : List ℕ → Type 0
@@ -57,19 +57,19 @@ Letters category = (1 ≤ length category) × (length category ≤ 40) × All Is
 letters : (header : Header) → IsHeaderWithinLimits header → IsReadable header → Letters header.category
 letters header h r = (h.category.0, h.category.1, r.category)
 
-met_parts : (class : ClassType) (category : List ℕ) (kind : KindType) (service device : Option (List ℕ)) (sale poi : List ℕ) (body : Tree)
-    → Letters category → IsHeaderWithinLimits (parted class category kind service device sale poi)
-    → (service ≡ None → (class ≡ classes.Device) ⊎ (kind ≡ kinds.Notification))
-    → AreMet (header_rows envelopes.Response) (object_of_reply (parted class category kind service device sale poi) body)
+met_parts : (class : ClassType) (category : List ℕ) (message_type : KindType) (service device : Option (List ℕ)) (sale poi : List ℕ) (body : Tree)
+    → Letters category → IsHeaderWithinLimits (parted class category message_type service device sale poi)
+    → (service ≡ None → (class ≡ classes.Device) ⊎ (message_type ≡ kinds.Notification))
+    → AreMet (header_rows envelopes.Response) (object_of_reply (parted class category message_type service device sale poi) body)
 unfolding tree_at IsMet header_tree
-met_parts class category kind None None sale poi body l h r =
-    (refl, ((codes "0", refl), ((class, refl), (l, ((kind, refl), (may_lack class kind (r refl), (tt, (h.sale, (h.poi, tt)))))))))
-met_parts class category kind None (Some d) sale poi body l h r =
-    (refl, ((codes "0", refl), ((class, refl), (l, ((kind, refl), (may_lack class kind (r refl), (h.device, (h.sale, (h.poi, tt)))))))))
-met_parts class category kind (Some s) None sale poi body l h r =
-    (refl, ((codes "0", refl), ((class, refl), (l, ((kind, refl), (h.service, (tt, (h.sale, (h.poi, tt)))))))))
-met_parts class category kind (Some s) (Some d) sale poi body l h r =
-    (refl, ((codes "0", refl), ((class, refl), (l, ((kind, refl), (h.service, (h.device, (h.sale, (h.poi, tt)))))))))
+met_parts class category message_type None None sale poi body l h r =
+    (refl, ((codes "0", refl), ((class, refl), (l, ((message_type, refl), (may_lack class message_type (r refl), (tt, (h.sale, (h.poi, tt)))))))))
+met_parts class category message_type None (Some d) sale poi body l h r =
+    (refl, ((codes "0", refl), ((class, refl), (l, ((message_type, refl), (may_lack class message_type (r refl), (h.device, (h.sale, (h.poi, tt)))))))))
+met_parts class category message_type (Some s) None sale poi body l h r =
+    (refl, ((codes "0", refl), ((class, refl), (l, ((message_type, refl), (h.service, (tt, (h.sale, (h.poi, tt)))))))))
+met_parts class category message_type (Some s) (Some d) sale poi body l h r =
+    (refl, ((codes "0", refl), ((class, refl), (l, ((message_type, refl), (h.service, (h.device, (h.sale, (h.poi, tt)))))))))
 
 header_again : (header : Header) (body : Tree) → IsHeaderWithinLimits header → IsReadable header
     → HasHeader envelopes.Response (object_of_reply header body) header

@@ -6,7 +6,7 @@ use Rattle.std.proofs.lemmas.List.Elements.{All-nil, All-push}
 use Rattle.std.proofs.lemmas.Fmt.{length-decimal-le}
 use Rattle.std.specs.Char.{IsAsciiDigit}
 use Rattle.gw_base.specs.Digits.{digits}
-use Rattle.sale_reply.specs.Texts.{transaction_text}
+use Rattle.gw_base.specs.Transaction.{transaction_text}
 use Rattle.sale_seen.specs.Transaction.{AreSoManyDigits, IsTransactionIdentifier}
 use Rattle.sale_seen.specs.inner.Spelled.{FollowsDigits, IsSlotText, spelled_on}
 use Rattle.sale_seen.proofs.MoneyLemmas.{decimal_spells}
@@ -23,13 +23,13 @@ digits_are (suc count) value =
       digits = All-push IsAsciiDigit (digits count (value / 10)) (48 + value % 10) before.digits last;
     }
 
-pub transaction_is : (number receipt slot : ℕ) → slot < 2 ^ 32 → IsTransactionIdentifier (transaction_text number receipt slot)
+pub transaction_is : (trace receipt slot : ℕ) → slot < 2 ^ 32 → IsTransactionIdentifier (transaction_text trace receipt slot)
 unfolding transaction_text
-transaction_is number receipt slot small = (
-  digits 6 number,
+transaction_is trace receipt slot small = (
+  digits 6 trace,
   digits 4 receipt,
   slot,
-  record { six = digits_are 6 number; four = digits_are 4 receipt; fits = small; spelled = refl },
+  record { six = digits_are 6 trace; four = digits_are 4 receipt; fits = small; spelled = refl },
 )
 
 -- ---- what is read
@@ -66,10 +66,10 @@ slot_left text rest slot begins more (trace, receipt, number, h) =
     (number, h.fits, follows_one 4 rest slot (decimal number) more (receipt, h.four, same))
 
 pub slot_is : (text rest slot : List ℕ) → FollowsDigits 6 text rest → FollowsDigits 4 rest slot → IsSlotText slot → IsTransactionIdentifier text
-slot_is text rest slot (trace, td, e) (receipt, rd, f) (number, small, is) = (
+slot_is text rest slot (trace, td, e) (receipt, rd, f) (last, small, is) = (
   trace,
   receipt,
-  number,
+  last,
   record {
     six = td;
     four = rd;

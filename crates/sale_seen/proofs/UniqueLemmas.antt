@@ -17,7 +17,7 @@ use Rattle.sale_reply.specs.Names.{result_name}
 use Rattle.sale_reply.specs.declared.reply.ReplyResult.{ReplyResult}
 use Rattle.sale_reply.specs.declared.reply.ReplyResult.TheVariants as results
 use Rattle.sale_seen.specs.Fault.{HasOtherResult, IsReplyFault, LacksResult, result_in, result_path}
-use Rattle.sale_seen.specs.ReplyMembers.{amount_in, condition_in, outcome_in, response_of, transaction_in}
+use Rattle.sale_seen.specs.ReplyMembers.{amount_text_in, condition_in, outcome_in, response_of, transaction_in}
 use Rattle.sale_seen.specs.Grammar.{FindsMember, ReadsReply, ReadsReplyIn, ReadReply, NamesCondition, IsAmountMember, NamesResult, IsTransactionText, read_reply_value}
 use Rattle.sale_seen.specs.declared.reply.ReplySeen.{ReplySeen}
 use Rattle.sale_seen.proofs.NameLemmas.{differ}
@@ -67,7 +67,7 @@ result_named_one message envelope holder header body s t h e k =
     let outcome = outcome_in header.category body in
     let condition_text = condition_in s.result body in
     let transaction_text = option_and_then transaction_in outcome in
-    let numeral = option_and_then amount_in outcome in
+    let numeral = option_and_then amount_text_in outcome in
     let category : s.category ≡ t.category = h.category ∙ sym k.category in
     let result = result_one s.result t.result (some_one (text_at (codes "Response.Result") body) (result_name s.result) (result_name t.result) h.result k.result) in
     let HasCondition : ReplyResult → Type 0 = λ outcome. FindsMember (NamesCondition (condition_in outcome body)) t.condition in

@@ -6,7 +6,7 @@ use Rattle.sale_values.specs.declared.names.Class.TheVariants as classes
 use Rattle.sale_values.specs.declared.names.Kind.TheVariants as kinds
 use Rattle.sale_msg.specs.Form.{IsLetter}
 use Rattle.sale_reply.specs.Names.{paid_result, result_of}
-use Rattle.sale_reply.specs.Texts.{transaction_text}
+use Rattle.gw_base.specs.Transaction.{transaction_text}
 use Rattle.sale_reply.specs.declared.reply.PoiMark.{PoiMark}
 use Rattle.sale_reply.specs.declared.reply.ReplyResult.{ReplyResult}
 use Rattle.sale_reply.specs.declared.reply.ReplyResult.TheVariants.{Success, Failure}

@@ -11,7 +11,7 @@ use Rattle.sale_msg.specs.Path.{text_at}
 use Rattle.sale_msg.specs.declared.table.Envelope.{Envelope}
 use Rattle.sale_reply.specs.Names.{result_name}
 use Rattle.sale_reply.specs.declared.reply.ReplyResult.{ReplyResult}
-use Rattle.sale_seen.specs.ReplyMembers.{amount_in, condition_in, outcome_in, response_of, transaction_in}
+use Rattle.sale_seen.specs.ReplyMembers.{amount_text_in, condition_in, outcome_in, response_of, transaction_in}
 use Rattle.sale_seen.specs.Transaction.{IsTransactionIdentifier}
 use Rattle.sale_seen.specs.declared.reply.ReplySeen.{ReplySeen}
 
@@ -62,7 +62,7 @@ pub record ReadsReplyIn (message : Tree) (envelope : Envelope) (holder : Tree) (
   pub result : NamesResult (text_at (codes "Response.Result") body) seen.result
   pub condition : FindsMember (NamesCondition (condition_in seen.result body)) seen.condition
   pub transaction : FindsMember (IsTransactionText (option_and_then transaction_in (outcome_in header.category body))) seen.transaction
-  pub minor : FindsMember (IsAmountMember (option_and_then amount_in (outcome_in header.category body))) seen.minor
+  pub minor : FindsMember (IsAmountMember (option_and_then amount_text_in (outcome_in header.category body))) seen.minor
 
 -- this is read of the message
 abbrev pub ReadsReply : Tree → ReadReply → Type 0

@@ -44,8 +44,8 @@ transaction_in outcome =
     by_category outcome.category text text
 
 -- the number that is the amount: what was paid, or what was reversed
-abbrev pub amount_in : OutcomeValue → Option (List ℕ)
-amount_in outcome = by_category outcome.category
+abbrev pub amount_text_in : OutcomeValue → Option (List ℕ)
+amount_text_in outcome = by_category outcome.category
     (option_and_then numeral_of (tree_at (codes "PaymentResult.AmountsResp.AuthorizedAmount") outcome.body))
     (option_and_then numeral_of (tree_at (codes "ReversedAmount") outcome.body))
 

@@ -5,13 +5,14 @@
 //! `sale_reply` writes, so a till that reads by this crate learns what the gateway sent.
 //!
 //! ```
-//! let tree = json_text::read(alloc, text)?;
+//! let tree = json_text::read(alloc, text)?; // a Payment's reply: approved, 10.99
 //! let reply = sale_seen::read_reply(&tree)?;
-//! if reply.result == ReplyResult::Success { .. }
+//! assert_eq!(reply.result, ReplyResult::Success);
+//! assert_eq!(reply.minor, Some(1_099));
 //! ```
 #![tactic(auto)]
 
-mod amount;
+mod amount_text;
 mod digits;
 mod laws;
 mod paths;

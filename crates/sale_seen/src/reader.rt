@@ -8,12 +8,12 @@ ghost use Rattle.sale_msg.specs.Grammar.{IsHeaded, LacksHeader};
 ghost use Rattle.sale_msg.specs.Path.{text_at};
 ghost use Rattle.sale_msg.specs.declared.table.Envelope.{Envelope};
 ghost use Rattle.sale_seen.specs.Fault.{HasOtherResult, IsReplyFault, LacksResult, result_path};
-ghost use Rattle.sale_seen.specs.ReplyMembers.{amount_in, condition_in, response_of, transaction_in};
+ghost use Rattle.sale_seen.specs.ReplyMembers.{amount_text_in, condition_in, response_of, transaction_in};
 ghost use Rattle.sale_seen.specs.inner.OutcomeRead.{outcome_value};
 ghost use Rattle.sale_seen.specs.Grammar.{FindsMember, ReadsReply, ReadReply, NamesCondition, IsAmountMember, NamesResult, IsTransactionText, read_reply_value};
 
-use crate::amount::minor_of;
-use crate::reply_members::{Outcome, amount, find_outcome, response, text, transaction_text};
+use crate::amount_text::minor_of;
+use crate::reply_members::{Outcome, amount_text, find_outcome, response, text, transaction_text};
 use crate::transaction::is_transaction;
 use crate::{ReplySeen, paths};
 use arrayvec::ArrayVec;
@@ -164,11 +164,11 @@ fn copied(text: &[u8]) -> ArrayVec<u8, 80>
 
 /// The amount of an outcome in minor units, where it is written with two digits after the point and has 64 bits.
 fn units(outcome: Option<Outcome<'_>>) -> Option<u64>
-    ensures { FindsMember (IsAmountMember (option_and_then amount_in (option_map outcome_value outcome.entry))) result }
+    ensures { FindsMember (IsAmountMember (option_and_then amount_text_in (option_map outcome_value outcome.entry))) result }
 {
     match outcome {
         None => None,
-        Some(outcome) => match amount(&outcome) {
+        Some(outcome) => match amount_text(&outcome) {
             None => None,
             Some(numeral) => minor_of(numeral),
         },

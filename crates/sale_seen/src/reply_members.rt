@@ -4,7 +4,7 @@ ghost use Rattle.std.specs.Option.{option_and_then};
 ghost use Rattle.json_text.specs.Tree.{member_of, numeral_of};
 ghost use Rattle.json_text.specs.ValueOf.{value_of, members_value};
 ghost use Rattle.sale_msg.specs.Path.{text_at, tree_at};
-ghost use Rattle.sale_seen.specs.ReplyMembers.{amount_in, outcome_in, repeated_in, response_of, transaction_in};
+ghost use Rattle.sale_seen.specs.ReplyMembers.{amount_text_in, outcome_in, repeated_in, response_of, transaction_in};
 ghost use Rattle.sale_seen.specs.inner.OutcomeRead.{outcome_value};
 
 use crate::paths;
@@ -97,8 +97,8 @@ fn poi_transaction(body: &Json) -> Option<&[u8]>
 }
 
 /// The number that is the amount: what was paid, or what was reversed.
-pub(crate) fn amount<'a>(outcome: &Outcome<'a>) -> Option<&'a [u8]>
-    ensures { option_copied result ≡ amount_in (outcome_value outcome.now) }
+pub(crate) fn amount_text<'a>(outcome: &Outcome<'a>) -> Option<&'a [u8]>
+    ensures { option_copied result ≡ amount_text_in (outcome_value outcome.now) }
 {
     if outcome.category == b"Payment".as_slice() {
         paid_amount(outcome.body)

@@ -1,6 +1,6 @@
 //! Replies as a till receives them.
 
-use crate::amount::minor_of;
+use crate::amount_text::minor_of;
 use crate::transaction::is_transaction;
 use crate::{ReplySeen, read_reply};
 use gw_base::Ident;
@@ -99,6 +99,17 @@ const FIVE_DIGITS: &str =
 
 const UNNAMED: &str =
     r#"{"Response":{"Result":"Failure","ErrorCondition":"Unknown"},"POIData":{"POITransactionID":{"TransactionID":"ä"}},"PaymentResult":{"AmountsResp":{"AuthorizedAmount":10.9}},"ReversedAmount":1.00}"#;
+
+/// The example of the crate's first page.
+#[test]
+fn the_example(rt: HostRuntime) -> Result<(), Fail> {
+    let text = reply(rt.alloc(), "Payment", APPROVED)?;
+    let tree = read(rt.alloc(), text.as_bytes()).ok().ok_or("read")?;
+    let seen = read_reply(&tree).ok().ok_or("no reply")?;
+    assert_eq!(rt; seen.result, ReplyResult::Success);
+    assert_eq!(rt; seen.minor, Some(1_099));
+    Ok(())
+}
 
 #[test]
 fn replies(rt: HostRuntime) -> Result<(), Fail> {

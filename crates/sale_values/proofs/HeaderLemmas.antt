@@ -33,15 +33,15 @@ header_have d header is =
 
 -- the members of a written header, by its parts
 abbrev parted : ClassType → List ℕ → KindType → Option (List ℕ) → Option (List ℕ) → List ℕ → List ℕ → Header
-parted class category kind service device sale poi =
-    record { class = class; category = category; kind = kind; service = service; device = device; sale = sale; poi = poi }
+parted class category message_type service device sale poi =
+    record { class = class; category = category; kind = message_type; service = service; device = device; sale = sale; poi = poi }
 
-header_distinct : (class : ClassType) (category : List ℕ) (kind : KindType) (service device : Option (List ℕ)) (sale poi : List ℕ)
-    → are_distinct (names (header_members (parted class category kind service device sale poi))) ≡ true
-header_distinct class category kind None None sale poi = refl
-header_distinct class category kind None (Some d) sale poi = refl
-header_distinct class category kind (Some s) None sale poi = refl
-header_distinct class category kind (Some s) (Some d) sale poi = refl
+header_distinct : (class : ClassType) (category : List ℕ) (message_type : KindType) (service device : Option (List ℕ)) (sale poi : List ℕ)
+    → are_distinct (names (header_members (parted class category message_type service device sale poi))) ≡ true
+header_distinct class category message_type None None sale poi = refl
+header_distinct class category message_type None (Some d) sale poi = refl
+header_distinct class category message_type (Some s) None sale poi = refl
+header_distinct class category message_type (Some s) (Some d) sale poi = refl
 
 -- a header whose texts are UTF-8 has a text
 pub header_spellable : (d : ℕ) (header : Header) → HasUtf8Texts header → d < 32 → IsSpellableAt d (object (header_members header))

@@ -53,7 +53,7 @@ class_utf8 classes.Service = ascii_utf8 (codes "Service") refl
 class_utf8 classes.Device = ascii_utf8 (codes "Device") refl
 class_utf8 classes.Event = ascii_utf8 (codes "Event") refl
 
-pub kind_utf8 : (kind : KindType) → IsUtf8 (kind_name kind)
+pub kind_utf8 : (message_type : KindType) → IsUtf8 (kind_name message_type)
 kind_utf8 kinds.Request = ascii_utf8 (codes "Request") refl
 kind_utf8 kinds.Response = ascii_utf8 (codes "Response") refl
 kind_utf8 kinds.Notification = ascii_utf8 (codes "Notification") refl

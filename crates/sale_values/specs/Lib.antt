@@ -5,4 +5,4 @@ pub mod Key
 pub mod MemberShapes
 pub mod Money
 pub mod Names
-pub mod Parts
+pub mod PartBytes

@@ -27,7 +27,7 @@ pub fn law_money()
 pub fn law_texts()
     ensures ident { (most : ℕ) (text : List ℕ) → IsIdent most text → IsUtf8 text }
     ensures class { (c : Class) → IsUtf8 (class_name c) }
-    ensures kind { (k : Kind) → IsUtf8 (kind_name k) }
+    ensures message_type { (k : Kind) → IsUtf8 (kind_name k) }
     ensures period { (p : Period) → IsUtf8 (period_name p) }
 {}
 

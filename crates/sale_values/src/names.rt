@@ -77,9 +77,9 @@ impl Kind {
     pub fn from_name(name: &[u8]) -> Option<Kind>
         ensures { MatchOption result ((k : Kind) → kind_name k ≢ name.now) (λ k. kind_name k ≡ name.now) }
     {
-        for kind in Kind::ALL {
-            if kind.name().as_bytes() == name {
-                return Some(kind);
+        for message_type in Kind::ALL {
+            if message_type.name().as_bytes() == name {
+                return Some(message_type);
             }
         }
         None

@@ -1,12 +1,12 @@
 //! The parts of which a written message is put together, and those of a header.
 //!
-//! A message is written into more than one kind of buffer; what is written stands here once.
+//! A message is written into more than one kind of buffer; what is written is here once.
 ghost use Rattle.std.specs.Prelude.{◌≡◌};
 ghost use Rattle.std.specs.Option.{option_copied};
 ghost use Rattle.json_text.specs.Canonical.{canonical};
 ghost use Rattle.json_text.specs.Tree.{object};
 ghost use Rattle.sale_values.specs.CanonicalHeader.{header_members};
-ghost use Rattle.sale_values.specs.Parts.{parts_text};
+ghost use Rattle.sale_values.specs.PartBytes.{parts_text};
 
 use crate::Header;
 use gw_base::Ident;

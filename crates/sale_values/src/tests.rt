@@ -8,8 +8,11 @@ fn names(rt: HostRuntime) {
     for class in [Class::Service, Class::Device, Class::Event] {
         assert_eq!(rt; Class::from_name(class.name().as_bytes()), Some(class));
     }
-    for kind in [Kind::Request, Kind::Response, Kind::Notification] {
-        assert_eq!(rt; Kind::from_name(kind.name().as_bytes()), Some(kind));
+    for message_type in [Kind::Request, Kind::Response, Kind::Notification] {
+        assert_eq!(rt;
+            Kind::from_name(message_type.name().as_bytes()),
+            Some(message_type)
+        );
     }
     let periods = [
         (

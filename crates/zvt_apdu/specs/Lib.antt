@@ -1,3 +1,4 @@
+-- The definitions of APDUs of a terminal, in chunks of any size.
 pub mod Decode
 pub mod DecodeStream
 pub mod Grammar

@@ -1,3 +1,4 @@
+-- The lemmas of fields of a terminal's status, read and written.
 pub mod CanonicalLemmas
 pub mod DecodeLemmas
 pub mod DigitLemmas

@@ -1,3 +1,4 @@
+-- The definitions of fields of a terminal's status: their numbers, their values and their canonical bytes.
 pub mod Canonical
 pub mod Decode
 pub mod Example

@@ -46,9 +46,9 @@ begins : ApduAgain → (class instr : ℕ) (body rest : List ℕ) → length (ca
 begins again class instr body rest fits =
     (canonical_apdu class instr body, again (apdu class instr body) (omega (arith, length-append (canonical_apdu_length (length body)) body)), refl)
 
-code_first : (code : Option ℕ) → IsFirstByte (canonical_abort_code code) code
+code_first : (result_code : Option ℕ) → IsFirstByte (canonical_abort_code result_code) result_code
 code_first None = refl
-code_first (Some code) = ([], refl)
+code_first (Some result_code) = ([], refl)
 
 object_size : (tag : ℕ) (value : List ℕ) → length value ≤ length (canonical_tlv_object tag value)
 object_size tag value = omega (arith, length-append (canonical_tag tag) (canonical_tlv_length (length value) ++ value), length-append (canonical_tlv_length (length value)) value)
@@ -62,10 +62,10 @@ is_container = ((λ e. omega arith), refl)
 pub message_again : ApduAgain → ObjectAgain → FieldsAgain → (message : MessageValue) (rest : List ℕ) → HasPtMessageForm message → HasPtMessageSizes message → length (canonical_pt_message message) ≤ 512 → ReadAgain message rest
 message_again again objects fields MessageValue.Ack rest form sizes fits =
     (apdu 0x80 0x00 [], begins again 0x80 0x00 [] rest fits, (refl, refl))
-message_again again objects fields (MessageValue.Nack code) rest form sizes fits =
-    (apdu 0x84 code [], begins again 0x84 code [] rest fits, (refl, refl))
-message_again again objects fields (MessageValue.Intermediate code) rest form sizes fits =
-    (apdu 0x04 0xFF (code ∷ []), begins again 0x04 0xFF (code ∷ []) rest fits, ((refl, refl), inl ([], refl)))
+message_again again objects fields (MessageValue.Nack error_code) rest form sizes fits =
+    (apdu 0x84 error_code [], begins again 0x84 error_code [] rest fits, (refl, refl))
+message_again again objects fields (MessageValue.Intermediate intermediate_status) rest form sizes fits =
+    (apdu 0x04 0xFF (intermediate_status ∷ []), begins again 0x04 0xFF (intermediate_status ∷ []) rest fits, ((refl, refl), inl ([], refl)))
 message_again again objects fields (MessageValue.Line text) rest form sizes fits =
     (apdu 0x06 0xD1 (0x00 ∷ text), begins again 0x06 0xD1 (0x00 ∷ text) rest fits, ((refl, refl), inl (0x00, refl)))
 message_again again objects fields (MessageValue.Block block) rest form sizes fits =
@@ -77,6 +77,6 @@ message_again again objects fields (MessageValue.Status values) rest form sizes 
     (apdu 0x04 0x0F body, begins again 0x04 0x0F body rest fits, ((refl, refl), subst (SpellsStatusOrFault body) (fields values form sizes) (fields_report body)))
 message_again again objects fields MessageValue.Completion rest form sizes fits =
     (apdu 0x06 0x0F [], begins again 0x06 0x0F [] rest fits, (refl, refl))
-message_again again objects fields (MessageValue.Abort code) rest form sizes fits =
-    (apdu 0x06 0x1E (canonical_abort_code code), begins again 0x06 0x1E (canonical_abort_code code) rest fits, ((refl, refl), code_first code))
+message_again again objects fields (MessageValue.Abort result_code) rest form sizes fits =
+    (apdu 0x06 0x1E (canonical_abort_code result_code), begins again 0x06 0x1E (canonical_abort_code result_code) rest fits, ((refl, refl), code_first result_code))
 message_again again objects fields MessageValue.Other rest form sizes fits = absurd form

@@ -1,3 +1,4 @@
+-- The lemmas of messages of a terminal and commands to it.
 pub mod BlockLemmas
 pub mod BlockLineLemmas
 pub mod BytesLeftLemmas

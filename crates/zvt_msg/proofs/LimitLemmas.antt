@@ -14,35 +14,35 @@ use Rattle.zvt_msg.proofs.MessageLemmas.{reports}
 
 spelled_numbers : (apdu : ApduValue) (message : MessageValue) → SpellsPtMessage apdu message → NumbersFitFields message
 spelled_numbers apdu MessageValue.Ack is = tt
-spelled_numbers apdu (MessageValue.Nack code) is = tt
-spelled_numbers apdu (MessageValue.Intermediate code) is = tt
+spelled_numbers apdu (MessageValue.Nack error_code) is = tt
+spelled_numbers apdu (MessageValue.Intermediate intermediate_status) is = tt
 spelled_numbers apdu (MessageValue.Line text) is = tt
 spelled_numbers apdu (MessageValue.Block objects) is = tt
 spelled_numbers apdu (MessageValue.Status fields) (is, spells) = spelled_digits apdu.body fields spells
 spelled_numbers apdu MessageValue.Completion is = tt
-spelled_numbers apdu (MessageValue.Abort code) is = tt
+spelled_numbers apdu (MessageValue.Abort result_code) is = tt
 spelled_numbers apdu MessageValue.Other is = tt
 
 spelled_sizes : (apdu : ApduValue) (message : MessageValue) → SpellsPtMessage apdu message → HasPtMessageSizes message
 spelled_sizes apdu MessageValue.Ack is = tt
-spelled_sizes apdu (MessageValue.Nack code) is = tt
-spelled_sizes apdu (MessageValue.Intermediate code) is = tt
+spelled_sizes apdu (MessageValue.Nack error_code) is = tt
+spelled_sizes apdu (MessageValue.Intermediate intermediate_status) is = tt
 spelled_sizes apdu (MessageValue.Line text) is = tt
 spelled_sizes apdu (MessageValue.Block objects) is = tt
 spelled_sizes apdu (MessageValue.Status fields) (is, spells) = spelled_currency apdu.body fields spells
 spelled_sizes apdu MessageValue.Completion is = tt
-spelled_sizes apdu (MessageValue.Abort code) is = tt
+spelled_sizes apdu (MessageValue.Abort result_code) is = tt
 spelled_sizes apdu MessageValue.Other is = tt
 
 spelled_form : (apdu : ApduValue) (message : MessageValue) → SpellsPtMessage apdu message → message ≢ MessageValue.Other → HasPtMessageForm message
 spelled_form apdu MessageValue.Ack is known = tt
-spelled_form apdu (MessageValue.Nack code) is known = tt
-spelled_form apdu (MessageValue.Intermediate code) is known = tt
+spelled_form apdu (MessageValue.Nack error_code) is known = tt
+spelled_form apdu (MessageValue.Intermediate intermediate_status) is known = tt
 spelled_form apdu (MessageValue.Line text) is known = tt
 spelled_form apdu (MessageValue.Block objects) (is, (container, whole)) known = whole
 spelled_form apdu (MessageValue.Status fields) (is, spells) known = spelled_digits apdu.body fields spells
 spelled_form apdu MessageValue.Completion is known = tt
-spelled_form apdu (MessageValue.Abort code) is known = tt
+spelled_form apdu (MessageValue.Abort result_code) is known = tt
 spelled_form apdu MessageValue.Other is known = absurd (known refl)
 
 short_apdu : (class instr : ℕ) (body : List ℕ) → length body < 255 → length (canonical_apdu class instr body) ≡ 3 + length body

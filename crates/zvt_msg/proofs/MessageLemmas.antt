@@ -82,9 +82,9 @@ code_is : (body : List ℕ) → IsFirstByteOrZero body (unwrap_or (first_byte_of
 code_is [] = inr (refl, refl)
 code_is (byte ∷ bytes) = inl (bytes, refl)
 
-only_code : (body : List ℕ) (code : ℕ) → IsFirstByteOrZero body code → unwrap_or (first_byte_of body) 0 ≡ code
-only_code body code (inl (more, is)) = ap (λ (b : List ℕ). unwrap_or (first_byte_of b) 0) is
-only_code body code (inr (empty, is)) = ap (λ (b : List ℕ). unwrap_or (first_byte_of b) 0) empty ∙ sym is
+only_code : (body : List ℕ) (result_code : ℕ) → IsFirstByteOrZero body result_code → unwrap_or (first_byte_of body) 0 ≡ result_code
+only_code body result_code (inl (more, is)) = ap (λ (b : List ℕ). unwrap_or (first_byte_of b) 0) is
+only_code body result_code (inr (empty, is)) = ap (λ (b : List ℕ). unwrap_or (first_byte_of b) 0) empty ∙ sym is
 
 text_is : (body : List ℕ) → IsLineText body (after_first_byte body)
 text_is [] = inr (refl, refl)
@@ -131,13 +131,13 @@ of_none apdu none = ap (λ (found : Option ControlField). decode_pt_message_by f
 
 only_says : (apdu : ApduValue) (message : MessageValue) → SpellsPtMessage apdu message → decode_pt_message apdu ≡ Ok message
 only_says apdu MessageValue.Ack is = of_kind apdu ControlField.Ack is
-only_says apdu (MessageValue.Nack code) (is, same) = of_kind apdu ControlField.Nack is ∙ ap (λ (c : ℕ). Ok (MessageValue.Nack c)) same
-only_says apdu (MessageValue.Intermediate code) (is, first) = of_kind apdu ControlField.Intermediate is ∙ ap (λ (c : ℕ). Ok (MessageValue.Intermediate c)) (only_code apdu.body code first)
+only_says apdu (MessageValue.Nack error_code) (is, same) = of_kind apdu ControlField.Nack is ∙ ap (λ (c : ℕ). Ok (MessageValue.Nack c)) same
+only_says apdu (MessageValue.Intermediate intermediate_status) (is, first) = of_kind apdu ControlField.Intermediate is ∙ ap (λ (c : ℕ). Ok (MessageValue.Intermediate c)) (only_code apdu.body intermediate_status first)
 only_says apdu (MessageValue.Line text) (is, is_text) = of_kind apdu ControlField.Line is ∙ ap (λ (t : List ℕ). Ok (MessageValue.Line t)) (only_text apdu.body text is_text)
 only_says apdu (MessageValue.Block objects) (is, block) = of_kind apdu ControlField.Block is ∙ ap block_or_fault (only_block apdu.body objects block)
 only_says apdu (MessageValue.Status fields) (is, are) = of_kind apdu ControlField.Status is ∙ ap status_or_fault (only_reported apdu.body (Ok fields) are)
 only_says apdu MessageValue.Completion is = of_kind apdu ControlField.Completion is
-only_says apdu (MessageValue.Abort code) (is, first) = of_kind apdu ControlField.Abort is ∙ ap (λ (c : Option ℕ). Ok (MessageValue.Abort c)) (only_first apdu.body code first)
+only_says apdu (MessageValue.Abort result_code) (is, first) = of_kind apdu ControlField.Abort is ∙ ap (λ (c : Option ℕ). Ok (MessageValue.Abort c)) (only_first apdu.body result_code first)
 only_says apdu MessageValue.Other none = of_none apdu none
 
 only_fault : (apdu : ApduValue) (fault : PtFault) → HasPtFault apdu fault → decode_pt_message apdu ≡ Err fault

@@ -1,3 +1,4 @@
+-- The definitions of messages of a terminal and commands to it: which bytes spell one, and what each decodes to.
 pub mod BlockDecode
 pub mod BlockGrammar
 pub mod CommandCanonical

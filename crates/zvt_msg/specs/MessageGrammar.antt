@@ -1,5 +1,4 @@
--- The APDUs that spell a message of a terminal, and those that are faulty (this profile's table of ZVT's commands of a
--- terminal).
+-- The APDUs that spell a message of a terminal, and those that are faulty (this profile's table of ZVT's commands of a terminal).
 use Rattle.std.specs.Prelude.{◌≡◌, ℕ, ◌⊎◌, List, [], ◌∷◌, Option, None, Some, Result, Ok, Err}
 use Rattle.zvt_apdu.specs.Grammar.{ApduValue}
 use Rattle.zvt_bmp.specs.Grammar.{SpellsStatus, IsFirstStatusFault}
@@ -41,7 +40,7 @@ IsFirstByte apdu_data (Some byte) = (more : List ℕ) × (apdu_data ≡ byte ∷
 
 -- the first byte of the data, or 0 where there is none
 abbrev pub IsFirstByteOrZero : List ℕ → ℕ → Type 0
-IsFirstByteOrZero apdu_data code = IsFirstByte apdu_data (Some code) ⊎ (IsFirstByte apdu_data None × (code ≡ 0))
+IsFirstByteOrZero apdu_data result_code = IsFirstByte apdu_data (Some result_code) ⊎ (IsFirstByte apdu_data None × (result_code ≡ 0))
 
 -- all after the first byte of the data
 abbrev pub IsLineText : List ℕ → List ℕ → Type 0
@@ -50,13 +49,13 @@ IsLineText apdu_data text = ((attribute : ℕ) × (apdu_data ≡ attribute ∷ t
 -- the APDU spells this message: that of its control field with what its data carry, or another where it has none of them
 abbrev pub SpellsPtMessage : ApduValue → MessageValue → Type 0
 SpellsPtMessage apdu MessageValue.Ack = HasControlField apdu ControlField.Ack
-SpellsPtMessage apdu (MessageValue.Nack code) = HasControlField apdu ControlField.Nack × (apdu.instr ≡ code)
-SpellsPtMessage apdu (MessageValue.Intermediate code) = HasControlField apdu ControlField.Intermediate × IsFirstByteOrZero apdu.body code
+SpellsPtMessage apdu (MessageValue.Nack error_code) = HasControlField apdu ControlField.Nack × (apdu.instr ≡ error_code)
+SpellsPtMessage apdu (MessageValue.Intermediate intermediate_status) = HasControlField apdu ControlField.Intermediate × IsFirstByteOrZero apdu.body intermediate_status
 SpellsPtMessage apdu (MessageValue.Line text) = HasControlField apdu ControlField.Line × IsLineText apdu.body text
 SpellsPtMessage apdu (MessageValue.Block objects) = HasControlField apdu ControlField.Block × SpellsBlock apdu.body objects
 SpellsPtMessage apdu (MessageValue.Status fields) = HasControlField apdu ControlField.Status × SpellsStatus apdu.body fields
 SpellsPtMessage apdu MessageValue.Completion = HasControlField apdu ControlField.Completion
-SpellsPtMessage apdu (MessageValue.Abort code) = HasControlField apdu ControlField.Abort × IsFirstByte apdu.body code
+SpellsPtMessage apdu (MessageValue.Abort result_code) = HasControlField apdu ControlField.Abort × IsFirstByte apdu.body result_code
 SpellsPtMessage apdu MessageValue.Other = (field : ControlField) → ¬ HasControlField apdu field
 
 -- the fault of an APDU that spells no message: a status of faulty fields, or a block that is none

@@ -7,11 +7,9 @@ ghost use Rattle.zvt_msg.specs.inner.Results.{ReturnsNextLine};
 ghost use Rattle.zvt_msg.specs.BlockDecode.{decode_values_with_tag, block_lines_from, decode_block_lines};
 
 use crate::block::{LINE, TEXT, next_object};
+use gw_bytes::MOST_PRINTED_LINES;
 use std::marker::Model;
 use zvt_tlv::Tlv;
-
-/// The most lines of a block that are given.
-const MOST_LINES: usize = 400;
 
 /// The lines to print of a block, in the terminal's character set: the values of the objects `07` inside of the objects
 /// `25` of its container, in order, and of them the first 400.
@@ -45,7 +43,7 @@ impl<'a> Lines437<'a> {
         ensures computes { result ≡ decode_block_lines block.now }
     {
         Lines437 {
-            left: MOST_LINES,
+            left: MOST_PRINTED_LINES,
             objects: Tlv::over(block),
             lines: Tlv::over(&[]),
         }

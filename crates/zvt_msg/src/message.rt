@@ -7,9 +7,9 @@ use zvt_bmp::Fields;
 pub enum PtMessage<'a> {
     /// `80 00`, positive acknowledgement.
     Ack,
-    /// `84 xx`, negative acknowledgement, with its code.
+    /// `84 xx`, negative acknowledgement, with its error code.
     Nack(u8),
-    /// `04 FF`, intermediate status, with its code; 0 where there is none.
+    /// `04 FF`, intermediate status, with its byte; 0 where there is none.
     Intermediate(u8),
     /// `06 D1`, a line to print, in the terminal's character set.
     Line(&'a [u8]),
@@ -19,7 +19,7 @@ pub enum PtMessage<'a> {
     Status(Fields),
     /// `06 0F`, completion.
     Completion,
-    /// `06 1E`, abort, with its code, if there is one.
+    /// `06 1E`, abort, with its result code, if there is one.
     Abort(Option<u8>),
     /// Every other APDU.
     Other,

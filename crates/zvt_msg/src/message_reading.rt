@@ -40,7 +40,7 @@ fn read_message<'a>(apdu: &Apdu<'a>) -> Result<PtMessage<'a>, PtFault>
 {
     match (apdu.class, apdu.instr) {
         (0x80, 0x00) => Ok(PtMessage::Ack),
-        (0x84, code) => Ok(PtMessage::Nack(code)),
+        (0x84, error_code) => Ok(PtMessage::Nack(error_code)),
         (0x04, 0xFF) => Ok(PtMessage::Intermediate(first(apdu.body).unwrap_or(0))),
         (0x04, 0x0F) => status(apdu.body),
         (0x06, 0xD1) => Ok(PtMessage::Line(after_first_byte(apdu.body))),

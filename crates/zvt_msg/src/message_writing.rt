@@ -22,14 +22,14 @@ pub fn write_pt(message: &PtMessage<'_>, out: &mut ArrayVec<u8, 512>)
 {
     match message {
         PtMessage::Ack => write_apdu(0x80, 0x00, &[], out),
-        PtMessage::Nack(code) => write_apdu(0x84, *code, &[], out),
-        PtMessage::Intermediate(code) => write_apdu(0x04, 0xFF, &[*code], out),
+        PtMessage::Nack(error_code) => write_apdu(0x84, *error_code, &[], out),
+        PtMessage::Intermediate(status) => write_apdu(0x04, 0xFF, &[*status], out),
         PtMessage::Line(text) => write_line(text, out),
         PtMessage::Block(objects) => write_block(objects, out),
         PtMessage::Status(fields) => write_status(fields, out),
         PtMessage::Completion => write_apdu(0x06, 0x0F, &[], out),
         PtMessage::Abort(None) => write_apdu(0x06, 0x1E, &[], out),
-        PtMessage::Abort(Some(code)) => write_apdu(0x06, 0x1E, &[*code], out),
+        PtMessage::Abort(Some(result_code)) => write_apdu(0x06, 0x1E, &[*result_code], out),
         // `Other` has no spelling, so that the condition rules it out.
         PtMessage::Other => unreachable!(),
     }

@@ -1,3 +1,4 @@
+-- The lemmas of one dialogue with a terminal: its steps, its stop and its end.
 pub mod EndLawLemmas
 pub mod EndLemmas
 pub mod LimitLemmas

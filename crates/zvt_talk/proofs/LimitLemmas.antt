@@ -24,13 +24,13 @@ use Rattle.zvt_talk.specs.Limits.{AreAtLeastOne, FiguresFitFields, FiguresFitRec
 last_digits : (before : Option Fields) (taken : List MessageValue) → IfSome before HasFieldDigits → AllNumbersFitFields taken → IfSome (last_or before (filter_map status_fields_of taken)) HasFieldDigits
 last_digits before [] has all = has
 last_digits before (Ack ∷ taken) has all = last_digits before taken has all.1
-last_digits before (Nack code ∷ taken) has all = last_digits before taken has all.1
-last_digits before (Intermediate code ∷ taken) has all = last_digits before taken has all.1
+last_digits before (Nack error_code ∷ taken) has all = last_digits before taken has all.1
+last_digits before (Intermediate intermediate_status ∷ taken) has all = last_digits before taken has all.1
 last_digits before (Line text ∷ taken) has all = last_digits before taken has all.1
 last_digits before (Block objects ∷ taken) has all = last_digits before taken has all.1
 last_digits before (Status fields ∷ taken) has all = last_digits (Some fields) taken all.0 all.1
 last_digits before (Completion ∷ taken) has all = last_digits before taken has all.1
-last_digits before (Abort code ∷ taken) has all = last_digits before taken has all.1
+last_digits before (Abort result_code ∷ taken) has all = last_digits before taken has all.1
 last_digits before (Other ∷ taken) has all = last_digits before taken has all.1
 
 status_digits : (came : List Came) (status : Fields) → AllNumbersFitFields (messages came) → last_status came ≡ Some status → HasFieldDigits status
@@ -44,47 +44,47 @@ within_fields came status figures all last full =
     let N : Option ℕ → Type 0 = λ o. IfSome o (λ n. n < 100 ^ 3) in
     let R : Option ℕ → Type 0 = λ o. IfSome o (λ n. n < 100 ^ 2) in
     let A : Option ℕ → Type 0 = λ o. IfSome o (λ n. n < 100 ^ 6) in
-    record { number = subst N full.trace digits.trace; receipt = subst R full.receipt digits.receipt; amount = subst A full.amount digits.amount }
+    record { trace = subst N full.trace digits.trace; receipt = subst R full.receipt digits.receipt; amount = subst A full.amount digits.amount }
 
 -- full figures have a number and an amount above 0
 pub at_least_one : (status : Fields) (figures : Figures) → HasFigures status figures → AreAtLeastOne figures
-at_least_one status figures full = record { number = full.first_number; amount = full.some_amount }
+at_least_one status figures full = record { trace = full.first_trace; amount = full.some_amount }
 
 -- ---- what an enquiry reports
 
-reported_kind : (dialogue_kind : DialogueKind) (trace : ℕ) (approved : Option Figures) (code : ℕ) → IsEndOf dialogue_kind (heard.Told trace approved code) → IsEnquiry dialogue_kind
-reported_kind Registration trace approved code is = absurd is
-reported_kind Enquiry trace approved code is = tt
-reported_kind Payment trace approved code is = absurd is
-reported_kind Reversal trace approved code is = absurd is
-reported_kind EndOfDay trace approved code is = absurd is
-reported_kind Display trace approved code is = absurd is
+reported_kind : (dialogue_kind : DialogueKind) (trace : ℕ) (approved : Option Figures) (result_code : ℕ) → IsEndOf dialogue_kind (heard.Told trace approved result_code) → IsEnquiry dialogue_kind
+reported_kind Registration trace approved result_code is = absurd is
+reported_kind Enquiry trace approved result_code is = tt
+reported_kind Payment trace approved result_code is = absurd is
+reported_kind Reversal trace approved result_code is = absurd is
+reported_kind EndOfDay trace approved result_code is = absurd is
+reported_kind Display trace approved result_code is = absurd is
 
 -- only an enquiry reports a transaction
-pub reported_by_enquiry : (dialogue : Dialogue) (came : List Came) (message : MessageValue) (trace : ℕ) (approved : Option Figures) (code : ℕ)
+pub reported_by_enquiry : (dialogue : Dialogue) (came : List Came) (message : MessageValue) (trace : ℕ) (approved : Option Figures) (result_code : ℕ)
     → (is_end (meaning dialogue came message) ≡ true → IsEndOf dialogue.dialogue_kind (meaning dialogue came message))
-    → meaning dialogue came message ≡ heard.Told trace approved code → IsEnquiry dialogue.dialogue_kind
-reported_by_enquiry dialogue came message trace approved code means is =
-    reported_kind dialogue.dialogue_kind trace approved code (subst (IsEndOf dialogue.dialogue_kind) is (means (ap is_end is)))
+    → meaning dialogue came message ≡ heard.Told trace approved result_code → IsEnquiry dialogue.dialogue_kind
+reported_by_enquiry dialogue came message trace approved result_code means is =
+    reported_kind dialogue.dialogue_kind trace approved result_code (subst (IsEndOf dialogue.dialogue_kind) is (means (ap is_end is)))
 
 -- the figures are those of the last status
-pub reported_figures : (dialogue : Dialogue) (came : List Came) (message : MessageValue) (trace : ℕ) (figures : Figures) (code : ℕ)
-    → (ReportsLastTransaction came message trace (Some figures) code ⊎ ReportsNoTransaction dialogue came message trace (Some figures) code)
+pub reported_figures : (dialogue : Dialogue) (came : List Came) (message : MessageValue) (trace : ℕ) (figures : Figures) (result_code : ℕ)
+    → (ReportsLastTransaction came message trace (Some figures) result_code ⊎ ReportsNoTransaction dialogue came message trace (Some figures) result_code)
     → (status : Fields) × (last_status came ≡ Some status) × HasFigures status figures
-reported_figures dialogue came message trace figures code (inl last) = (last.status, last.last, last.reported.1)
-reported_figures dialogue came message trace figures code (inr none) = let no : Some figures ≡ None = none.no_figures in absurd cc
+reported_figures dialogue came message trace figures result_code (inl last) = (last.status, last.last, last.reported.1)
+reported_figures dialogue came message trace figures result_code (inr none) = let no : Some figures ≡ None = none.no_figures in absurd cc
 
 zero_fits : (trace : ℕ) → trace ≡ 0 → trace < 100 ^ 3
 zero_fits trace is = omega arith
 
-pub reported_number : (dialogue : Dialogue) (came : List Came) (message : MessageValue) (trace : ℕ) (approved : Option Figures) (code : ℕ)
+pub reported_trace : (dialogue : Dialogue) (came : List Came) (message : MessageValue) (trace : ℕ) (approved : Option Figures) (result_code : ℕ)
     → AllNumbersFitFields (messages came)
-    → (ReportsLastTransaction came message trace approved code ⊎ ReportsNoTransaction dialogue came message trace approved code)
+    → (ReportsLastTransaction came message trace approved result_code ⊎ ReportsNoTransaction dialogue came message trace approved result_code)
     → trace < 100 ^ 3
-reported_number dialogue came message trace approved code all (inl last) =
+reported_trace dialogue came message trace approved result_code all (inl last) =
     let N : Option ℕ → Type 0 = λ o. IfSome o (λ n. n < 100 ^ 3) in
-    subst N last.its_number (status_digits came last.status all last.last).trace
-reported_number dialogue came message trace approved code all (inr none) = zero_fits trace none.no_number
+    subst N last.its_trace (status_digits came last.status all last.last).trace
+reported_trace dialogue came message trace approved result_code all (inr none) = zero_fits trace none.no_trace
 
 -- ---- the trace number of what is declined
 
@@ -92,28 +92,28 @@ trace_below : (last : Option Fields) → IfSome last HasFieldDigits → IfSome (
 trace_below None digits = tt
 trace_below (Some status) digits = digits.trace
 
-refused_at_once_number : (came : List Came) (message : MessageValue) (code trace : ℕ) → RefusedAtOnce came message code (Some trace) → trace < 100 ^ 3
-refused_at_once_number came message code trace refused = let no : Some trace ≡ None = refused.no_number in absurd cc
+refused_at_once_trace : (came : List Came) (message : MessageValue) (result_code trace : ℕ) → RefusedAtOnce came message result_code (Some trace) → trace < 100 ^ 3
+refused_at_once_trace came message result_code trace refused = let no : Some trace ≡ None = refused.no_trace in absurd cc
 
-refused_number : (came : List Came) (message : MessageValue) (code trace : ℕ) → AllNumbersFitFields (messages came) → RefusesCommand came message code (Some trace) → trace < 100 ^ 3
-refused_number came message code trace all (some, inl refused) = refused_at_once_number came message code trace refused
-refused_number came message code trace all (some, inr refused) =
+refused_trace : (came : List Came) (message : MessageValue) (result_code trace : ℕ) → AllNumbersFitFields (messages came) → RefusesCommand came message result_code (Some trace) → trace < 100 ^ 3
+refused_trace came message result_code trace all (some, inl refused) = refused_at_once_trace came message result_code trace refused
+refused_trace came message result_code trace all (some, inr refused) =
     let N : Option ℕ → Type 0 = λ o. IfSome o (λ n. n < 100 ^ 3) in
-    subst N (sym refused.its_number) (trace_below (last_status came) (last_digits None (messages came) tt all))
+    subst N (sym refused.its_trace) (trace_below (last_status came) (last_digits None (messages came) tt all))
 
 -- by the kind of the dialogue: only what is refused later has a number
-pub declined_number : (dialogue_kind : DialogueKind) (came : List Came) (message : MessageValue) (code trace : ℕ)
+pub declined_trace : (dialogue_kind : DialogueKind) (came : List Came) (message : MessageValue) (result_code trace : ℕ)
     → AllNumbersFitFields (messages came)
-    → (IsTransaction dialogue_kind → RefusesCommand came message code (Some trace))
-    → (IsService dialogue_kind → RefusesCommand came message code (Some trace))
-    → (IsEnquiryOrDisplay dialogue_kind → RefusedAtOnce came message code (Some trace))
+    → (IsTransaction dialogue_kind → RefusesCommand came message result_code (Some trace))
+    → (IsService dialogue_kind → RefusesCommand came message result_code (Some trace))
+    → (IsEnquiryOrDisplay dialogue_kind → RefusedAtOnce came message result_code (Some trace))
     → trace < 100 ^ 3
-declined_number Registration came message code trace all transaction service other = refused_number came message code trace all (service tt)
-declined_number Enquiry came message code trace all transaction service other = refused_at_once_number came message code trace (other tt)
-declined_number Payment came message code trace all transaction service other = refused_number came message code trace all (transaction tt)
-declined_number Reversal came message code trace all transaction service other = refused_number came message code trace all (transaction tt)
-declined_number EndOfDay came message code trace all transaction service other = refused_number came message code trace all (service tt)
-declined_number Display came message code trace all transaction service other = refused_at_once_number came message code trace (other tt)
+declined_trace Registration came message result_code trace all transaction service other = refused_trace came message result_code trace all (service tt)
+declined_trace Enquiry came message result_code trace all transaction service other = refused_at_once_trace came message result_code trace (other tt)
+declined_trace Payment came message result_code trace all transaction service other = refused_trace came message result_code trace all (transaction tt)
+declined_trace Reversal came message result_code trace all transaction service other = refused_trace came message result_code trace all (transaction tt)
+declined_trace EndOfDay came message result_code trace all transaction service other = refused_trace came message result_code trace all (service tt)
+declined_trace Display came message result_code trace all transaction service other = refused_at_once_trace came message result_code trace (other tt)
 
 -- ---- messages that were read
 
@@ -127,8 +127,8 @@ read_fit fits (message ∷ messages) ((apdu, is), read) = (fits apdu message is,
 
 pub fit_record : (figures : Figures) → FiguresFitFields figures → AreAtLeastOne figures → FiguresFitRecord figures
 fit_record figures fit least = record {
-  first_number = least.number;
-  number = omega (arith, fit.number);
+  first_trace = least.trace;
+  trace = omega (arith, fit.trace);
   receipt = omega (arith, fit.receipt);
   amount = (least.amount, omega (arith, fit.amount));
 }

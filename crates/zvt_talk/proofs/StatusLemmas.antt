@@ -17,6 +17,6 @@ none_heard (status ∷ heard) is = let some : is_some (last_or (Some status) hea
 pub no_status : (came : List Came) → last_status came ≡ None → statuses came ≡ []
 no_status came is = none_heard (statuses came) is
 
--- while the command isn't answered, no status was heard
+-- while the command isn't acknowledged, no status was heard
 pub nothing_said : (came : List Came) → messages came ≡ [] → said_approved came ≡ false
 nothing_said came is = ap (λ (taken : List MessageValue). list_any (λ status. has_result 0 status.result) (filter_map status_fields_of taken)) is

@@ -68,13 +68,13 @@ pub wished_more : (came : List Came) → is_stop_wished (came ++ StopWished ∷ 
 wished_more [] = refl
 wished_more (StopWished ∷ came) = refl
 wished_more (Message Ack at ∷ came) = wished_more came
-wished_more (Message (Nack code) at ∷ came) = wished_more came
-wished_more (Message (Intermediate code) at ∷ came) = wished_more came
+wished_more (Message (Nack error_code) at ∷ came) = wished_more came
+wished_more (Message (Intermediate intermediate_status) at ∷ came) = wished_more came
 wished_more (Message (Line text) at ∷ came) = wished_more came
 wished_more (Message (Block objects) at ∷ came) = wished_more came
 wished_more (Message (Status fields) at ∷ came) = wished_more came
 wished_more (Message Completion at ∷ came) = refl
-wished_more (Message (Abort code) at ∷ came) = refl
+wished_more (Message (Abort result_code) at ∷ came) = refl
 wished_more (Message Other at ∷ came) = wished_more came
 
 -- ---- statuses
@@ -104,13 +104,13 @@ none_more taken message is =
 
 pub statuses_more : (taken : List MessageValue) (message : MessageValue) → statuses_in (taken ++ message ∷ []) ≡ with_status (statuses_in taken) message
 statuses_more taken Ack = none_more taken Ack refl
-statuses_more taken (Nack code) = none_more taken (Nack code) refl
-statuses_more taken (Intermediate code) = none_more taken (Intermediate code) refl
+statuses_more taken (Nack error_code) = none_more taken (Nack error_code) refl
+statuses_more taken (Intermediate intermediate_status) = none_more taken (Intermediate intermediate_status) refl
 statuses_more taken (Line text) = none_more taken (Line text) refl
 statuses_more taken (Block objects) = none_more taken (Block objects) refl
 statuses_more taken (Status fields) = ap summary (filter_map-append status_fields_of taken (Status fields ∷ [])) ∙ summary_push (filter_map status_fields_of taken) fields
 statuses_more taken Completion = none_more taken Completion refl
-statuses_more taken (Abort code) = none_more taken (Abort code) refl
+statuses_more taken (Abort result_code) = none_more taken (Abort result_code) refl
 statuses_more taken Other = none_more taken Other refl
 
 -- ---- phases
@@ -128,13 +128,13 @@ first_phase false stop_wished = refl
 
 phase_first : (dialogue_kind : DialogueKind) (stop_wished : Bool) (message : MessageValue) → phase_in dialogue_kind (message ∷ []) stop_wished ≡ next_phase dialogue_kind (Asked stop_wished) message
 phase_first dialogue_kind stop_wished Ack = first_phase (is_display dialogue_kind) stop_wished
-phase_first dialogue_kind stop_wished (Nack code) = refl
-phase_first dialogue_kind stop_wished (Intermediate code) = refl
+phase_first dialogue_kind stop_wished (Nack error_code) = refl
+phase_first dialogue_kind stop_wished (Intermediate intermediate_status) = refl
 phase_first dialogue_kind stop_wished (Line text) = refl
 phase_first dialogue_kind stop_wished (Block objects) = refl
 phase_first dialogue_kind stop_wished (Status fields) = refl
 phase_first dialogue_kind stop_wished Completion = refl
-phase_first dialogue_kind stop_wished (Abort code) = refl
+phase_first dialogue_kind stop_wished (Abort result_code) = refl
 phase_first dialogue_kind stop_wished Other = refl
 
 -- a later message: `begun` is whether the dialogue was begun, `over` whether it has ended since, `last` whether it ends now
@@ -216,13 +216,13 @@ after_other dialogue came at =
 pub after_message : (dialogue : Dialogue) (came : List Came) (message : MessageValue) (at : ℤ) → talk_goes_on (talk_after dialogue came) ≡ true
     → talk_after dialogue (came ++ Message message at ∷ []) ≡ next_talk (talk_after dialogue came) message at
 after_message dialogue came Ack at open_ = after_taken dialogue came Ack at refl open_
-after_message dialogue came (Nack code) at open_ = after_taken dialogue came (Nack code) at refl open_
-after_message dialogue came (Intermediate code) at open_ = after_taken dialogue came (Intermediate code) at refl open_
+after_message dialogue came (Nack error_code) at open_ = after_taken dialogue came (Nack error_code) at refl open_
+after_message dialogue came (Intermediate intermediate_status) at open_ = after_taken dialogue came (Intermediate intermediate_status) at refl open_
 after_message dialogue came (Line text) at open_ = after_taken dialogue came (Line text) at refl open_
 after_message dialogue came (Block objects) at open_ = after_taken dialogue came (Block objects) at refl open_
 after_message dialogue came (Status fields) at open_ = after_taken dialogue came (Status fields) at refl open_
 after_message dialogue came Completion at open_ = after_taken dialogue came Completion at refl open_
-after_message dialogue came (Abort code) at open_ = after_taken dialogue came (Abort code) at refl open_
+after_message dialogue came (Abort result_code) at open_ = after_taken dialogue came (Abort result_code) at refl open_
 after_message dialogue came Other at open_ = after_other dialogue came at
 
 -- and so is a wish

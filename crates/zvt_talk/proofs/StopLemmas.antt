@@ -36,10 +36,10 @@ ack_same dialogue_kind came at is =
     phase_more dialogue_kind came Ack at refl (begun_open dialogue_kind came is)
     ∙ ap (λ (p : Phase). next_phase dialogue_kind p Ack) (begun_phase dialogue_kind came is) ∙ sym (begun_phase dialogue_kind came is)
 
-pub nack_same : (dialogue_kind : DialogueKind) (came : List Came) (code : ℕ) (at : ℤ) → is_begun dialogue_kind (messages came) ≡ true → phase_of dialogue_kind (came ++ Message (Nack code) at ∷ []) ≡ phase_of dialogue_kind came
-nack_same dialogue_kind came code at is =
-    phase_more dialogue_kind came (Nack code) at refl (begun_open dialogue_kind came is)
-    ∙ ap (λ (p : Phase). next_phase dialogue_kind p (Nack code)) (begun_phase dialogue_kind came is) ∙ sym (begun_phase dialogue_kind came is)
+pub nack_same : (dialogue_kind : DialogueKind) (came : List Came) (error_code : ℕ) (at : ℤ) → is_begun dialogue_kind (messages came) ≡ true → phase_of dialogue_kind (came ++ Message (Nack error_code) at ∷ []) ≡ phase_of dialogue_kind came
+nack_same dialogue_kind came error_code at is =
+    phase_more dialogue_kind came (Nack error_code) at refl (begun_open dialogue_kind came is)
+    ∙ ap (λ (p : Phase). next_phase dialogue_kind p (Nack error_code)) (begun_phase dialogue_kind came is) ∙ sym (begun_phase dialogue_kind came is)
 
 pub stray : (dialogue : Dialogue) (came : List Came) (message : MessageValue) → is_begun dialogue.dialogue_kind (messages came) ≡ true
     → meaning_in_phase dialogue.dialogue_kind dialogue.none (Begun (is_stop_sent dialogue.dialogue_kind came) (statuses_of came)) message ≡ heard.Stray → meaning dialogue came message ≡ heard.Stray
@@ -59,14 +59,14 @@ none_new false = refl
 
 end_no_stop : (reported : Heard) → is_end reported ≡ true → says_stop reported ≡ false
 end_no_stop (heard.Begun stop) is = absurd cc
-end_no_stop (heard.Note code) is = refl
+end_no_stop (heard.Note intermediate_status) is = refl
 end_no_stop heard.Line is = refl
 end_no_stop heard.Block is = refl
 end_no_stop heard.Seen is = refl
 end_no_stop (heard.Approved figures) is = refl
 end_no_stop heard.Done is = refl
-end_no_stop (heard.Told trace approved code) is = refl
-end_no_stop (heard.Declined code trace) is = refl
+end_no_stop (heard.Told trace approved result_code) is = refl
+end_no_stop (heard.Declined result_code trace) is = refl
 end_no_stop heard.Unclear is = refl
 end_no_stop heard.Stray is = refl
 
@@ -83,25 +83,25 @@ first_stop false stop_wished statuses = sym (and_true stop_wished)
 asked_stop : (dialogue_kind : DialogueKind) (none : ℕ) (stop_wished : Bool) (message : MessageValue) → is_taken message ≡ true
     → says_stop (meaning_in_phase dialogue_kind none (Asked stop_wished) message) ≡ (was_stop_sent (next_phase dialogue_kind (Asked stop_wished) message) && true)
 asked_stop dialogue_kind none stop_wished Ack is = first_stop (is_display dialogue_kind) stop_wished (record { last = None; approved = false })
-asked_stop dialogue_kind none stop_wished (Nack code) is = either_no_stop (eqb code 0) heard.Unclear (heard.Declined code None) refl refl
-asked_stop dialogue_kind none stop_wished (Intermediate code) is = refl
+asked_stop dialogue_kind none stop_wished (Nack error_code) is = either_no_stop (eqb error_code 0) heard.Unclear (heard.Declined error_code None) refl refl
+asked_stop dialogue_kind none stop_wished (Intermediate intermediate_status) is = refl
 asked_stop dialogue_kind none stop_wished (Line text) is = refl
 asked_stop dialogue_kind none stop_wished (Block objects) is = refl
 asked_stop dialogue_kind none stop_wished (Status fields) is = refl
 asked_stop dialogue_kind none stop_wished Completion is = refl
-asked_stop dialogue_kind none stop_wished (Abort code) is = refl
+asked_stop dialogue_kind none stop_wished (Abort result_code) is = refl
 asked_stop dialogue_kind none stop_wished Other is = absurd cc
 
 begun_stop : (dialogue_kind : DialogueKind) (none : ℕ) (stop_sent : Bool) (statuses : Statuses) (message : MessageValue) → is_taken message ≡ true
     → says_stop (meaning_in_phase dialogue_kind none (Begun stop_sent statuses) message) ≡ (was_stop_sent (next_phase dialogue_kind (Begun stop_sent statuses) message) && not stop_sent)
 begun_stop dialogue_kind none stop_sent statuses Ack is = sym (none_new stop_sent)
-begun_stop dialogue_kind none stop_sent statuses (Nack code) is = sym (none_new stop_sent)
-begun_stop dialogue_kind none stop_sent statuses (Intermediate code) is = sym (none_new stop_sent)
+begun_stop dialogue_kind none stop_sent statuses (Nack error_code) is = sym (none_new stop_sent)
+begun_stop dialogue_kind none stop_sent statuses (Intermediate intermediate_status) is = sym (none_new stop_sent)
 begun_stop dialogue_kind none stop_sent statuses (Line text) is = sym (none_new stop_sent)
 begun_stop dialogue_kind none stop_sent statuses (Block objects) is = sym (none_new stop_sent)
 begun_stop dialogue_kind none stop_sent statuses (Status fields) is = sym (none_new stop_sent)
 begun_stop dialogue_kind none stop_sent statuses Completion is = end_no_stop (meaning_of_completion dialogue_kind statuses) (completed_ends dialogue_kind statuses) ∙ sym (none_new stop_sent)
-begun_stop dialogue_kind none stop_sent statuses (Abort code) is = end_no_stop (meaning_of_abort dialogue_kind none statuses code) (aborted_ends dialogue_kind none statuses code) ∙ sym (none_new stop_sent)
+begun_stop dialogue_kind none stop_sent statuses (Abort result_code) is = end_no_stop (meaning_of_abort dialogue_kind none statuses result_code) (aborted_ends dialogue_kind none statuses result_code) ∙ sym (none_new stop_sent)
 begun_stop dialogue_kind none stop_sent statuses Other is = absurd cc
 
 phase_stop : (dialogue_kind : DialogueKind) (none : ℕ) (phase : Phase) (message : MessageValue) → is_taken message ≡ true → is_open_phase phase ≡ true
@@ -118,13 +118,13 @@ other_stop dialogue_kind none (Ended stop_sent) open_ = absurd cc
 talk_stop : (talk : TalkFacts) (message : MessageValue) (now : ℤ) → talk_goes_on talk ≡ true
     → says_stop (meaning_in_phase talk.dialogue_kind talk.none talk.phase message) ≡ (was_stop_sent (next_talk talk message now).phase && not (was_stop_sent talk.phase))
 talk_stop talk Ack now open_ = phase_stop talk.dialogue_kind talk.none talk.phase Ack refl open_
-talk_stop talk (Nack code) now open_ = phase_stop talk.dialogue_kind talk.none talk.phase (Nack code) refl open_
-talk_stop talk (Intermediate code) now open_ = phase_stop talk.dialogue_kind talk.none talk.phase (Intermediate code) refl open_
+talk_stop talk (Nack error_code) now open_ = phase_stop talk.dialogue_kind talk.none talk.phase (Nack error_code) refl open_
+talk_stop talk (Intermediate intermediate_status) now open_ = phase_stop talk.dialogue_kind talk.none talk.phase (Intermediate intermediate_status) refl open_
 talk_stop talk (Line text) now open_ = phase_stop talk.dialogue_kind talk.none talk.phase (Line text) refl open_
 talk_stop talk (Block objects) now open_ = phase_stop talk.dialogue_kind talk.none talk.phase (Block objects) refl open_
 talk_stop talk (Status fields) now open_ = phase_stop talk.dialogue_kind talk.none talk.phase (Status fields) refl open_
 talk_stop talk Completion now open_ = phase_stop talk.dialogue_kind talk.none talk.phase Completion refl open_
-talk_stop talk (Abort code) now open_ = phase_stop talk.dialogue_kind talk.none talk.phase (Abort code) refl open_
+talk_stop talk (Abort result_code) now open_ = phase_stop talk.dialogue_kind talk.none talk.phase (Abort result_code) refl open_
 talk_stop talk Other now open_ = other_stop talk.dialogue_kind talk.none talk.phase open_
 
 stopped_later : (begun stop_sent : Bool) (statuses : Statuses) → was_stop_sent (cond begun (Begun stop_sent statuses) (Ended stop_sent)) ≡ stop_sent

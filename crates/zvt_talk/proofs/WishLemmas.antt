@@ -1,4 +1,4 @@
--- Which wishes count while the command isn't answered, and which messages put the deadline off.
+-- Which wishes count while the command isn't acknowledged, and which messages put the deadline off.
 use Rattle.std.proofs.Common.{◌≡◌, ◌≢◌, Bool, true, false, ℤ, pos, ◌+ℤ◌, List, [], ◌∷◌, ◌++◌, None, refl, ap, subst}
 use Rattle.std.specs.List.{last_or}
 use Rattle.zvt_msg.specs.Message.{MessageValue, Ack, Nack, Intermediate, Line, Block, Status, Completion, Abort, Other}
@@ -21,13 +21,13 @@ wish_is : (came : List Came) → messages came ≡ [] → WishIs (is_stop_wished
 wish_is [] asked = tt
 wish_is (StopWished ∷ came) asked = tt
 wish_is (Message Ack at ∷ came) asked = absurd cc
-wish_is (Message (Nack code) at ∷ came) asked = absurd cc
-wish_is (Message (Intermediate code) at ∷ came) asked = absurd cc
+wish_is (Message (Nack error_code) at ∷ came) asked = absurd cc
+wish_is (Message (Intermediate intermediate_status) at ∷ came) asked = absurd cc
 wish_is (Message (Line text) at ∷ came) asked = absurd cc
 wish_is (Message (Block objects) at ∷ came) asked = absurd cc
 wish_is (Message (Status fields) at ∷ came) asked = absurd cc
 wish_is (Message Completion at ∷ came) asked = absurd cc
-wish_is (Message (Abort code) at ∷ came) asked = absurd cc
+wish_is (Message (Abort result_code) at ∷ came) asked = absurd cc
 wish_is (Message Other at ∷ came) asked = wish_more (is_stop_wished came) came at (wish_is came asked)
 
 never_both : (came : List Came) → HasStopWished came → HasNoStopWished came → ⊥
@@ -59,13 +59,13 @@ stop_wished came asked has = is_wish (is_stop_wished came) came (wish_is came as
 
 is_in_table : (message : MessageValue) → message ≢ Other → is_taken message ≡ true
 is_in_table Ack not_other = refl
-is_in_table (Nack code) not_other = refl
-is_in_table (Intermediate code) not_other = refl
+is_in_table (Nack error_code) not_other = refl
+is_in_table (Intermediate intermediate_status) not_other = refl
 is_in_table (Line text) not_other = refl
 is_in_table (Block objects) not_other = refl
 is_in_table (Status fields) not_other = refl
 is_in_table Completion not_other = refl
-is_in_table (Abort code) not_other = refl
+is_in_table (Abort result_code) not_other = refl
 is_in_table Other not_other = absurd (not_other refl)
 
 pub due_after : (dialogue : Dialogue) (came : List Came) (message : MessageValue) (at : ℤ) → message ≢ Other

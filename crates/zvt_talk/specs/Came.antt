@@ -18,49 +18,49 @@ pub data Came : Type 0 where
 -- a dialogue takes every message but those outside the table
 abbrev pub is_taken : MessageValue → Bool
 is_taken Ack = true
-is_taken (Nack code) = true
-is_taken (Intermediate code) = true
+is_taken (Nack error_code) = true
+is_taken (Intermediate intermediate_status) = true
 is_taken (Line text) = true
 is_taken (Block objects) = true
 is_taken (Status fields) = true
 is_taken Completion = true
-is_taken (Abort code) = true
+is_taken (Abort result_code) = true
 is_taken Other = false
 
 -- an acknowledgement
 abbrev pub is_ack : MessageValue → Bool
 is_ack Ack = true
-is_ack (Nack code) = false
-is_ack (Intermediate code) = false
+is_ack (Nack error_code) = false
+is_ack (Intermediate intermediate_status) = false
 is_ack (Line text) = false
 is_ack (Block objects) = false
 is_ack (Status fields) = false
 is_ack Completion = false
-is_ack (Abort code) = false
+is_ack (Abort result_code) = false
 is_ack Other = false
 
 -- a completion or an abort by the terminal: the first of these ends a dialogue that was begun
 abbrev pub is_completion_or_abort : MessageValue → Bool
 is_completion_or_abort Ack = false
-is_completion_or_abort (Nack code) = false
-is_completion_or_abort (Intermediate code) = false
+is_completion_or_abort (Nack error_code) = false
+is_completion_or_abort (Intermediate intermediate_status) = false
 is_completion_or_abort (Line text) = false
 is_completion_or_abort (Block objects) = false
 is_completion_or_abort (Status fields) = false
 is_completion_or_abort Completion = true
-is_completion_or_abort (Abort code) = true
+is_completion_or_abort (Abort result_code) = true
 is_completion_or_abort Other = false
 
 -- the fields of a status
 abbrev pub status_fields_of : MessageValue → Option Fields
 status_fields_of Ack = None
-status_fields_of (Nack code) = None
-status_fields_of (Intermediate code) = None
+status_fields_of (Nack error_code) = None
+status_fields_of (Intermediate intermediate_status) = None
 status_fields_of (Line text) = None
 status_fields_of (Block objects) = None
 status_fields_of (Status fields) = Some fields
 status_fields_of Completion = None
-status_fields_of (Abort code) = None
+status_fields_of (Abort result_code) = None
 status_fields_of Other = None
 
 -- a message that is taken
@@ -93,8 +93,8 @@ last_status came = last_or None (statuses came)
 
 -- the status has this result code
 abbrev pub has_result : ℕ → Option ℕ → Bool
-has_result code None = false
-has_result code (Some result) = result == code
+has_result result_code None = false
+has_result result_code (Some result) = result == result_code
 
 -- one of the statuses had the result 00
 abbrev pub said_approved : List Came → Bool
@@ -134,7 +134,7 @@ is_stop_sent dialogue_kind came = was_begun dialogue_kind (messages came) && is_
 
 -- so many seconds until the first message, and then so many from the last message taken
 abbrev pub due : Dialogue → Option ℤ → ℤ
-due dialogue None = dialogue.sent +ℤ pos dialogue.answer_time
+due dialogue None = dialogue.sent +ℤ pos dialogue.acknowledge_time
 due dialogue (Some at) = at +ℤ pos dialogue.command_time
 
 -- the moment until which the terminal may be silent

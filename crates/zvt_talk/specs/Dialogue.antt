@@ -19,20 +19,20 @@ dialogue_kind_of (command.Show lines) = Some Display
 -- one dialogue, with the limits on its silence
 pub record Dialogue : Type 0 where
   pub dialogue_kind : DialogueKind
-  -- the code by which the terminal reports to an enquiry that it has no transaction
+  -- the result code by which the terminal reports to an enquiry that it has no transaction
   pub none : ℕ
-  -- the seconds until the command is answered, and those from one message to the next
-  pub answer_time : ℕ
+  -- the seconds until the command is acknowledged, and those from one message to the next
+  pub acknowledge_time : ℕ
   pub command_time : ℕ
   -- the moment at which the command was sent
   pub sent : ℤ
 
 -- the dialogue of a command
 abbrev pub dialogue_of : Command → ℕ → ℕ → ℕ → ℤ → Option Dialogue
-dialogue_of command none answer_time command_time sent =
-    option_map (λ dialogue_kind. record { dialogue_kind = dialogue_kind; none = none; answer_time = answer_time; command_time = command_time; sent = sent }) (dialogue_kind_of command)
+dialogue_of command none acknowledge_time command_time sent =
+    option_map (λ dialogue_kind. record { dialogue_kind = dialogue_kind; none = none; acknowledge_time = acknowledge_time; command_time = command_time; sent = sent }) (dialogue_kind_of command)
 
--- the terminal answers a display with an acknowledgement alone, and with it the dialogue is done
+-- the terminal acknowledges a display and sends nothing more, and with that the dialogue is done
 abbrev pub is_display : DialogueKind → Bool
 is_display Registration = false
 is_display Enquiry = false

@@ -12,9 +12,9 @@ use Rattle.zvt_talk.specs.Talk.{meaning}
 use Rattle.zvt_talk.specs.Laws.{ReportsLastTransaction, ReportsNoTransaction}
 use Rattle.zvt_talk.specs.Limits.{AllNumbersFitFields, FiguresFitFields, FiguresFitRecord, AreAtLeastOne, WereRead}
 
--- a payment that was sent at the moment 100; its terminal has 5 seconds to answer, and 180 from one message to the next
+-- a payment that was sent at the moment 100; its terminal has 5 seconds to acknowledge it, and 180 from one message to the next
 abbrev pub payment_dialogue : Dialogue
-payment_dialogue = record { dialogue_kind = Payment; none = 0x83; answer_time = 5; command_time = 180; sent = pos 100 }
+payment_dialogue = record { dialogue_kind = Payment; none = 0x83; acknowledge_time = 5; command_time = 180; sent = pos 100 }
 
 -- an enquiry that was sent then
 abbrev pub enquiry_dialogue : Dialogue
@@ -93,7 +93,7 @@ pub record ExampleReadFigures : Type 0 where
   pub declined_read : WereRead (messages declined_came)
   pub declined : meaning payment_dialogue declined_came Completion ≡ heard.Declined 5 (Some 7)
 
--- an enquiry reports the last transaction, approved or not, or by the configured code that there is none
+-- an enquiry reports the last transaction, approved or not, or by the configured result code that there is none
 pub record ExampleReports : Type 0 where
   pub last : ReportsLastTransaction greatest_came Completion 999999 (Some greatest_figures) 0
   pub declined : meaning enquiry_dialogue declined_came Completion ≡ heard.Told 7 None 5

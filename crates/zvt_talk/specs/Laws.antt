@@ -61,7 +61,7 @@ pub record HasFigures (status : Fields) (figures : Figures) : Type 0 where
   pub trace : status.trace ≡ Some figures.number
   pub receipt : status.receipt ≡ Some figures.receipt
   pub amount : status.amount ≡ Some figures.amount
-  pub first_number : 1 ≤ figures.number
+  pub first_trace : 1 ≤ figures.number
   pub some_amount : 1 ≤ figures.amount
 
 -- a payment or a reversal is completed, and the last status said that it is approved, with these figures
@@ -74,30 +74,30 @@ pub record Approves (dialogue : Dialogue) (came : List Came) (message : MessageV
   pub full : HasFigures status figures
 
 -- the command is refused at once
-pub record RefusedAtOnce (came : List Came) (message : MessageValue) (code : ℕ) (trace : Option ℕ) : Type 0 where
+pub record RefusedAtOnce (came : List Came) (message : MessageValue) (error_code : ℕ) (trace : Option ℕ) : Type 0 where
   pub asked : messages came ≡ []
-  pub refusal : message ≡ Nack code
-  pub no_number : trace ≡ None
+  pub refusal : message ≡ Nack error_code
+  pub no_trace : trace ≡ None
 
--- the terminal aborts with this code, or completes and the last status has this code
+-- the terminal aborts with this result code, or completes and the last status has it
 abbrev pub EndsWithCode : List Came → MessageValue → ℕ → Type 0
-EndsWithCode came message code = (message ≡ Abort (Some code))
-    ⊎ ((message ≡ Completion) × (status : Fields) × (last_status came ≡ Some status) × (status.result ≡ Some code))
+EndsWithCode came message result_code = (message ≡ Abort (Some result_code))
+    ⊎ ((message ≡ Completion) × (status : Fields) × (last_status came ≡ Some status) × (status.result ≡ Some result_code))
 
--- the command was answered, and the dialogue ends with a code; the number is that of the last status
-pub record RefusedLater (came : List Came) (message : MessageValue) (code : ℕ) (trace : Option ℕ) : Type 0 where
+-- the command was acknowledged, and the dialogue ends with a result code; the trace number is that of the last status
+pub record RefusedLater (came : List Came) (message : MessageValue) (result_code : ℕ) (trace : Option ℕ) : Type 0 where
   pub after_messages : messages came ≢ []
-  pub ends : EndsWithCode came message code
-  pub its_number : trace ≡ trace_of (last_status came)
+  pub ends : EndsWithCode came message result_code
+  pub its_trace : trace ≡ trace_of (last_status came)
 
 -- the terminal refuses with this code, which isn't 00
 abbrev pub RefusesCommand : List Came → MessageValue → ℕ → Option ℕ → Type 0
-RefusesCommand came message code trace = (code ≢ 0) × (RefusedAtOnce came message code trace ⊎ RefusedLater came message code trace)
+RefusesCommand came message result_code trace = (result_code ≢ 0) × (RefusedAtOnce came message result_code trace ⊎ RefusedLater came message result_code trace)
 
 -- a result that isn't there, or 00
 abbrev pub IsNoRefusal : Option ℕ → Type 0
 IsNoRefusal None = Unit {0}
-IsNoRefusal (Some code) = code ≡ 0
+IsNoRefusal (Some result_code) = result_code ≡ 0
 
 -- no status, or one that refuses nothing
 abbrev pub HasNoRefusal : Option Fields → Type 0
@@ -106,30 +106,30 @@ HasNoRefusal (Some status) = IsNoRefusal status.result
 
 -- an acknowledgement or a refusal
 abbrev pub IsAckOrNack : MessageValue → Type 0
-IsAckOrNack message = (message ≡ Ack) ⊎ ((code : ℕ) × (message ≡ Nack code))
+IsAckOrNack message = (message ≡ Ack) ⊎ ((error_code : ℕ) × (message ≡ Nack error_code))
 
 -- an approved transaction is reported with full figures, another one without
 abbrev pub IsReportedWith : Fields → ℕ → Option Figures → Type 0
-IsReportedWith status code None = code ≢ 0
-IsReportedWith status code (Some figures) = (code ≡ 0) × HasFigures status figures
+IsReportedWith status result_code None = result_code ≢ 0
+IsReportedWith status result_code (Some figures) = (result_code ≡ 0) × HasFigures status figures
 
 -- the last transaction is the one of the last status
-pub record ReportsLastTransaction (came : List Came) (message : MessageValue) (trace : ℕ) (approved : Option Figures) (code : ℕ) : Type 0 where
+pub record ReportsLastTransaction (came : List Came) (message : MessageValue) (trace : ℕ) (approved : Option Figures) (result_code : ℕ) : Type 0 where
   pub completion : message ≡ Completion
   pub status : Fields
   pub last : last_status came ≡ Some status
-  pub its_code : status.result ≡ Some code
-  pub its_number : status.trace ≡ Some trace
-  pub reported : IsReportedWith status code approved
+  pub its_code : status.result ≡ Some result_code
+  pub its_trace : status.trace ≡ Some trace
+  pub reported : IsReportedWith status result_code approved
 
--- there is no transaction: no status was heard, and the terminal aborts with the configured code
-pub record ReportsNoTransaction (dialogue : Dialogue) (came : List Came) (message : MessageValue) (trace : ℕ) (approved : Option Figures) (code : ℕ) : Type 0 where
+-- there is no transaction: no status was heard, and the terminal aborts with the configured result code
+pub record ReportsNoTransaction (dialogue : Dialogue) (came : List Came) (message : MessageValue) (trace : ℕ) (approved : Option Figures) (result_code : ℕ) : Type 0 where
   pub begun : messages came ≢ []
-  pub abort : message ≡ Abort (Some code)
-  pub configured : code ≡ dialogue.none
+  pub abort : message ≡ Abort (Some result_code)
+  pub configured : result_code ≡ dialogue.none
   pub no_status : statuses came ≡ []
-  pub not_zero : code ≢ 0
-  pub no_number : trace ≡ 0
+  pub not_zero : result_code ≢ 0
+  pub no_trace : trace ≡ 0
   pub no_figures : approved ≡ None
 
 -- ---- what leaves open how a dialogue ended
@@ -137,16 +137,16 @@ pub record ReportsNoTransaction (dialogue : Dialogue) (came : List Came) (messag
 -- no clear reply to a command: neither an acknowledgement nor a refusal with a code above 00, and not outside the table
 abbrev pub LeavesCommandUnclear : MessageValue → Type 0
 LeavesCommandUnclear Ack = ⊥
-LeavesCommandUnclear (Nack code) = code ≡ 0
-LeavesCommandUnclear (Intermediate code) = Unit {0}
+LeavesCommandUnclear (Nack error_code) = error_code ≡ 0
+LeavesCommandUnclear (Intermediate intermediate_status) = Unit {0}
 LeavesCommandUnclear (Line text) = Unit {0}
 LeavesCommandUnclear (Block objects) = Unit {0}
 LeavesCommandUnclear (Status fields) = Unit {0}
 LeavesCommandUnclear Completion = Unit {0}
-LeavesCommandUnclear (Abort code) = Unit {0}
+LeavesCommandUnclear (Abort result_code) = Unit {0}
 LeavesCommandUnclear Other = ⊥
 
--- the terminal aborts without a code, or with 00
+-- the terminal aborts without a result code, or with 00
 abbrev pub AbortsWithoutCode : MessageValue → Type 0
 AbortsWithoutCode message = (message ≡ Abort None) ⊎ (message ≡ Abort (Some 0))
 
@@ -159,22 +159,22 @@ IsNoNumber (Some trace) = trace ≡ 0
 abbrev pub LacksFigures : Fields → Type 0
 LacksFigures status = IsNoNumber status.trace ⊎ ((status.receipt ≡ None) ⊎ IsNoNumber status.amount)
 
--- the terminal aborts with a code although a status said that it is approved
+-- the terminal aborts with a result code although a status said that it is approved
 abbrev pub AbortsApproved : List Came → MessageValue → Type 0
-AbortsApproved came message = (code : ℕ) × (message ≡ Abort (Some code)) × IsTrue (said_approved came)
+AbortsApproved came message = (result_code : ℕ) × (message ≡ Abort (Some result_code)) × IsTrue (said_approved came)
 
 -- The last status of a payment or a reversal that completes, if there is one: without a result, approved without full
--- figures, or with another code although a status said that it is approved.
+-- figures, or with another result code although a status said that it is approved.
 abbrev pub LeavesTransactionOpen : List Came → Option Fields → Type 0
 LeavesTransactionOpen came None = Unit {0}
 LeavesTransactionOpen came (Some status) = (status.result ≡ None)
     ⊎ (((status.result ≡ Some 0) × LacksFigures status)
-    ⊎ ((code : ℕ) × (status.result ≡ Some code) × (code ≢ 0) × IsTrue (said_approved came)))
+    ⊎ ((result_code : ℕ) × (status.result ≡ Some result_code) × (result_code ≢ 0) × IsTrue (said_approved came)))
 
--- an enquiry is aborted with another code than the configured one, or although a status was heard
+-- an enquiry is aborted with another result code than the configured one, or although a status was heard
 abbrev pub AbortsEnquiry : Dialogue → List Came → MessageValue → Type 0
-AbortsEnquiry dialogue came message = (code : ℕ) × (message ≡ Abort (Some code))
-    × ((code ≢ dialogue.none) ⊎ (statuses came ≢ []))
+AbortsEnquiry dialogue came message = (result_code : ℕ) × (message ≡ Abort (Some result_code))
+    × ((result_code ≢ dialogue.none) ⊎ (statuses came ≢ []))
 
 -- the last status of an enquiry that completes, if there is one: without a result or a trace number, or approved without
 -- full figures
@@ -188,42 +188,42 @@ LeavesEnquiryOpen (Some status) = (status.result ≡ None)
 -- an end of a payment or a reversal
 abbrev pub IsTransactionEnd : Heard → Type 0
 IsTransactionEnd (heard.Begun stop) = ⊥
-IsTransactionEnd (heard.Note code) = ⊥
+IsTransactionEnd (heard.Note intermediate_status) = ⊥
 IsTransactionEnd heard.Line = ⊥
 IsTransactionEnd heard.Block = ⊥
 IsTransactionEnd heard.Seen = ⊥
 IsTransactionEnd (heard.Approved figures) = Unit {0}
 IsTransactionEnd heard.Done = ⊥
-IsTransactionEnd (heard.Told trace approved code) = ⊥
-IsTransactionEnd (heard.Declined code trace) = Unit {0}
+IsTransactionEnd (heard.Told trace approved result_code) = ⊥
+IsTransactionEnd (heard.Declined result_code trace) = Unit {0}
 IsTransactionEnd heard.Unclear = Unit {0}
 IsTransactionEnd heard.Stray = ⊥
 
 -- an end of an enquiry
 abbrev pub IsEnquiryEnd : Heard → Type 0
 IsEnquiryEnd (heard.Begun stop) = ⊥
-IsEnquiryEnd (heard.Note code) = ⊥
+IsEnquiryEnd (heard.Note intermediate_status) = ⊥
 IsEnquiryEnd heard.Line = ⊥
 IsEnquiryEnd heard.Block = ⊥
 IsEnquiryEnd heard.Seen = ⊥
 IsEnquiryEnd (heard.Approved figures) = ⊥
 IsEnquiryEnd heard.Done = ⊥
-IsEnquiryEnd (heard.Told trace approved code) = Unit {0}
-IsEnquiryEnd (heard.Declined code trace) = Unit {0}
+IsEnquiryEnd (heard.Told trace approved result_code) = Unit {0}
+IsEnquiryEnd (heard.Declined result_code trace) = Unit {0}
 IsEnquiryEnd heard.Unclear = Unit {0}
 IsEnquiryEnd heard.Stray = ⊥
 
 -- an end of a registration, an end of day or a display
 abbrev pub IsServiceEnd : Heard → Type 0
 IsServiceEnd (heard.Begun stop) = ⊥
-IsServiceEnd (heard.Note code) = ⊥
+IsServiceEnd (heard.Note intermediate_status) = ⊥
 IsServiceEnd heard.Line = ⊥
 IsServiceEnd heard.Block = ⊥
 IsServiceEnd heard.Seen = ⊥
 IsServiceEnd (heard.Approved figures) = ⊥
 IsServiceEnd heard.Done = Unit {0}
-IsServiceEnd (heard.Told trace approved code) = ⊥
-IsServiceEnd (heard.Declined code trace) = Unit {0}
+IsServiceEnd (heard.Told trace approved result_code) = ⊥
+IsServiceEnd (heard.Declined result_code trace) = Unit {0}
 IsServiceEnd heard.Unclear = Unit {0}
 IsServiceEnd heard.Stray = ⊥
 
@@ -239,14 +239,14 @@ IsEndOf Display end = IsServiceEnd end
 -- this says that `06 B0` is to be sent now
 abbrev pub says_stop : Heard → Bool
 says_stop (heard.Begun stop) = stop
-says_stop (heard.Note code) = false
+says_stop (heard.Note intermediate_status) = false
 says_stop heard.Line = false
 says_stop heard.Block = false
 says_stop heard.Seen = false
 says_stop (heard.Approved figures) = false
 says_stop heard.Done = false
-says_stop (heard.Told trace approved code) = false
-says_stop (heard.Declined code trace) = false
+says_stop (heard.Told trace approved result_code) = false
+says_stop (heard.Declined result_code trace) = false
 says_stop heard.Unclear = false
 says_stop heard.Stray = false
 
@@ -270,14 +270,14 @@ pub record AcknowledgesCommand (dialogue : Dialogue) (came : List Came) (message
   pub acknowledgement : message ≡ Ack
   pub no_display : IsNoDisplay dialogue.dialogue_kind
 
--- the command was answered, and this is a line
+-- the command was acknowledged, and this is a line
 abbrev pub BringsLine : List Came → MessageValue → Type 0
 BringsLine came message = (messages came ≢ []) × ((text : List ℕ) × (message ≡ Line text))
 
--- the command was answered, and this is a block
+-- the command was acknowledged, and this is a block
 abbrev pub BringsBlock : List Came → MessageValue → Type 0
 BringsBlock came message = (messages came ≢ []) × ((objects : List ℕ) × (message ≡ Block objects))
 
--- the command was answered, and this is a status
+-- the command was acknowledged, and this is a status
 abbrev pub BringsStatus : List Came → MessageValue → Type 0
 BringsStatus came message = (messages came ≢ []) × ((fields : Fields) × (message ≡ Status fields))

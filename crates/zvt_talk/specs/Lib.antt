@@ -1,3 +1,4 @@
+-- The definitions of one dialogue with a terminal: what came, what it means, and how it ends.
 pub mod Came
 pub mod Dialogue
 pub mod Example

@@ -23,18 +23,18 @@ WereRead (message ∷ messages) = WasRead message × WereRead messages
 
 -- the figures fit their fields: six, four and twelve digits
 pub record FiguresFitFields (figures : Figures) : Type 0 where
-  pub number : figures.number < 100 ^ 3
+  pub trace : figures.number < 100 ^ 3
   pub receipt : figures.receipt < 100 ^ 2
   pub amount : figures.amount < 100 ^ 6
 
 -- the figures can be kept in a record and reported to a till
 pub record FiguresFitRecord (figures : Figures) : Type 0 where
-  pub first_number : 1 ≤ figures.number
-  pub number : IsTrace figures.number
+  pub first_trace : 1 ≤ figures.number
+  pub trace : IsTrace figures.number
   pub receipt : IsReceipt figures.receipt
   pub amount : IsAmount figures.amount
 
--- the lower limits of figures: a number and an amount that aren't 0
+-- the lower limits of figures: a trace number and an amount that aren't 0
 pub record AreAtLeastOne (figures : Figures) : Type 0 where
-  pub number : 1 ≤ figures.number
+  pub trace : 1 ≤ figures.number
   pub amount : 1 ≤ figures.amount

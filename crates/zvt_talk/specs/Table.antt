@@ -33,14 +33,14 @@ abbrev pub trace_of : Option Fields → Option ℕ
 trace_of None = None
 trace_of (Some status) = status.trace
 
--- declined with this code, and with the trace number of the last status
+-- declined with this result code, and with the trace number of the last status
 abbrev pub declined : Statuses → ℕ → Heard
-declined statuses code = heard.Declined code (trace_of statuses.last)
+declined statuses result_code = heard.Declined result_code (trace_of statuses.last)
 
 -- a payment or a reversal is declined only where no status has said that it is approved
 abbrev pub declined_unless : Bool → Statuses → ℕ → Heard
-declined_unless true statuses code = heard.Unclear
-declined_unless false statuses code = declined statuses code
+declined_unless true statuses result_code = heard.Unclear
+declined_unless false statuses result_code = declined statuses result_code
 
 -- ---- asked: the first message after the command
 
@@ -52,35 +52,35 @@ acknowledged false stop_wished = heard.Begun stop_wished
 -- by whether a stop was wished
 abbrev pub meaning_when_asked : DialogueKind → Bool → MessageValue → Heard
 meaning_when_asked dialogue_kind stop_wished Ack = acknowledged (is_display dialogue_kind) stop_wished
-meaning_when_asked dialogue_kind stop_wished (Nack code) = if code == 0 then heard.Unclear else heard.Declined code None
-meaning_when_asked dialogue_kind stop_wished (Intermediate code) = heard.Unclear
+meaning_when_asked dialogue_kind stop_wished (Nack error_code) = if error_code == 0 then heard.Unclear else heard.Declined error_code None
+meaning_when_asked dialogue_kind stop_wished (Intermediate intermediate_status) = heard.Unclear
 meaning_when_asked dialogue_kind stop_wished (Line text) = heard.Unclear
 meaning_when_asked dialogue_kind stop_wished (Block objects) = heard.Unclear
 meaning_when_asked dialogue_kind stop_wished (Status fields) = heard.Unclear
 meaning_when_asked dialogue_kind stop_wished Completion = heard.Unclear
-meaning_when_asked dialogue_kind stop_wished (Abort code) = heard.Unclear
+meaning_when_asked dialogue_kind stop_wished (Abort result_code) = heard.Unclear
 meaning_when_asked dialogue_kind stop_wished Other = heard.Stray
 
 -- ---- begun: an abort by the terminal
 
--- there is no transaction where the code is the configured one and no status was heard
+-- there is no transaction where the result code is the configured one and no status was heard
 abbrev pub enquiry_aborted : ℕ → Option Fields → ℕ → Heard
-enquiry_aborted none None code = if code == none then heard.Told 0 None code else heard.Unclear
-enquiry_aborted none (Some status) code = heard.Unclear
+enquiry_aborted none None result_code = if result_code == none then heard.Told 0 None result_code else heard.Unclear
+enquiry_aborted none (Some status) result_code = heard.Unclear
 
 -- by the dialogue; a display is never begun
 abbrev pub meaning_of_abort_with : DialogueKind → ℕ → Statuses → ℕ → Heard
-meaning_of_abort_with Registration none statuses code = declined statuses code
-meaning_of_abort_with Enquiry none statuses code = enquiry_aborted none statuses.last code
-meaning_of_abort_with Payment none statuses code = declined_unless statuses.approved statuses code
-meaning_of_abort_with Reversal none statuses code = declined_unless statuses.approved statuses code
-meaning_of_abort_with EndOfDay none statuses code = declined statuses code
-meaning_of_abort_with Display none statuses code = heard.Unclear
+meaning_of_abort_with Registration none statuses result_code = declined statuses result_code
+meaning_of_abort_with Enquiry none statuses result_code = enquiry_aborted none statuses.last result_code
+meaning_of_abort_with Payment none statuses result_code = declined_unless statuses.approved statuses result_code
+meaning_of_abort_with Reversal none statuses result_code = declined_unless statuses.approved statuses result_code
+meaning_of_abort_with EndOfDay none statuses result_code = declined statuses result_code
+meaning_of_abort_with Display none statuses result_code = heard.Unclear
 
--- without a code, and with 00, nothing is known
+-- without a result code, and with 00, nothing is known
 abbrev pub meaning_of_abort : DialogueKind → ℕ → Statuses → Option ℕ → Heard
 meaning_of_abort dialogue_kind none statuses None = heard.Unclear
-meaning_of_abort dialogue_kind none statuses (Some code) = if code == 0 then heard.Unclear else meaning_of_abort_with dialogue_kind none statuses code
+meaning_of_abort dialogue_kind none statuses (Some result_code) = if result_code == 0 then heard.Unclear else meaning_of_abort_with dialogue_kind none statuses result_code
 
 -- ---- begun: a completion
 
@@ -92,8 +92,8 @@ approved_with (Some figures) = heard.Approved figures
 -- by the result of the last status
 abbrev pub transaction_result : Statuses → Fields → Option ℕ → Heard
 transaction_result statuses status None = heard.Unclear
-transaction_result statuses status (Some code) =
-    if code == 0 then approved_with (full_figures status) else declined_unless statuses.approved statuses code
+transaction_result statuses status (Some result_code) =
+    if result_code == 0 then approved_with (full_figures status) else declined_unless statuses.approved statuses result_code
 
 -- without a status nothing is known of a payment or a reversal
 abbrev pub transaction_completed : Statuses → Option Fields → Heard
@@ -105,22 +105,22 @@ abbrev pub enquiry_approved : ℕ → Option Figures → Heard
 enquiry_approved trace None = heard.Unclear
 enquiry_approved trace (Some figures) = heard.Told trace (Some figures) 0
 
--- by the result and the trace number of the last status; another transaction is reported by its number and code alone
+-- by the result and the trace number of the last status; another transaction is reported by its trace number and result code alone
 abbrev pub enquiry_result : Fields → Option ℕ → Option ℕ → Heard
 enquiry_result status None trace = heard.Unclear
-enquiry_result status (Some code) None = heard.Unclear
-enquiry_result status (Some code) (Some trace) =
-    if code == 0 then enquiry_approved trace (full_figures status) else heard.Told trace None code
+enquiry_result status (Some result_code) None = heard.Unclear
+enquiry_result status (Some result_code) (Some trace) =
+    if result_code == 0 then enquiry_approved trace (full_figures status) else heard.Told trace None result_code
 
 -- without a status nothing is known
 abbrev pub enquiry_completed : Option Fields → Heard
 enquiry_completed None = heard.Unclear
 enquiry_completed (Some status) = enquiry_result status status.result status.trace
 
--- a registration or an end of day is done unless the last status has another code
+-- a registration or an end of day is done unless the last status has another result code
 abbrev pub service_result : Statuses → Option ℕ → Heard
 service_result statuses None = heard.Done
-service_result statuses (Some code) = if code == 0 then heard.Done else declined statuses code
+service_result statuses (Some result_code) = if result_code == 0 then heard.Done else declined statuses result_code
 
 -- without a status it is done
 abbrev pub service_completed : Statuses → Option Fields → Heard
@@ -138,14 +138,14 @@ meaning_of_completion Display statuses = heard.Unclear
 
 -- ---- begun
 
--- an acknowledgement or a refusal answers `06 B0`, or nothing
+-- an acknowledgement or a refusal is meant for `06 B0`, or for nothing
 abbrev pub meaning_when_begun : DialogueKind → ℕ → Statuses → MessageValue → Heard
 meaning_when_begun dialogue_kind none statuses Ack = heard.Stray
-meaning_when_begun dialogue_kind none statuses (Nack code) = heard.Stray
-meaning_when_begun dialogue_kind none statuses (Intermediate code) = heard.Note code
+meaning_when_begun dialogue_kind none statuses (Nack error_code) = heard.Stray
+meaning_when_begun dialogue_kind none statuses (Intermediate intermediate_status) = heard.Note intermediate_status
 meaning_when_begun dialogue_kind none statuses (Line text) = heard.Line
 meaning_when_begun dialogue_kind none statuses (Block objects) = heard.Block
 meaning_when_begun dialogue_kind none statuses (Status fields) = heard.Seen
 meaning_when_begun dialogue_kind none statuses Completion = meaning_of_completion dialogue_kind statuses
-meaning_when_begun dialogue_kind none statuses (Abort code) = meaning_of_abort dialogue_kind none statuses code
+meaning_when_begun dialogue_kind none statuses (Abort result_code) = meaning_of_abort dialogue_kind none statuses result_code
 meaning_when_begun dialogue_kind none statuses Other = heard.Stray

@@ -24,14 +24,14 @@ meaning dialogue came message =
 -- this ends the dialogue
 abbrev pub is_end : Heard → Bool
 is_end (heard.Begun stop) = false
-is_end (heard.Note code) = false
+is_end (heard.Note intermediate_status) = false
 is_end heard.Line = false
 is_end heard.Block = false
 is_end heard.Seen = false
 is_end (heard.Approved figures) = true
 is_end heard.Done = true
-is_end (heard.Told trace approved code) = true
-is_end (heard.Declined code trace) = true
+is_end (heard.Told trace approved result_code) = true
+is_end (heard.Declined result_code trace) = true
 is_end heard.Unclear = true
 is_end heard.Stray = false
 

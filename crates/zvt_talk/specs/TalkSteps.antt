@@ -34,13 +34,13 @@ with_fields statuses fields = record { last = Some fields; approved = statuses.a
 -- after any message
 abbrev pub with_status : Statuses → MessageValue → Statuses
 with_status statuses Ack = statuses
-with_status statuses (Nack code) = statuses
-with_status statuses (Intermediate code) = statuses
+with_status statuses (Nack error_code) = statuses
+with_status statuses (Intermediate intermediate_status) = statuses
 with_status statuses (Line text) = statuses
 with_status statuses (Block objects) = statuses
 with_status statuses (Status fields) = with_fields statuses fields
 with_status statuses Completion = statuses
-with_status statuses (Abort code) = statuses
+with_status statuses (Abort result_code) = statuses
 with_status statuses Other = statuses
 
 -- the phase after a message that is taken

@@ -22,28 +22,28 @@ pub fn law_approved()
 
 /// When a dialogue is declined. A payment or a reversal never is once a status said that it is approved.
 pub fn law_declined()
-    ensures transaction { (dialogue : Dialogue) (came : List Came) (message : MessageValue) (code : ℕ) (trace : Option ℕ)
-        → IsTransaction dialogue.dialogue_kind → (meaning dialogue came message ≡ heard.Declined code trace)
-        ↔ (IsFalse (said_approved came) × RefusesCommand came message code trace) }
-    ensures service { (dialogue : Dialogue) (came : List Came) (message : MessageValue) (code : ℕ) (trace : Option ℕ)
-        → IsService dialogue.dialogue_kind → (meaning dialogue came message ≡ heard.Declined code trace)
-        ↔ RefusesCommand came message code trace }
-    ensures other { (dialogue : Dialogue) (came : List Came) (message : MessageValue) (code : ℕ) (trace : Option ℕ)
-        → IsEnquiryOrDisplay dialogue.dialogue_kind → (meaning dialogue came message ≡ heard.Declined code trace)
-        ↔ ((code ≢ 0) × RefusedAtOnce came message code trace) }
-    ensures never { (dialogue : Dialogue) (came : List Came) (message : MessageValue) (code : ℕ) (trace : Option ℕ)
+    ensures transaction { (dialogue : Dialogue) (came : List Came) (message : MessageValue) (result_code : ℕ) (trace : Option ℕ)
+        → IsTransaction dialogue.dialogue_kind → (meaning dialogue came message ≡ heard.Declined result_code trace)
+        ↔ (IsFalse (said_approved came) × RefusesCommand came message result_code trace) }
+    ensures service { (dialogue : Dialogue) (came : List Came) (message : MessageValue) (result_code : ℕ) (trace : Option ℕ)
+        → IsService dialogue.dialogue_kind → (meaning dialogue came message ≡ heard.Declined result_code trace)
+        ↔ RefusesCommand came message result_code trace }
+    ensures other { (dialogue : Dialogue) (came : List Came) (message : MessageValue) (result_code : ℕ) (trace : Option ℕ)
+        → IsEnquiryOrDisplay dialogue.dialogue_kind → (meaning dialogue came message ≡ heard.Declined result_code trace)
+        ↔ ((result_code ≢ 0) × RefusedAtOnce came message result_code trace) }
+    ensures never { (dialogue : Dialogue) (came : List Came) (message : MessageValue) (result_code : ℕ) (trace : Option ℕ)
         → IsTransaction dialogue.dialogue_kind → IsTrue (said_approved came)
-        → meaning dialogue came message ≢ heard.Declined code trace }
+        → meaning dialogue came message ≢ heard.Declined result_code trace }
 {
     law_transaction_declined();
 }
 
 /// When a payment or a reversal is declined, by the phases. For the prover alone: `law_declined` follows from it.
 fn law_transaction_declined()
-    ensures { (dialogue : Dialogue) (came : List Came) (message : MessageValue) (code : ℕ) (trace : Option ℕ)
-        → IsTransaction dialogue.dialogue_kind → (meaning dialogue came message ≡ heard.Declined code trace)
-        ↔ ((code ≢ 0) × (RefusedAtOnce came message code trace
-        ⊎ (RefusedLater came message code trace × IsFalse (said_approved came)))) }
+    ensures { (dialogue : Dialogue) (came : List Came) (message : MessageValue) (result_code : ℕ) (trace : Option ℕ)
+        → IsTransaction dialogue.dialogue_kind → (meaning dialogue came message ≡ heard.Declined result_code trace)
+        ↔ ((result_code ≢ 0) × (RefusedAtOnce came message result_code trace
+        ⊎ (RefusedLater came message result_code trace × IsFalse (said_approved came)))) }
 {}
 
 /// When a registration, an end of day or a display is done.
@@ -73,7 +73,7 @@ pub fn law_unclear()
 {}
 
 /// A message means nothing exactly where it is outside the table, or an acknowledgement or a refusal that comes after the
-/// command was answered.
+/// first message.
 pub fn law_stray()
     ensures { (dialogue : Dialogue) (came : List Came) (message : MessageValue)
         → (meaning dialogue came message ≡ heard.Stray)
@@ -90,23 +90,23 @@ pub fn law_no_status()
 /// What an enquiry reports of the terminal's last transaction.
 #[tactic(auto, using(crate::proofs::StatusLemmas::no_status))]
 pub fn law_reports()
-    ensures { (dialogue : Dialogue) (came : List Came) (message : MessageValue) (trace : ℕ) (approved : Option Figures) (code : ℕ)
-        → IsEnquiry dialogue.dialogue_kind → (meaning dialogue came message ≡ heard.Told trace approved code)
-        ↔ (ReportsLastTransaction came message trace approved code ⊎ ReportsNoTransaction dialogue came message trace approved code) }
+    ensures { (dialogue : Dialogue) (came : List Came) (message : MessageValue) (trace : ℕ) (approved : Option Figures) (result_code : ℕ)
+        → IsEnquiry dialogue.dialogue_kind → (meaning dialogue came message ≡ heard.Told trace approved result_code)
+        ↔ (ReportsLastTransaction came message trace approved result_code ⊎ ReportsNoTransaction dialogue came message trace approved result_code) }
 {}
 
-/// In a dialogue that was begun, an acknowledgement or a refusal answers `06 B0`, or nothing: it ends nothing, and nothing
+/// In a dialogue that was begun, an acknowledgement or a refusal is meant for `06 B0`, or for nothing: it ends nothing, and nothing
 /// but the deadline changes.
-pub fn law_answer_to_stop()
+pub fn law_stop_acknowledged()
     ensures ack { (dialogue : Dialogue) (came : List Came) → IsTrue (is_begun dialogue.dialogue_kind (messages came))
         → meaning dialogue came Ack ≡ heard.Stray }
     ensures ack_stays { (dialogue : Dialogue) (came : List Came) (at : ℤ) → IsTrue (is_begun dialogue.dialogue_kind (messages came))
         → phase_of dialogue.dialogue_kind (came ++ Message Ack at ∷ []) ≡ phase_of dialogue.dialogue_kind came }
-    ensures nack { (dialogue : Dialogue) (came : List Came) (code : ℕ) → IsTrue (is_begun dialogue.dialogue_kind (messages came))
-        → meaning dialogue came (Nack code) ≡ heard.Stray }
-    ensures nack_stays { (dialogue : Dialogue) (came : List Came) (code : ℕ) (at : ℤ)
+    ensures nack { (dialogue : Dialogue) (came : List Came) (error_code : ℕ) → IsTrue (is_begun dialogue.dialogue_kind (messages came))
+        → meaning dialogue came (Nack error_code) ≡ heard.Stray }
+    ensures nack_stays { (dialogue : Dialogue) (came : List Came) (error_code : ℕ) (at : ℤ)
         → IsTrue (is_begun dialogue.dialogue_kind (messages came))
-        → phase_of dialogue.dialogue_kind (came ++ Message (Nack code) at ∷ []) ≡ phase_of dialogue.dialogue_kind came }
+        → phase_of dialogue.dialogue_kind (came ++ Message (Nack error_code) at ∷ []) ≡ phase_of dialogue.dialogue_kind came }
 {}
 
 /// `06 B0` is asked for once: exactly where it was not sent before and is sent afterwards.
@@ -145,20 +145,20 @@ fn law_meanings()
         → IsTrue (is_end (meaning dialogue came message)) → IsEndOf dialogue.dialogue_kind (meaning dialogue came message) }
 {}
 
-/// What is reported of a transaction fits the fields that it came in, where the messages were read; and its number and its
+/// What is reported of a transaction fits the fields that it came in, where the messages were read; and its trace number and its
 /// amount aren't 0 where it is approved, whatever the messages.
 pub fn law_figures()
     ensures approved { (dialogue : Dialogue) (came : List Came) (message : MessageValue) (figures : Figures)
         → AllNumbersFitFields (messages came) → meaning dialogue came message ≡ heard.Approved figures → FiguresFitFields figures }
     ensures some { (dialogue : Dialogue) (came : List Came) (message : MessageValue) (figures : Figures)
         → meaning dialogue came message ≡ heard.Approved figures → AreAtLeastOne figures }
-    ensures reported { (dialogue : Dialogue) (came : List Came) (message : MessageValue) (trace : ℕ) (figures : Figures) (code : ℕ)
-        → AllNumbersFitFields (messages came) → meaning dialogue came message ≡ heard.Told trace (Some figures) code
+    ensures reported { (dialogue : Dialogue) (came : List Came) (message : MessageValue) (trace : ℕ) (figures : Figures) (result_code : ℕ)
+        → AllNumbersFitFields (messages came) → meaning dialogue came message ≡ heard.Told trace (Some figures) result_code
         → FiguresFitFields figures }
-    ensures reported_some { (dialogue : Dialogue) (came : List Came) (message : MessageValue) (trace : ℕ) (figures : Figures) (code : ℕ)
-        → meaning dialogue came message ≡ heard.Told trace (Some figures) code → AreAtLeastOne figures }
-    ensures reported_number { (dialogue : Dialogue) (came : List Came) (message : MessageValue) (trace : ℕ) (approved : Option Figures) (code : ℕ)
-        → AllNumbersFitFields (messages came) → meaning dialogue came message ≡ heard.Told trace approved code → trace < 100 ^ 3 }
+    ensures reported_some { (dialogue : Dialogue) (came : List Came) (message : MessageValue) (trace : ℕ) (figures : Figures) (result_code : ℕ)
+        → meaning dialogue came message ≡ heard.Told trace (Some figures) result_code → AreAtLeastOne figures }
+    ensures reported_trace { (dialogue : Dialogue) (came : List Came) (message : MessageValue) (trace : ℕ) (approved : Option Figures) (result_code : ℕ)
+        → AllNumbersFitFields (messages came) → meaning dialogue came message ≡ heard.Told trace approved result_code → trace < 100 ^ 3 }
 {
     law_approved();
     law_reports();
@@ -171,12 +171,12 @@ pub fn law_read_figures()
     ensures fit { (messages : List MessageValue) → WereRead messages → AllNumbersFitFields messages }
     ensures approved { (dialogue : Dialogue) (came : List Came) (message : MessageValue) (figures : Figures)
         → WereRead (messages came) → meaning dialogue came message ≡ heard.Approved figures → FiguresFitRecord figures }
-    ensures reported { (dialogue : Dialogue) (came : List Came) (message : MessageValue) (trace : ℕ) (figures : Figures) (code : ℕ)
-        → WereRead (messages came) → meaning dialogue came message ≡ heard.Told trace (Some figures) code → FiguresFitRecord figures }
-    ensures reported_number { (dialogue : Dialogue) (came : List Came) (message : MessageValue) (trace : ℕ) (approved : Option Figures) (code : ℕ)
-        → WereRead (messages came) → meaning dialogue came message ≡ heard.Told trace approved code → IsTrace trace }
-    ensures declined_number { (dialogue : Dialogue) (came : List Came) (message : MessageValue) (code trace : ℕ)
-        → WereRead (messages came) → meaning dialogue came message ≡ heard.Declined code (Some trace) → IsTrace trace }
+    ensures reported { (dialogue : Dialogue) (came : List Came) (message : MessageValue) (trace : ℕ) (figures : Figures) (result_code : ℕ)
+        → WereRead (messages came) → meaning dialogue came message ≡ heard.Told trace (Some figures) result_code → FiguresFitRecord figures }
+    ensures reported_trace { (dialogue : Dialogue) (came : List Came) (message : MessageValue) (trace : ℕ) (approved : Option Figures) (result_code : ℕ)
+        → WereRead (messages came) → meaning dialogue came message ≡ heard.Told trace approved result_code → IsTrace trace }
+    ensures declined_trace { (dialogue : Dialogue) (came : List Came) (message : MessageValue) (result_code trace : ℕ)
+        → WereRead (messages came) → meaning dialogue came message ≡ heard.Declined result_code (Some trace) → IsTrace trace }
     ensures example { ExampleReadFigures }
 {
     zvt_msg::law_read_fits();
@@ -202,11 +202,11 @@ fn law_acknowledged()
         ↔ (AcknowledgesCommand dialogue came message × (is_stop_wished came ≡ stop)) }
 {}
 
-/// What is noted to be shown, what is to be printed, and which status is seen: each exactly where the command was answered
+/// What is noted to be shown, what is to be printed, and which status is seen: each exactly where the command was acknowledged
 /// before and the terminal sends that.
 pub fn law_goes_on()
-    ensures note { (dialogue : Dialogue) (came : List Came) (message : MessageValue) (code : ℕ)
-        → (meaning dialogue came message ≡ heard.Note code) ↔ ((messages came ≢ []) × (message ≡ Intermediate code)) }
+    ensures note { (dialogue : Dialogue) (came : List Came) (message : MessageValue) (intermediate_status : ℕ)
+        → (meaning dialogue came message ≡ heard.Note intermediate_status) ↔ ((messages came ≢ []) × (message ≡ Intermediate intermediate_status)) }
     ensures line { (dialogue : Dialogue) (came : List Came) (message : MessageValue)
         → (meaning dialogue came message ≡ heard.Line) ↔ BringsLine came message }
     ensures block { (dialogue : Dialogue) (came : List Came) (message : MessageValue)
@@ -218,7 +218,7 @@ pub fn law_goes_on()
 /// Until when the terminal may be silent: so many seconds from the command on, and so many from each message on. A message
 /// outside the table, or a wish, puts nothing off.
 pub fn law_deadline()
-    ensures command { (dialogue : Dialogue) → deadline dialogue [] ≡ dialogue.sent +ℤ pos dialogue.answer_time }
+    ensures command { (dialogue : Dialogue) → deadline dialogue [] ≡ dialogue.sent +ℤ pos dialogue.acknowledge_time }
     ensures message { (dialogue : Dialogue) (came : List Came) (message : MessageValue) (at : ℤ) → message ≢ Other
         → deadline dialogue (came ++ Message message at ∷ []) ≡ at +ℤ pos dialogue.command_time }
     ensures other { (dialogue : Dialogue) (came : List Came) (at : ℤ)

@@ -25,7 +25,7 @@ pub enum Heard {
     /// A registration, an end of day or a display is done.
     Done,
     /// The terminal's last transaction: its trace number, its figures where it was approved, and its result code. The
-    /// number is 0 where there is none.
+    /// trace number is 0 where there is none.
     Told {
         number: u32,
         approved: Option<Figures>,

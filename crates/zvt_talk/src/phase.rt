@@ -10,7 +10,7 @@ use zvt_msg::PtMessage;
 
 #[derive(Clone, Copy, Debug, PartialEq, Eq)]
 pub(crate) enum Phase {
-    /// The terminal has not answered the command.
+    /// The terminal has not acknowledged the command.
     Asked {
         /// A stop is wished, and is sent once the command is acknowledged.
         stop_wished: bool,
@@ -60,7 +60,7 @@ impl Phase {
         ensures { result ≡ phase_after_wish self }
     {
         match self {
-            // A terminal takes no other command before it has answered this one, so the wish waits.
+            // A terminal takes no other command before it has acknowledged this one, so the wish waits.
             Phase::Asked { .. } => Phase::Asked { stop_wished: true },
             Phase::Begun { statuses, .. } => Phase::Begun {
                 stop_sent: true,

@@ -34,25 +34,25 @@ impl Statuses {
         }
     }
 
-    /// Declined with this code, and with the trace number of the last status.
-    pub(crate) fn declined(self, code: u8) -> Heard
-        ensures { result ≡ declined self code }
+    /// Declined with this result code, and with the trace number of the last status.
+    pub(crate) fn declined(self, result_code: u8) -> Heard
+        ensures { result ≡ declined self result_code }
     {
         Heard::Declined {
-            code,
+            code: result_code,
             number: self.last.and_then(|status| status.trace),
         }
     }
 
-    /// Declined with this code, for a payment or a reversal. Once a status said that it is approved, a later code may
+    /// Declined with this result code, for a payment or a reversal. Once a status said that it is approved, a later code may
     /// contradict it, and so it is unclear: what was approved is never reported as declined.
-    pub(crate) fn declined_unless_approved(self, code: u8) -> Heard
-        ensures { result ≡ declined_unless self.approved self code }
+    pub(crate) fn declined_unless_approved(self, result_code: u8) -> Heard
+        ensures { result ≡ declined_unless self.approved self result_code }
     {
         if self.approved {
             Heard::Unclear
         } else {
-            self.declined(code)
+            self.declined(result_code)
         }
     }
 }

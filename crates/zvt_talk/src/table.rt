@@ -20,8 +20,8 @@ pub(crate) fn meaning_when_asked(
     match message {
         PtMessage::Ack if dialogue_kind.is_display() => Heard::Done,
         PtMessage::Ack => Heard::Begun { stop: stop_wished },
-        PtMessage::Nack(code) if *code != 0 => Heard::Declined {
-            code: *code,
+        PtMessage::Nack(error_code) if *error_code != 0 => Heard::Declined {
+            code: *error_code,
             number: None,
         },
         PtMessage::Other => Heard::Stray,
@@ -29,7 +29,7 @@ pub(crate) fn meaning_when_asked(
     }
 }
 
-/// A message after the acknowledgement. `none` is the code by which the terminal reports to an enquiry that it has no
+/// A message after the acknowledgement. `none` is the result code by which the terminal reports to an enquiry that it has no
 /// transaction.
 pub(crate) fn meaning_when_begun(
     dialogue_kind: DialogueKind,
@@ -40,14 +40,19 @@ pub(crate) fn meaning_when_begun(
     ensures { result ≡ meaning_when_begun dialogue_kind none statuses (value_of message.now) }
 {
     match message {
-        // It answers `06 B0`, or nothing: which of them can't be seen here, and neither ends the dialogue.
+        // It is meant for `06 B0`, or for nothing: which of them can't be seen here, and neither ends the dialogue.
         PtMessage::Ack | PtMessage::Nack(_) | PtMessage::Other => Heard::Stray,
-        PtMessage::Intermediate(code) => Heard::Note(*code),
+        PtMessage::Intermediate(status) => Heard::Note(*status),
         PtMessage::Line(_) => Heard::Line,
         PtMessage::Block(_) => Heard::Block,
         PtMessage::Status(_) => Heard::Seen,
         PtMessage::Completion => meaning_of_completion(dialogue_kind, statuses),
-        PtMessage::Abort(code) => meaning_of_abort(dialogue_kind, none, statuses, *code),
+        PtMessage::Abort(result_code) => meaning_of_abort(
+            dialogue_kind,
+            none,
+            statuses,
+            *result_code,
+        ),
     }
 }
 
@@ -74,7 +79,7 @@ fn transaction_completed(statuses: Statuses) -> Heard
             Some(figures) => Heard::Approved(figures),
             None => Heard::Unclear,
         },
-        Some(code) => statuses.declined_unless_approved(code),
+        Some(result_code) => statuses.declined_unless_approved(result_code),
     }
 }
 
@@ -84,14 +89,14 @@ fn enquiry_completed(last: Option<Fields>) -> Heard
     let Some(status) = last else {
         return Heard::Unclear;
     };
-    let (Some(code), Some(trace)) = (status.result, status.trace) else {
+    let (Some(result_code), Some(trace)) = (status.result, status.trace) else {
         return Heard::Unclear;
     };
-    if code != 0 {
+    if result_code != 0 {
         return Heard::Told {
             number: trace,
             approved: None,
-            code,
+            code: result_code,
         };
     }
     match full_figures(&status) {
@@ -99,7 +104,7 @@ fn enquiry_completed(last: Option<Fields>) -> Heard
         approved => Heard::Told {
             number: trace,
             approved,
-            code,
+            code: result_code,
         },
     }
 }
@@ -109,7 +114,7 @@ fn service_completed(statuses: Statuses) -> Heard
 {
     match statuses.last.and_then(|status| status.result) {
         None | Some(0) => Heard::Done,
-        Some(code) => statuses.declined(code),
+        Some(result_code) => statuses.declined(result_code),
     }
 }
 
@@ -118,32 +123,34 @@ fn meaning_of_abort(
     dialogue_kind: DialogueKind,
     none: u8,
     statuses: Statuses,
-    code: Option<u8>,
+    result_code: Option<u8>,
 ) -> Heard
-    ensures { result ≡ meaning_of_abort dialogue_kind none statuses code }
+    ensures { result ≡ meaning_of_abort dialogue_kind none statuses result_code }
 {
-    let Some(code) = code else {
+    let Some(result_code) = result_code else {
         return Heard::Unclear;
     };
-    if code == 0 {
+    if result_code == 0 {
         return Heard::Unclear;
     }
     match dialogue_kind {
-        DialogueKind::Payment | DialogueKind::Reversal => statuses.declined_unless_approved(code),
-        DialogueKind::Enquiry => enquiry_aborted(none, statuses.last, code),
-        DialogueKind::Registration | DialogueKind::EndOfDay => statuses.declined(code),
+        DialogueKind::Payment | DialogueKind::Reversal => statuses.declined_unless_approved(
+            result_code,
+        ),
+        DialogueKind::Enquiry => enquiry_aborted(none, statuses.last, result_code),
+        DialogueKind::Registration | DialogueKind::EndOfDay => statuses.declined(result_code),
         DialogueKind::Display => Heard::Unclear,
     }
 }
 
-fn enquiry_aborted(none: u8, last: Option<Fields>, code: u8) -> Heard
-    ensures { result ≡ enquiry_aborted none last code }
+fn enquiry_aborted(none: u8, last: Option<Fields>, result_code: u8) -> Heard
+    ensures { result ≡ enquiry_aborted none last result_code }
 {
-    if last.is_none() && code == none {
+    if last.is_none() && result_code == none {
         Heard::Told {
             number: 0,
             approved: None,
-            code,
+            code: result_code,
         }
     } else {
         Heard::Unclear

@@ -19,7 +19,7 @@ use zvt_msg::{Command, PtMessage};
 #[derive(Clone, Copy, Debug, PartialEq, Eq)]
 pub struct Talk {
     dialogue_kind: DialogueKind,
-    /// The code by which the terminal reports to an enquiry that it has no transaction.
+    /// The result code by which the terminal reports to an enquiry that it has no transaction.
     none: u8,
     /// Seconds from one message to the next.
     command_time: u32,
@@ -38,8 +38,8 @@ impl Model for Talk {
 }
 
 impl Talk {
-    /// The dialogue that begins with this command, sent now. By the code `none` the terminal reports to an enquiry
-    /// that it has no transaction. The first answer is due in `answer` seconds, and each message in `command_time` seconds from the
+    /// The dialogue that begins with this command, sent now. By the result code `none` the terminal reports to an enquiry
+    /// that it has no transaction. The first message is due in `answer` seconds, and each message in `command_time` seconds from the
     /// one before.
     pub fn start(command: &Command, none: u8, answer: u32, command_time: u32, now: i64) -> Talk
         requires not_stop { command.now ≢ Command.Stop }
@@ -112,7 +112,7 @@ impl Talk {
         }
     }
 
-    /// Wishes a stop of what the dialogue serves. True where `06 B0` is to be sent now; where the command isn't answered
+    /// Wishes a stop of what the dialogue serves. True where `06 B0` is to be sent now; where the command isn't acknowledged
     /// yet, [`Heard::Begun`] says later that it is.
     pub fn abort(&mut self) -> bool
         // Where the dialogue is begun and goes on, and `06 B0` was not sent yet.

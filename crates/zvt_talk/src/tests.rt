@@ -11,7 +11,7 @@ use zvt_msg::{Command, PtMessage};
 
 const NOW: i64 = 1_741_342_264;
 
-/// The code by which the terminal reports that it has no transaction.
+/// The result code by which the terminal reports that it has no transaction.
 const NONE: u8 = 0x83;
 
 const PASSWORD: [u8; 3] = [0x12, 0x34, 0x56];
@@ -53,33 +53,33 @@ fn with(fields: Fields) -> PtMessage<'static> {
 }
 
 /// A status with this result code, and with full figures.
-fn status(code: u8) -> PtMessage<'static> {
+fn status(result_code: u8) -> PtMessage<'static> {
     with(Fields {
-        result: Some(code),
+        result: Some(result_code),
         ..FULL
     })
 }
 
-fn nack(code: u8) -> PtMessage<'static> {
-    PtMessage::Nack(code)
+fn nack(error_code: u8) -> PtMessage<'static> {
+    PtMessage::Nack(error_code)
 }
 
-fn abort(code: Option<u8>) -> PtMessage<'static> {
-    PtMessage::Abort(code)
+fn abort(result_code: Option<u8>) -> PtMessage<'static> {
+    PtMessage::Abort(result_code)
 }
 
-fn declined(code: u8, trace: Option<u32>) -> Heard {
+fn declined(result_code: u8, trace: Option<u32>) -> Heard {
     Heard::Declined {
-        code,
+        code: result_code,
         number: trace,
     }
 }
 
-fn last(trace: u32, approved: Option<Figures>, code: u8) -> Heard {
+fn last(trace: u32, approved: Option<Figures>, result_code: u8) -> Heard {
     Heard::Told {
         number: trace,
         approved,
-        code,
+        code: result_code,
     }
 }
 
@@ -125,7 +125,7 @@ fn in_each(messages: &[PtMessage<'_>]) -> [Heard; 6] {
     ]
 }
 
-/// The answer to the command, in every dialogue. A message outside the table before it changes nothing.
+/// What the terminal sends first after the command, in every dialogue. A message outside the table before it changes nothing.
 #[test]
 fn asked(rt: HostRuntime) {
     for (message, wanted) in [
@@ -271,7 +271,7 @@ fn status_with_an_unknown_field(rt: HostRuntime) -> Result<(), Fail> {
     Ok(())
 }
 
-/// A stop is wished, and sent once the dialogue is begun; the answer to it ends nothing.
+/// A stop is wished, and sent once the dialogue is begun; its acknowledgement ends nothing.
 #[test]
 fn aborts(rt: HostRuntime) {
     let mut talk = Talk::start(&PAYMENT, NONE, 5, 90, NOW);

@@ -1,3 +1,4 @@
+-- The definitions of TLV objects: which bytes spell one, and what bytes decode to.
 pub mod Decode
 pub mod ObjectsDecode
 pub mod Grammar

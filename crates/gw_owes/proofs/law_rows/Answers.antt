@@ -1,3 +1,4 @@
+-- Proof of the contract of `law_rows`.
 use Rattle.gw_owes.proofs.RowLemmas.{rows-end, links-end}
 use Rattle.gw_owes.proofs.law_rows.Goals as goal
 

@@ -1,3 +1,4 @@
+-- Proof of the contract of `law_till_items`.
 use Rattle.gw_owes.proofs.FrameLemmas.{till-bytes-give, finds-bad}
 use Rattle.gw_owes.proofs.law_till_items.Goals as goal
 

@@ -1,3 +1,4 @@
+-- Proof of the contract of `law_calls`.
 use Rattle.gw_rules.proofs.OwedLemmas.{calls-end-in-one}
 use Rattle.gw_rules.proofs.law_calls.Goals as goal
 

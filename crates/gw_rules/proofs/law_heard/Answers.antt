@@ -1,3 +1,4 @@
+-- Proof of the contract of `law_heard`.
 use Rattle.gw_rules.proofs.HeardLemmas.{each-heard-is-bytes, till-bytes-bring, pt-bytes-bring}
 use Rattle.gw_rules.proofs.law_heard.Goals as goal
 

@@ -1,3 +1,4 @@
+-- Proof of the contract of `law_record_examples`.
 use Rattle.gw_rules.proofs.RowExampleLemmas.{gate-in-flight, sync-keeps, start-leaves-flight, failed-sync-crashes, closed-gate-drops, open-gate-keeps}
 use Rattle.gw_rules.proofs.law_record_examples.Goals as goal
 

@@ -1,5 +1,6 @@
-use Rattle.gw_rules.proofs.ExampleLemmas.{restarted-lawful, crashed-lawful, looks-may-fail, refused-not-polled}
-use Rattle.gw_rules.proofs.UnlawfulLemmas.{crash-leaves-no-other, nothing-to-look-at, nothing-to-look-at-later}
+-- Proof of the contract of `law_run_examples`.
+use Rattle.gw_rules.proofs.ExampleLemmas.{restarted-lawful, crashed-lawful, looks-may-fail, refused-not-polled, disk-failure-ends, no-run-where-not-opened}
+use Rattle.gw_rules.proofs.UnlawfulLemmas.{crash-leaves-no-other, nothing-to-look-at, nothing-to-look-at-later, poll-ends-looking, gate-ends-looking}
 use Rattle.gw_rules.proofs.law_run_examples.Goals as goal
 
 pub returns-clause-restarted : goal.returns-clause-restarted
@@ -22,3 +23,15 @@ returns-clause-looks c = looks-may-fail
 
 pub returns-clause-refused : goal.returns-clause-refused
 returns-clause-refused c = refused-not-polled
+
+pub returns-clause-poll_ends : goal.returns-clause-poll_ends
+returns-clause-poll_ends c = poll-ends-looking
+
+pub returns-clause-gate_ends : goal.returns-clause-gate_ends
+returns-clause-gate_ends c = gate-ends-looking
+
+pub returns-clause-disk_failure : goal.returns-clause-disk_failure
+returns-clause-disk_failure c = disk-failure-ends
+
+pub returns-clause-not_opened : goal.returns-clause-not_opened
+returns-clause-not_opened c = no-run-where-not-opened

@@ -1,3 +1,4 @@
+-- Proof of the contract of `law_setup`.
 use Rattle.gw_rules.proofs.SetupLemmas.{setup-within-limits}
 use Rattle.gw_rules.proofs.law_setup.Goals as goal
 

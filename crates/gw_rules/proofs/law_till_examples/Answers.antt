@@ -1,3 +1,4 @@
+-- Proof of the contract of `law_till_examples`.
 use Rattle.gw_rules.proofs.ExampleLemmas.{status-lawful, failed-send-lawful, silent-lawful, bad-frame-lawful, crowded-lawful}
 use Rattle.gw_rules.proofs.UnlawfulLemmas.{unasked-reply, poll-before-reply, poll-before-cut, poll-while-crowded}
 use Rattle.gw_rules.proofs.law_till_examples.Goals as goal

@@ -3,7 +3,7 @@ ghost use Rattle.std.specs.Prelude.{◌≡◌, ◌≤◌, length, map, take, dro
 ghost use Rattle.std.specs.Option.{option_copied};
 ghost use Rattle.gw_site.specs.Turns.{IsCount};
 ghost use Rattle.gw_script.specs.Plays.{applies, met};
-ghost use Rattle.gw_script.specs.Script.{Say};
+ghost use Rattle.gw_script.specs.Decode.{Say};
 ghost use Rattle.gw_run.specs.ScriptRead.{event_value, line_value};
 ghost use Rattle.gw_run.specs.PlayerTills.{next_after, outside_with};
 ghost use Rattle.gw_run.specs.PlayerMet.{due_of, IsBrought, MayCome};

@@ -4,7 +4,7 @@ ghost use Rattle.std.specs.Option.{option_to_list};
 ghost use Rattle.gw_site.specs.Outside.{Outside, outside_of};
 ghost use Rattle.gw_site.specs.declared.turn.Turn.TheVariants.{Polled};
 ghost use Rattle.gw_script.specs.Plays.{Play, Fits, PlaysLines, met, play_after, play_of, rests};
-ghost use Rattle.gw_script.specs.Script.{PlayedLine, script_of};
+ghost use Rattle.gw_script.specs.Decode.{PlayedLine, script_of};
 ghost use Rattle.gw_run.specs.PlaysProp.{plays_prop};
 ghost use Rattle.gw_run.specs.ScriptRead.{line_value, script_value};
 

@@ -1,3 +1,4 @@
+-- Proof of the contract of `law_forms`.
 use Rattle.std.proofs.Common.{refl, arith}
 use Rattle.std.specs.Fmt.{digits}
 use Rattle.std.specs.Str.{is_utf8, chars}

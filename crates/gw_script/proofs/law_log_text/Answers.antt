@@ -1,3 +1,4 @@
+-- Proof of the contract of `law_log_text`.
 use Rattle.gw_script.proofs.LogTextLemmas.{text-of-frame, text-of-bytes}
 use Rattle.gw_script.proofs.law_log_text.Goals as goal
 

@@ -1,3 +1,4 @@
+-- Proof of the contract of `law_images`.
 use Rattle.gw_site.proofs.ImageLemmas.{stable_image, file_image, junk_image}
 use Rattle.gw_site.proofs.law_images.Goals as goal
 

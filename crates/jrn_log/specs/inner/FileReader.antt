@@ -7,7 +7,7 @@ use Rattle.jrn_log.specs.declared.fault.OpenFault.TheVariants.{Disk, TooLong, Cu
 use Rattle.jrn_log.specs.declared.read.Taken.{Taken}
 use Rattle.jrn_log.specs.declared.read.Taken.TheVariants.{More, End}
 use Rattle.jrn_log.specs.Slots.{HasGate, body_at, AreSlots, IsTruncatedSlot, IsFileTooLong}
-use Rattle.jrn_log.specs.JournalTurns.{first_gate}
+use Rattle.jrn_log.specs.JournalTurns.{first_gate, first_gate_write}
 
 -- the file begins with these open slots, each followed by a gate
 pub record BeginsWithSlots (file : List ℕ) (bodies : List (List ℕ)) : Type 0 where
@@ -90,7 +90,7 @@ SyncedLengthTurns (Err failed) turns = (turns ≡ DiskFailed ∷ []) ⊎ (turns 
 
 -- the turns of a fault after the reading of the length, where it gave this one
 abbrev pub FaultTurnsAfterLength : ℕ → OpenFault → List Turn → Type 0
-FaultTurnsAfterLength size Disk turns = (turns ≡ DiskFailed ∷ []) ⊎ ((size ≤ 1) × (turns ≡ Wrote 0 (0 ∷ []) ∷ DiskFailed ∷ []))
+FaultTurnsAfterLength size Disk turns = (turns ≡ DiskFailed ∷ []) ⊎ ((size ≤ 1) × (turns ≡ first_gate_write ∷ DiskFailed ∷ []))
 FaultTurnsAfterLength size (TooLong count) turns = turns ≡ []
 FaultTurnsAfterLength size (Cut slot) turns = turns ≡ []
 FaultTurnsAfterLength size Memory turns = turns ≡ []

@@ -13,7 +13,7 @@ use Rattle.json_text.specs.declared.fault.ReadError.TheVariants as errors
 -- the error where the reader stops at this offset
 abbrev pub read_error_at : StepError → ℕ → ReadError
 read_error_at step_errors.Memory offset = errors.Memory
-read_error_at (step_errors.Fault kind) offset = errors.Fault (record { at = offset; kind = kind })
+read_error_at (step_errors.Fault fault_kind) offset = errors.Fault (record { at = offset; kind = fault_kind })
 
 -- the byte c would open one level too many: it is dead at 32 levels, and alive where enough are allowed
 pub record IsTooDeep (p : ReaderState) (st : List Level) (c : ℕ) : Type 0 where
@@ -57,4 +57,4 @@ FailsAt p st c kinds.BadUtf8 = IsWrongByte p st c (IsBadUtf8 (scan_of p) c)
 -- the byte c is a fault, unless memory was refused
 abbrev pub Fails : ReaderState → List Level → ℕ → StepError → Type 0
 Fails p st c step_errors.Memory = Unit {0}
-Fails p st c (step_errors.Fault kind) = FailsAt p st c kind
+Fails p st c (step_errors.Fault fault_kind) = FailsAt p st c fault_kind

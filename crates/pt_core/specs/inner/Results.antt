@@ -13,10 +13,10 @@ account_value account = record {
   book = account.entries.items;
 }
 
--- these bytes were heard after those that waited: what is kept then, what was answered, and whether the connection was
+-- these bytes were heard after those that waited: what is kept then, what was sent, and whether the connection was
 -- cut
 pub record HearsAll (old : Account) (waiting bytes : List ℕ) (new : Account) (left out : List ℕ) (closed : Bool) : Type 0 where
   pub account : account_value new ≡ (heard (account_value old) (waiting ++ bytes)).account
-  pub answer : out ≡ (heard (account_value old) (waiting ++ bytes)).bytes
+  pub sent : out ≡ (heard (account_value old) (waiting ++ bytes)).bytes
   pub cut : closed ≡ (heard (account_value old) (waiting ++ bytes)).cut
   pub rest : OnFalse closed (left ≡ (decode_apdus (waiting ++ bytes)).rest)

@@ -1,3 +1,4 @@
+-- Proof of the contract of `decimal`.
 use Rattle.std.proofs.Common.{◌≡◌, take, arith, ap, ◌∙◌}
 use Rattle.std.proofs.lemmas.List.{take_all}
 use Rattle.std.proofs.lemmas.List.Elements.{All-get_or}

@@ -1,3 +1,4 @@
+-- What the loop of `decimal` keeps.
 use Rattle.std.proofs.Common.{◌≡◌, take}
 use Rattle.gw_base.specs.Amount.{decimal_value}
 use Rattle.gw_base.proofs.amount.decimal.Given as goal

@@ -1,3 +1,4 @@
+-- Proof of the contract of `law_amounts`.
 use Rattle.gw_base.proofs.AmountLemmas.{amount_text-one, minor_units-is, minor_units-text}
 use Rattle.gw_base.proofs.amount.law_amounts.Goals as goal
 

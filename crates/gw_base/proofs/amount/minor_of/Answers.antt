@@ -1,3 +1,4 @@
+-- Proof of the contract of `minor_of`.
 use Rattle.std.proofs.Common.{◌≡◌, ℕ, List, take, drop, sym, ◌∙◌, ap, subst, arith, Option, Some, MatchOption}
 use Rattle.std.specs.Char.{is_ascii_digit}
 use Rattle.std.proofs.lemmas.List.Sums.{prefix_len-le-length}

@@ -1,3 +1,4 @@
+-- Proof of the contract of `minor_of_parts`.
 use Rattle.std.proofs.Common.{◌∙◌, sym}
 use Rattle.gw_base.proofs.AmountLemmas.{minor_with-large, too_long}
 use Rattle.gw_base.proofs.amount.minor_of_parts.Goals as goal

@@ -1,3 +1,4 @@
+-- Proof of the contract of `bcd_read`.
 use Rattle.std.proofs.Common.{arith, rules}
 use Rattle.gw_base.proofs.BcdLemmas.{bcd_value-small, bcd_take-more}
 use Rattle.gw_base.proofs.bcd.bcd_read.Goals as goal

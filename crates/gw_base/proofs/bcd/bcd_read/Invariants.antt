@@ -1,3 +1,4 @@
+-- What the loop of `bcd_read` keeps.
 use Rattle.std.proofs.Common.{◌≡◌, take}
 use Rattle.gw_base.specs.Bcd.{IsBcd, bcd_value}
 use Rattle.gw_base.proofs.bcd.bcd_read.Given as goal

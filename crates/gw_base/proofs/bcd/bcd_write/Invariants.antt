@@ -1,3 +1,4 @@
+-- What the loop of `bcd_write` keeps.
 use Rattle.std.proofs.Common.{◌≡◌, ◌++◌, length, drop}
 use Rattle.gw_base.specs.Bcd.{bcd_of}
 use Rattle.gw_base.proofs.bcd.bcd_write.Given as goal

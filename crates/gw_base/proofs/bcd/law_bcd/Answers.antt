@@ -1,3 +1,4 @@
+-- Proof of the contract of `law_bcd`.
 use Rattle.gw_base.proofs.BcdLemmas.{bcd_of-value, bcd_value-of, is_bcd-test, length-bcd_of}
 use Rattle.gw_base.proofs.bcd.law_bcd.Goals as goal
 

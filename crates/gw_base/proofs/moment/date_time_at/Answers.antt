@@ -1,3 +1,4 @@
+-- Proof of the contract of `date_time_at`.
 use Rattle.std.proofs.Common.{arith, ◌≡◌, pos, ◌*ℤ◌, FitsSigned, w64}
 use Rattle.std.proofs.lemmas.Int.{to_z-of_z}
 use Rattle.jiff_core.specs.DateTime.{civil_nanos}

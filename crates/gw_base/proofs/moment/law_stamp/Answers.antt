@@ -1,3 +1,4 @@
+-- Proof of the contract of `law_stamp`.
 use Rattle.gw_base.proofs.MomentLemmas.{stamp_of-only, stamp_of-plain}
 use Rattle.gw_base.proofs.moment.law_stamp.Goals as goal
 

@@ -1,3 +1,4 @@
+-- Proof of the contract of `stamp`.
 use Rattle.std.proofs.Common.{arith, ◌≡◌, ap, ◌∙◌, FitsSigned, w64}
 use Rattle.std.proofs.lemmas.Int.{to_z-of_z}
 use Rattle.gw_base.specs.Moment.{civil_at, civil_text, moment_of, stamp_of}

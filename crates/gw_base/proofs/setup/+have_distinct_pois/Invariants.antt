@@ -1,3 +1,4 @@
+-- Why `have_distinct_pois` ends.
 use Rattle.std.proofs.Common.{length}
 use Rattle.gw_base.proofs.setup.+have_distinct_pois.Given as goal
 

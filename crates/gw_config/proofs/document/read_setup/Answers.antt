@@ -1,3 +1,4 @@
+-- Proof of the contract of `read_setup`.
 use Rattle.std.proofs.Common.{◌∙◌, sym}
 use Rattle.toml.specs.View.{table_view}
 use Rattle.gw_config.proofs.LimitLemmas.{within_limits}

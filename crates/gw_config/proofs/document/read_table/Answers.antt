@@ -1,3 +1,4 @@
+-- Proof of the contract of `read_table`.
 use Rattle.std.proofs.Common.{sym}
 use Rattle.std.proofs.lemmas.Bool.{false≢true}
 use Rattle.gw_config.proofs.DocumentLemmas.{document_is, no_document}

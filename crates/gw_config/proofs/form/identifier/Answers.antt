@@ -1,3 +1,4 @@
+-- Proof of the contract of `identifier`.
 use Rattle.std.proofs.Common.{◌≡◌, Some, sym, ◌∙◌, ap}
 use Rattle.std.specs.Option.{option_copied}
 use Rattle.toml.specs.Data.{as_str}

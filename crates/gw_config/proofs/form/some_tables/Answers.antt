@@ -1,3 +1,4 @@
+-- Proof of the contract of `some_tables`.
 use Rattle.std.proofs.Common.{◌≡◌, Some, sym, ◌∙◌, ap, refl}
 use Rattle.std.specs.Prelude.{option_map}
 use Rattle.toml.specs.Data.{as_array}

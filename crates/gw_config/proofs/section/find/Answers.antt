@@ -1,3 +1,4 @@
+-- Proof of the contract of `find`.
 use Rattle.toml.proofs.Views.{table_get}
 use Rattle.gw_config.proofs.section.find.Goals as goal
 

@@ -1,3 +1,4 @@
+-- Proof of the contract of `read_each`.
 use Rattle.std.proofs.Common.{sym, arith}
 use Rattle.std.proofs.lemmas.Result.{err_from_is_err_and}
 use Rattle.gw_config.proofs.ExitLemmas.{exit}

@@ -1,3 +1,4 @@
+-- What the loop of `read_each` keeps.
 use Rattle.gw_config.proofs.TableLemmas.{IsReadUpTo}
 use Rattle.gw_config.proofs.terminal.read_each.Given as goal
 

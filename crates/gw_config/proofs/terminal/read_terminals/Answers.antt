@@ -1,3 +1,4 @@
+-- Proof of the contract of `read_terminals`.
 use Rattle.std.proofs.Common.{None, Some, refl}
 use Rattle.gw_config.proofs.TableLemmas.{twice_among}
 use Rattle.gw_config.proofs.terminal.read_terminals.Goals as goal

@@ -1,3 +1,4 @@
+-- Proof of the contract of `first_repeated`.
 use Rattle.std.proofs.Common.{sym, ◌∙◌, arith}
 use Rattle.gw_config.proofs.NameLemmas.{repeated_here, unique_one_more}
 use Rattle.gw_config.proofs.unique.first_repeated.Goals as goal

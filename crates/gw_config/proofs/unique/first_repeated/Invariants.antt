@@ -1,3 +1,4 @@
+-- What the loop of `first_repeated` keeps.
 use Rattle.gw_config.proofs.NameLemmas.{AreUniqueUpTo}
 use Rattle.gw_config.proofs.unique.first_repeated.Given as goal
 

@@ -1,3 +1,4 @@
+-- Proof of the contract of `smallest_unknown`.
 use Rattle.std.proofs.Common.{sym, ◌∙◌}
 use Rattle.std.specs.Map.Iter.{deref}
 use Rattle.std.specs.Option.{option_copied}

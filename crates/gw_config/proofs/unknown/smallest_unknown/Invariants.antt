@@ -1,3 +1,4 @@
+-- What the loop of `smallest_unknown` keeps.
 use Rattle.std.specs.Option.{option_copied}
 use Rattle.toml.specs.View.{table_view}
 use Rattle.gw_config.proofs.NameLemmas.{LeavesSmallest}

@@ -1,3 +1,4 @@
+-- What the loop of `smallest_unknown_among` keeps.
 use Rattle.std.proofs.Common.{◌≡◌, map, drop}
 use Rattle.std.specs.Prelude.{fold}
 use Rattle.std.specs.List.{flat_map}

@@ -1,11 +1,12 @@
+-- Proof of the contract of `reply`.
 use Rattle.std.specs.Prelude.{Some}
 use Rattle.std.proofs.lemmas.Int.{to_z-of_z}
 use Rattle.gw_base.specs.Moment.{moment_of}
 use Rattle.gw_core.specs.ReplyOf.{IsReplyTo}
-use Rattle.gw_core.proofs.ReplyLemmas.{no-print}
+use Rattle.gw_core.proofs.ReplyLemmas.{all-limited}
 use Rattle.gw_core.proofs.till.reply.Goals as goal
 
 pub fits-requires : goal.fits-requires
 fits-requires c =
     let is_reply : IsReplyTo c.args.name.now (moment_of c.args.now) c.args.message.now (Some c.in-Ok-Some.reply) = rw c.in-Ok-Some.field-0-is at (simp (to_z-of_z, c.ranges.now) at c.in-Ok-Some.ensures) in
-    no-print c.args.name.now (moment_of c.args.now) c.args.message.now c.in-Ok-Some.reply is_reply
+    all-limited c.args.name.now (moment_of c.args.now) c.args.message.now c.in-Ok-Some.reply is_reply

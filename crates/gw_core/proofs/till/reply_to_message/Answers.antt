@@ -1,3 +1,4 @@
+-- Proof of the contract of `reply_to_message`.
 use Rattle.std.proofs.Common.{subst}
 use Rattle.std.proofs.lemmas.Int.{to_z-of_z}
 use Rattle.json_text.specs.Fault.{RefusesText}

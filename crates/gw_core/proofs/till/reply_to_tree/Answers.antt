@@ -1,3 +1,4 @@
+-- Proof of the contract of `reply_to_tree`.
 use Rattle.std.proofs.Common.{subst}
 use Rattle.std.proofs.lemmas.Int.{to_z-of_z}
 use Rattle.json_text.specs.ValueOf.{value_of}

@@ -1,3 +1,4 @@
+-- Proof of the contract of `rounds`.
 use Rattle.std.proofs.Common.{◌∙◌, refl, sym, arith, inl}
 use Rattle.gw_rules.proofs.TripleLemmas.{keeps-refl, keeps-then, keeps-after}
 use Rattle.gw_dispatch.proofs.RoundLemmas.{no-memory, begun-rest, all-polled}
@@ -7,6 +8,7 @@ pub loop-made-init : goal.loop-made-init
 loop-made-init g c = record {
   kept = λ setup named. keeps-after _ _ _ _ _ (keeps-refl _ _) (rw c.new-tills.ensures.items (begun-rest setup));
   name = refl;
+  buf = refl;
   later = omega arith;
 }
 
@@ -24,6 +26,7 @@ pub loop-made-preserved : goal.loop-made-preserved
 loop-made-preserved g c = record {
   kept = λ setup named. keeps-then _ _ _ _ _ _ (c.loop-made.invariant.kept setup named) (rw c.in-Ok-Went.field-0-is at (c.in-Ok-Went.ensures.keeps setup c.loop-made.made (named ∙ sym c.loop-made.invariant.name)));
   name = c.in-Ok-Went.ensures.name ∙ c.loop-made.invariant.name;
+  buf = c.in-Ok-Went.ensures.buf;
   later = omega (arith, c.loop-made.invariant.later, c.in-Ok-Went.ensures.later);
 }
 

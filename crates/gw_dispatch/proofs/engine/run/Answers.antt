@@ -1,3 +1,4 @@
+-- Proof of the contract of `run`.
 use Rattle.std.proofs.Common.{refl}
 use Rattle.gw_site.specs.declared.site.Failed.{Failed}
 use Rattle.gw_rules.proofs.RunLemmas.{opened-runs, failed-runs, runs-then, begun-runs}

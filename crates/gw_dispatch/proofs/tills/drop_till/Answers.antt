@@ -1,3 +1,4 @@
+-- Proof of the contract of `drop_till`.
 use Rattle.std.proofs.Common.{rules}
 use Rattle.std.proofs.lemmas.Fn.{filter_same}
 use Rattle.gw_dispatch.proofs.tills.drop_till.Goals as goal

@@ -1,3 +1,4 @@
+-- What the loop of `index_of` keeps, and why it ends.
 use Rattle.std.proofs.Common.{◌≡◌, ◌-◌, drop, length}
 use Rattle.gw_dispatch.specs.Tills.{rank}
 use Rattle.gw_dispatch.proofs.TillLemmas.{rank_from}

@@ -1,3 +1,4 @@
+-- Proof of the contract of `end_with`.
 use Rattle.std.proofs.Common.{refl, inl}
 use Rattle.gw_run.specs.Top.{tail_of}
 use Rattle.gw_run.proofs.last_lines.end_with.Goals as goal

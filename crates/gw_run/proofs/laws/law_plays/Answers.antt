@@ -1,3 +1,4 @@
+-- Proof of the contract of `law_plays`.
 use Rattle.gw_run.proofs.ByLinesLemmas.{log-by-lines, log-has-events, log-has-script}
 use Rattle.gw_run.proofs.laws.law_plays.Goals as goal
 

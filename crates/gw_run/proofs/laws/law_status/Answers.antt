@@ -1,3 +1,4 @@
+-- Proof of the contract of `law_status`.
 use Rattle.gw_run.proofs.ExampleLemmas.{status-of-script, status-has-text}
 use Rattle.gw_run.proofs.laws.law_status.Goals as goal
 

@@ -1,3 +1,4 @@
+-- Proof of the contract of `is_replay`.
 use Rattle.std.proofs.Common.{◌∙◌, ap}
 use Rattle.std.specs.Prelude.{codes, bytes_eq}
 use Rattle.gw_run.proofs.TopLemmas.{one-word}

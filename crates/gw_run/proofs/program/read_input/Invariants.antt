@@ -1,3 +1,4 @@
+-- What the loop of `read_input` keeps, and why it ends.
 use Rattle.std.proofs.Common.{◌≡◌, ◌≤◌, ◌-◌, ◌++◌, List, ℕ, vec_len, length}
 use Rattle.std.specs.Prelude.{Some}
 use Rattle.gw_run.specs.Top.{IfBytesObserved}

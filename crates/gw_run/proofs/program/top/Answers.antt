@@ -1,3 +1,4 @@
+-- Proof of the contract of `top`.
 use Rattle.gw_run.proofs.ReplayLemmas.{status-end}
 use Rattle.gw_run.proofs.program.top.Goals as goal
 

@@ -1,3 +1,4 @@
+-- Proof of the contract of `run_script`.
 use Rattle.std.proofs.Common.{◌≡◌, ◌<◌, length, sym, arith}
 use Rattle.gw_run.proofs.PlayedLemmas.{ran-play, ran-whole}
 use Rattle.gw_run.proofs.replay.run_script.Goals as goal

@@ -1,3 +1,4 @@
+-- Proof of the contract of `entry_of`.
 use Rattle.std.proofs.Common.{refl}
 use Rattle.std.proofs.lemmas.Str.{is_utf8-from_IsUtf8}
 use Rattle.gw_run.proofs.LineLemmas.{not_utf8}

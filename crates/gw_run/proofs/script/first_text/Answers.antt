@@ -1,3 +1,4 @@
+-- Proof of the contract of `first_text`.
 use Rattle.std.proofs.Common.{◌+◌}
 use Rattle.std.proofs.lemmas.List.{take_rest}
 use Rattle.gw_run.proofs.SplitLemmas.{text_split, text_whole}

@@ -1,3 +1,4 @@
+-- Proof of the contract of `number`.
 use Rattle.std.proofs.Common.{◌∙◌, sym, lit<, arith}
 use Rattle.std.proofs.lemmas.Bool.Decides.{not_from_Decides}
 use Rattle.std.proofs.lemmas.Str.Pattern.{starts_char}

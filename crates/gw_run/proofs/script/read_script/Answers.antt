@@ -1,5 +1,6 @@
+-- Proof of the contract of `read_script`.
 use Rattle.std.proofs.Common.{◌∙◌, ap, arith}
-use Rattle.gw_script.specs.Script.{script_from, split_lines}
+use Rattle.gw_script.specs.Decode.{script_from, split_lines}
 use Rattle.gw_run.specs.ScriptRead.{script_value}
 use Rattle.gw_run.proofs.ScriptLemmas.{line_taken}
 use Rattle.gw_run.proofs.script.read_script.Goals as goal

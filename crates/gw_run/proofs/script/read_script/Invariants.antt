@@ -1,5 +1,6 @@
+-- What the loop of `read_script` keeps, and why it ends.
 use Rattle.std.proofs.Common.{◌≡◌, ◌≤◌, ◌+◌, length}
-use Rattle.gw_script.specs.Script.{script_from, script_of, split_lines}
+use Rattle.gw_script.specs.Decode.{script_from, script_of, split_lines}
 use Rattle.gw_run.specs.ScriptRead.{script_value}
 use Rattle.gw_run.proofs.script.read_script.Given as goal
 

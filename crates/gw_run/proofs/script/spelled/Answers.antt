@@ -1,6 +1,7 @@
+-- Proof of the contract of `spelled`.
 use Rattle.std.proofs.Common.{◌≡◌, refl, ◌∙◌, sym, ap, None, Some, false}
 use Rattle.std.specs.Prelude.{codes, bytes_eq}
-use Rattle.gw_script.specs.Script.{is_blank}
+use Rattle.gw_script.specs.Decode.{is_blank}
 use Rattle.gw_run.proofs.LineLemmas.{splits}
 use Rattle.gw_run.proofs.script.spelled.Goals as goal
 

@@ -1,3 +1,4 @@
+-- Proof of the contract of `till_event`.
 use Rattle.std.proofs.Common.{refl, None, Some}
 use Rattle.gw_run.proofs.LineLemmas.{splits}
 use Rattle.gw_run.proofs.script.till_event.Goals as goal

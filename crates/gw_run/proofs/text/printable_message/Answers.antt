@@ -1,3 +1,4 @@
+-- Proof of the contract of `printable_message`.
 use Rattle.std.proofs.Common.{◌∙◌, sym, ap}
 use Rattle.std.specs.Option.{option_copied}
 use Rattle.gw_run.proofs.TextLemmas.{text_of, printable_from}

@@ -1,3 +1,4 @@
+-- Proof of the contract of `write_log`.
 use Rattle.std.proofs.Common.{◌+◌, arith, ◌<◌, length}
 use Rattle.std.specs.Prelude.{string_bytes}
 use Rattle.gw_run.proofs.TextLemmas.{gathered_more, gathered_written, written_whole, written_prefix, written_part}

@@ -1,3 +1,4 @@
+-- What the loop of `write_log` keeps.
 use Rattle.std.proofs.Common.{◌≤◌}
 use Rattle.std.specs.Prelude.{string_bytes}
 use Rattle.gw_run.proofs.TextLemmas.{Gathered}

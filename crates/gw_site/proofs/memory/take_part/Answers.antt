@@ -1,3 +1,4 @@
+-- Proof of the contract of `take_part`.
 use Rattle.std.proofs.Common.{take, drop, sym, ◌∙◌, ap, ◌++◌, inl, take-append-drop}
 use Rattle.std.proofs.lemmas.List.{take_min}
 use Rattle.gw_site.proofs.memory.take_part.Goals as goal

@@ -1,3 +1,4 @@
+-- What the loop of `read_on` keeps.
 use Rattle.std.proofs.Common.{◌≡◌, length}
 use Rattle.gw_site.proofs.standard.read_on.Given as goal
 

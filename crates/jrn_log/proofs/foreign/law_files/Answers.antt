@@ -1,5 +1,6 @@
 -- Proof of the contract of `law_files`.
-use Rattle.jrn_log.proofs.ForeignLemmas.{beginning_leaves, opening_leaves, opening_closed, append_leaves, append_closed, failed_opening_leaves, failed_append_leaves, crash_leaves, others_leave, file_can}
+use Rattle.jrn_log.proofs.ForeignLemmas.{beginning_leaves, opening_leaves, opening_closed, append_leaves, append_closed, failed_opening_leaves, failed_append_leaves, crash_leaves, others_leave, file_can, stable_can}
+use Rattle.jrn_log.proofs.JournalLogLemmas.{opening_rests, logs_leave, logs_open}
 use Rattle.jrn_log.proofs.foreign.law_files.Goals as goal
 
 pub returns-clause-beginning : goal.returns-clause-beginning
@@ -31,3 +32,15 @@ returns-clause-others c = others_leave
 
 pub returns-clause-file : goal.returns-clause-file
 returns-clause-file c = file_can
+
+pub returns-clause-stable : goal.returns-clause-stable
+returns-clause-stable c = stable_can
+
+pub returns-clause-opening_rests : goal.returns-clause-opening_rests
+returns-clause-opening_rests c = opening_rests
+
+pub returns-clause-logs : goal.returns-clause-logs
+returns-clause-logs c = logs_leave
+
+pub returns-clause-is_open : goal.returns-clause-is_open
+returns-clause-is_open c = logs_open

@@ -1,3 +1,4 @@
+-- Proof of the contract of `first`.
 use Rattle.std.proofs.Common.{arith, refl, sym, subst, ℕ, inl, inr}
 use Rattle.json_text.specs.Scan.{inside}
 use Rattle.json_text.specs.inner.CharacterLeft.{Starts, LeavesNone}

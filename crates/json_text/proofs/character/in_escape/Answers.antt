@@ -1,3 +1,4 @@
+-- Proof of the contract of `in_escape`.
 use Rattle.std.proofs.Common.{sym, ℕ, subst}
 use Rattle.json_text.specs.Scan.{escaped}
 use Rattle.json_text.specs.inner.CharacterLeft.{LeavesNext, LeftOfCharacter}

@@ -1,3 +1,4 @@
+-- Proof of the contract of `in_first`.
 use Rattle.std.proofs.Common.{arith, sym, ◌+◌, ◌*◌}
 use Rattle.std.proofs.lemmas.Bool.Decides.{nat_tests}
 use Rattle.json_text.proofs.CharacterLemmas.{first_digit, first_no_digit, unit_high, unit_whole, lone_low, hex_range, whole_is, in_code_range}

@@ -1,3 +1,4 @@
+-- Proof of the contract of `in_second`.
 use Rattle.std.proofs.Common.{arith, sym}
 use Rattle.json_text.proofs.CharacterLemmas.{second_four, second_three}
 use Rattle.json_text.proofs.character.in_second.Goals as goal

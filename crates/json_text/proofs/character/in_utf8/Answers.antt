@@ -1,3 +1,4 @@
+-- Proof of the contract of `in_utf8`.
 use Rattle.std.proofs.Common.{[], ◌∷◌, refl, sym, ◌+◌, ◌-◌, ◌*◌, subst, ℕ}
 use Rattle.std.specs.Char.{InScalarRange}
 use Rattle.json_text.proofs.character.in_utf8.Goals as goal

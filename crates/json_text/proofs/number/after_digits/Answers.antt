@@ -1,3 +1,4 @@
+-- Proof of the contract of `after_digits`.
 use Rattle.std.proofs.Common.{arith}
 use Rattle.json_text.proofs.NumberLemmas.{digits_point, digits_letter, digits_digit, digits_stop, swap}
 use Rattle.json_text.proofs.number.after_digits.Goals as goal

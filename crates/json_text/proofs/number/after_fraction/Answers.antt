@@ -1,3 +1,4 @@
+-- Proof of the contract of `after_fraction`.
 use Rattle.std.proofs.Common.{arith}
 use Rattle.json_text.proofs.NumberLemmas.{fraction_letter, fraction_digit, fraction_stops, swap}
 use Rattle.json_text.proofs.number.after_fraction.Goals as goal

@@ -1,3 +1,4 @@
+-- Proof of the contract of `after_minus`.
 use Rattle.std.proofs.Common.{arith}
 use Rattle.json_text.proofs.NumberLemmas.{minus_zero, minus_digit}
 use Rattle.json_text.proofs.number.after_minus.Goals as goal

@@ -1,3 +1,4 @@
+-- Proof of the contract of `after_point`.
 use Rattle.std.proofs.Common.{arith}
 use Rattle.json_text.proofs.NumberLemmas.{point_digit}
 use Rattle.json_text.proofs.number.after_point.Goals as goal

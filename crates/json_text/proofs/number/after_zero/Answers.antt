@@ -1,3 +1,4 @@
+-- Proof of the contract of `after_zero`.
 use Rattle.json_text.proofs.NumberLemmas.{zero_point}
 use Rattle.json_text.proofs.number.after_zero.Goals as goal
 

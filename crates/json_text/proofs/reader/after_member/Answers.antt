@@ -1,3 +1,4 @@
+-- Proof of the contract of `after_member`.
 use Rattle.std.proofs.Common.{◌∙◌, arith}
 use Rattle.json_text.specs.ValueOf.{value_of}
 use Rattle.json_text.specs.inner.ReaderStates.{levels, pairs}

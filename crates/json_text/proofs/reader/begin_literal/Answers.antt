@@ -1,3 +1,4 @@
+-- Proof of the contract of `begin_literal`.
 use Rattle.std.proofs.Common.{arith}
 use Rattle.json_text.proofs.ReaderLemmas.{null_begins, true_begins, false_begins, no_value}
 use Rattle.json_text.proofs.reader.begin_literal.Goals.{in-110, in-116, in-102}

@@ -1,3 +1,4 @@
+-- Proof of the contract of `begin_number`.
 use Rattle.json_text.proofs.ReaderLemmas.{number_begins}
 use Rattle.json_text.proofs.reader.begin_number.Goals as goal
 

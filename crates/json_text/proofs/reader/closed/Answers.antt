@@ -1,3 +1,4 @@
+-- Proof of the contract of `closed`.
 use Rattle.std.proofs.Common.{◌∙◌, string_bytes, ap}
 use Rattle.json_text.specs.Tree.{string}
 use Rattle.json_text.proofs.TreeLemmas.{view-Str}

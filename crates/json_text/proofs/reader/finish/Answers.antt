@@ -1,3 +1,4 @@
+-- Proof of the contract of `finish`.
 use Rattle.std.proofs.Common.{◌∙◌, arith, ap}
 use Rattle.json_text.specs.Tree.{number}
 use Rattle.json_text.proofs.TreeLemmas.{view-Number}

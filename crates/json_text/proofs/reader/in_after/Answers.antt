@@ -1,3 +1,4 @@
+-- Proof of the contract of `in_after`.
 use Rattle.std.proofs.Common.{sym}
 use Rattle.json_text.proofs.ReaderLemmas.{after_space}
 use Rattle.json_text.proofs.reader.in_after.Goals as goal

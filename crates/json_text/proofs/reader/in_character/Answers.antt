@@ -1,3 +1,4 @@
+-- Proof of the contract of `in_character`.
 use Rattle.std.proofs.Common.{string_bytes}
 use Rattle.json_text.proofs.ReaderLemmas.{character_goes, character_ends, character_wrong}
 use Rattle.json_text.proofs.reader.in_character.Goals as goal

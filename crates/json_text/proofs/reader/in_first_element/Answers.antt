@@ -1,3 +1,4 @@
+-- Proof of the contract of `in_first_element`.
 use Rattle.std.proofs.Common.{sym}
 use Rattle.json_text.proofs.ReaderLemmas.{element_space, empty_list, first_result}
 use Rattle.json_text.proofs.reader.in_first_element.Goals as goal

@@ -1,3 +1,4 @@
+-- Proof of the contract of `in_first_name`.
 use Rattle.std.proofs.Common.{sym, arith}
 use Rattle.json_text.proofs.ReaderLemmas.{name_space, first_quote, empty_object, no_name}
 use Rattle.json_text.proofs.reader.in_first_name.Goals as goal

@@ -1,3 +1,4 @@
+-- Proof of the contract of `in_number`.
 use Rattle.std.proofs.Common.{ap, ◌∙◌, string_bytes}
 use Rattle.json_text.specs.Tree.{number}
 use Rattle.json_text.proofs.TreeLemmas.{view-Number}

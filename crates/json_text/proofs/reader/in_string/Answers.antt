@@ -1,3 +1,4 @@
+-- Proof of the contract of `in_string`.
 use Rattle.std.proofs.Common.{string_bytes}
 use Rattle.json_text.proofs.ReaderLemmas.{text_goes, text_enters, text_wrong}
 use Rattle.json_text.proofs.reader.in_string.Goals as goal

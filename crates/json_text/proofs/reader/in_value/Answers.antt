@@ -1,3 +1,4 @@
+-- Proof of the contract of `in_value`.
 use Rattle.std.proofs.Common.{arith}
 use Rattle.json_text.proofs.ReaderLemmas.{list_opens, list_too_deep, object_opens, object_too_deep, string_begins}
 use Rattle.json_text.proofs.reader.in_value.Goals as goal

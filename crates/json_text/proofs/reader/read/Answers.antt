@@ -1,3 +1,4 @@
+-- Proof of the contract of `read`.
 use Rattle.std.proofs.Common.{arith, sym, subst, refl}
 use Rattle.json_text.specs.ValueOf.{value_of}
 use Rattle.json_text.specs.Fault.{RefusesText}

@@ -1,3 +1,4 @@
+-- What the loop of `read` keeps.
 use Rattle.std.proofs.Common.{take}
 use Rattle.json_text.specs.inner.ReaderStates.{IsWithin, reader_state, levels}
 use Rattle.json_text.proofs.FollowLemmas.{IsRead}

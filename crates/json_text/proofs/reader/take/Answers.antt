@@ -1,3 +1,4 @@
+-- Proof of the contract of `take`.
 use Rattle.std.proofs.Common.{rules}
 use Rattle.json_text.proofs.ReaderLemmas.{text_stays, number_stays}
 use Rattle.json_text.proofs.reader.take.Goals as goal

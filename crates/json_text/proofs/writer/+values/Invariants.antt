@@ -1,3 +1,4 @@
+-- What the loop of `values` keeps.
 use Rattle.std.proofs.Common.{◌≡◌, ◌++◌, map, drop, nat_eq}
 use Rattle.gw_bytes.specs.Bytes.{IsPrefix}
 use Rattle.json_text.specs.Tree.{no_elements}

@@ -1,3 +1,4 @@
+-- Proof of the contract of `append_text`.
 use Rattle.std.proofs.Common.{◌∙◌}
 use Rattle.json_text.specs.Canonical.{AppendsPrefix, canonical_string}
 use Rattle.json_text.proofs.PrefixLemmas.{prefix_at, unchanged, on_err}

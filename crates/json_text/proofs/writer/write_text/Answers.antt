@@ -1,3 +1,4 @@
+-- Proof of the contract of `write_text`.
 use Rattle.std.proofs.Common.{◌∙◌}
 use Rattle.json_text.proofs.GrowthLemmas.{truncated}
 use Rattle.json_text.proofs.writer.write_text.Goals as goal

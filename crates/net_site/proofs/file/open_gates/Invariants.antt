@@ -1,3 +1,4 @@
+-- What the loop of `open_gates` keeps.
 use Rattle.std.proofs.Common.{◌≤◌}
 use Rattle.net_site.proofs.file.open_gates.Given as goal
 

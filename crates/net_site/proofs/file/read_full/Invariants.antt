@@ -1,3 +1,4 @@
+-- What the loop of `read_full` keeps.
 use Rattle.std.proofs.Common.{◌≡◌, ◌≤◌, length}
 use Rattle.net_site.proofs.file.read_full.Given as goal
 

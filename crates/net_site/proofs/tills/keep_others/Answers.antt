@@ -1,3 +1,4 @@
+-- Proof of the contract of `keep_others`.
 use Rattle.std.proofs.Common.{rules}
 use Rattle.std.proofs.lemmas.Fn.{filter_same}
 use Rattle.net_site.proofs.tills.keep_others.Goals as goal

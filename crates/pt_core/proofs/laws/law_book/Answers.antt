@@ -4,6 +4,7 @@ use Rattle.zvt_msg.specs.CommandDecode.{decode_command}
 use Rattle.pt_core.specs.Serving.{TerminalValue}
 use Rattle.pt_core.specs.History.{all_handled, book_of, play_left}
 use Rattle.pt_core.proofs.HonestLemmas.{all_numbered, booked, grows}
+use Rattle.pt_core.proofs.ReactionLemmas.{Digits, book_fits}
 use Rattle.pt_core.proofs.laws.law_book.Goals as goal
 
 pub returns-clause-caused : goal.returns-clause-caused
@@ -21,3 +22,8 @@ returns-clause-numbers c setting met = (all_numbered setting (all_handled settin
 
 pub returns-clause-few : goal.returns-clause-few
 returns-clause-few c setting met = (all_numbered setting (all_handled setting met)).few
+
+pub returns-clause-fit : goal.returns-clause-fit
+returns-clause-fit c setting met =
+    let digits : Digits = λ apdu command e. ((c.law_commands.ensures.canonical apdu command).0 ((c.law_commands.ensures.read apdu command).0 e)).0 in
+    book_fits digits setting (all_handled setting met)

@@ -4,7 +4,7 @@ use Rattle.std.proofs.lemmas.List.Elements.{All-from_recursion}
 use Rattle.pt_core.specs.Serving.{TerminalValue}
 use Rattle.pt_core.specs.Exchange.{HasTrueCause, met_of, placed_book}
 use Rattle.pt_core.proofs.SplitLemmas.{Laws}
-use Rattle.pt_core.proofs.AnswerLemmas.{Digits, ReadLaws}
+use Rattle.pt_core.proofs.ReactionLemmas.{Digits, ReadLaws}
 use Rattle.pt_core.proofs.PlaceLemmas.{placed_entries, true_causes}
 use Rattle.pt_core.proofs.CauseLemmas.{own_causes}
 use Rattle.pt_core.proofs.HearingLemmas.{AllLaws, true_hearing}
@@ -22,5 +22,6 @@ returns c setting exchanges hears =
       own_causes = own_causes stream setting exchanges;
       numbers = c.law_book.ensures.numbers setting (met_of exchanges);
       few = c.law_book.ensures.few setting (met_of exchanges);
+      fit = c.law_book.ensures.fit setting (met_of exchanges);
       ends = true_hearing laws setting exchanges hears;
     }

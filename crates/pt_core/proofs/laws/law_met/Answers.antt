@@ -5,7 +5,7 @@ use Rattle.zvt_apdu.specs.Decode.{decode_apdu}
 use Rattle.zvt_apdu.specs.Grammar.{ApduValue}
 use Rattle.zvt_apdu.specs.DecodeStream.{DecodedApdus, decode_apdus}
 use Rattle.pt_core.specs.Serving.{TerminalValue, is_bad}
-use Rattle.pt_core.specs.History.{Setting, terminal_account, all_handled, answers_to, earlier, handled, is_cut_by, link_bytes}
+use Rattle.pt_core.specs.History.{Setting, terminal_account, all_handled, sent_for, earlier, handled, is_cut_by, link_bytes}
 use Rattle.pt_core.proofs.SplitLemmas.{Laws}
 use Rattle.pt_core.proofs.HistoryLemmas.{adds}
 use Rattle.pt_core.proofs.laws.law_met.Goals as goal
@@ -20,10 +20,10 @@ returns-clause-bytes c setting met bytes =
     let laws : Laws = record { whole = c.law_decode_apdus.ensures.whole; incomplete = c.law_decode_apdus.ensures.incomplete; too_long = c.law_decode_apdus.ensures.too_long } in
     (adds laws setting met bytes).terminal
 
-pub returns-clause-answer : goal.returns-clause-answer
-returns-clause-answer c setting met bytes =
+pub returns-clause-sent : goal.returns-clause-sent
+returns-clause-sent c setting met bytes =
     let laws : Laws = record { whole = c.law_decode_apdus.ensures.whole; incomplete = c.law_decode_apdus.ensures.incomplete; too_long = c.law_decode_apdus.ensures.too_long } in
-    (adds laws setting met bytes).answer
+    (adds laws setting met bytes).sent_bytes
 
 pub returns-clause-cut : goal.returns-clause-cut
 returns-clause-cut c setting met bytes =
@@ -46,6 +46,6 @@ terminal_at setting before bytes = record {
 pub returns-clause-chunks : goal.returns-clause-chunks
 returns-clause-chunks c setting met first second = ap (terminal_at setting (earlier setting met)) (append_assoc (link_bytes met) first second)
 
-pub returns-clause-chunks_answer : goal.returns-clause-chunks_answer
-returns-clause-chunks_answer c setting met first second =
-    ap (λ (b : List ℕ). answers_to setting (earlier setting met) (decode_apdus b).apdus) (append_assoc (link_bytes met) first second)
+pub returns-clause-chunks_sent : goal.returns-clause-chunks_sent
+returns-clause-chunks_sent c setting met first second =
+    ap (λ (b : List ℕ). sent_for setting (earlier setting met) (decode_apdus b).apdus) (append_assoc (link_bytes met) first second)

@@ -1,3 +1,4 @@
+-- Proof of the contract of `any_chunks`.
 use Rattle.std.proofs.Common.{[]}
 use Rattle.sale_frame.proofs.StreamLemmas.{any_chunks_from}
 use Rattle.sale_frame.proofs.laws.any_chunks.Goals as goal

@@ -1,3 +1,4 @@
+-- Proof of the contract of `no_frame_begins_another`.
 use Rattle.sale_frame.proofs.FrameLemmas.{one_message}
 use Rattle.sale_frame.proofs.laws.no_frame_begins_another.Goals as goal
 

@@ -1,3 +1,4 @@
+-- Proof of the contract of `whole`.
 use Rattle.sale_frame.proofs.FrameLemmas.{incomplete_payload}
 use Rattle.sale_frame.proofs.reader.whole.Goals as goal
 

@@ -1,3 +1,4 @@
+-- Proof of the contract of `abort`.
 use Rattle.std.proofs.Common.{codes, sym, refl}
 use Rattle.json_text.specs.ValueOf.{value_of}
 use Rattle.sale_msg.specs.declared.table.Form.TheVariants.{Object}

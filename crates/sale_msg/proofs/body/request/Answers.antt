@@ -1,3 +1,4 @@
+-- Proof of the contract of `request`.
 use Rattle.std.proofs.Common.{map}
 use Rattle.json_text.specs.ValueOf.{value_of}
 use Rattle.sale_msg.specs.Flaw.{AreMet}

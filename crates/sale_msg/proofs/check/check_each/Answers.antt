@@ -1,3 +1,4 @@
+-- Proof of the contract of `check_each`.
 use Rattle.std.proofs.Common.{map, add-one, ap, drop}
 use Rattle.std.proofs.lemmas.List.{drop_all}
 use Rattle.std.proofs.lemmas.Result.{err_from_is_err_and}

@@ -1,3 +1,4 @@
+-- What the loop of `check_each` keeps.
 use Rattle.std.proofs.Common.{map, drop}
 use Rattle.json_text.specs.ValueOf.{value_of}
 use Rattle.sale_msg.specs.inner.RowValue.{row_value}

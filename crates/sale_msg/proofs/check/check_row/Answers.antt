@@ -1,3 +1,4 @@
+-- Proof of the contract of `check_row`.
 use Rattle.std.proofs.Common.{sym, ◌∙◌, true≢false}
 use Rattle.json_text.specs.ValueOf.{value_of}
 use Rattle.sale_msg.specs.inner.RowValue.{row_value}

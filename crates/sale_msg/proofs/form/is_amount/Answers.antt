@@ -1,3 +1,4 @@
+-- Proof of the contract of `is_amount`.
 use Rattle.json_text.specs.ValueOf.{value_of}
 use Rattle.sale_msg.proofs.FormLemmas.{amount_form}
 use Rattle.sale_msg.proofs.form.is_amount.Goals as goal

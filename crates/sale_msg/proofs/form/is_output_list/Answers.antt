@@ -1,3 +1,4 @@
+-- Proof of the contract of `is_output_list`.
 use Rattle.std.proofs.Common.{rules, ◌≤◌, length}
 use Rattle.json_text.specs.ValueOf.{value_of}
 use Rattle.sale_msg.proofs.FormLemmas.{output_list_form}

@@ -1,3 +1,4 @@
+-- Proof of the contract of `is_text_list`.
 use Rattle.json_text.specs.ValueOf.{value_of}
 use Rattle.sale_msg.proofs.FormLemmas.{text_list_form}
 use Rattle.sale_msg.proofs.form.is_text_list.Goals as goal

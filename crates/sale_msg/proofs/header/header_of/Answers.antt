@@ -1,3 +1,4 @@
+-- Proof of the contract of `header_of`.
 use Rattle.std.proofs.Common.{lit<}
 use Rattle.json_text.specs.ValueOf.{value_of}
 use Rattle.sale_msg.specs.Table.{member_row}

@@ -1,3 +1,4 @@
+-- Proof of the contract of `header_under`.
 use Rattle.json_text.specs.ValueOf.{value_of}
 use Rattle.sale_msg.proofs.MessageLemmas.{header_laxer}
 use Rattle.sale_msg.proofs.header.header_under.Goals as goal

@@ -1,3 +1,4 @@
+-- Proof of the contract of `read_header`.
 use Rattle.std.proofs.Common.{◌∙◌, ap, inl, refl, sym}
 use Rattle.json_text.specs.Tree.{get_of}
 use Rattle.json_text.specs.ValueOf.{value_of}

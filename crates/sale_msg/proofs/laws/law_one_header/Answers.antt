@@ -1,3 +1,4 @@
+-- Proof of the contract of `law_one_header`.
 use Rattle.sale_msg.proofs.UniqueLemmas.{header_path_unique, no_header_one, no_header_headed}
 use Rattle.sale_msg.proofs.laws.law_one_header.Goals as goal
 

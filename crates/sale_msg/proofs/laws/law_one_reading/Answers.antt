@@ -1,3 +1,4 @@
+-- Proof of the contract of `law_one_reading`.
 use Rattle.sale_msg.proofs.UniqueLemmas.{message_one, fault_one, message_no_fault}
 use Rattle.sale_msg.proofs.laws.law_one_reading.Goals as goal
 

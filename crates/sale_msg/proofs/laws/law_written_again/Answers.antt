@@ -1,3 +1,4 @@
+-- Proof of the contract of `law_written_again`.
 use Rattle.sale_msg.specs.Canonical.{request_tree}
 use Rattle.sale_msg.proofs.BodyLemmas.{request_again}
 use Rattle.sale_msg.proofs.SpellableLemmas.{request_spellable}

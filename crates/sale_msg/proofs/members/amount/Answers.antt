@@ -1,3 +1,4 @@
+-- Proof of the contract of `amount`.
 use Rattle.json_text.specs.ValueOf.{value_of}
 use Rattle.sale_msg.specs.Path.{tree_at}
 use Rattle.sale_msg.proofs.FormLemmas.{amount_has_minor}

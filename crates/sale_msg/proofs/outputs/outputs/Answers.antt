@@ -1,3 +1,4 @@
+-- Proof of the contract of `outputs`.
 use Rattle.json_text.specs.ValueOf.{value_of}
 use Rattle.sale_msg.specs.Grammar.{IsOutput}
 use Rattle.sale_msg.proofs.MessageLemmas.{zipped_more}

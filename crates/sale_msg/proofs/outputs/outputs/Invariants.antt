@@ -1,3 +1,4 @@
+-- What the loop of `outputs` keeps.
 use Rattle.std.proofs.Common.{map, take}
 use Rattle.std.specs.List.{AllZip}
 use Rattle.json_text.specs.ValueOf.{value_of}

@@ -1,3 +1,4 @@
+-- Proof of the contract of `find`.
 use Rattle.std.proofs.Common.{sym, ap, arith, ◌∙◌}
 use Rattle.std.specs.Option.{option_and_then}
 use Rattle.json_text.specs.ValueOf.{value_of}

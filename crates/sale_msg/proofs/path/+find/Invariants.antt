@@ -1,3 +1,4 @@
+-- Why `find` ends.
 use Rattle.std.proofs.Common.{length}
 use Rattle.sale_msg.proofs.path.+find.Given as goal
 

@@ -1,3 +1,4 @@
+-- Proof of the contract of `read_body`.
 use Rattle.std.proofs.Common.{◌∙◌}
 use Rattle.json_text.specs.ValueOf.{value_of}
 use Rattle.sale_msg.proofs.MessageLemmas.{flawed}

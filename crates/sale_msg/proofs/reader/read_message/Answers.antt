@@ -1,3 +1,4 @@
+-- Proof of the contract of `read_message`.
 use Rattle.std.proofs.Common.{Result, Err, subst, sym}
 use Rattle.json_text.specs.ValueOf.{value_of}
 use Rattle.sale_values.specs.declared.fault.SaleFault.{SaleFault}

@@ -1,3 +1,4 @@
+-- Proof of the contract of `read_under_request`.
 use Rattle.std.proofs.Common.{inr}
 use Rattle.json_text.specs.ValueOf.{value_of}
 use Rattle.sale_msg.specs.declared.table.Envelope.TheVariants as envelopes

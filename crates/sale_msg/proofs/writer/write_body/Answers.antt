@@ -1,3 +1,4 @@
+-- Proof of the contract of `write_body`.
 use Rattle.std.proofs.Common.{◌≡◌, ◌++◌, codes, append_assoc, ap, sym, ◌∙◌}
 use Rattle.json_text.specs.Canonical.{canonical, canonical_first}
 use Rattle.json_text.specs.Tree.{object}

@@ -1,3 +1,4 @@
+-- Proof of the contract of `write_message`.
 use Rattle.std.proofs.Common.{codes}
 use Rattle.json_text.specs.Canonical.{canonical, canonical_string}
 use Rattle.json_text.specs.Tree.{object}

@@ -1,3 +1,4 @@
+-- Proof of the contract of `write_optional_texts`.
 use Rattle.std.proofs.Common.{Some, ap, sym, ◌∙◌}
 use Rattle.sale_msg.proofs.WriterLemmas.{texts_appended}
 use Rattle.sale_msg.proofs.writer.write_optional_texts.Goals as goal

@@ -1,3 +1,4 @@
+-- Proof of the contract of `write_output`.
 use Rattle.std.proofs.Common.{◌≡◌, ◌++◌, codes, append_assoc}
 use Rattle.json_text.specs.Canonical.{canonical}
 use Rattle.json_text.proofs.GrowthLemmas.{append_grows, grows_on}

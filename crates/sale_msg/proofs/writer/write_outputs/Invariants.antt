@@ -1,3 +1,4 @@
+-- What the loop of `write_outputs` keeps.
 use Rattle.std.proofs.Common.{◌≡◌, ◌++◌, drop, nat_eq}
 use Rattle.gw_bytes.specs.Bytes.{IsPrefix}
 use Rattle.json_text.specs.Canonical.{canonical_first, canonical_elements}

@@ -1,7 +1,8 @@
+-- What the loop of `write_parts` keeps.
 use Rattle.std.proofs.Common.{◌≡◌, ◌++◌, take}
 use Rattle.std.specs.Prelude.{flat_map}
 use Rattle.gw_bytes.specs.Bytes.{IsPrefix}
-use Rattle.sale_values.specs.Parts.{part_text}
+use Rattle.sale_values.specs.PartBytes.{part_text}
 use Rattle.sale_msg.proofs.writer.write_parts.Given as goal
 
 -- the parts so far are written, and the buffer has grown

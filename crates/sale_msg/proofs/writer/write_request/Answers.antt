@@ -1,3 +1,4 @@
+-- Proof of the contract of `write_request`.
 use Rattle.std.proofs.Common.{◌∙◌}
 use Rattle.json_text.proofs.GrowthLemmas.{truncated}
 use Rattle.sale_msg.proofs.writer.write_request.Goals as goal

@@ -1,3 +1,4 @@
+-- Proof of the contract of `write_approved`.
 use Rattle.sale_reply.proofs.PartLemmas.{and_then, spelled}
 use Rattle.sale_reply.proofs.CanonicalLemmas.{approved_parts}
 use Rattle.sale_reply.proofs.body.write_approved.Goals as goal

@@ -1,8 +1,9 @@
+-- Proof of the contract of `write_condition`.
 use Rattle.std.proofs.Common.{List, ℕ, Option, Some, None, ◌≡◌, [], refl, sym, codes}
 use Rattle.std.specs.Prelude.{option_map}
 use Rattle.gw_base.specs.declared.condition.Condition.{Condition}
 use Rattle.gw_base.specs.Condition.{name_of}
-use Rattle.sale_reply.specs.inner.Parts.{next_optional}
+use Rattle.sale_reply.specs.inner.CanonicalMembers.{next_optional}
 use Rattle.sale_reply.proofs.PartLemmas.{nothing, spelled}
 use Rattle.sale_reply.proofs.body.write_condition.Goals as goal
 

@@ -1,3 +1,4 @@
+-- Proof of the contract of `write_declined`.
 use Rattle.sale_reply.proofs.PartLemmas.{and_then, spelled}
 use Rattle.sale_reply.proofs.CanonicalLemmas.{declined_parts}
 use Rattle.sale_reply.proofs.body.write_declined.Goals as goal

@@ -1,3 +1,4 @@
+-- Proof of the contract of `write_diagnosis`.
 use Rattle.sale_reply.proofs.PartLemmas.{and_then, spelled}
 use Rattle.sale_reply.proofs.CanonicalLemmas.{diagnosis_parts}
 use Rattle.sale_reply.proofs.body.write_diagnosis.Goals as goal

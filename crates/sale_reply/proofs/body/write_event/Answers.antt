@@ -1,3 +1,4 @@
+-- Proof of the contract of `write_event`.
 use Rattle.std.proofs.Common.{w64}
 use Rattle.std.proofs.lemmas.Int.{to_z-of_z}
 use Rattle.sale_reply.proofs.PartLemmas.{and_then, spelled}

@@ -1,3 +1,4 @@
+-- Proof of the contract of `write_payment_result`.
 use Rattle.sale_reply.proofs.PartLemmas.{and_then, spelled}
 use Rattle.sale_reply.proofs.CanonicalLemmas.{payment_result_parts}
 use Rattle.sale_reply.proofs.body.write_payment_result.Goals as goal

@@ -1,3 +1,4 @@
+-- Proof of the contract of `write_plain`.
 use Rattle.sale_reply.specs.Reply.{verdict_tree}
 use Rattle.sale_reply.proofs.PartLemmas.{and_then, spelled}
 use Rattle.sale_reply.proofs.CanonicalLemmas.{plain_parts}

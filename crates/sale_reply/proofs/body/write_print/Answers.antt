@@ -1,3 +1,4 @@
+-- Proof of the contract of `write_print`.
 use Rattle.sale_reply.proofs.PartLemmas.{and_then, spelled}
 use Rattle.sale_reply.proofs.CanonicalLemmas.{print_parts}
 use Rattle.sale_reply.proofs.body.write_print.Goals as goal

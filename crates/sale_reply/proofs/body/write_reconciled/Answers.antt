@@ -1,3 +1,4 @@
+-- Proof of the contract of `write_reconciled`.
 use Rattle.sale_reply.proofs.PartLemmas.{and_then, spelled}
 use Rattle.sale_reply.proofs.CanonicalLemmas.{reconciled_parts}
 use Rattle.sale_reply.proofs.body.write_reconciled.Goals as goal

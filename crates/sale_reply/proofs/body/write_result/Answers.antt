@@ -1,3 +1,4 @@
+-- Proof of the contract of `write_result`.
 use Rattle.sale_reply.proofs.PartLemmas.{and_then, spelled}
 use Rattle.sale_reply.proofs.CanonicalLemmas.{result_parts}
 use Rattle.sale_reply.proofs.body.write_result.Goals as goal

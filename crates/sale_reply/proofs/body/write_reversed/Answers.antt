@@ -1,3 +1,4 @@
+-- Proof of the contract of `write_reversed`.
 use Rattle.sale_reply.proofs.PartLemmas.{and_then, spelled}
 use Rattle.sale_reply.proofs.CanonicalLemmas.{reversed_parts}
 use Rattle.sale_reply.proofs.body.write_reversed.Goals as goal

@@ -1,3 +1,4 @@
+-- Proof of the contract of `write_sale_data`.
 use Rattle.sale_reply.proofs.PartLemmas.{and_then, spelled}
 use Rattle.sale_reply.proofs.CanonicalLemmas.{sale_data_parts}
 use Rattle.sale_reply.proofs.body.write_sale_data.Goals as goal

@@ -1,3 +1,4 @@
+-- Proof of the contract of `write_totals`.
 use Rattle.sale_reply.proofs.PartLemmas.{and_then, spelled}
 use Rattle.sale_reply.proofs.CanonicalLemmas.{totals_parts}
 use Rattle.sale_reply.proofs.body.write_totals.Goals as goal

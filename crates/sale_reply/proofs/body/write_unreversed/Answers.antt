@@ -1,3 +1,4 @@
+-- Proof of the contract of `write_unreversed`.
 use Rattle.sale_reply.proofs.PartLemmas.{and_then, spelled}
 use Rattle.sale_reply.proofs.CanonicalLemmas.{unreversed_parts}
 use Rattle.sale_reply.proofs.body.write_unreversed.Goals as goal

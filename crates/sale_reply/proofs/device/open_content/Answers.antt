@@ -1,3 +1,4 @@
+-- Proof of the contract of `open_content`.
 use Rattle.sale_reply.proofs.PartLemmas.{and_then, spelled}
 use Rattle.sale_reply.proofs.CanonicalLemmas.{content_prefix_parts}
 use Rattle.sale_reply.proofs.device.open_content.Goals as goal

@@ -1,3 +1,4 @@
+-- Proof of the contract of `write_display_request`.
 use Rattle.sale_reply.proofs.PartLemmas.{and_then, spelled}
 use Rattle.sale_reply.proofs.CanonicalLemmas.{show_parts}
 use Rattle.sale_reply.proofs.device.write_display_request.Goals as goal

@@ -1,3 +1,4 @@
+-- Proof of the contract of `write_line`.
 use Rattle.sale_reply.specs.Texts.{line_text}
 use Rattle.sale_reply.proofs.PartLemmas.{and_then, spelled}
 use Rattle.sale_reply.proofs.CanonicalLemmas.{text_parts}

@@ -1,6 +1,7 @@
+-- What the loop of `write_more_lines` keeps.
 use Rattle.std.proofs.Common.{take}
 use Rattle.sale_reply.specs.inner.Appends.{Appends}
-use Rattle.sale_reply.specs.inner.Parts.{more_lines}
+use Rattle.sale_reply.specs.inner.CanonicalMembers.{more_lines}
 use Rattle.sale_reply.proofs.device.write_more_lines.Given as goal
 
 abbrev pub invariant-loop-line : goal.invariant-loop-line

@@ -1,3 +1,4 @@
+-- Proof of the contract of `write_output`.
 use Rattle.sale_reply.proofs.PartLemmas.{and_then, spelled}
 use Rattle.sale_reply.proofs.CanonicalLemmas.{output_parts}
 use Rattle.sale_reply.proofs.device.write_output.Goals as goal

@@ -1,3 +1,4 @@
+-- Proof of the contract of `write_print_request`.
 use Rattle.sale_reply.proofs.PartLemmas.{and_then, spelled}
 use Rattle.sale_reply.proofs.CanonicalLemmas.{paper_parts}
 use Rattle.sale_reply.proofs.device.write_print_request.Goals as goal

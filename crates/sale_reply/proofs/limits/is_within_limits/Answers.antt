@@ -1,3 +1,4 @@
+-- Proof of the contract of `is_within_limits`.
 use Rattle.sale_reply.proofs.limits.is_within_limits.Goals as goal
 
 pub returns-in-PrintRequest-clause-within : goal.returns-in-PrintRequest-clause-within

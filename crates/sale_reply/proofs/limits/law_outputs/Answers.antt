@@ -1,3 +1,4 @@
+-- Proof of the contract of `law_outputs`.
 use Rattle.sale_reply.proofs.LimitLemmas.{all_more, all_within}
 use Rattle.sale_reply.proofs.limits.law_outputs.Goals as goal
 

@@ -1,3 +1,4 @@
+-- What the loop of `law_outputs` keeps.
 use Rattle.std.proofs.Common.{take}
 use Rattle.std.specs.Prelude.{All}
 use Rattle.sale_reply.specs.Limits.{IsShownWithinLimits}

@@ -1,3 +1,4 @@
+-- Proof of the contract of `law_size`.
 use Rattle.sale_reply.proofs.BodySizeLemmas.{StampSizes}
 use Rattle.sale_reply.proofs.ReplySizeLemmas.{reply_size}
 use Rattle.sale_reply.proofs.limits.law_size.Goals as goal

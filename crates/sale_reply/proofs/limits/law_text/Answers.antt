@@ -1,3 +1,4 @@
+-- Proof of the contract of `law_text`.
 use Rattle.sale_reply.specs.Reply.{tree_of}
 use Rattle.sale_reply.proofs.SpellableLemmas.{StampsPrintable, reply_spellable}
 use Rattle.sale_reply.proofs.limits.law_text.Goals as goal

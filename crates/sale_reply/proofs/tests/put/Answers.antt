@@ -1,3 +1,4 @@
+-- Proof of the contract of `put`.
 use Rattle.sale_reply.proofs.tests.put.Goals as goal
 
 pub write_reply-requires : goal.write_reply-requires

@@ -1,3 +1,4 @@
+-- Proof of the contract of `open_message`.
 use Rattle.sale_reply.proofs.PartLemmas.{and_then, spelled}
 use Rattle.sale_reply.proofs.CanonicalLemmas.{prefix_parts}
 use Rattle.sale_reply.proofs.write.open_message.Goals as goal

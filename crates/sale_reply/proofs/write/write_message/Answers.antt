@@ -1,3 +1,4 @@
+-- Proof of the contract of `write_message`.
 use Rattle.std.proofs.Common.{codes}
 use Rattle.std.specs.Prelude.{map}
 use Rattle.sale_reply.specs.Reply.{display_request_body, print_request_body, plain_body, verdict_tree, result_body, status_body, diagnosis_body, display_body, print_body}

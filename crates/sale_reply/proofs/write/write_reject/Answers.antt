@@ -1,3 +1,4 @@
+-- Proof of the contract of `write_reject`.
 use Rattle.std.proofs.Common.{codes, w64}
 use Rattle.std.proofs.lemmas.Int.{to_z-of_z}
 use Rattle.sale_reply.specs.Reply.{event_body, event_header}

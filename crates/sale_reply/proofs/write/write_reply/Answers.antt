@@ -1,3 +1,4 @@
+-- Proof of the contract of `write_reply`.
 use Rattle.std.proofs.Common.{◌≡◌, ◌≤◌, ◌+◌, ◌++◌, length, arith}
 use Rattle.json_text.specs.Canonical.{canonical}
 use Rattle.sale_reply.specs.Reply.{tree_of}

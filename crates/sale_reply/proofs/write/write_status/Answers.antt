@@ -1,3 +1,4 @@
+-- Proof of the contract of `write_status`.
 use Rattle.sale_reply.specs.Reply.{result_body}
 use Rattle.sale_reply.proofs.PartLemmas.{and_then, spelled}
 use Rattle.sale_reply.proofs.CanonicalLemmas.{status_parts}

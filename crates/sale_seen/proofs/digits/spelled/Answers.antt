@@ -1,3 +1,4 @@
+-- Proof of the contract of `spelled`.
 use Rattle.sale_seen.proofs.MoneyLemmas.{read_whole, too_long}
 use Rattle.sale_seen.proofs.digits.spelled.Goals as goal
 

@@ -1,3 +1,4 @@
+-- What the loop of `spelled` keeps.
 use Rattle.std.proofs.Common.{◌≡◌, drop}
 use Rattle.sale_seen.specs.inner.Spelled.{spelled_on}
 use Rattle.sale_seen.proofs.digits.spelled.Given as goal

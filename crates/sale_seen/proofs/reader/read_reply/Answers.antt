@@ -1,3 +1,4 @@
+-- Proof of the contract of `read_reply`.
 use Rattle.std.proofs.Common.{Err, Result, subst, sym}
 use Rattle.json_text.specs.ValueOf.{value_of}
 use Rattle.sale_values.specs.declared.fault.SaleFault.{SaleFault}

@@ -1,3 +1,4 @@
+-- Proof of the contract of `result_path`.
 use Rattle.std.proofs.Common.{◌≡◌, ◌∙◌, ap, subst, sym, arith}
 use Rattle.gw_base.specs.Ident.{IsIdent}
 use Rattle.sale_seen.specs.Fault.{result_path}

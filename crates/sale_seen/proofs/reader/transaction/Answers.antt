@@ -1,3 +1,4 @@
+-- Proof of the contract of `transaction`.
 use Rattle.sale_seen.proofs.TransactionLemmas.{transaction_length}
 use Rattle.sale_seen.proofs.reader.transaction.Goals as goal
 

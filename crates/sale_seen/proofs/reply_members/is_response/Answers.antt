@@ -1,3 +1,4 @@
+-- Proof of the contract of `is_response`.
 use Rattle.std.proofs.Common.{◌∙◌, ◌++◌, None, Some, ap, bytes_eq, codes, sym}
 use Rattle.std.proofs.lemmas.Slice.Eq.{strip_prefix_is}
 use Rattle.std.proofs.lemmas.Bool.Decides.{Decides-eqb}

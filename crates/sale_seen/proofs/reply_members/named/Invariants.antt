@@ -1,3 +1,4 @@
+-- What the loop of `named` keeps.
 use Rattle.std.proofs.Common.{◌≡◌, ◌++◌, codes, drop}
 use Rattle.json_text.specs.Tree.{member_of}
 use Rattle.json_text.specs.ValueOf.{members_value}

@@ -1,3 +1,4 @@
+-- Proof of the contract of `is_slot`.
 use Rattle.std.proofs.Common.{◌≡◌, ◌^◌, ◌<◌, ◌∙◌, ap, arith, decimal, sym, true≢false}
 use Rattle.sale_seen.proofs.TransactionLemmas.{slot_spells}
 use Rattle.sale_seen.proofs.transaction.is_slot.Goals as goal

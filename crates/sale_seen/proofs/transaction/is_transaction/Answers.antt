@@ -1,3 +1,4 @@
+-- Proof of the contract of `is_transaction`.
 use Rattle.std.proofs.Common.{sym, true≢false}
 use Rattle.sale_seen.proofs.TransactionLemmas.{no_receipt, no_trace, slot_is, slot_left}
 use Rattle.sale_seen.proofs.transaction.is_transaction.Goals as goal

@@ -1,3 +1,4 @@
+-- Proof of the contract of `law_money`.
 use Rattle.sale_values.proofs.MoneyLemmas.{money_number, money_again, money_one}
 use Rattle.sale_values.proofs.laws.law_money.Goals as goal
 

@@ -4,8 +4,8 @@ use Rattle.zvt_talk.proofs.StatusLemmas.{nothing_said}
 use Rattle.zvt_talk.proofs.laws.law_declined.Goals as goal
 
 pub returns-clause-transaction : goal.returns-clause-transaction
-returns-clause-transaction c = λ dialogue came message code trace dialogue_kind.
-    let law = c.law_transaction_declined.ensures dialogue came message code trace dialogue_kind in (
+returns-clause-transaction c = λ dialogue came message result_code trace dialogue_kind.
+    let law = c.law_transaction_declined.ensures dialogue came message result_code trace dialogue_kind in (
       λ is. let refused = law.0 is in
           elim refused.1 [
             | inl once ↦ (nothing_said came once.asked, (refused.0, inl once))

@@ -17,8 +17,8 @@ returns-clause-figures c = record {
   read = (tt, (record { amount = omega arith; trace = omega arith; receipt = omega arith }, tt));
   approved = refl;
   reported = refl;
-  fit = record { number = omega arith; receipt = omega arith; amount = omega arith };
-  some = record { number = omega arith; amount = omega arith };
+  fit = record { trace = omega arith; receipt = omega arith; amount = omega arith };
+  some = record { trace = omega arith; amount = omega arith };
 }
 
 pub returns-clause-reports : goal.returns-clause-reports
@@ -28,8 +28,8 @@ returns-clause-reports c = record {
     status = greatest_status;
     last = refl;
     its_code = refl;
-    its_number = refl;
-    reported = (refl, record { trace = refl; receipt = refl; amount = refl; first_number = omega arith; some_amount = omega arith });
+    its_trace = refl;
+    reported = (refl, record { trace = refl; receipt = refl; amount = refl; first_trace = omega arith; some_amount = omega arith });
   };
   declined = refl;
   none = record {
@@ -38,7 +38,7 @@ returns-clause-reports c = record {
     configured = refl;
     no_status = refl;
     not_zero = λ e. omega (arith, e);
-    no_number = refl;
+    no_trace = refl;
     no_figures = refl;
   };
   none_reported = refl;

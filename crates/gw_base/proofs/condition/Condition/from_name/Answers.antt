@@ -1,3 +1,4 @@
+-- Proof of the contract of `Condition::from_name`.
 use Rattle.std.proofs.Common.{◌≡◌, ◌<◌, arith}
 use Rattle.gw_base.specs.declared.condition.Condition.TheVariants.{Aborted, Busy, Cancel, InProgress, InsertedCard, InvalidCard, LoggedOut, MessageFormat, NotAllowed, NotFound, Refusal, UnavailableDevice, UnavailableService}
 use Rattle.gw_base.specs.Condition.{name_of}

@@ -1,3 +1,4 @@
+-- What the loop of `Condition::from_name` keeps.
 use Rattle.std.proofs.Common.{◌≡◌, ℕ, ◌<◌, get_or}
 use Rattle.gw_base.specs.declared.condition.Condition.TheVariants.{Aborted}
 use Rattle.gw_base.specs.Condition.{name_of}

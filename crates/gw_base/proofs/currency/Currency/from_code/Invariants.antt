@@ -1,3 +1,4 @@
+-- What the loop of `Currency::from_code` keeps.
 use Rattle.std.proofs.Common.{◌≡◌, ℕ, ◌<◌, get_or}
 use Rattle.gw_base.specs.declared.currency.Currency.TheVariants.{Eur}
 use Rattle.gw_base.specs.Currency.{currency_letters}

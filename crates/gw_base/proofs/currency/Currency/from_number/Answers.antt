@@ -1,3 +1,4 @@
+-- Proof of the contract of `Currency::from_number`.
 use Rattle.std.proofs.Common.{◌≡◌, ◌<◌, arith}
 use Rattle.gw_base.specs.declared.currency.Currency.TheVariants.{Eur, Chf, Gbp, Usd, Dkk, Sek, Nok, Pln, Czk}
 use Rattle.gw_base.specs.Currency.{currency_number}

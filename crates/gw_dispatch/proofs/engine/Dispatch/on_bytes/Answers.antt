@@ -1,3 +1,4 @@
+-- Proof of the contract of `Dispatch::on_bytes`.
 use Rattle.std.proofs.Common.{◌∙◌, ap, sym}
 use Rattle.std.specs.declared.alloc.AllocError.{AllocError}
 use Rattle.std.proofs.lemmas.Int.{to_z-of_z}

@@ -1,3 +1,4 @@
+-- Proof of the contract of `Dispatch::on_open`.
 use Rattle.std.proofs.Common.{◌∙◌, length, arith, sym, ap}
 use Rattle.gw_dispatch.specs.Tills.{rank}
 use Rattle.gw_dispatch.proofs.RoundLemmas.{no-memory, open-held, open-taken, open-crowded}

@@ -1,3 +1,4 @@
+-- Proof of the contract of `Dispatch::round`.
 use Rattle.std.proofs.Common.{◌≡◌, ◌+◌, to_z, of_z, w64}
 use Rattle.std.proofs.lemmas.Int.{to_z-of_z}
 use Rattle.gw_rules.proofs.TripleLemmas.{keeps-then}

@@ -1,3 +1,4 @@
+-- Proof of the contract of `Replier::next_message`.
 use Rattle.std.proofs.Common.{◌∙◌, subst, ap}
 use Rattle.std.specs.Prelude.{Some, Ok}
 use Rattle.std.proofs.lemmas.Int.{to_z-of_z}

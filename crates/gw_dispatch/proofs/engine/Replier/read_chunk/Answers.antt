@@ -1,3 +1,4 @@
+-- Proof of the contract of `Replier::read_chunk`.
 use Rattle.std.proofs.lemmas.Int.{to_z-of_z}
 use Rattle.gw_dispatch.proofs.RoundLemmas.{no-memory}
 use Rattle.gw_dispatch.proofs.engine.Replier.read_chunk.Goals as goal

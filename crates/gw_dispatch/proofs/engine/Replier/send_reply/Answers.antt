@@ -1,3 +1,4 @@
+-- Proof of the contract of `Replier::send_reply`.
 use Rattle.std.proofs.Common.{◌∙◌, ap}
 use Rattle.gw_site.specs.declared.site.Failed.{Failed}
 use Rattle.json_text.specs.Canonical.{canonical}
@@ -9,4 +10,4 @@ pub returns-in-Ok-clause-keeps : goal.returns-in-Ok-clause-keeps
 returns-in-Ok-clause-keeps g c = λ owed same. delivered Failed _ _ c.in-Ok.field-0 c.args.till _ owed (c.as_bytes.ensures ∙ c.write_reply.ensures ∙ ap (λ t. frame (canonical t)) same) c.in-Ok.ensures.turns
 
 pub returns-in-Err-clause-keeps : goal.returns-in-Err-clause-keeps
-returns-in-Err-clause-keeps g c = λ owed same. undelivered _ _ _ c.in-Err.field-0 c.args.till _ owed (c.as_bytes.ensures ∙ c.write_reply.ensures ∙ ap (λ t. frame (canonical t)) same) c.in-Err.ensures.turns c.cut_till.ensures.turns
+returns-in-Err-clause-keeps g c = λ owed same. undelivered _ _ _ c.in-Err.field-0 c.args.till _ owed _ c.cut.ensures.gone (c.as_bytes.ensures ∙ c.write_reply.ensures ∙ ap (λ t. frame (canonical t)) same) c.in-Err.ensures.turns c.cut.ensures.keeps

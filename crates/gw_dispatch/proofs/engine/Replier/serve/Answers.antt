@@ -1,3 +1,4 @@
+-- Proof of the contract of `Replier::serve`.
 use Rattle.std.proofs.Common.{◌∙◌, sym, arith}
 use Rattle.std.proofs.lemmas.Int.{to_z-of_z}
 use Rattle.gw_rules.proofs.TripleLemmas.{keeps-then}

@@ -1,3 +1,4 @@
+-- What the loop of `Replier::serve` keeps, and why it ends.
 use Rattle.std.proofs.Common.{◌≡◌, ◌≤◌, ℕ, List, length}
 use Rattle.gw_base.specs.Moment.{moment_of}
 use Rattle.gw_site.specs.Outside.{Outside}

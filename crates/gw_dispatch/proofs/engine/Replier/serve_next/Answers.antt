@@ -1,10 +1,11 @@
+-- Proof of the contract of `Replier::serve_next`.
 use Rattle.std.proofs.Common.{◌∙◌}
 use Rattle.std.specs.Prelude.{Some, None}
 use Rattle.std.proofs.lemmas.Int.{to_z-of_z}
 use Rattle.gw_base.specs.Moment.{moment_of}
 use Rattle.gw_dispatch.specs.NextMessage.{IsNextOf}
 use Rattle.gw_dispatch.specs.declared.engine.Next.TheVariants.{Incomplete, Message, Unframed}
-use Rattle.gw_dispatch.proofs.EngineLemmas.{serve-waiting, waiting-rest, serve-unframed, serve-silent, serve-sent, takes-less, reads-on-sent}
+use Rattle.gw_dispatch.proofs.EngineLemmas.{serve-waiting, waiting-rest, serve-unframed, serve-silent, serve-sent, takes-less, reads-on-sent, reads-on-gone}
 use Rattle.gw_dispatch.proofs.engine.Replier.serve_next.Goals as goal
 
 pub returns-in-Incomplete-clause-keeps : goal.returns-in-Incomplete-clause-keeps
@@ -20,7 +21,10 @@ returns-in-Incomplete-clause-reader g c =
 pub returns-in-Unframed-clause-keeps : goal.returns-in-Unframed-clause-keeps
 returns-in-Unframed-clause-keeps g c = λ known polls o items met.
     let next : IsNextOf c.args.self.now.name c.args.now Unframed c.args.reader.now c.next_message.new.reader = rw c.in-Unframed.is at c.in_ok-next_message.ensures in
-    serve-unframed _ _ known polls o c.args.till c.args.reader.now items next c.cut_till.ensures.turns
+    serve-unframed _ _ known polls o c.args.till c.args.reader.now c.next_message.new.reader items _ c.cut.ensures.gone next c.cut.ensures.keeps
+
+pub returns-in-Unframed-clause-reader : goal.returns-in-Unframed-clause-reader
+returns-in-Unframed-clause-reader g c = reads-on-gone _ c.args.reader.now c.next_message.new.reader c.cut.ensures.gone
 
 pub returns-in-Message-None-clause-keeps : goal.returns-in-Message-None-clause-keeps
 returns-in-Message-None-clause-keeps g c = λ known polls o items met.

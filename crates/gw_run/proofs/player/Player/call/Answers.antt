@@ -1,3 +1,4 @@
+-- Proof of the contract of `Player::call`.
 use Rattle.std.proofs.Common.{◌≡◌, ◌∙◌, false}
 use Rattle.gw_run.proofs.PlayerTillLemmas.{turn_tills, was_added}
 use Rattle.gw_run.proofs.player.Player.call.Goals as goal

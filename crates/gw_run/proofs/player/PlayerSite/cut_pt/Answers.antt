@@ -1,3 +1,4 @@
+-- Proof of the contract of `cut_pt`.
 use Rattle.std.proofs.Common.{◌∷◌, [], refl}
 use Rattle.gw_site.specs.Turns.{IsTurn}
 use Rattle.gw_site.specs.declared.turn.Turn.TheVariants.{CutPt}

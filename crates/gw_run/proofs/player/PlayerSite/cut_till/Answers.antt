@@ -1,3 +1,4 @@
+-- Proof of the contract of `cut_till`.
 use Rattle.std.proofs.Common.{◌∙◌, sym, ap}
 use Rattle.std.specs.Prelude.{not, ◌==◌, filter}
 use Rattle.gw_run.proofs.PlayerTillLemmas.{cut_tills}

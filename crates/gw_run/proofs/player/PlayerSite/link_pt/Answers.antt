@@ -1,3 +1,4 @@
+-- Proof of the contract of `link_pt`.
 use Rattle.std.proofs.Common.{◌∷◌, [], refl}
 use Rattle.gw_site.specs.Turns.{LinkTurns}
 use Rattle.gw_site.specs.declared.turn.Turn.TheVariants.{Linked, LinkFailed}

@@ -1,3 +1,4 @@
+-- Proof of the contract of `open`.
 use Rattle.std.proofs.Common.{◌≡◌, ◌∷◌, [], ◌∙◌, refl, sym, ap, inl}
 use Rattle.std.specs.Prelude.{Some, Ok}
 use Rattle.gw_site.specs.Turns.{OpenTurns}

@@ -1,3 +1,4 @@
+-- Proof of the contract of `poll`.
 use Rattle.std.proofs.Common.{◌∙◌, sym, ap, drop, rules}
 use Rattle.std.proofs.lemmas.Int.{to_z-of_z}
 use Rattle.std.specs.Prelude.{map, option_map}

@@ -1,3 +1,4 @@
+-- Proof of the contract of `send_pt`.
 use Rattle.std.proofs.Common.{◌∷◌, [], refl, ap}
 use Rattle.std.specs.Prelude.{Some, Err, true, false}
 use Rattle.gw_site.specs.Turns.{SentPtTurns}

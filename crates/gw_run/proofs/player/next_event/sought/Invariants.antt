@@ -1,3 +1,4 @@
+-- What the loop of `sought` keeps, and why it ends.
 use Rattle.std.proofs.Common.{◌≡◌, ◌≤◌, ◌-◌, length, drop}
 use Rattle.std.specs.Prelude.{map}
 use Rattle.gw_script.specs.Plays.{met}

@@ -1,3 +1,4 @@
+-- Proof of the contract of `CharacterState::next`.
 use Rattle.json_text.specs.declared.character.CharacterState.TheVariants as character_states
 use Rattle.json_text.proofs.CharacterLemmas.{in_state}
 use Rattle.json_text.proofs.character.CharacterState.next.Goals as goal

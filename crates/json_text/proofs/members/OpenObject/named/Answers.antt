@@ -1,3 +1,4 @@
+-- Proof of the contract of `OpenObject::named`.
 use Rattle.std.proofs.Common.{sym, ◌∙◌, string_bytes}
 use Rattle.std.proofs.lemmas.Map.Text.{btree_set_updates_text}
 use Rattle.json_text.proofs.NameLemmas.{added, new_name, not_true}

@@ -1,3 +1,4 @@
+-- Proof of the contract of `NumberState::first`.
 use Rattle.std.proofs.Common.{arith}
 use Rattle.json_text.proofs.NumberLemmas.{start_zero, start_digit}
 use Rattle.json_text.proofs.number.NumberState.first.Goals as goal

@@ -1,3 +1,4 @@
+-- Proof of the contract of `Json::as_list`.
 use Rattle.std.proofs.Common.{ap, map, ◌∙◌, Some}
 use Rattle.json_text.specs.ValueOf.{value_of}
 use Rattle.json_text.proofs.TreeLemmas.{array_of-view}

@@ -1,3 +1,4 @@
+-- Proof of the contract of `Json::get`.
 use Rattle.json_text.specs.ValueOf.{value_of}
 use Rattle.json_text.proofs.TreeLemmas.{none_where_new}
 use Rattle.json_text.proofs.tree.Json.get.Goals as goal

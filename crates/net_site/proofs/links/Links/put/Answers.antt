@@ -1,3 +1,4 @@
+-- Proof of the contract of `Links::put`.
 use Rattle.std.proofs.Common.{◌∙◌, ap}
 use Rattle.std.proofs.lemmas.List.{map-set}
 use Rattle.std.specs.Prelude.{Bool, set}

@@ -1,3 +1,4 @@
+-- What the loop of `Links::set` keeps.
 use Rattle.std.proofs.Common.{◌≡◌, length}
 use Rattle.std.specs.Prelude.{All, false}
 use Rattle.net_site.proofs.links.Links.set.Given as goal

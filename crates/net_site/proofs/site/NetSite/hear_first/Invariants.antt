@@ -1,3 +1,4 @@
+-- What the loop of `NetSite::hear_first` keeps.
 use Rattle.std.proofs.Common.{◌≡◌, length}
 use Rattle.net_site.proofs.site.NetSite.hear_first.Given as goal
 

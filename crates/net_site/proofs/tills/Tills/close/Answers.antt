@@ -1,3 +1,4 @@
+-- Proof of the contract of `Tills::close`.
 use Rattle.std.proofs.Common.{ℕ, List, ◌∙◌, ap}
 use Rattle.std.specs.Prelude.{map, not, ◌==◌}
 use Rattle.net_site.specs.Holding.{TillNumbers, without_till}

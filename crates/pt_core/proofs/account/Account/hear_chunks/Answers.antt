@@ -7,8 +7,8 @@ use Rattle.pt_core.proofs.SplitLemmas.{Laws, count_of, few_requests}
 use Rattle.pt_core.proofs.ProgressLemmas.{Progress, Comes, cut_chunk, next_chunk}
 use Rattle.pt_core.proofs.account.Account.hear_chunks.Goals as goal
 
-pub serve_all-requires-clause-answer_room : goal.serve_all-requires-clause-answer_room
-serve_all-requires-clause-answer_room c =
+pub serve_all-requires-clause-sent_room : goal.serve_all-requires-clause-sent_room
+serve_all-requires-clause-sent_room c =
     let laws : Laws = record { whole = c.law_decode_apdus.ensures.whole; incomplete = c.law_decode_apdus.ensures.incomplete; too_long = c.law_decode_apdus.ensures.too_long } in
     let few = few_requests laws c.chunks.reader c.split_at.result.0.now c.chunks.invariant.1 in
     omega (arith, few, ap count_of c.feed.ensures, c.split_at.ensures.front_len, c.split_at.ensures.back_len, c.chunks.invariant.2)
@@ -68,7 +68,7 @@ chunks-preserved c =
     let comes : Comes (account_value c.chunks.self) c.feed.new.self c.chunks.out.items (account_value c.serve_all.new.self) c.serve_all.new.out.items false = record { account_is = c.serve_all.ensures.account; out_is = c.serve_all.ensures.bytes; cut_is = sym c.if-serve_all.false ∙ c.serve_all.ensures.cut } in (
       goes_on laws _ _ _ _ _ c.chunks.reader c.split_at.result.0.now c.split_at.result.1.now c.chunks.rest.now c.feed.new.self c.serve_all.new.reader _ _ c.min.result c.chunks.invariant.0 c.split_at.ensures.front c.split_at.ensures.back c.feed.ensures comes c.if-serve_all.ensures.rest,
       c.if-serve_all.ensures.waits,
-      omega (arith, few, ap count_of c.feed.ensures, c.split_at.ensures.front_len, c.split_at.ensures.back_len, c.chunks.invariant.2, c.serve_all.ensures.answer_len, c.serve_all.ensures.answer_capacity),
+      omega (arith, few, ap count_of c.feed.ensures, c.split_at.ensures.front_len, c.split_at.ensures.back_len, c.chunks.invariant.2, c.serve_all.ensures.sent_len, c.serve_all.ensures.sent_capacity),
       omega (arith, few, ap count_of c.feed.ensures, c.split_at.ensures.front_len, c.split_at.ensures.back_len, c.chunks.invariant.3, c.serve_all.ensures.book_len, c.serve_all.ensures.book_capacity),
       c.serve_all.ensures.none ∙ c.chunks.invariant.4,
       c.serve_all.ensures.plays ∙ c.chunks.invariant.5,

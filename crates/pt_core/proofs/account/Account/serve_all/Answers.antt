@@ -27,8 +27,8 @@ requests-preserved c =
     let fewer = ap (λ (s : DecodedApdus). length s.apdus) (laws.whole c.requests.reader (value_of c.in-Ok-Some.apdu) c.next.follows.lender-at-none prefix) in (
       one_more laws (account_value c.args.self.now) c.args.reader.now c.args.out.now.items (account_value c.requests.self) c.requests.reader c.requests.out.items (value_of c.in-Ok-Some.apdu) c.next.follows.lender-at-none c.serve.new.out.items
           c.requests.invariant.0 prefix (sym c.serve.ensures.cut ∙ c.if-serve.false) c.serve.ensures.bytes c.serve.ensures.account,
-      omega (arith, fewer, c.requests.invariant.1, c.serve.ensures.answer_len),
-      omega (arith, c.requests.invariant.2, c.serve.ensures.answer_capacity),
+      omega (arith, fewer, c.requests.invariant.1, c.serve.ensures.sent_len),
+      omega (arith, c.requests.invariant.2, c.serve.ensures.sent_capacity),
       omega (arith, fewer, c.requests.invariant.3, c.serve.ensures.book_len),
       omega (arith, c.requests.invariant.4, c.serve.ensures.book_capacity),
       c.serve.ensures.none ∙ c.requests.invariant.5,

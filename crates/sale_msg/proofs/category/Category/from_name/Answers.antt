@@ -1,3 +1,4 @@
+-- Proof of the contract of `Category::from_name`.
 use Rattle.std.proofs.Common.{◌≡◌, ◌<◌, arith}
 use Rattle.sale_msg.specs.declared.category.Category.TheVariants.{Login, Logout, Payment, Reversal, Abort, TransactionStatus, Reconciliation, Display, Print, Diagnosis}
 use Rattle.sale_msg.specs.Category.{category_name}

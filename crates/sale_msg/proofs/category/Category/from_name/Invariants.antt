@@ -1,3 +1,4 @@
+-- What the loop of `Category::from_name` keeps.
 use Rattle.std.proofs.Common.{◌≡◌, ℕ, ◌<◌, get_or}
 use Rattle.sale_msg.specs.declared.category.Category.TheVariants.{Login}
 use Rattle.sale_msg.specs.Category.{category_name}

@@ -1,3 +1,4 @@
+-- What the loop of `Out::character` keeps.
 use Rattle.std.proofs.Common.{take}
 use Rattle.std.specs.Prelude.{flat_map}
 use Rattle.json_text.specs.Canonical.{canonical_byte}

@@ -1,4 +1,5 @@
-use Rattle.sale_reply.specs.inner.Parts.{first_name}
+-- Proof of the contract of `Out::first_name`.
+use Rattle.sale_reply.specs.inner.CanonicalMembers.{first_name}
 use Rattle.sale_reply.proofs.PartLemmas.{and_then}
 use Rattle.sale_reply.proofs.buffer.Out.first_name.Goals as goal
 

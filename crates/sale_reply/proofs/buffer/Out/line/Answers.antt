@@ -1,3 +1,4 @@
+-- Proof of the contract of `Out::line`.
 use Rattle.std.proofs.lemmas.List.{take_all}
 use Rattle.sale_reply.proofs.PartLemmas.{and_then, spelled, line_is}
 use Rattle.sale_reply.proofs.buffer.Out.line.Goals as goal

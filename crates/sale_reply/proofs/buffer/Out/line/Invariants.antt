@@ -1,3 +1,4 @@
+-- What the loop of `Out::line` keeps.
 use Rattle.std.proofs.Common.{◌∷◌, take}
 use Rattle.std.specs.Prelude.{flat_map}
 use Rattle.sale_reply.specs.inner.Appends.{Appends}

@@ -1,5 +1,6 @@
+-- Proof of the contract of `Out::next_id`.
 use Rattle.std.proofs.Common.{sym}
-use Rattle.sale_reply.specs.inner.Parts.{next_optional}
+use Rattle.sale_reply.specs.inner.CanonicalMembers.{next_optional}
 use Rattle.sale_reply.proofs.PartLemmas.{nothing, spelled, next_optional_none}
 use Rattle.sale_reply.proofs.buffer.Out.next_id.Goals as goal
 

@@ -1,4 +1,5 @@
-use Rattle.sale_reply.specs.inner.Parts.{next_name}
+-- Proof of the contract of `Out::next_name`.
+use Rattle.sale_reply.specs.inner.CanonicalMembers.{next_name}
 use Rattle.sale_reply.proofs.PartLemmas.{and_then}
 use Rattle.sale_reply.proofs.buffer.Out.next_name.Goals as goal
 

@@ -1,6 +1,7 @@
+-- What the loop of `Out::parts` keeps.
 use Rattle.std.proofs.Common.{take}
 use Rattle.std.specs.Prelude.{flat_map}
-use Rattle.sale_values.specs.Parts.{part_text}
+use Rattle.sale_values.specs.PartBytes.{part_text}
 use Rattle.sale_reply.specs.inner.Appends.{Appends}
 use Rattle.sale_reply.proofs.buffer.Out.parts.Given as goal
 

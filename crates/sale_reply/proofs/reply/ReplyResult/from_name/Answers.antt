@@ -1,3 +1,4 @@
+-- Proof of the contract of `ReplyResult::from_name`.
 use Rattle.std.proofs.Common.{◌≡◌, ◌<◌, arith}
 use Rattle.sale_reply.specs.declared.reply.ReplyResult.TheVariants.{Success, Partial, Failure}
 use Rattle.sale_reply.specs.Names.{result_name}

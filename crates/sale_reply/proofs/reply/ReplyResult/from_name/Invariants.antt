@@ -1,3 +1,4 @@
+-- What the loop of `ReplyResult::from_name` keeps.
 use Rattle.std.proofs.Common.{◌≡◌, ℕ, ◌<◌, get_or}
 use Rattle.sale_reply.specs.declared.reply.ReplyResult.TheVariants.{Success}
 use Rattle.sale_reply.specs.Names.{result_name}

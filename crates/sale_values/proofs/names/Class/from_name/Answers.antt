@@ -1,3 +1,4 @@
+-- Proof of the contract of `Class::from_name`.
 use Rattle.std.proofs.Common.{◌≡◌, ◌<◌, arith}
 use Rattle.sale_values.specs.declared.names.Class.TheVariants.{Service, Device, Event}
 use Rattle.sale_values.specs.Names.{class_name}

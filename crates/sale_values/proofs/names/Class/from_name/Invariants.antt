@@ -1,3 +1,4 @@
+-- What the loop of `Class::from_name` keeps.
 use Rattle.std.proofs.Common.{◌≡◌, ℕ, ◌<◌, get_or}
 use Rattle.sale_values.specs.declared.names.Class.TheVariants.{Service}
 use Rattle.sale_values.specs.Names.{class_name}

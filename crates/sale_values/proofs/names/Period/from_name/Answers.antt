@@ -1,3 +1,4 @@
+-- Proof of the contract of `Period::from_name`.
 use Rattle.std.proofs.Common.{◌≡◌, ◌<◌, arith}
 use Rattle.sale_values.specs.declared.names.Period.TheVariants.{SaleReconciliation, AcquirerSynchronisation, AcquirerReconciliation, PreviousReconciliation}
 use Rattle.sale_values.specs.Names.{period_name}

@@ -1,3 +1,4 @@
+-- What the loop of `Period::from_name` keeps.
 use Rattle.std.proofs.Common.{◌≡◌, ℕ, ◌<◌, get_or}
 use Rattle.sale_values.specs.declared.names.Period.TheVariants.{SaleReconciliation}
 use Rattle.sale_values.specs.Names.{period_name}

@@ -1,3 +1,4 @@
+-- Proof of the contract of `add`.
 use Rattle.std.proofs.Common.{drop}
 use Rattle.std.specs.Prelude.{map}
 use Rattle.gw_site.specs.Outside.{outside_of}

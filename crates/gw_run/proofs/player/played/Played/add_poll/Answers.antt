@@ -1,3 +1,4 @@
+-- Proof of the contract of `add_poll`.
 use Rattle.std.proofs.Common.{drop}
 use Rattle.std.proofs.lemmas.Int.{to_z-of_z}
 use Rattle.std.specs.Prelude.{map}

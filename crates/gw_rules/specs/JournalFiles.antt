@@ -1,0 +1,142 @@
+-- Which files of the journal a power failure leaves: along lawful logs, and from where a journal is to be opened or a record to be kept; and that an opening gives the journal in which records are kept.
+use Rattle.std.specs.Prelude.{◌≡◌, ℕ, nat_le, Bool, true, false, not, ◌&&◌, if◌then◌else◌, List, [], ◌∷◌, ◌++◌, length, map, None}
+use Rattle.gw_site.specs.Outside.{outside_of}
+use Rattle.gw_site.specs.declared.turn.Turn.{Turn}
+use Rattle.gw_site.specs.declared.turn.Turn.TheVariants.{Start, Synced}
+use Rattle.jrn_record.specs.Grammar.{record_body}
+use Rattle.jrn_record.specs.Limits.{IsRecord}
+use Rattle.jrn_record.specs.declared.records.Record.{Record}
+use Rattle.jrn_log.specs.Foreign.{CanBeJournal, LeavesJournals, EndsClosed, append_turns}
+use Rattle.jrn_log.specs.Journal.{IsAtRest, AreKept}
+use Rattle.jrn_log.specs.JournalLogs.{HasGateAfter}
+use Rattle.jrn_log.specs.JournalTurns.{first_gate, first_gate_write}
+use Rattle.jrn_log.specs.Slots.{AreSlots}
+use Rattle.gw_owes.specs.Calls.{OwedCall, SendTill, SendPt, CutTill, CutPt, LinkPt, WriteBody, WriteGate, WriteFirstGate, Sync, keep_calls}
+use Rattle.gw_rules.specs.Lawful.{IsCourse, turns_of, IsLawful}
+use Rattle.gw_rules.specs.RowExample.{terminal_setup, example_record, keep_view, gate_moves}
+use Rattle.gw_rules.specs.Scene.{records_of}
+use Rattle.gw_rules.specs.View.{View, Move, Make, view_from, at_first}
+
+-- ---- lawful logs
+
+-- a journal can have left the file, that of the last sync, and whatever a power failure leaves
+pub record HasJournalFiles (log : List Turn) : Type 0 where
+  pub file : CanBeJournal (outside_of log).file
+  pub stable : CanBeJournal (outside_of log).stable
+  pub images : LeavesJournals log
+
+-- each lawful log has such files
+abbrev pub EachHasJournalFiles : Type 0
+EachHasJournalFiles = (log : List Turn) → IsLawful log → HasJournalFiles log
+
+-- ---- calls on the disk
+
+-- the call is on the disk
+abbrev pub is_on_disk : OwedCall → Bool
+is_on_disk (SendTill till reply) = false
+is_on_disk (SendPt pt sending) = false
+is_on_disk (CutTill till) = false
+is_on_disk (CutPt pt) = false
+is_on_disk (LinkPt pt) = false
+is_on_disk (WriteBody slot item) = true
+is_on_disk (WriteGate slot item) = true
+is_on_disk WriteFirstGate = true
+is_on_disk Sync = true
+
+-- none of these calls is on the disk
+abbrev pub spare_disk : List OwedCall → Bool
+spare_disk [] = true
+spare_disk (call ∷ calls) = not (is_on_disk call) && spare_disk calls
+
+-- ---- a journal that is opened
+
+-- the calls by which a run opens a journal whose file has so many bytes: a sync, and the first gate where the file has at most one byte
+abbrev pub opening_calls : ℕ → List OwedCall
+opening_calls size = Sync ∷ (if nat_le size 1 then WriteFirstGate ∷ Sync ∷ [] else [])
+
+-- Where a view owes that a journal is opened, each lawful course from it leaves such files after each of its turns. It goes by views, since no lawful log opens a journal yet.
+abbrev pub OpeningLeavesJournalFiles : Type 0
+OpeningLeavesJournalFiles =
+    (log : List Turn) (v : View) (calls : List OwedCall) (moves : List Move) → v.scene.outside ≡ outside_of log → LeavesJournals log
+    → v.calls ≡ opening_calls (length (outside_of log).file) ++ calls → spare_disk calls ≡ true → IsCourse v moves → HasJournalFiles (log ++ turns_of moves)
+
+-- ---- a record that is kept
+
+-- the view is one after this log, whose journal is between its calls and has exactly the records that are kept
+pub record HasJournal (log : List Turn) (v : View) : Type 0 where
+  pub outside_is : v.scene.outside ≡ outside_of log
+  pub no_flight : v.scene.flight ≡ None
+  pub at_rest : IsAtRest log (length v.scene.kept)
+  pub kept : AreKept log (map record_body v.scene.kept)
+  pub ends : EndsClosed (outside_of log).file (length v.scene.kept)
+
+-- Where a view has a journal and owes that a record is kept in the next slot, each lawful course from it leaves such files after each of its turns, whichever they are.
+abbrev pub KeepingLeavesJournals : Type 0
+KeepingLeavesJournals =
+    (log : List Turn) (v : View) (item : Record) (calls : List OwedCall) (moves : List Move) → HasJournal log v → IsRecord item
+    → v.calls ≡ keep_calls (length v.scene.kept) item ++ calls → spare_disk calls ≡ true → IsCourse v moves → HasJournalFiles (log ++ turns_of moves)
+
+-- once its body and its gate are written and synced, the view has the journal with this record too, and owes the later calls
+pub record IsKept (log : List Turn) (v : View) (item : Record) (calls : List OwedCall) (turns : List Turn) : Type 0 where
+  pub lawful : IsCourse v (map Make turns)
+  pub journal : HasJournal (log ++ turns) (view_from v (map Make turns))
+  pub kept_is : (view_from v (map Make turns)).scene.kept ≡ v.scene.kept ++ item ∷ []
+  pub calls_are : (view_from v (map Make turns)).calls ≡ calls
+
+-- so records may be kept one after the other
+abbrev pub KeepingHasJournal : Type 0
+KeepingHasJournal =
+    (log : List Turn) (v : View) (item : Record) (calls : List OwedCall) → HasJournal log v → IsRecord item → v.calls ≡ keep_calls (length v.scene.kept) item ++ calls
+    → IsKept log v item calls (append_turns (length v.scene.kept) (record_body item))
+
+-- ---- an opening gives a journal
+
+-- the opening is lawful, and after it the view has the journal with the records of the file, and owes the later calls
+pub record IsOpened (log : List Turn) (v : View) (calls : List OwedCall) (turns : List Turn) : Type 0 where
+  pub lawful : IsCourse v (map Make turns)
+  pub journal : HasJournal (log ++ turns) (view_from v (map Make turns))
+  pub kept_is : (view_from v (map Make turns)).scene.kept ≡ records_of v.scene
+  pub calls_are : (view_from v (map Make turns)).calls ≡ calls
+
+-- where a view owes that a journal is opened, on a file whose open slots hold the view's records, none of them truncated, its opening is lawful and gives it the journal with these
+abbrev pub OpeningHasJournal : Type 0
+OpeningHasJournal =
+    (log : List Turn) (v : View) (calls : List OwedCall) → v.scene.outside ≡ outside_of log → LeavesJournals log
+    → AreSlots (outside_of log).file (map record_body (records_of v.scene)) → HasGateAfter (outside_of log).file (length (records_of v.scene))
+    → v.calls ≡ opening_calls (length (outside_of log).file) ++ calls → IsOpened log v calls (Synced ∷ first_gate (length (outside_of log).file))
+
+-- ---- a closed example
+
+-- a journal was opened on no file
+abbrev pub journal_log : List Turn
+journal_log = Start terminal_setup ∷ Synced ∷ first_gate_write ∷ Synced ∷ []
+
+-- a run begins, and is to open a journal on no file
+abbrev pub open_view : View
+open_view = record (view_from at_first (Make (Start terminal_setup) ∷ [])) { calls = opening_calls 0 }
+
+-- the file is synced, and its first gate is written and synced
+abbrev pub opened_moves : List Move
+opened_moves = Make Synced ∷ Make first_gate_write ∷ Make Synced ∷ []
+
+-- that opening is lawful and gives the journal in which a record is kept
+pub record OpenedHasJournal : Type 0 where
+  pub lawful : IsCourse open_view opened_moves
+  pub log_is : Start terminal_setup ∷ turns_of opened_moves ≡ journal_log
+  pub journal : HasJournal journal_log (view_from open_view opened_moves)
+
+-- a record is to be kept in its first slot
+abbrev pub journal_view : View
+journal_view = record keep_view { scene = record keep_view.scene { outside = outside_of journal_log } }
+
+-- its body and its gate are written, and synced
+abbrev pub kept_moves : List Move
+kept_moves = gate_moves ++ Make Synced ∷ []
+
+-- the course is lawful and keeps the record, and the file is its slot and a closed gate
+pub record KeptFileIsJournal : Type 0 where
+  pub has_journal : HasJournal journal_log journal_view
+  pub lawful : IsCourse journal_view kept_moves
+  pub kept_is : (view_from journal_view kept_moves).scene.kept ≡ example_record ∷ []
+  pub file_is : (outside_of (journal_log ++ turns_of kept_moves)).file ≡ 165 ∷ (record_body example_record ++ 0 ∷ [])
+  pub files : HasJournalFiles (journal_log ++ turns_of kept_moves)

@@ -1,0 +1,8 @@
+-- The laws of the whole script.
+pub mod ByLinesLemmas
+pub mod ExactLemmas
+pub mod FormLemmas
+pub mod LeadsLemmas
+pub mod LinesLemmas
+pub mod ScriptLemmas
+pub mod WordLemmas
