@@ -43,9 +43,9 @@ struct Tally {
 fn stream_of(alloc: Global, bytes: usize) -> Result<Vec<u8>, AllocError> {
     let mut stream = Vec::new(alloc);
     for _ in 0..bytes / 300 + 1 {
-        for (class, instr, body) in PAYMENT {
+        for (class, instr, data) in PAYMENT {
             let mut out = ArrayVec::new();
-            write_apdu(class, instr, body, &mut out);
+            write_apdu(class, instr, data, &mut out);
             stream.extend_from_slice(out.as_slice())?;
         }
     }

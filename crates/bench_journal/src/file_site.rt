@@ -11,24 +11,24 @@ use std::io::{self, Read, Seek, SeekFrom, Write};
 #[derive(Drop)]
 pub(crate) struct FileSite {
     file: File,
-    faults: u64,
+    failures: u64,
 }
 
 /// Fills the buffer with the file's bytes from an offset on, and zeros past its end.
 fn read_full(file: &mut File, offset: u64, buf: &mut [u8]) -> io::Result<()> {
     file.seek(SeekFrom::Start(offset))?;
-    let mut at = 0;
+    let mut filled = 0;
     for _ in 0..u64::MAX {
-        if at == buf.len() {
+        if filled == buf.len() {
             break;
         }
-        let count = file.read(&mut buf[at..])?;
+        let count = file.read(&mut buf[filled..])?;
         if count == 0 {
             break;
         }
-        at += count;
+        filled += count;
     }
-    for byte in buf[at..].iter_mut() {
+    for byte in buf[filled..].iter_mut() {
         *byte = 0;
     }
     Ok(())
@@ -43,23 +43,23 @@ fn write_whole(file: &mut File, offset: u64, bytes: &[u8]) -> io::Result<()> {
 impl FileSite {
     /// A site over this file, at which no call has failed yet.
     pub(crate) fn new(file: File) -> FileSite
-        ensures { result.faults ≡ 0 }
+        ensures { result.failures ≡ 0 }
     {
-        FileSite { file, faults: 0 }
+        FileSite { file, failures: 0 }
     }
 
     fn fail<T>(&mut self) -> Result<T, Failed>
-        ensures rose { Rose self.old.faults self.new.faults }
-        ensures later { self.old.faults ≤ self.new.faults }
+        ensures rose { Rose self.old.failures self.new.failures }
+        ensures later { self.old.failures ≤ self.new.failures }
         ensures failed { IsErr result }
     {
-        self.faults = self.faults.saturating_add(1);
+        self.failures = self.failures.saturating_add(1);
         Err(Failed)
     }
 
     /// The result of a call, whose failure is counted.
     fn counted<T>(&mut self, done: io::Result<T>) -> Result<T, Failed>
-        ensures { HasCause self.old.faults self.new.faults result }
+        ensures { HasCause self.old.failures self.new.failures result }
     {
         match done {
             Ok(value) => Ok(value),
@@ -69,7 +69,7 @@ impl FileSite {
 }
 
 impl Site for FileSite {
-    ghost observed = { λ site. record { log = None; faults = site.faults; dark = false; origin = [] } };
+    ghost observed = { λ site. record { log = None; faults = site.failures; dark = false; origin = [] } };
 
     fn open(&mut self, _setup: &Setup) -> Result<(), Failed> {
         self.fail()

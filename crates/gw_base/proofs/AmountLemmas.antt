@@ -221,8 +221,8 @@ minor_units-meaning text = by_case (minor_units text) refl
     by_case (Some units) e = minor_units-is text units e
 
 -- minor units beyond the limits are none
-pub minor_with-large : (whole fraction : List ℕ) → is_amount (minor_units_of whole fraction) ≡ false → minor_units_with whole (Some fraction) ≡ None
-minor_with-large whole fraction e = rw e (simp and-false)
+pub minor_units_with-large : (whole fraction : List ℕ) → is_amount (minor_units_of whole fraction) ≡ false → minor_units_with whole (Some fraction) ≡ None
+minor_units_with-large whole fraction e = rw e (simp and-false)
 
 -- a text spells one amount at most
 pub amount_text-one : (text : List ℕ) (units other : ℕ) → SpellsAmount text units → SpellsAmount text other → units ≡ other

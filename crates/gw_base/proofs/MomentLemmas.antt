@@ -154,9 +154,9 @@ plain-seconds civil h =
     omega (arith, signed_arith, civil_nanos-civil_seconds (plain civil h), e)
 
 -- the parts of a value of `jiff` that counts the same nanoseconds
-pub shown_parts : (civil : Civil) (h : IsCivil civil) (date_time : DateTime) → civil_nanos date_time ≡ seconds_of civil *ℤ pos 1_000_000_000
+pub date_time_parts : (civil : Civil) (h : IsCivil civil) (date_time : DateTime) → civil_nanos date_time ≡ seconds_of civil *ℤ pos 1_000_000_000
     → IsDateTimeOf civil date_time
-shown_parts civil h date_time e =
+date_time_parts civil h date_time e =
     let same = civil_nanos_injective date_time (plain civil h) (e ∙ sym (plain-seconds civil h)) in
     let date = epoch_day_injective date_time.date (plain civil h).date same.0 in
     let time = time_nanos_injective date_time.time (plain civil h).time same.1 in
@@ -166,7 +166,7 @@ shown_parts civil h date_time e =
 pub seconds_of-injective : (a b : Civil) → IsCivil a → IsCivil b → seconds_of a ≡ seconds_of b → civil_text a ≡ civil_text b
 unfolding civil_text
 seconds_of-injective a b h k e =
-    let shows = shown_parts a h (plain b k) (plain-seconds b k ∙ ap (λ z. z *ℤ pos 1_000_000_000) (sym e)) in
+    let shows = date_time_parts a h (plain b k) (plain-seconds b k ∙ ap (λ z. z *ℤ pos 1_000_000_000) (sym e)) in
     let year : b.year ≡ a.year = omega (arith, signed_arith, shows.year) in
     rw (year, shows.month, shows.day, shows.hour, shows.minute, shows.second) refl
 
@@ -174,10 +174,10 @@ seconds_of-injective a b h k e =
 pub stamp_of-only : (moment : ℕ) → moment ≤ last_moment → (text : List ℕ) → IsStamp moment text → text ≡ stamp_of (pos moment)
 unfolding stamp_of
 stamp_of-only moment h text (civil, is, seconds, e) =
-    let kept : min moment last_moment ≡ moment = omega arith in
+    let same_moment : min moment last_moment ≡ moment = omega arith in
     let own = civil_at-is moment h in
     e ∙ seconds_of-injective civil (civil_at moment) is own.0 (seconds ∙ sym own.1)
-    ∙ ap (λ m. civil_text (civil_at m)) (sym kept)
+    ∙ ap (λ m. civil_text (civil_at m)) (sym same_moment)
 
 -- a number taken into the range is a moment, and a moment stays
 pub moment_of_bound : (now : ℤ) → moment_of now ≤ last_moment

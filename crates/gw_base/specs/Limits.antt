@@ -7,7 +7,7 @@ IsAmount units = (1 ≤ units) × (units ≤ 999999999999)
 
 -- a trace number of a terminal: six digits; 0 is no number of an entry
 abbrev pub IsTrace : ℕ → Type 0
-IsTrace number = number ≤ 999999
+IsTrace trace = trace ≤ 999999
 
 -- a receipt number of a terminal: four digits
 abbrev pub IsReceipt : ℕ → Type 0

@@ -17,13 +17,13 @@ pub fn minor_of(numeral: &[u8]) -> Option<u64>
 {
     let (whole, rest) = numeral.split_at(whole_len(numeral));
     match fraction_digits(rest) {
-        Some(fraction) => minor_of_parts(whole, fraction),
+        Some(fraction) => units_of_parts(whole, fraction),
         None => None,
     }
 }
 
 /// The minor units of the digits before and after the point, if these are an amount.
-fn minor_of_parts(whole: &[u8], fraction: &[u8]) -> Option<u64>
+fn units_of_parts(whole: &[u8], fraction: &[u8]) -> Option<u64>
     requires { All IsAsciiDigit fraction.now }
     ensures { result ≡ minor_units_with whole.now (Some fraction.now) }
 {

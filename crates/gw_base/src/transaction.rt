@@ -1,7 +1,7 @@
 //! The text that names a transaction of a terminal.
 ghost use Rattle.std.specs.Prelude.{◌≡◌, length};
 ghost use Rattle.gw_base.specs.Digits.{digits};
-ghost use Rattle.gw_base.specs.Transaction.{TransactionTextsDiffer, transaction_text};
+ghost use Rattle.gw_base.specs.Transaction.{ExampleTransactionTexts, TransactionTextsDiffer, transaction_text};
 
 use arrayvec::ArrayVec;
 use itoa::Buffer;
@@ -47,4 +47,9 @@ fn fill_digits(value: u64, cells: &mut [u8])
 /// Transactions whose numbers lie within their limits have one text only where they have the same numbers.
 pub fn law_transaction_texts()
     ensures { TransactionTextsDiffer }
+{}
+
+/// Examples of the law, which are computed: the greatest numbers, those of an approval, and a decline.
+pub fn law_transaction_examples()
+    ensures { ExampleTransactionTexts }
 {}

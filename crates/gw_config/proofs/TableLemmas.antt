@@ -20,10 +20,10 @@ array_values-elements [] = refl
 array_values-elements (value ∷ values) = ap (λ rest. value ∷ rest) (array_values-elements values)
 
 -- the tables of an array, by a test of its values
-pub tables_among-view : (values : List Value) (test : Bool)
+pub tables_among-value_of : (values : List Value) (test : Bool)
     → test ≡ (is_from_to 1 32 (length values) && list_all (λ value. is_some (as_table (view value))) values)
     → tables_among (array_values (items_view values)) ≡ (if test then Some (tables_of values) else None)
-tables_among-view values test is =
+tables_among-value_of values test is =
     rw (array_values-elements (map view values), length-map, list_all-map (λ value. is_some (as_table value)) view values, is) refl
 
 -- the tables from an index on: the one at the index, if there is a table, and those after it

@@ -1,3 +1,4 @@
--- The lemmas of what a till gets for each message.
+-- The lemmas of what a till gets for each message, and of what the core wants done.
+pub mod HandlingLemmas
 pub mod OutputLemmas
 pub mod ReplyLemmas

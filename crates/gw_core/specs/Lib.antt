@@ -1,2 +1,3 @@
--- The definitions of what a till gets for each message.
+-- The definitions of what a till gets for each message, and of what the core wants done.
+pub mod IsRow
 pub mod ReplyOf

@@ -1,10 +1,9 @@
 -- The replies of the code, beside those that are owed.
 use Rattle.std.specs.Prelude.{◌≡◌, ◌≤◌, ℕ, List, length, Option, Some, None, IfSome}
-use Rattle.json_text.specs.Canonical.{canonical}
 use Rattle.sale_values.specs.declared.request.SaleRequest.{SaleRequest}
 use Rattle.sale_values.specs.declared.request.SaleRequest.TheVariants.{Login, Logout, Payment, Reversal, Abort, Status, Reconciliation, Display, Print, Diagnosis}
 use Rattle.sale_reply.specs.declared.reply.SaleReply.{SaleReply}
-use Rattle.sale_reply.specs.Limits.{HasUnlimitedParts}
+use Rattle.sale_reply.specs.Limits.{HasUnlimitedParts, IsWithinLimits}
 use Rattle.sale_reply.specs.Reply.{tree_of}
 use Rattle.gw_owes.specs.Reply.{ReplyValue, reply_value_tree}
 use Rattle.gw_owes.specs.ReadAs.{ReadAs, IsReadAs}
@@ -37,9 +36,9 @@ pub record IsReplyTo (name : List ℕ) (moment : ℕ) (message : List ℕ) (give
   pub read : IsReadAs message as_read
   pub replied : IsReplyToRead name moment as_read given
 
--- what is given fits a frame
-abbrev pub HasRoom : Option SaleReply → Type 0
-HasRoom given = IfSome given (λ reply. length (canonical (tree_of reply)) ≤ 65536)
+-- what is given lies within the limits, so that it may be written
+abbrev pub IsGivenWithinLimits : Option SaleReply → Type 0
+IsGivenWithinLimits given = IfSome given IsWithinLimits
 
 -- Inner: a Display has at most 16 outputs
 abbrev pub HasFewOutputs : SaleRequest → Type 0

@@ -67,7 +67,7 @@ pub(crate) fn refused(header: &Header, condition: Condition) -> SaleReply<'stati
     }
 }
 
-/// The event that a message is rejected.
+/// The event that rejects a message.
 pub(crate) fn reject(
     sale: &Ident<40>,
     poi: &Ident<40>,
@@ -84,7 +84,7 @@ pub(crate) fn reject(
     }
 }
 
-/// The event that a message without a readable header is rejected, under the gateway's name.
+/// The event that rejects a message without a readable header, under the gateway's name.
 pub(crate) fn reject_without_header(
     name: &Ident<40>,
     now: i64,

@@ -1,15 +1,13 @@
 //! The reply to a message of a till.
-ghost use Rattle.std.specs.Prelude.{◌≡◌, ◌≤◌, ℕ, List, Some, IfOk, length};
+ghost use Rattle.std.specs.Prelude.{◌≡◌, ℕ, List, Some, IfOk};
 ghost use Rattle.gw_base.specs.Moment.{moment_of};
 ghost use Rattle.json_text.specs.Grammar.{Spells};
 ghost use Rattle.json_text.specs.ValueOf.{value_of};
 ghost use Rattle.sale_reply.specs.declared.reply.Detail.TheVariants.{Json as JsonDetail};
-ghost use Rattle.json_text.specs.Canonical.{canonical};
-ghost use Rattle.sale_reply.specs.Limits.{HasUnlimitedParts};
-ghost use Rattle.sale_reply.specs.Reply.{tree_of};
+ghost use Rattle.sale_reply.specs.Limits.{HasUnlimitedParts, IsWithinLimits};
 ghost use Rattle.gw_owes.specs.Row.{Known};
 ghost use Rattle.gw_owes.specs.Replies.{reply_to_request as reply_owed_to_request, reply_to_fault as reply_owed_to_fault, reject_event};
-ghost use Rattle.gw_core.specs.ReplyOf.{IsSameReply, AreSameReplies, IsReplyTo, HasFewOutputs, HasRoom};
+ghost use Rattle.gw_core.specs.ReplyOf.{IsSameReply, AreSameReplies, IsReplyTo, HasFewOutputs, IsGivenWithinLimits};
 
 use crate::refusal::{
     display_reply, malformed_body, printed, refusal, refused, reject, reject_without_header,
@@ -17,7 +15,7 @@ use crate::refusal::{
 use gw_base::{Condition, Ident};
 use json_text::{Json, JsonFault, ReadError};
 use sale_msg::{Header, Incoming, MessageError, SaleFault, SaleRequest, read_message};
-use sale_reply::{Detail, SaleReply, is_within_limits, law_size};
+use sale_reply::{Detail, SaleReply, is_within_limits};
 use std::alloc::{AllocError, Global};
 
 /// The reply to a request: no terminal is configured, no payment is known and none waits.
@@ -117,11 +115,11 @@ pub fn reply(
     message: &[u8],
 ) -> Result<Option<SaleReply<'static>>, AllocError>
     ensures reply { IfOk result (λ given. IsReplyTo name.now (moment_of now) message.now given) }
-    ensures fits { IfOk result HasRoom }
+    ensures within { IfOk result IsGivenWithinLimits }
 {
     match reply_to_message(alloc, name, now, message) {
         Ok(Some(reply)) => {
-            fits(&reply);
+            lies_within(&reply);
             Ok(Some(reply))
         }
         Ok(None) => Ok(None),
@@ -129,11 +127,10 @@ pub fn reply(
     }
 }
 
-/// A message whose types limit its parts fits a frame.
-fn fits(reply: &SaleReply<'_>)
+/// A message whose types limit its parts lies within the limits.
+fn lies_within(reply: &SaleReply<'_>)
     requires { HasUnlimitedParts reply.now → ⊥ }
-    ensures { length (canonical (tree_of reply.now)) ≤ 65536 }
+    ensures { IsWithinLimits reply.now }
 {
     let _ = is_within_limits(reply);
-    law_size();
 }

@@ -19,13 +19,13 @@ use Rattle.gw_owes.specs.Replies.{reply_to}
 use Rattle.gw_owes.specs.Row.{Known, becoming, owing}
 use Rattle.gw_owes.specs.Rows.{row_of, where_there, asked_row}
 use Rattle.gw_owes.specs.Terminals.{reply_calls_to}
-use Rattle.gw_owes.proofs.FrameLemmas.{items-waiting, items-unframed, items-message, reading-message, reading-waiting, unfinished-waits}
+use Rattle.gw_owes.proofs.FrameLemmas.{items-waiting, items-unframed, items-payload, reading-payload, reading-waiting, incomplete-waits}
 use Rattle.gw_rules.specs.Scene.{Scene, row_in, row_at}
 use Rattle.gw_rules.specs.Stage.{Stage, Resting, Opening, Looking, AtPoll, Handling, Over, Broken, is_round, busy}
 use Rattle.gw_rules.specs.View.{View, called, begun, at_first, at_item, till_cut}
 use Rattle.gw_rules.specs.Lawful.{Stands, may_begin}
 use Rattle.gw_rules.specs.Triple.{Extends, Triple, Owing}
-use Rattle.gw_rules.proofs.TripleLemmas.{keeps-refl, keeps-then, keeps-after, keeps-before, keeps-frame, keeps-some, nothing-extends, begin-keeps, read-keeps}
+use Rattle.gw_rules.proofs.TripleLemmas.{triple-refl, triple-then, triple-after, triple-before, triple-frame, triple-some, nothing-extends, begin-triple, read-triple}
 use Rattle.gw_core.specs.ReplyOf.{IsKnownAt, AreSameReplies}
 use Rattle.gw_dispatch.specs.NextMessage.{TakesMessage}
 use Rattle.gw_dispatch.specs.Round.{IsIn, InRound, Pending, BeforeTill, AfterTill, ReadsOn, Delivered, OweNothing, with_core, known_without}
@@ -41,8 +41,8 @@ known-observed s A P Q k false d before v e stands p = (k (p d).1).observed befo
 known-observed s A P Q k true d before v e stands p = nothing-extends before v s Q e (λ f. absurd (let h : true ≡ false = sym d ∙ f in cc))
 
 -- what is kept without a call where a fact holds
-pub keeps-known : (s : Observed) (A : Type 0) (P Q : View → Type 0) → (A → Triple s s P Q) → Triple s s (λ v. P v × A) Q
-keeps-known s A P Q k = record {
+pub triple-known : (s : Observed) (A : Type 0) (P Q : View → Type 0) → (A → Triple s s P Q) → Triple s s (λ v. P v × A) Q
+triple-known s A P Q k = record {
   observed = λ before v e stands p. known-observed s A P Q k s.dark refl before v e stands p;
   unobserved = λ e. e;
   stays = λ e. e;
@@ -105,15 +105,15 @@ pub record BeginsBy (known : Known) (o : Outside) (item : RoundItem) (items : Li
 pub some-scene : (a b : Observed) (known : Known) (polls : ℕ) (o : Outside) (calls : List OwedCall) (items : List RoundItem) (Q : View → Type 0) →
     ((scene : Scene) → Triple a b (λ v. Owing scene calls items v × IsIn known polls o scene) Q) → Triple a b (Pending known polls o calls items) Q
 some-scene a b known polls o calls items Q k =
-    keeps-before a b (Pending known polls o calls items) (λ v. (scene : Scene) × (Owing scene calls items v × IsIn known polls o scene)) _ (λ v p. (p.0, (p.1, p.2)))
-    (keeps-some a b (λ scene v. Owing scene calls items v × IsIn known polls o scene) Q at_first.scene k)
+    triple-before a b (Pending known polls o calls items) (λ v. (scene : Scene) × (Owing scene calls items v × IsIn known polls o scene)) _ (λ v p. (p.0, (p.1, p.2)))
+    (triple-some a b (λ scene v. Owing scene calls items v × IsIn known polls o scene) Q at_first.scene k)
 
 -- the first item begins
 pub begin-first : (s : Observed) (known : Known) (polls : ℕ) (o : Outside) (item : RoundItem) (items : List RoundItem) (core : Core) (calls : List OwedCall) → BeginsBy known o item items core calls →
     Triple s s (InRound known polls o (item ∷ items)) (Pending (with_core known core) polls o calls items)
 begin-first s known polls o item items core calls begins = some-scene s s known polls o [] (item ∷ items) (Pending (with_core known core) polls o calls items) (λ scene.
-    keeps-known s (IsIn known polls o scene) (Owing scene [] (item ∷ items)) _ (λ f.
-    keeps-after s s _ _ _ (begin-keeps s scene item items f.round (begins.begins scene f.outside_is))
+    triple-known s (IsIn known polls o scene) (Owing scene [] (item ∷ items)) _ (λ f.
+    triple-after s s _ _ _ (begin-triple s scene item items f.round (begins.begins scene f.outside_is))
     (λ v q. (record scene { stage = busy scene.stage; core = core }, q ∙ ap (λ row. begun scene row items) (row-known known polls o scene item f ∙ begins.row), begun-in known polls o core scene f))))
 
 -- the first item begins, and owes nothing
@@ -123,48 +123,48 @@ pass s known polls o item items begins = begin-first s known polls o item items 
 
 -- items that owe nothing are passed
 pub pass-due : (s : Observed) (known : Known) (polls : ℕ) (o : Outside) (due : List RoundItem) → OweNothing due → Triple s s (InRound known polls o due) (InRound known polls o [])
-pass-due s known polls o [] owe = keeps-refl s _
-pass-due s known polls o (item ∷ due) owe = keeps-then s s s _ _ _
+pass-due s known polls o [] owe = triple-refl s _
+pass-due s known polls o (item ∷ due) owe = triple-then s s s _ _ _
     (pass s known polls o item due (record { begins = λ scene e. owe.0.begins scene due; row = owe.0.row o.tills known }))
     (pass-due s known polls o due owe.1)
 
 -- ---- a till that is gone
 
-pub without-closed : (lines : List Connection) (number : ℕ) → is_connected (without lines number) number ≡ false
+pub without-closed : (connections : List Connection) (number : ℕ) → is_connected (without connections number) number ≡ false
 without-closed [] number = refl
-without-closed (line ∷ lines) number = by_test (line.number == number) refl (without-closed lines number)
+without-closed (connection ∷ connections) number = by_test (connection.number == number) refl (without-closed connections number)
   where
-    by_test : (test : Bool) → (line.number == number) ≡ test → is_connected (without lines number) number ≡ false → is_connected (without (line ∷ lines) number) number ≡ false
+    by_test : (test : Bool) → (connection.number == number) ≡ test → is_connected (without connections number) number ≡ false → is_connected (without (connection ∷ connections) number) number ≡ false
     by_test true e h = rw e h
     by_test false e h = rw (e, e) h
 
 -- the items of a till that is gone owe nothing
 module _ (known : Known) (polls : ℕ) (o : Outside) (till : ℕ) (closed : is_connected o.tills till ≡ false) (s : Observed) where
-  pass-messages : (messages : List (List ℕ)) (items : List RoundItem) → Triple s s (InRound known polls o (map (Message till) messages ++ items)) (InRound known polls o items)
-  pass-messages [] items = keeps-refl s _
-  pass-messages (message ∷ messages) items = keeps-then s s s _ _ _
-      (pass s known polls o (Message till message) (map (Message till) messages ++ items) (record { begins = λ scene e. rw (e, closed) refl; row = refl }))
-      (pass-messages messages items)
+  pass-payloads : (payloads : List (List ℕ)) (items : List RoundItem) → Triple s s (InRound known polls o (map (Message till) payloads ++ items)) (InRound known polls o items)
+  pass-payloads [] items = triple-refl s _
+  pass-payloads (message ∷ payloads) items = triple-then s s s _ _ _
+      (pass s known polls o (Message till message) (map (Message till) payloads ++ items) (record { begins = λ scene e. rw (e, closed) refl; row = refl }))
+      (pass-payloads payloads items)
 
   pass-unframed : (items : List RoundItem) (test : Bool) → Triple s s (InRound known polls o ((if test then Unframed till ∷ [] else []) ++ items)) (InRound known polls o items)
   pass-unframed items true = pass s known polls o (Unframed till) items (record { begins = λ scene e. refl; row = ap (λ there. where_there there known (owing known (CutTill till ∷ []))) closed })
-  pass-unframed items false = keeps-refl s _
+  pass-unframed items false = triple-refl s _
 
   pub pass-all : (reading : DecodedFrames) (items : List RoundItem) → Triple s s (InRound known polls o (decoded_items till reading ++ items)) (InRound known polls o items)
   pass-all reading items =
       let last : List RoundItem = if has_bad_length reading.rest then Unframed till ∷ [] else [] in
-      keeps-before s s _ _ _ (λ v p. subst (λ list. InRound known polls o list v) (append_assoc (map (Message till) reading.messages) last items) p)
-      (keeps-then s s s _ _ _ (pass-messages reading.messages (last ++ items)) (pass-unframed items (has_bad_length reading.rest)))
+      triple-before s s _ _ _ (λ v p. subst (λ list. InRound known polls o list v) (append_assoc (map (Message till) reading.payloads) last items) p)
+      (triple-then s s s _ _ _ (pass-payloads reading.payloads (last ++ items)) (pass-unframed items (has_bad_length reading.rest)))
 
 -- ---- what a reader holds
 
 -- less than a frame waits
 pub serve-waiting : (s : Observed) (known : Known) (polls : ℕ) (o : Outside) (till : ℕ) (bytes : List ℕ) (items : List RoundItem) → IsIncompleteFrame bytes →
     Triple s s (BeforeTill known polls o till bytes items) (InRound known polls o items)
-serve-waiting s known polls o till bytes items h = keeps-before s s _ _ _ (λ v p. subst (λ list. InRound known polls o (list ++ items) v) (items-waiting till bytes h) p.0) (keeps-refl s (InRound known polls o items))
+serve-waiting s known polls o till bytes items h = triple-before s s _ _ _ (λ v p. subst (λ list. InRound known polls o (list ++ items) v) (items-waiting till bytes h) p.0) (triple-refl s (InRound known polls o items))
 
 pub waiting-rest : (bytes : List ℕ) → IsIncompleteFrame bytes → bytes ≡ (decode_frames bytes).rest
-waiting-rest bytes h = ap (λ (r : DecodedFrames). r.rest) (sym (reading-waiting bytes (unfinished-waits bytes h)))
+waiting-rest bytes h = ap (λ (r : DecodedFrames). r.rest) (sym (reading-waiting bytes (incomplete-waits bytes h)))
 
 -- the till is there
 abbrev pub IsHere : Outside → ℕ → Type 0
@@ -175,14 +175,14 @@ pub serve-unframed : (a b : Observed) (known : Known) (polls : ℕ) (o : Outside
     Triple a b (BeforeTill known polls o till bytes items) (AfterTill {E = AllocError} (Ok served) known polls o till left items)
 serve-unframed a b known polls o till bytes left items served gone bad cuts =
     subst (λ served. Triple a b (BeforeTill known polls o till bytes items) (AfterTill {E = AllocError} (Ok served) known polls o till left items)) (sym gone)
-    (keeps-then a a b _ _ _
-    (keeps-before a a (BeforeTill known polls o till bytes items) (λ v. InRound known polls o (Unframed till ∷ items) v × IsHere o till) _
+    (triple-then a a b _ _ _
+    (triple-before a a (BeforeTill known polls o till bytes items) (λ v. InRound known polls o (Unframed till ∷ items) v × IsHere o till) _
     (λ v p. (subst (λ list. InRound known polls o (list ++ items) v) (items-unframed till bytes bad) p.0, p.1))
-    (keeps-known a (IsHere o till) _ (Pending known polls o (CutTill till ∷ []) items)
+    (triple-known a (IsHere o till) _ (Pending known polls o (CutTill till ∷ []) items)
     (λ here. begin-first a known polls o (Unframed till) items known.core (CutTill till ∷ [])
     (record { begins = λ scene e. refl; row = ap (λ there. where_there there known (owing known (CutTill till ∷ []))) here }))))
     (some-scene a b known polls o (CutTill till ∷ []) items (InRound (known_without known till) polls (outside_after o (TillCut till)) items)
-    (λ scene. keeps-after a b _ _ _ (keeps-frame a b _ _ (IsIn known polls o scene) (cuts scene items)) (λ v q. (till_cut scene till, q.0, cut-in known polls o till scene q.1)))))
+    (λ scene. triple-after a b _ _ _ (triple-frame a b _ _ (IsIn known polls o scene) (cuts scene items)) (λ v q. (till_cut scene till, q.0, cut-in known polls o till scene q.1)))))
 
 -- ---- a message
 
@@ -190,21 +190,21 @@ serve-unframed a b known polls o till bytes left items served gone bad cuts =
 begin-message : (s : Observed) (known : Known) (polls : ℕ) (o : Outside) (till : ℕ) (old new message : List ℕ) (items : List RoundItem) (as_read : ReadAs) → IsPayload message → old ≡ frame message ++ new → IsReadAs message as_read →
     Triple s s (BeforeTill known polls o till old items) (λ v. Pending known polls o (reply_calls_to (Some till) (reply_to known as_read)) (decoded_items till (decode_frames new) ++ items) v × IsHere o till)
 begin-message s known polls o till old new message items as_read lawful taken reads =
-    keeps-before s s (BeforeTill known polls o till old items) (λ v. (InRound known polls o (Message till message ∷ later) v × IsHere o till) × IsHere o till) _ first
-    (keeps-frame s s _ _ (IsHere o till) (keeps-known s (IsHere o till) _ _ (λ here. keeps-then s s s _ _ _ (read here) (begin here))))
+    triple-before s s (BeforeTill known polls o till old items) (λ v. (InRound known polls o (Message till message ∷ later) v × IsHere o till) × IsHere o till) _ first
+    (triple-frame s s _ _ (IsHere o till) (triple-known s (IsHere o till) _ _ (λ here. triple-then s s s _ _ _ (read here) (begin here))))
   where
     later : List RoundItem
     later = decoded_items till (decode_frames new) ++ items
 
     first : (v : View) → BeforeTill known polls o till old items v → (InRound known polls o (Message till message ∷ later) v × IsHere o till) × IsHere o till
     first v p =
-        let same : decoded_items till (decode_frames old) ≡ Message till message ∷ decoded_items till (decode_frames new) = ap (λ b. decoded_items till (decode_frames b)) taken ∙ items-message till message new lawful in
+        let same : decoded_items till (decode_frames old) ≡ Message till message ∷ decoded_items till (decode_frames new) = ap (λ b. decoded_items till (decode_frames b)) taken ∙ items-payload till message new lawful in
         ((subst (λ list. InRound known polls o (list ++ items) v) same p.0, p.1), p.1)
 
     read : IsHere o till → Triple s s (InRound known polls o (Message till message ∷ later)) (InRound known polls o (Asked till as_read ∷ later))
     read here = some-scene s s known polls o [] (Message till message ∷ later) (InRound known polls o (Asked till as_read ∷ later)) (λ scene.
-        keeps-known s (IsIn known polls o scene) _ _ (λ f.
-        keeps-after s s _ _ _ (read-keeps s scene till message as_read later f.round (ap (λ (p : Outside). is_connected p.tills till) f.outside_is ∙ here) reads)
+        triple-known s (IsIn known polls o scene) _ _ (λ f.
+        triple-after s s _ _ _ (read-triple s scene till message as_read later f.round (ap (λ (p : Outside). is_connected p.tills till) f.outside_is ∙ here) reads)
         (λ v q. (at_item scene, q, read-in known polls o scene f))))
 
     begin : IsHere o till → Triple s s (InRound known polls o (Asked till as_read ∷ later)) (Pending known polls o (reply_calls_to (Some till) (reply_to known as_read)) later)
@@ -217,14 +217,14 @@ pub serve-silent : (s : Observed) (known : Known) (polls : ℕ) (o : Outside) (t
 serve-silent s known polls o till name old new moment items met t = by_reply (reply_to known t.is_reply.as_read) refl (t.is_reply.replied known met)
   where
     by_reply : (owed : Option ReplyValue) → reply_to known t.is_reply.as_read ≡ owed → AreSameReplies None owed → Triple s s (BeforeTill known polls o till old items) (BeforeTill known polls o till new items)
-    by_reply None e alike = keeps-after s s _ _ _ (begin-message s known polls o till old new t.message items t.is_reply.as_read t.payload t.taken t.is_reply.read)
+    by_reply None e alike = triple-after s s _ _ _ (begin-message s known polls o till old new t.message items t.is_reply.as_read t.payload t.taken t.is_reply.read)
         (λ v q. (subst (λ reply. Pending known polls o (reply_calls_to (Some till) reply) (decoded_items till (decode_frames new) ++ items) v) e q.0, q.1))
     by_reply (Some reply) e alike = absurd alike
 
 -- a message whose reply is owed
 begin-replied : (s : Observed) (known : Known) (polls : ℕ) (o : Outside) (till : ℕ) (name old new : List ℕ) (moment : ℕ) (items : List RoundItem) (given : Option SaleReply) (t : TakesMessage name moment given old new) (owed : ReplyValue) →
     reply_to known t.is_reply.as_read ≡ Some owed → Triple s s (BeforeTill known polls o till old items) (λ v. Pending known polls o (SendTill till owed ∷ []) (decoded_items till (decode_frames new) ++ items) v × IsHere o till)
-begin-replied s known polls o till name old new moment items given t owed e = keeps-after s s _ _ _ (begin-message s known polls o till old new t.message items t.is_reply.as_read t.payload t.taken t.is_reply.read)
+begin-replied s known polls o till name old new moment items given t owed e = triple-after s s _ _ _ (begin-message s known polls o till old new t.message items t.is_reply.as_read t.payload t.taken t.is_reply.read)
     (λ v q. (subst (λ reply. Pending known polls o (reply_calls_to (Some till) reply) (decoded_items till (decode_frames new) ++ items) v) e q.0, q.1))
 
 -- what sends a reply that is owed
@@ -242,9 +242,9 @@ serve-replied a b known polls o till name old new moment items reply met t sends
 
     by_reply : (owed : Option ReplyValue) → reply_to known t.is_reply.as_read ≡ owed → AreSameReplies (Some reply) owed → Triple a b (BeforeTill known polls o till old items) (BeforeTill known polls o till new items)
     by_reply None e alike = absurd alike
-    by_reply (Some owed) e alike = keeps-then a a b _ _ _ (begin-replied a known polls o till name old new moment items (Some reply) t owed e)
-        (keeps-frame a b _ _ (IsHere o till) (some-scene a b known polls o (SendTill till owed ∷ []) later (InRound known polls o later) (λ scene.
-        keeps-after a b _ _ _ (keeps-frame a b _ _ (IsIn known polls o scene) (sends owed alike.0 scene later))
+    by_reply (Some owed) e alike = triple-then a a b _ _ _ (begin-replied a known polls o till name old new moment items (Some reply) t owed e)
+        (triple-frame a b _ _ (IsHere o till) (some-scene a b known polls o (SendTill till owed ∷ []) later (InRound known polls o later) (λ scene.
+        triple-after a b _ _ _ (triple-frame a b _ _ (IsIn known polls o scene) (sends owed alike.0 scene later))
         (λ v q. (called scene (SentTill till (reply_value_bytes owed) true), q.0, sent-in known polls o till (reply_value_bytes owed) true scene q.1)))))
 
 -- a reply wasn't taken, and the till was cut
@@ -258,10 +258,10 @@ serve-unsent a b known polls o till name old new moment items reply met t sends 
     by_reply : (owed : Option ReplyValue) → reply_to known t.is_reply.as_read ≡ owed → AreSameReplies (Some reply) owed → Triple a b (BeforeTill known polls o till old items) (InRound (known_without known till) polls (outside_after o (TillCut till)) items)
     by_reply None e alike = absurd alike
     by_reply (Some owed) e alike =
-        keeps-then a b b _ _ _
-        (keeps-then a a b _ _ _ (keeps-after a a _ _ _ (begin-replied a known polls o till name old new moment items (Some reply) t owed e) (λ v q. q.0))
+        triple-then a b b _ _ _
+        (triple-then a a b _ _ _ (triple-after a a _ _ _ (begin-replied a known polls o till name old new moment items (Some reply) t owed e) (λ v q. q.0))
         (some-scene a b known polls o (SendTill till owed ∷ []) later (InRound (known_without known till) polls (outside_after o (TillCut till)) later) (λ scene.
-        keeps-after a b _ _ _ (keeps-frame a b _ _ (IsIn known polls o scene) (sends owed alike.0 scene later))
+        triple-after a b _ _ _ (triple-frame a b _ _ (IsIn known polls o scene) (sends owed alike.0 scene later))
         (λ v q. (till_cut (called scene (SentTill till q.0.0 false)) till, q.0.1, cut-in known polls o till (called scene (SentTill till q.0.0 false)) (sent-in known polls o till q.0.0 false scene q.1))))))
         (pass-all (known_without known till) polls (outside_after o (TillCut till)) till (without-closed o.tills till) b (decode_frames new) items)
 
@@ -277,7 +277,7 @@ pub takes-less : (name : List ℕ) (given : Option SaleReply) (old new : List �
 takes-less name given old new moment t =
     let l : length old ≡ length (frame t.message) + length new = ap length t.taken ∙ length-append (frame t.message) new in
     let m : length (frame t.message) ≡ 4 + length t.message = omega arith in
-    (omega (arith, t.payload), sym (ap (λ b. (decode_frames b).rest) t.taken ∙ ap (λ (r : DecodedFrames). r.rest) (reading-message t.message new t.payload)))
+    (omega (arith, t.payload), sym (ap (λ b. (decode_frames b).rest) t.taken ∙ ap (λ (r : DecodedFrames). r.rest) (reading-payload t.message new t.payload)))
 
 -- so it does after a reply was sent, and nothing is said of a till that was cut
 pub reads-on-sent : (served : Served) (old new : List ℕ) → served ≢ Incomplete → (length new < length old) × ((decode_frames new).rest ≡ (decode_frames old).rest) → ReadsOn served old new

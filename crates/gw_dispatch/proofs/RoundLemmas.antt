@@ -23,8 +23,8 @@ use Rattle.gw_rules.specs.Scene.{Scene}
 use Rattle.gw_rules.specs.Stage.{Stage, Resting, Opening, Looking, AtPoll, Handling, Over, Broken, is_round, is_running}
 use Rattle.gw_rules.specs.View.{View, polled, at_event, at_first, till_cut}
 use Rattle.gw_rules.specs.Triple.{Triple, Owing, AtEvent, JustBegun}
-use Rattle.gw_rules.proofs.TripleLemmas.{keeps-refl, keeps-then, keeps-weaker, keeps-after, keeps-before, keeps-frame, keeps-some}
-use Rattle.gw_rules.proofs.CallLemmas.{cut-till-keeps}
+use Rattle.gw_rules.proofs.TripleLemmas.{triple-refl, triple-then, triple-weaker, triple-after, triple-before, triple-frame, triple-some}
+use Rattle.gw_rules.proofs.CallLemmas.{cut-till-triple}
 use Rattle.gw_core.specs.ReplyOf.{IsKnownAt}
 use Rattle.gw_dispatch.specs.Tills.{rank, till_of, others, AreBelow}
 use Rattle.gw_dispatch.specs.Round.{IsIn, InRound, BeforeTill, AfterTill, ReadsOn, HoldsTills, IsHeldRun, IsBetweenRounds, IsPolled, OwesNothing, OweNothing, RoundSetting, known_at, known_without, BeforeChunk, BeforeOpen, IsHandled, AfterEvent, AfterRound}
@@ -36,14 +36,14 @@ use Rattle.gw_dispatch.specs.declared.engine.RoundEnd.{RoundEnd}
 use Rattle.gw_dispatch.specs.declared.engine.RoundEnd.TheVariants.{Went, Stopped}
 use Rattle.gw_dispatch.specs.declared.engine.Ended.TheVariants.{Done}
 use Rattle.gw_dispatch.proofs.TillLemmas.{rank-held-none, rank-held-open, found, others-held, others-set, without-hears, open-hears, below-hears, below-without, below-push, below-closed, below-up, without-new, held-push, length-held}
-use Rattle.gw_dispatch.proofs.EngineLemmas.{keeps-known, some-scene, begin-first, pass-due, cut-in}
+use Rattle.gw_dispatch.proofs.EngineLemmas.{triple-known, some-scene, begin-first, pass-due, cut-in}
 
 never : (s : Observed) (P Q : View → Type 0) → ((v : View) → P v → ⊥) → Triple s s P Q
-never s P Q no_way = keeps-weaker s s P P P Q (λ v p. p) (λ v p. absurd (no_way v p)) (keeps-refl s P)
+never s P Q no_way = triple-weaker s s P P P Q (λ v p. p) (λ v p. absurd (no_way v p)) (triple-refl s P)
 
 -- no memory: nothing is said
 pub no-memory : (s : Observed) (P : View → Type 0) → Triple s s P (λ v. Unit {0})
-no-memory s P = keeps-after s s P P _ (keeps-refl s P) (λ v p. tt)
+no-memory s P = triple-after s s P P _ (triple-refl s P) (λ v p. tt)
 
 -- ---- what may be due
 
@@ -139,10 +139,10 @@ chunk-held : {E : Type 0} (a b : Observed) (setup : Setup) (name : List ℕ) (ti
     ((setting : RoundSetting) → Knows tills number at till setting → (v : View) → AfterTill result (known_at setup setting.core setting.kept now) polls (outside_after setting.outside (HeardTill number chunk)) number after setting.due v → Q v) →
     Triple a b (BeforeChunk setup tills polls now number chunk) Q
 chunk-held a b setup name tills polls now number at chunk till result after Q named ranked is served finish =
-    keeps-before a b _ _ _ open-up
-    (keeps-some a b (λ (setting : RoundSetting) v. Waits setting v × Knows tills number at till setting) Q no_setting
-    (λ setting. keeps-after a b _ _ _
-    (keeps-frame a b _ _ (Knows tills number at till setting) (served (known_at setup setting.core setting.kept now) (outside_after setting.outside (HeardTill number chunk)) setting.due (record { name_is = named; moment_is = refl })))
+    triple-before a b _ _ _ open-up
+    (triple-some a b (λ (setting : RoundSetting) v. Waits setting v × Knows tills number at till setting) Q no_setting
+    (λ setting. triple-after a b _ _ _
+    (triple-frame a b _ _ (Knows tills number at till setting) (served (known_at setup setting.core setting.kept now) (outside_after setting.outside (HeardTill number chunk)) setting.due (record { name_is = named; moment_is = refl })))
     (λ v q. finish setting q.1 v (rw q.1.number_is at q.0))))
   where
     Waits : RoundSetting → View → Type 0
@@ -194,16 +194,16 @@ open-held s setup tills polls now number at Q ranked = never s _ Q (λ v p.
     let b = p.1 in
     let h : false ≡ true = sym (below-closed o.next_till number o.tills b.holds.below b.above) ∙ rank-held-open o.tills number at (ap (rank number) (sym b.holds.tills_are) ∙ ranked) in absurd cc)
 
-items-few : (number : ℕ) (lines : List Connection) → length lines < 64 → till_opened_items number lines ≡ []
-items-few number lines lt = rw (lt-ltb (length lines) 64 lt) refl
+items-few : (number : ℕ) (connections : List Connection) → length connections < 64 → till_opened_items number connections ≡ []
+items-few number connections lt = rw (lt-ltb (length connections) 64 lt) refl
 
-items-many : (number : ℕ) (lines : List Connection) → 64 ≤ length lines → till_opened_items number lines ≡ Crowded number ∷ []
-items-many number lines le = rw (le-ltb (length lines) 64 le) refl
+items-many : (number : ℕ) (connections : List Connection) → 64 ≤ length connections → till_opened_items number connections ≡ Crowded number ∷ []
+items-many number connections le = rw (le-ltb (length connections) 64 le) refl
 
 -- a till opens
 pub open-taken : (s : Observed) (setup : Setup) (tills new : List Till) (polls : ℕ) (now : ℤ) (number : ℕ) → length tills < 64 → new ≡ tills ++ record { number = number; reader = [] } ∷ [] →
     Triple s s (BeforeOpen setup tills polls now number) (IsHandled setup new polls)
-open-taken s setup tills new polls now number few is = keeps-after s s _ _ _ (keeps-refl s (BeforeOpen setup tills polls now number)) (λ v p.
+open-taken s setup tills new polls now number few is = triple-after s s _ _ _ (triple-refl s (BeforeOpen setup tills polls now number)) (λ v p.
     let setting = p.0 in
     let o = setting.outside in
     let b = p.1 in
@@ -226,12 +226,12 @@ open-taken s setup tills new polls now number few is = keeps-after s s _ _ _ (ke
 pub open-crowded : (a b : Observed) (setup : Setup) (tills : List Till) (polls : ℕ) (now : ℤ) (number : ℕ) → 64 ≤ length tills → Grows a b (IsTurn (TillCut number)) →
     Triple a b (BeforeOpen setup tills polls now number) (IsHandled setup tills polls)
 open-crowded a b setup tills polls now number many grows =
-    keeps-before a b _ _ _ open-up
-    (keeps-some a b (λ (setting : RoundSetting) v. InRound (knows setting) polls (after setting) (Crowded number ∷ setting.due) v × IsFull setting) (IsHandled setup tills polls) no_setting
-    (λ setting. keeps-after a b _ _ _ (keeps-frame a b _ _ (IsFull setting) (keeps-then a a b _ _ _
+    triple-before a b _ _ _ open-up
+    (triple-some a b (λ (setting : RoundSetting) v. InRound (knows setting) polls (after setting) (Crowded number ∷ setting.due) v × IsFull setting) (IsHandled setup tills polls) no_setting
+    (λ setting. triple-after a b _ _ _ (triple-frame a b _ _ (IsFull setting) (triple-then a a b _ _ _
     (begin-first a (knows setting) polls (after setting) (Crowded number) setting.due setting.core (CutTill number ∷ []) (record { begins = λ scene e. refl; row = refl }))
     (some-scene a b (knows setting) polls (after setting) (CutTill number ∷ []) setting.due (InRound (known_without (knows setting) number) polls (outside_after (after setting) (TillCut number)) setting.due) (λ scene.
-    keeps-after a b _ _ _ (keeps-frame a b _ _ (IsIn (knows setting) polls (after setting) scene) (cut-till-keeps scene setting.due a b number grows)) (λ v q. (till_cut scene number, q.0, cut-in (knows setting) polls (after setting) number scene q.1))))))
+    triple-after a b _ _ _ (triple-frame a b _ _ (IsIn (knows setting) polls (after setting) scene) (cut-till-triple scene setting.due a b number grows)) (λ v q. (till_cut scene number, q.0, cut-in (knows setting) polls (after setting) number scene q.1))))))
     (λ v q. closed setting v q.0 q.1)))
   where
     knows : RoundSetting → Known
@@ -273,14 +273,14 @@ open-crowded a b setup tills polls now number many grows =
 pub rest-polled : (a b : Observed) (setup : Setup) (tills : List Till) (polls : ℕ) (now : ℤ) (what : What) (buf : List ℕ) →
     ((scene : Scene) → Triple a b (λ v. Owing scene [] [] v × (is_running scene.stage ≡ true)) (AtEvent scene now what buf)) → Triple a b (IsBetweenRounds setup tills polls) (IsPolled setup tills polls now what buf)
 rest-polled a b setup tills polls now what buf polls_keep =
-    keeps-before a b _ _ _ (λ v p. (p.0, ((p.1, p.2.running), p.2)))
-    (keeps-some a b (λ scene v. (Owing scene [] [] v × (is_running scene.stage ≡ true)) × IsHeldRun setup tills polls scene) _ at_first.scene
-    (λ scene. keeps-after a b _ _ _ (keeps-frame a b _ _ (IsHeldRun setup tills polls scene) (polls_keep scene)) (λ v q. (scene, q.0, q.1))))
+    triple-before a b _ _ _ (λ v p. (p.0, ((p.1, p.2.running), p.2)))
+    (triple-some a b (λ scene v. (Owing scene [] [] v × (is_running scene.stage ≡ true)) × IsHeldRun setup tills polls scene) _ at_first.scene
+    (λ scene. triple-after a b _ _ _ (triple-frame a b _ _ (IsHeldRun setup tills polls scene) (polls_keep scene)) (λ v q. (scene, q.0, q.1))))
 
 -- an event of this kind, once it came
 pub at-what : (s : Observed) (setup : Setup) (tills : List Till) (polls : ℕ) (now : ℤ) (what kind : What) (buf : List ℕ) (Q : View → Type 0) → what ≡ kind →
     ((scene : Scene) → IsHeldRun setup tills polls scene → (v : View) → AtEvent scene now kind buf v → Q v) → Triple s s (IsPolled setup tills polls now what buf) Q
-at-what s setup tills polls now what kind buf Q e finish = keeps-after s s _ _ _ (keeps-refl s (IsPolled setup tills polls now what buf)) (λ v p. finish p.0 p.2 v (subst (λ w. AtEvent p.0 now w buf v) e p.1))
+at-what s setup tills polls now what kind buf Q e finish = triple-after s s _ _ _ (triple-refl s (IsPolled setup tills polls now what buf)) (λ v p. finish p.0 p.2 v (subst (λ w. AtEvent p.0 now w buf v) e p.1))
 
 -- the setting of an event
 abbrev event_setting : Scene → ℤ → RoundSetting
@@ -339,9 +339,9 @@ rest-heard number count buf setup tills polls now scene k v q = (
 pub rest-closed : (s : Observed) (number : ℕ) (buf : List ℕ) (setup : Setup) (tills new : List Till) (polls : ℕ) (now : ℤ) (what : What) → what ≡ TillClosed number → new ≡ others tills number →
     Triple s s (IsPolled setup tills polls now what buf) (IsHandled setup new (polls + 1))
 rest-closed s number buf setup tills new polls now what e is =
-    keeps-then s s s _ _ _ (at-what s setup tills polls now what (TillClosed number) buf Closes e closes)
-    (keeps-some s s (λ (setting : RoundSetting) v. InRound (knows setting) (polls + 1) (after setting) (GoneItem number ∷ setting.due) v × Facts setting) (IsHandled setup new (polls + 1)) no_setting
-    (λ setting. keeps-after s s _ _ _ (keeps-frame s s _ _ (Facts setting)
+    triple-then s s s _ _ _ (at-what s setup tills polls now what (TillClosed number) buf Closes e closes)
+    (triple-some s s (λ (setting : RoundSetting) v. InRound (knows setting) (polls + 1) (after setting) (GoneItem number ∷ setting.due) v × Facts setting) (IsHandled setup new (polls + 1)) no_setting
+    (λ setting. triple-after s s _ _ _ (triple-frame s s _ _ (Facts setting)
     (begin-first s (knows setting) (polls + 1) (after setting) (GoneItem number) setting.due (core_without setting.core number) [] (record { begins = λ scene e. refl; row = refl })))
     (λ v q. record {
       known = known_without (knows setting) number;
@@ -398,9 +398,9 @@ record Left : Type 0 where
 -- what may be due is passed, and the round is over
 handled-rest : (s : Observed) (setup : Setup) (tills : List Till) (polls : ℕ) → Triple s s (IsHandled setup tills polls) (IsBetweenRounds setup tills polls)
 handled-rest s setup tills polls =
-    keeps-before s s _ _ _ (λ v p. (record { known = p.known; outside = p.outside; due = p.due }, ((p.round, p.owe_nothing), (p.setup_is, p.holds))))
-    (keeps-some s s (λ (left : Left) v. (InRound left.known polls left.outside left.due v × OweNothing left.due) × Facts left) _ (record { known = known_at setup no_core [] (pos 0); outside = at_first.scene.outside; due = [] })
-    (λ left. keeps-after s s _ _ _ (keeps-frame s s _ _ (Facts left) (keeps-known s (OweNothing left.due) _ _ (λ owe. pass-due s left.known polls left.outside left.due owe)))
+    triple-before s s _ _ _ (λ v p. (record { known = p.known; outside = p.outside; due = p.due }, ((p.round, p.owe_nothing), (p.setup_is, p.holds))))
+    (triple-some s s (λ (left : Left) v. (InRound left.known polls left.outside left.due v × OweNothing left.due) × Facts left) _ (record { known = known_at setup no_core [] (pos 0); outside = at_first.scene.outside; due = [] })
+    (λ left. triple-after s s _ _ _ (triple-frame s s _ _ (Facts left) (triple-known s (OweNothing left.due) _ _ (λ owe. pass-due s left.known polls left.outside left.due owe)))
     (λ v q. rests left v q.0 q.1)))
   where
     Facts : Left → Type 0
@@ -416,8 +416,8 @@ handled-rest s setup tills polls =
 -- after an event the round comes to its end
 pub event-round : {E : Type 0} (s : Observed) (setup : Setup) (tills : List Till) (polls : ℕ) (result : Result RoundEnd E) → Triple s s (AfterEvent result setup tills polls) (AfterRound result setup tills polls)
 event-round s setup tills polls (Ok Went) = handled-rest s setup tills polls
-event-round s setup tills polls (Ok Stopped) = keeps-refl s _
-event-round s setup tills polls (Err memory) = keeps-refl s _
+event-round s setup tills polls (Ok Stopped) = triple-refl s _
+event-round s setup tills polls (Err memory) = triple-refl s _
 
 -- ---- a run
 

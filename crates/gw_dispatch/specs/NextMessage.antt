@@ -3,7 +3,7 @@ use Rattle.std.specs.Prelude.{◌≡◌, ℕ, ℤ, List, ◌++◌, Option}
 use Rattle.gw_base.specs.Moment.{moment_of}
 use Rattle.sale_frame.specs.Grammar.{IsPayload, frame, IsIncompleteFrame, BeginsWithBadLength}
 use Rattle.sale_reply.specs.declared.reply.SaleReply.{SaleReply}
-use Rattle.gw_core.specs.ReplyOf.{IsReplyTo, HasRoom}
+use Rattle.gw_core.specs.ReplyOf.{IsReplyTo, IsGivenWithinLimits}
 use Rattle.gw_dispatch.specs.declared.engine.Next.{Next}
 use Rattle.gw_dispatch.specs.declared.engine.Next.TheVariants.{Incomplete, Message, Unframed}
 
@@ -17,5 +17,5 @@ pub record TakesMessage (name : List ℕ) (moment : ℕ) (given : Option SaleRep
 -- what the first of the bytes held are
 abbrev pub IsNextOf : List ℕ → ℤ → Next → List ℕ → List ℕ → Type 0
 IsNextOf name now Incomplete old new = IsIncompleteFrame old × (new ≡ old)
-IsNextOf name now (Message given) old new = TakesMessage name (moment_of now) given old new × HasRoom given
+IsNextOf name now (Message given) old new = TakesMessage name (moment_of now) given old new × IsGivenWithinLimits given
 IsNextOf name now Unframed old new = BeginsWithBadLength old

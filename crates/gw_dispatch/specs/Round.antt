@@ -1,5 +1,5 @@
 -- Inner: what is owed as the loop goes through a round.
-use Rattle.std.specs.Prelude.{◌≡◌, ℕ, ◌<◌, ◌≤◌, ℤ, Bool, true, false, List, [], ◌∷◌, ◌++◌, length, map, Some, Result, Ok, Err}
+use Rattle.std.specs.Prelude.{◌≡◌, ℕ, ◌<◌, ◌≤◌, ℤ, true, false, List, [], ◌∷◌, ◌++◌, length, map, Some, Result, Ok, Err}
 use Rattle.gw_base.specs.Moment.{moment_of}
 use Rattle.gw_base.specs.declared.setup.Setup.{Setup}
 use Rattle.gw_site.specs.Outside.{Connection, Outside, outside_after, is_connected, heard_on}
@@ -58,7 +58,7 @@ known_without known till = with_core known (core_without known.core till)
 abbrev pub BeforeTill : Known → ℕ → Outside → ℕ → List ℕ → List RoundItem → View → Type 0
 BeforeTill known polls o till bytes items v = InRound known polls o (decoded_items till (decode_frames bytes) ++ items) v × (is_connected o.tills till ≡ true)
 
--- after some of the messages that a reader holds
+-- after some of the payloads that a reader holds
 abbrev pub AfterTill : {E : Type 0} → Result Served E → Known → ℕ → Outside → ℕ → List ℕ → List RoundItem → View → Type 0
 AfterTill (Ok More) known polls o till bytes items v = BeforeTill known polls o till bytes items v
 AfterTill (Ok Incomplete) known polls o till bytes items v = InRound known polls o items v

@@ -13,7 +13,7 @@ rank number (till ∷ tills) = if till.number == number then Some 0 else option_
 abbrev pub others : List Till → ℕ → List Till
 others tills number = filter (λ (till : Till). not (till.number == number)) tills
 
--- the till of a connection: what its reader holds is the rest after the messages that were heard
+-- the till of a connection: what its reader holds is the rest after the payloads that were heard
 abbrev pub till_of : Connection → Till
 till_of connection = record { number = connection.number; reader = (decode_frames connection.heard).rest }
 

@@ -7,7 +7,7 @@ ghost use Rattle.gw_base.specs.declared.setup.Setup.{Setup};
 ghost use Rattle.gw_site.specs.Failures.{Rose};
 ghost use Rattle.gw_site.specs.Outside.{Outside};
 ghost use Rattle.gw_site.specs.Turns.{IsWithinBuf};
-ghost use Rattle.json_text.specs.Canonical.{canonical};
+ghost use Rattle.sale_reply.specs.Limits.{IsWithinLimits};
 ghost use Rattle.sale_reply.specs.Reply.{tree_of};
 ghost use Rattle.gw_owes.specs.Calls.{CutTill, SendTill};
 ghost use Rattle.gw_owes.specs.Items.{RoundItem};
@@ -23,7 +23,7 @@ ghost use Rattle.gw_dispatch.specs.RunEnd.{EndedBy};
 
 use crate::tills::{Till, drop_till, index_of, open_till};
 use gw_base::{Ident, Setup};
-use gw_bytes::MOST_TILLS;
+use gw_bytes::{LONGEST_CHUNK, MOST_TILLS};
 use gw_core::reply;
 use gw_site::{Failed, Polled, Site, What};
 use sale_frame::FrameReader;
@@ -72,7 +72,7 @@ pub enum Ended {
 
 /// Cuts a till's connection.
 fn cut<S: Site>(site: &mut S, till: u64) -> Served
-    ensures keeps { (scene : Scene) (items : List RoundItem) → Triple (S.observed site.old) (S.observed site.new) (Owing scene (CutTill till ∷ []) items) (Owing (till_cut scene till) [] items) }
+    ensures triple { (scene : Scene) (items : List RoundItem) → Triple (S.observed site.old) (S.observed site.new) (Owing scene (CutTill till ∷ []) items) (Owing (till_cut scene till) [] items) }
     ensures gone { result ≡ Served.Gone }
     ensures later { (S.observed site.old).faults ≤ (S.observed site.new).faults }
 {
@@ -104,8 +104,8 @@ impl Replier {
 
     /// Sends a reply to a till, and cuts its connection where that fails. More may be held where it was sent.
     fn send_reply<S: Site>(&mut self, site: &mut S, till: u64, reply: &SaleReply<'_>) -> Served
-        requires { length (canonical (tree_of reply.now)) ≤ 65536 }
-        ensures keeps { (owed : ReplyValue) → tree_of reply.now ≡ reply_value_tree owed → (scene : Scene) (items : List RoundItem) → Triple (S.observed site.old) (S.observed site.new)
+        requires { IsWithinLimits reply.now }
+        ensures triple { (owed : ReplyValue) → tree_of reply.now ≡ reply_value_tree owed → (scene : Scene) (items : List RoundItem) → Triple (S.observed site.old) (S.observed site.new)
             (Owing scene (SendTill till owed ∷ []) items)
             (Delivered result scene till (reply_value_bytes owed) items) }
         ensures whole { result ≢ Served.Incomplete }
@@ -130,7 +130,7 @@ impl Replier {
         till: u64,
         reader: &mut FrameReader,
     ) -> Result<Served, AllocError>
-        ensures keeps { (known : Known) (polls : ℕ) (o : Outside) (items : List RoundItem) → IsKnownAt self.old.name (moment_of now) known → Triple (S.observed site.old) (S.observed site.new)
+        ensures triple { (known : Known) (polls : ℕ) (o : Outside) (items : List RoundItem) → IsKnownAt self.old.name (moment_of now) known → Triple (S.observed site.old) (S.observed site.new)
             (BeforeTill known polls o till reader.old items)
             (AfterTill result known polls o till reader.new items) }
         ensures reader { IfOk result (λ served. ReadsOn served reader.old reader.new) }
@@ -153,7 +153,7 @@ impl Replier {
         till: u64,
         reader: &mut FrameReader,
     ) -> Result<Served, AllocError>
-        ensures keeps { (known : Known) (polls : ℕ) (o : Outside) (items : List RoundItem) → IsKnownAt self.old.name (moment_of now) known → Triple (S.observed site.old) (S.observed site.new)
+        ensures triple { (known : Known) (polls : ℕ) (o : Outside) (items : List RoundItem) → IsKnownAt self.old.name (moment_of now) known → Triple (S.observed site.old) (S.observed site.new)
             (BeforeTill known polls o till reader.old items)
             (AfterTill result known polls o till reader.new items) }
         ensures reader { IfOk result (λ served. ReadsOn served reader.old reader.new) }
@@ -180,7 +180,7 @@ impl Replier {
         bytes: &[u8],
     ) -> Result<Served, AllocError>
         requires { length bytes.now ≤ 4096 }
-        ensures keeps { (known : Known) (polls : ℕ) (o : Outside) (items : List RoundItem) → IsKnownAt self.old.name (moment_of now) known → Triple (S.observed site.old) (S.observed site.new)
+        ensures triple { (known : Known) (polls : ℕ) (o : Outside) (items : List RoundItem) → IsKnownAt self.old.name (moment_of now) known → Triple (S.observed site.old) (S.observed site.new)
             (BeforeTill known polls o till.old.number (till.old.reader ++ bytes.now) items)
             (AfterTill result known polls o till.old.number till.new.reader items) }
         ensures reader { IfOk result (λ served. ReadsOn served (till.old.reader ++ bytes.now) till.new.reader) }
@@ -215,7 +215,7 @@ impl Dispatch {
         bytes: &[u8],
     ) -> Result<RoundEnd, AllocError>
         requires { length bytes.now ≤ 4096 }
-        ensures keeps { (setup : Setup) (polls : ℕ) → setup.name ≡ self.old.replier.name → Triple (S.observed site.old) (S.observed site.new)
+        ensures triple { (setup : Setup) (polls : ℕ) → setup.name ≡ self.old.replier.name → Triple (S.observed site.old) (S.observed site.new)
             (BeforeChunk setup self.old.tills.items polls now number bytes.now)
             (AfterEvent result setup self.new.tills.items polls) }
         ensures went { result ≢ Ok RoundEnd.Stopped }
@@ -242,7 +242,7 @@ impl Dispatch {
 
     /// Handles the opening of a till.
     fn on_open<S: Site>(&mut self, site: &mut S, number: u64) -> Result<RoundEnd, AllocError>
-        ensures keeps { (setup : Setup) (polls : ℕ) (now : ℤ) → Triple (S.observed site.old) (S.observed site.new)
+        ensures triple { (setup : Setup) (polls : ℕ) (now : ℤ) → Triple (S.observed site.old) (S.observed site.new)
             (BeforeOpen setup self.old.tills.items polls now number)
             (AfterEvent result setup self.new.tills.items polls) }
         ensures went { result ≢ Ok RoundEnd.Stopped }
@@ -272,7 +272,7 @@ impl Dispatch {
         buf: &[u8; 4096],
     ) -> Result<RoundEnd, AllocError>
         requires { IsWithinBuf what }
-        ensures keeps { (setup : Setup) (polls : ℕ) → setup.name ≡ self.old.replier.name → Triple (S.observed site.old) (S.observed site.new)
+        ensures triple { (setup : Setup) (polls : ℕ) → setup.name ≡ self.old.replier.name → Triple (S.observed site.old) (S.observed site.new)
             (IsPolled setup self.old.tills.items polls now what buf.now)
             (AfterEvent result setup self.new.tills.items (polls + 1)) }
         ensures bytes { AreBytes buf.now }
@@ -295,7 +295,7 @@ impl Dispatch {
 
     /// One poll, and what its event brings. What was heard is read into the buffer.
     fn round<S: Site>(&mut self, site: &mut S, buf: &mut [u8; 4096]) -> Result<RoundEnd, AllocError>
-        ensures keeps { (setup : Setup) (polls : ℕ) → setup.name ≡ self.old.replier.name → Triple (S.observed site.old) (S.observed site.new)
+        ensures triple { (setup : Setup) (polls : ℕ) → setup.name ≡ self.old.replier.name → Triple (S.observed site.old) (S.observed site.new)
             (IsBetweenRounds setup self.old.tills.items polls)
             (AfterRound result setup self.new.tills.items (polls + 1)) }
         ensures buf { length buf.new ≡ 4096 }
@@ -309,7 +309,7 @@ impl Dispatch {
 
 /// The rounds of a run, at most so many.
 fn rounds<S: Site>(alloc: Global, name: Ident<40>, site: &mut S, most: u64) -> Ended
-    ensures keeps { (setup : Setup) → setup.name ≡ name → Triple (S.observed site.old) (S.observed site.new) (JustBegun setup) (EndedBy result most) }
+    ensures triple { (setup : Setup) → setup.name ≡ name → Triple (S.observed site.old) (S.observed site.new) (JustBegun setup) (EndedBy result most) }
     ensures opened { result ≢ Ended.NotOpened }
     ensures later { (S.observed site.old).faults ≤ (S.observed site.new).faults }
 {
@@ -323,7 +323,7 @@ fn rounds<S: Site>(alloc: Global, name: Ident<40>, site: &mut S, most: u64) -> E
         tills,
     };
     // One buffer for all polls of the run, so that it is filled with zeros once.
-    let mut buf = [0; 4096];
+    let mut buf = [0; LONGEST_CHUNK];
     for made in 0..most {
         match dispatch.round(site, &mut buf) {
             Ok(RoundEnd::Went) => {}

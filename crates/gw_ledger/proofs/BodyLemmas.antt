@@ -1,11 +1,10 @@
 -- The records of the bodies so far, with one more.
-use Rattle.std.proofs.Common.{◌≡◌, ◌∙◌, ℕ, zero, suc, ◌+◌, ◌<◌, List, [], ◌∷◌, ◌++◌, length, take, get_or, map, Some, slice_get, refl, sym, ap, subst, arith, add-one}
+use Rattle.std.proofs.Common.{◌≡◌, ◌∙◌, ℕ, zero, suc, ◌+◌, ◌<◌, ◌≤◌, List, [], ◌∷◌, ◌++◌, length, take, get_or, map, Some, slice_get, refl, sym, ap, subst, arith, add-one}
+use Rattle.std.proofs.lemmas.List.{take_all}
+use Rattle.std.proofs.lemmas.Option.{get_or_from_slice_get, slice_get_within}
 use Rattle.jrn_record.specs.Grammar.{record_body}
 use Rattle.jrn_record.specs.declared.records.Record.{Record}
-use Rattle.gw_ledger.specs.Fold.{AreBodiesOf, IfBad, IsBodyAdded, IsFirstBad, IsRefused, IsTaken}
-use Rattle.gw_ledger.specs.declared.fault.LedgerFault.{LedgerFault}
-use Rattle.gw_ledger.specs.declared.fault.LedgerFault.TheVariants.{BadRecord, Memory}
-use Rattle.gw_ledger.proofs.RecordLemmas.{folded_push}
+use Rattle.gw_ledger.specs.Fold.{AreFirstBodiesOf, IsBodyAdded, IsRefusedBesideKey}
 
 take_next : (bodies : List (List ℕ)) (i : ℕ) (body : List ℕ) → slice_get bodies i ≡ Some body → take (i + 1) bodies ≡ take i bodies ++ body ∷ []
 take_next bodies i body found = rw (add-one i) (go bodies i body found)
@@ -28,43 +27,37 @@ length-take_bodies [] i inside = absurd (omega arith)
 length-take_bodies (body ∷ bodies) zero inside = refl
 length-take_bodies (body ∷ bodies) (suc i) inside = ap suc (length-take_bodies bodies i (omega arith))
 
-pub records_so_far : (bodies : List (List ℕ)) (records : List Record) (i : ℕ) → AreBodiesOf (take i bodies) records → i < length bodies → length records ≡ i
-records_so_far bodies records i are inside =
-    sym (length-map_bodies records) ∙ sym (ap length are.bodies_are) ∙ length-take_bodies bodies i inside
-
-pub one_more : (bodies : List (List ℕ)) (records after : List Record) (i : ℕ) (body : List ℕ) → slice_get bodies i ≡ Some body
-    → AreBodiesOf (take i bodies) records → IsTaken records body after → AreBodiesOf (take (i + 1) bodies) after
-one_more bodies records after i body found are taken = record {
-  bodies_are = take_next bodies i body found ∙ rw (are.bodies_are, taken.body_is, taken.after_is, map-push records taken.the_record) refl;
-  folded = rw taken.after_is (folded_push records taken.the_record are.folded taken.within taken.fitting);
-}
-
-pub first_bad : (bodies : List (List ℕ)) (records : List Record) (i : ℕ) (body : List ℕ) → slice_get bodies i ≡ Some body → i < length bodies
-    → AreBodiesOf (take i bodies) records → IsRefused records body → IsFirstBad bodies i
-first_bad bodies records i body found inside are refused = record {
-  records = records;
-  before = are;
-  inside = inside;
-  none_fits = λ the_record within same fitting. refused the_record within (the_same body (record_body the_record) (sym found ∙ same)) fitting;
-}
-  where
-    the_same : (a b : List ℕ) → Some a ≡ Some b → a ≡ b
-    the_same a b same = cc
-
 pub get_found : (bodies : List (List ℕ)) (i : ℕ) (d : List ℕ) → i < length bodies → slice_get bodies i ≡ Some (get_or bodies i d)
 get_found [] i d inside = absurd (omega arith)
 get_found (first ∷ bodies) zero d inside = refl
 get_found (first ∷ bodies) (suc i) d inside = get_found bodies i d (omega arith)
-
-pub bad_at : (bodies : List (List ℕ)) (records : List Record) (i : ℕ) (d : List ℕ) (fault : LedgerFault) → i < length bodies → AreBodiesOf (take i bodies) records
-    → IfBad (λ slot. (slot ≡ length records) × IsRefused records (get_or bodies i d)) fault → IfBad (IsFirstBad bodies) fault
-bad_at bodies records i d Memory inside are bad = tt
-bad_at bodies records i d (BadRecord fault) inside are bad =
-    subst (IsFirstBad bodies) (sym (bad.0 ∙ records_so_far bodies records i are inside))
-    (first_bad bodies records i (get_or bodies i d) (get_found bodies i d inside) inside are bad.1)
 
 -- the bodies of the records so far, and of one more
 pub one_added : (bodies : List (List ℕ)) (records after : List Record) (i : ℕ) (body : List ℕ) → slice_get bodies i ≡ Some body
     → map record_body records ≡ take i bodies → IsBodyAdded records body after → map record_body after ≡ take (i + 1) bodies
 one_added bodies records after i body found are added =
     sym (take_next bodies i body found ∙ rw (← are, added.body_is, added.after_is, map-push records added.the_record) refl)
+
+-- the records of all bodies
+pub first_all : (bodies : List (List ℕ)) (records : List Record) (i : ℕ) → map record_body records ≡ take i bodies → length bodies ≤ i → AreFirstBodiesOf bodies records
+first_all bodies records i are le =
+    let whole : map record_body records ≡ bodies = are ∙ take_all i bodies le in
+    let len : length records ≡ length bodies = sym (length-map_bodies records) ∙ ap length whole in
+    record {
+      inside = omega (arith, len);
+      bodies_are = whole ∙ sym (take_all (length records) bodies (omega (arith, len)));
+      refused = λ body found. let inside = slice_get_within bodies (length records) body found in absurd (omega (arith, inside, len));
+    }
+
+-- the records of the bodies before one that is refused
+pub first_until : (bodies : List (List ℕ)) (records : List Record) (i : ℕ) (d : List ℕ) → map record_body records ≡ take i bodies → i < length bodies
+    → IsRefusedBesideKey records (get_or bodies i d) → AreFirstBodiesOf bodies records
+first_until bodies records i d are inside refused =
+    let len : length records ≡ i = sym (length-map_bodies records) ∙ ap length are ∙ length-take_bodies bodies i inside in
+    record {
+      inside = omega (arith, len);
+      bodies_are = are ∙ ap (λ n. take n bodies) (sym len);
+      refused = λ body found.
+          let here : slice_get bodies i ≡ Some body = ap (slice_get bodies) (sym len) ∙ found in
+          subst (IsRefusedBesideKey records) (get_or_from_slice_get bodies i body d here) refused;
+    }

@@ -1,24 +1,30 @@
--- When a payment and an Outcome may come next.
+-- When a record may come next, by what the ledger returns.
 use Rattle.std.proofs.Common.{◌≡◌, ◌∙◌, ℕ, ◌<◌, ◌≤◌, Bool, true, false, List, Option, Some, None, is_some, IsTrue, slice_get, refl, sym, ap, arith}
 use Rattle.std.specs.Prelude.{nat_le, option_and_then, option_map}
 use Rattle.std.proofs.lemmas.Bool.Decides.{nat_tests}
 use Rattle.gw_base.specs.declared.key.Key.{Key}
-use Rattle.jrn_record.specs.declared.records.Deal.TheVariants.{Payment}
+use Rattle.jrn_record.specs.declared.records.Deal.{Deal}
+use Rattle.jrn_record.specs.declared.records.Deal.TheVariants.{Payment, Reversal}
 use Rattle.jrn_record.specs.declared.records.Intent.{Intent as TheIntent}
 use Rattle.jrn_record.specs.declared.records.Outcome.{Outcome as TheOutcome}
+use Rattle.jrn_record.specs.declared.records.Settled.{Settled as TheSettled}
 use Rattle.jrn_record.specs.declared.records.Record.{Record}
 use Rattle.jrn_record.specs.declared.records.Record.TheVariants.{Intent, Outcome, Settled}
 use Rattle.gw_ledger.specs.declared.entry.Entry.{Entry as TheEntry}
 use Rattle.gw_ledger.specs.declared.entry.Found.{Found}
 use Rattle.gw_ledger.specs.declared.entry.Found.TheVariants.{Entry}
-use Rattle.gw_ledger.specs.Accounts.{last_number_of, open_slot}
-use Rattle.gw_ledger.specs.Fold.{AreFolded, fits, found_by, found_of, has_fitting_original, open_entry, rises}
-use Rattle.gw_ledger.specs.Keys.{intent_key, record_key, slot_of}
-use Rattle.gw_ledger.specs.Slots.{as_intent, ended_at, entry_at, entry_with, intent_at, is_open}
+use Rattle.gw_ledger.specs.Accounts.{is_settled, last_number_of, open_slot}
+use Rattle.gw_ledger.specs.Fold.{AreFolded, fits, found_by, found_of, has_fitting_original, is_approved_with, may_reverse, open_entry, rises}
+use Rattle.gw_ledger.specs.History.{same_text}
+use Rattle.gw_ledger.specs.Keys.{intent_key, record_key, settled_key, slot_of}
+use Rattle.gw_ledger.specs.Laws.{HasApproval, IsOriginalOf}
+use Rattle.gw_ledger.specs.Slots.{as_intent, asks_payment, ended_at, entry_at, entry_with, intent_at, is_open, is_reversed}
+use Rattle.gw_ledger.specs.Sums.{ordinal, same_currency}
 use Rattle.gw_ledger.proofs.FoldLemmas.{open_has_intent}
 use Rattle.gw_ledger.proofs.OpenLemmas.{open_slot_is}
 use Rattle.gw_ledger.proofs.RecordLemmas.{folded_beside}
 use Rattle.gw_ledger.proofs.SortedLemmas.{slot_has_key}
+use Rattle.gw_ledger.proofs.TieLemmas.{eqb_same, same_text-itself}
 
 some_mapped : {X Y : Type 0} (f : X → Y) (x : Option X) → is_some x ≡ true → option_map f x ≡ None → ⊥
 some_mapped f None some none = cc
@@ -97,3 +103,37 @@ outcome_fits records folded poi entry outcome found same above = by_slot (open_s
         let rises_here : rises outcome.approved outcome.number (intent_at records outcome.slot) ≡ true =
         ap (rises outcome.approved outcome.number) asked ∙ rising outcome.approved entry.intent outcome.number above in
         rw (opened, rises_here) refl
+
+-- an approved payment that is neither reversed nor settled may be reversed
+original_fits : (records : List Record) (intent : TheIntent) (slot : ℕ) (entry : TheEntry) → entry_at records slot ≡ Some entry → IsOriginalOf intent entry
+    → is_reversed records slot ≡ false → is_settled records slot ≡ false → may_reverse records intent (Some slot) ≡ true
+original_fits records intent slot entry found original kept unsettled =
+    let payment : asks_payment entry.intent.what ≡ true = ap asks_payment original.what in
+    let poi : same_text intent.poi entry.intent.poi ≡ true = ap (same_text intent.poi) original.poi ∙ same_text-itself intent.poi in
+    let currency : same_currency intent.currency entry.intent.currency ≡ true = ap (same_currency intent.currency) original.currency ∙ eqb_same (ordinal intent.currency) in
+    let amount : is_approved_with intent.amount entry.result ≡ true = by_result entry.result original.approved in
+    rw (found, payment, poi, currency, amount, kept, unsettled) refl
+  where
+    by_result : (result : Option TheOutcome) → HasApproval intent.amount result → is_approved_with intent.amount result ≡ true
+    by_result None none = absurd none
+    by_result (Some outcome) both = rw (both.0, both.1, eqb_same intent.amount) refl
+
+pub reversal_fits : (records : List Record) → AreFolded records → (intent : TheIntent) (slot : ℕ) (entry : TheEntry) → intent.original ≡ Some slot
+    → found_of records (intent_key intent) ≡ None → open_entry records intent.poi ≡ None → last_number_of records intent.poi ≤ intent.before
+    → entry_at records slot ≡ Some entry → IsOriginalOf intent entry → is_reversed records slot ≡ false → is_settled records slot ≡ false → IsTrue (fits records (Intent intent))
+reversal_fits records folded intent slot entry at none closed rising found original kept unsettled =
+    let unknown : slot_of records (intent_key intent) ≡ None = no_slot records folded (intent_key intent) none in
+    let free : open_slot records intent.poi ≡ None = no_open records folded intent.poi closed in
+    let above : nat_le (last_number_of records intent.poi) intent.before ≡ true = grind (arith, nat_tests) in
+    let reversible : may_reverse records intent intent.original ≡ true = ap (may_reverse records intent) at ∙ original_fits records intent slot entry found original kept unsettled in
+    let fitting : has_fitting_original records intent intent.what ≡ true = by_deal intent.what reversible in
+    rw (unknown, free, above, fitting) refl
+  where
+    by_deal : (what : Deal) → may_reverse records intent intent.original ≡ true → has_fitting_original records intent what ≡ true
+    by_deal Payment reversible = refl
+    by_deal Reversal reversible = reversible
+
+pub settled_fits : (records : List Record) → AreFolded records → (settled : TheSettled) → found_of records (settled_key settled) ≡ None → IsTrue (fits records (Settled settled))
+settled_fits records folded settled none =
+    let unknown : slot_of records (settled_key settled) ≡ None = no_slot records folded (settled_key settled) none in
+    rw unknown refl

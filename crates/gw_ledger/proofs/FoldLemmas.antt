@@ -16,7 +16,7 @@ use Rattle.gw_ledger.specs.Laws.{count_below}
 use Rattle.gw_ledger.specs.Slots.{as_intent, ended_at, intent_at, is_open, is_outcome_of}
 use Rattle.jrn_record.specs.declared.records.Deal.TheVariants.{Payment, Reversal}
 use Rattle.gw_ledger.specs.Steps.{HasRoomFor}
-use Rattle.gw_ledger.specs.Sums.{approves, is_approval, sums_of, minor_in, one_if, open_count_of, settles, sum_over, unsettled}
+use Rattle.gw_ledger.specs.Sums.{approves, is_approval, sums_of, units_in, one_if, open_count_of, settles, sum_over, unsettled}
 use Rattle.gw_ledger.proofs.RecordLemmas.{get_before, get_last, length-history}
 use Rattle.gw_ledger.proofs.HistoryLemmas.{history-push}
 use Rattle.gw_ledger.proofs.TieLemmas.{eqb_above, eqb_same}
@@ -54,20 +54,20 @@ pub present-le : (approved : Bool) (amount : ℕ) → IsPresentAs approved IsAmo
 present-le true amount present = present.1
 present-le false amount present = omega (arith, present)
 
-minor-le : (the_record : Record) → IsRecord the_record → minor_in the_record ≤ 999999999999
-minor-le (Intent intent) within = omega arith
-minor-le (Outcome outcome) within = present-le outcome.approved outcome.amount within.amount
-minor-le (Settled settled) within = omega arith
+units-le : (the_record : Record) → IsRecord the_record → units_in the_record ≤ 999999999999
+units-le (Intent intent) within = omega arith
+units-le (Outcome outcome) within = present-le outcome.approved outcome.amount within.amount
+units-le (Settled settled) within = omega arith
 
 counted-le : (b : Bool) (n : ℕ) → n ≤ 999999999999 → (if b then n else 0) ≤ 999999999999
 counted-le true n le = le
 counted-le false n le = omega arith
 
-pub minor_sum-le : (test : List Record → Record → Bool) (past : List Placed) → EachWithin past
-    → sum_over (λ before the_record. if test before the_record then minor_in the_record else 0) past ≤ length past * 999999999999
-minor_sum-le test [] each = omega arith
-minor_sum-le test (p ∷ older) each =
-    omega (arith, minor_sum-le test older each.1, counted-le (test p.before p.the_record) (minor_in p.the_record) (minor-le p.the_record each.0))
+pub units_sum-le : (test : List Record → Record → Bool) (past : List Placed) → EachWithin past
+    → sum_over (λ before the_record. if test before the_record then units_in the_record else 0) past ≤ length past * 999999999999
+units_sum-le test [] each = omega arith
+units_sum-le test (p ∷ older) each =
+    omega (arith, units_sum-le test older each.1, counted-le (test p.before p.the_record) (units_in p.the_record) (units-le p.the_record each.0))
 
 one_if-le : (b : Bool) → one_if b ≤ 1
 one_if-le true = omega arith
@@ -97,8 +97,8 @@ each_unsettled poi (p ∷ older) each = by_test (settles poi p.the_record) (each
 -- a sum over some of the records, and one amount more, is far below 2^64
 sum-below : (records : List Record) → length records < 1000000 → (past : List Placed) → length past ≤ length records → EachWithin past
     → (test : List Record → Record → Bool) (amount : ℕ) → amount ≤ 999999999999
-    → sum_over (λ before the_record. if test before the_record then minor_in the_record else 0) past + amount < 18446744073709551616
-sum-below records few past le each test amount small = omega (arith, minor_sum-le test past each)
+    → sum_over (λ before the_record. if test before the_record then units_in the_record else 0) past + amount < 18446744073709551616
+sum-below records few past le each test amount small = omega (arith, units_sum-le test past each)
 
 count-small : (records : List Record) → length records < 1000000 → (past : List Placed) → length past ≤ length records
     → (test : List Record → Record → Bool) → sum_over (λ before the_record. one_if (test before the_record)) past + 1 < 4294967296
@@ -118,7 +118,7 @@ room_for records folded few amount small poi currency =
     }
 
 pub total-below : (records : List Record) → AreFoldedBesideKeys records → length records < 1000000 → (amount : ℕ) → amount ≤ 999999999999
-    → sum_over (λ before the_record. if is_approval the_record then minor_in the_record else 0) (history records) + amount < 18446744073709551616
+    → sum_over (λ before the_record. if is_approval the_record then units_in the_record else 0) (history records) + amount < 18446744073709551616
 total-below records folded few amount small =
     let le : length (history records) ≤ length records = omega (arith, length-history records) in
     sum-below records few (history records) le (each_within records folded) (λ before the_record. is_approval the_record) amount small

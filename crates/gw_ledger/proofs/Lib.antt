@@ -3,7 +3,9 @@ pub mod BodyLemmas
 pub mod EmptyLemmas
 pub mod FitLemmas
 pub mod FoldLemmas
+pub mod FirstBadLemmas
 pub mod HistoryLemmas
+pub mod KindLemmas
 pub mod IntentLemmas
 pub mod KeyTableLemmas
 pub mod MarkLemmas
@@ -11,7 +13,10 @@ pub mod NamedLemmas
 pub mod OpenLemmas
 pub mod OutcomeLemmas
 pub mod RecordLemmas
+pub mod SettledAfterLemmas
 pub mod SettledLemmas
 pub mod SortedLemmas
 pub mod TableLemmas
 pub mod TieLemmas
+pub mod TraceLemmas
+pub mod WithinLemmas

@@ -84,6 +84,26 @@ pub named_is : (records : List Record) → length records ≤ 1000000 → (poi t
 named_is records few poi text slot named =
     named_found records few poi text (length records) slot (named_inside records poi text slot named) named
 
+-- what a text names is an entry at its slot
+named_below_is : (records : List Record) (poi text : List ℕ) (n : ℕ) (entry : Entry) → named_below records poi text n ≡ Some entry
+    → (entry_at records entry.slot ≡ Some entry) × (is_named poi text (Some entry) ≡ true)
+named_below_is records poi text zero entry found = cc
+named_below_is records poi text (suc n) entry found = by_test (is_named poi text (entry_at records n)) refl (λ below. named_below_is records poi text n entry below) found
+  where
+    by_test : (b : Bool) → is_named poi text (entry_at records n) ≡ b
+        → (named_below records poi text n ≡ Some entry → (entry_at records entry.slot ≡ Some entry) × (is_named poi text (Some entry) ≡ true))
+        → (if b then entry_at records n else named_below records poi text n) ≡ Some entry
+        → (entry_at records entry.slot ≡ Some entry) × (is_named poi text (Some entry) ≡ true)
+    by_test true here rest is = (
+      ap (entry_at records) (entry_slot records n entry is) ∙ is,
+      ap (is_named poi text) (sym is) ∙ here,
+    )
+    by_test false here rest below = rest below
+
+pub named_is_entry : (records : List Record) (poi text : List ℕ) (entry : Entry) → named_of records poi text ≡ Some entry
+    → (entry_at records entry.slot ≡ Some entry) × (is_named poi text (Some entry) ≡ true)
+named_is_entry records poi text entry found = named_below_is records poi text (length records) entry found
+
 named_nothing : (records : List Record) (poi text : List ℕ) (n : ℕ) → ((slot : ℕ) → slot < n → is_named poi text (entry_at records slot) ≡ true → ⊥)
     → named_below records poi text n ≡ None
 named_nothing records poi text zero none = refl

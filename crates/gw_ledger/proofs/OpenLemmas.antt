@@ -21,7 +21,7 @@ use Rattle.gw_ledger.proofs.HistoryLemmas.{history-push}
 use Rattle.gw_ledger.proofs.TieLemmas.{same_text-is}
 
 -- a terminal after one more record
-account_push : (records : List Record) (next : Record) (poi : List ℕ) → account_of (records ++ next ∷ []) poi
+pub account_push : (records : List Record) (next : Record) (poi : List ℕ) → account_of (records ++ next ∷ []) poi
     ≡ (if is_poi poi (poi_of records next) then account_with (length records) next (account_of records poi) else account_of records poi)
 account_push records next poi = ap (account_in poi) (history-push records next)
 

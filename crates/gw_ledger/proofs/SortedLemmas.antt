@@ -1,15 +1,20 @@
--- Keys that are sorted once: where no two records have the same one, the slots are the table of keys, and each key was new.
+-- Keys that are sorted once: where each is below the next, the slots are the table of keys, and each key was new.
 use Rattle.std.proofs.Common.{◌≡◌, ◌∙◌, ℕ, zero, suc, ◌+◌, ◌-◌, ◌<◌, ◌≤◌, Bool, true, false, ◌&&◌, cond, not, List, [], ◌∷◌, ◌++◌, length, map, get_or, Option, Some, None, IsSome, is_some, IsTrue, refl, sym, ap, subst, arith, ◌⊎◌, inl, inr, append_assoc}
-use Rattle.std.specs.List.{All, Contains}
+use Rattle.std.specs.List.{All, Contains, IsDistinct}
 use Rattle.std.specs.List.Sorted.{IsPermutation}
-use Rattle.std.specs.Ordering.{is_eq}
-use Rattle.std.specs.declared.cmp.Ordering.TheVariants.{Less, Equal}
-use Rattle.std.proofs.lemmas.Bool.{cases_lt}
+use Rattle.std.specs.Ordering.{is_eq, is_lt}
+use Rattle.std.specs.declared.cmp.Ordering.{Ordering}
+use Rattle.std.specs.declared.cmp.Ordering.TheVariants.{Less, Equal, Greater}
+use Rattle.std.proofs.lemmas.Bool.{cases_lt, ne_eqb}
+use Rattle.std.proofs.lemmas.Bool.Decides.{nat_tests}
 use Rattle.std.proofs.lemmas.Cmp.{tied_itself}
-use Rattle.std.proofs.lemmas.List.{append-nil, get_or_default}
+use Rattle.std.proofs.lemmas.List.{append-nil, get_or-map, get_or_default, length-append, length-map}
 use Rattle.std.proofs.lemmas.List.Elements.{All-push, Contains-append_left, Contains-append_right}
 use Rattle.std.proofs.lemmas.List.Sorted.{All-permutation, Contains-permutation}
+use Rattle.std.proofs.lemmas.Map.Keys.{IsDistinct-IsPermutation, IsDistinct-from_apart}
 use Rattle.std.proofs.lemmas.Option.{same_Some}
+use Rattle.std.proofs.Math.ListN.{get_or-append}
+use Rattle.std.proofs.Math.Seq.{get_or-append_seam}
 use Rattle.gw_base.specs.Key.{key_cmp}
 use Rattle.gw_base.specs.declared.key.Key.{Key}
 use Rattle.gw_base.proofs.KeyLemmas.{key_cmp-ties}
@@ -18,7 +23,7 @@ use Rattle.jrn_record.specs.declared.records.Record.TheVariants.{Intent, Outcome
 use Rattle.gw_ledger.specs.Fold.{AreFolded, AreFoldedBesideKeys, Fit, FitBy, fits_beside_key, has_new_key, is_unknown}
 use Rattle.gw_ledger.specs.History.{history}
 use Rattle.gw_ledger.specs.Keys.{intent_key, is_key, key_at, record_key, settled_key, slot_of}
-use Rattle.gw_ledger.specs.KeyTable.{AreKeys, AreRowsBelow, AreRowsOf, AreSortedSlots, key_rows, rows_with}
+use Rattle.gw_ledger.specs.KeyTable.{AreKeyRows, AreKeys, AreRowsBelow, AreRowsOf, RiseTo, key_rows, rows_with, same_slot, slots_in}
 use Rattle.gw_ledger.specs.Table.{IsRowOf, IsTable, value_at}
 use Rattle.gw_ledger.proofs.KeyTableLemmas.{key_last, key_row, key_stays, key_total, slot_push}
 use Rattle.gw_ledger.proofs.TableLemmas.{absent, value_found}
@@ -32,6 +37,11 @@ module _ (P : List Record → Type 0) (step : (before : List Record) (the_record
 
   one_by_one : P [] → (records : List Record) → P records
   one_by_one none records = go [] records none
+
+is_less : (o : Ordering) → is_lt o ≡ true → o ≡ Less
+is_less Less e = refl
+is_less Equal e = cc
+is_less Greater e = cc
 
 is_key-is : (key : Key) (own : Option Key) → is_key key own ≡ true → own ≡ Some key
 is_key-is key None tie = cc
@@ -48,12 +58,12 @@ key_push [] the_record (suc slot) key found = cc
 key_push (first ∷ records) the_record zero key found = inl found
 key_push (first ∷ records) the_record (suc slot) key found = key_push records the_record slot key found
 
-key_inside : (records : List Record) (slot : ℕ) (key : Key) → key_at records slot ≡ Some key → slot < length records
+pub key_inside : (records : List Record) (slot : ℕ) (key : Key) → key_at records slot ≡ Some key → slot < length records
 key_inside [] slot key found = cc
 key_inside (first ∷ records) zero key found = omega arith
 key_inside (first ∷ records) (suc slot) key found = omega (arith, key_inside records slot key found)
 
-is_some-of : (own : Option Key) (key : Key) → own ≡ Some key → IsSome own
+pub is_some-of : (own : Option Key) (key : Key) → own ≡ Some key → IsSome own
 is_some-of own key same = subst IsSome (sym same) refl
 
 -- the slot of a key has it
@@ -77,7 +87,7 @@ pub slot_has_key : (records : List Record) → SlotHasKey records
 slot_has_key = one_by_one SlotHasKey has_step none_has
 
 -- a key without a slot is at none
-abbrev NoneHasKey : List Record → Type 0
+abbrev pub NoneHasKey : List Record → Type 0
 NoneHasKey records = (key : Key) → slot_of records key ≡ None → (slot : ℕ) → key_at records slot ≡ Some key → ⊥
 
 lacks_step : (before : List Record) (the_record : Record) → NoneHasKey before → NoneHasKey (before ++ the_record ∷ [])
@@ -93,8 +103,52 @@ lacks_step before the_record lacks key unknown slot found = by_test (is_key key 
 none_lacks : NoneHasKey []
 none_lacks key unknown slot found = cc
 
-none_has_key : (records : List Record) → NoneHasKey records
+pub none_has_key : (records : List Record) → NoneHasKey records
 none_has_key = one_by_one NoneHasKey lacks_step none_lacks
+
+-- no two slots have one key
+abbrev pub OneSlotEach : List Record → Type 0
+OneSlotEach records = (key : Key) (a b : ℕ) → key_at records a ≡ Some key → key_at records b ≡ Some key → a < b → ⊥
+
+module _ (records : List Record) (one_slot : OneSlotEach records) where
+  -- a record's key is new where it comes
+  new_key : (before rest : List Record) (the_record : Record) → (before ++ the_record ∷ []) ++ rest ≡ records → (key : Key) → record_key the_record ≡ Some key
+      → IsTrue (is_unknown before key)
+  new_key before rest the_record whole key own = by_slot (slot_of before key) refl
+    where
+      at_end : key_at records (length before) ≡ Some key
+      at_end =
+          let last : key_at (before ++ the_record ∷ []) (length before) ≡ Some key = key_last before the_record ∙ own in
+          ap (λ r. key_at r (length before)) (sym whole) ∙ key_stays (before ++ the_record ∷ []) rest (length before) (is_some-of (key_at (before ++ the_record ∷ []) (length before)) key last) ∙ last
+
+      by_slot : (found : Option ℕ) → slot_of before key ≡ found → IsTrue (not (is_some found))
+      by_slot None unknown = refl
+      by_slot (Some slot) found =
+          let earlier = slot_has_key before key slot found in
+          let pushed : key_at (before ++ the_record ∷ []) slot ≡ Some key = key_stays before (the_record ∷ []) slot (is_some-of (key_at before slot) key earlier) ∙ earlier in
+          let at_slot : key_at records slot ≡ Some key =
+          ap (λ r. key_at r slot) (sym whole) ∙ key_stays (before ++ the_record ∷ []) rest slot (is_some-of (key_at (before ++ the_record ∷ []) slot) key pushed) ∙ pushed in
+          absurd (one_slot key slot (length before) at_slot at_end (key_inside before slot key earlier))
+
+  new_record : (before rest : List Record) (the_record : Record) → (before ++ the_record ∷ []) ++ rest ≡ records → IsTrue (has_new_key before the_record)
+  new_record before rest (Intent intent) whole = new_key before rest (Intent intent) whole (intent_key intent) refl
+  new_record before rest (Outcome outcome) whole = refl
+  new_record before rest (Settled settled) whole = new_key before rest (Settled settled) whole (settled_key settled) refl
+
+  both_true : (a b : Bool) → IsTrue a → IsTrue b → IsTrue (a && b)
+  both_true true b first second = second
+  both_true false b first second = cc
+
+  fit_with_keys : (before rest : List Record) → before ++ rest ≡ records → FitBy fits_beside_key before rest → Fit before rest
+  fit_with_keys before [] whole fit = tt
+  fit_with_keys before (the_record ∷ rest) whole fit =
+      let whole' : (before ++ the_record ∷ []) ++ rest ≡ records = append_assoc before (the_record ∷ []) rest ∙ whole in (
+        both_true (has_new_key before the_record) (fits_beside_key before the_record) (new_record before rest the_record whole') fit.0,
+        fit_with_keys (before ++ the_record ∷ []) rest whole' fit.1,
+      )
+
+  pub folded_with_keys : AreFoldedBesideKeys records → AreFolded records
+  folded_with_keys beside = record { within = beside.within; fit = fit_with_keys [] records refl beside.fit }
 
 module _ (records : List Record) (rows : List (Key × ℕ)) (table : IsTable key_cmp rows) (all : AreRowsOf records rows) where
   read_row : (k : ℕ) (d row : Key × ℕ) → k < length rows → get_or rows k row ≡ row → get_or rows k d ≡ row
@@ -142,63 +196,6 @@ module _ (records : List Record) (rows : List (Key × ℕ)) (table : IsTable key
       } in
       value_found key_total rows table q here.0 row (q, slot) ∙ ap (λ (row : Key × ℕ). Some row.1) (read (q, slot))
 
-  -- a record's key is new where it comes
-  new_key : (before rest : List Record) (the_record : Record) → (before ++ the_record ∷ []) ++ rest ≡ records → (key : Key) → record_key the_record ≡ Some key
-      → IsTrue (is_unknown before key)
-  new_key before rest the_record whole key own = by_slot (slot_of before key) refl
-    where
-      at_end : key_at records (length before) ≡ Some key
-      at_end =
-          let last : key_at (before ++ the_record ∷ []) (length before) ≡ Some key = key_last before the_record ∙ own in
-          ap (λ r. key_at r (length before)) (sym whole) ∙ key_stays (before ++ the_record ∷ []) rest (length before) (is_some-of (key_at (before ++ the_record ∷ []) (length before)) key last) ∙ last
-
-      by_slot : (found : Option ℕ) → slot_of before key ≡ found → IsTrue (not (is_some found))
-      by_slot None unknown = refl
-      by_slot (Some slot) found =
-          let earlier = slot_has_key before key slot found in
-          let pushed : key_at (before ++ the_record ∷ []) slot ≡ Some key = key_stays before (the_record ∷ []) slot (is_some-of (key_at before slot) key earlier) ∙ earlier in
-          let at_slot : key_at records slot ≡ Some key =
-          ap (λ r. key_at r slot) (sym whole) ∙ key_stays (before ++ the_record ∷ []) rest slot (is_some-of (key_at (before ++ the_record ∷ []) slot) key pushed) ∙ pushed in
-          absurd (one_slot key slot (length before) at_slot at_end (key_inside before slot key earlier))
-
-  new_record : (before rest : List Record) (the_record : Record) → (before ++ the_record ∷ []) ++ rest ≡ records → IsTrue (has_new_key before the_record)
-  new_record before rest (Intent intent) whole = new_key before rest (Intent intent) whole (intent_key intent) refl
-  new_record before rest (Outcome outcome) whole = refl
-  new_record before rest (Settled settled) whole = new_key before rest (Settled settled) whole (settled_key settled) refl
-
-  both_true : (a b : Bool) → IsTrue a → IsTrue b → IsTrue (a && b)
-  both_true true b first second = second
-  both_true false b first second = cc
-
-  fit_with_keys : (before rest : List Record) → before ++ rest ≡ records → FitBy fits_beside_key before rest → Fit before rest
-  fit_with_keys before [] whole fit = tt
-  fit_with_keys before (the_record ∷ rest) whole fit =
-      let whole' : (before ++ the_record ∷ []) ++ rest ≡ records = append_assoc before (the_record ∷ []) rest ∙ whole in (
-        both_true (has_new_key before the_record) (fits_beside_key before the_record) (new_record before rest the_record whole') fit.0,
-        fit_with_keys (before ++ the_record ∷ []) rest whole' fit.1,
-      )
-
-  folded_with_keys : AreFoldedBesideKeys records → AreFolded records
-  folded_with_keys beside = record { within = beside.within; fit = fit_with_keys [] records refl beside.fit }
-
-pub keys_from_sorted : (records : List Record) (slots : List ℕ) → AreSortedSlots records slots → AreKeys records slots
-keys_from_sorted records slots sorted = record {
-  table = sorted.table;
-  keyed = keyed slots (λ i d lt. sorted.rows.sound i d lt);
-  values = λ key. value_of records (key_rows records slots) sorted.table sorted.rows key (slot_of records key) refl;
-}
-  where
-    keyed_at : (slots : List ℕ) (i d : ℕ) → All (λ (row : Key × ℕ). key_at records row.1 ≡ Some row.0) (key_rows records slots) → i < length slots → IsSome (key_at records (get_or slots i d))
-    keyed_at [] i d sound lt = absurd (omega arith)
-    keyed_at (slot ∷ slots) zero d sound lt = is_some-of (key_at records slot) _ (sound 0 (key_row records slot) (omega arith))
-    keyed_at (slot ∷ slots) (suc i) d sound lt = keyed_at slots i d (λ j e inside. sound (suc j) e (omega arith)) (omega arith)
-
-    keyed : (slots : List ℕ) → All (λ (row : Key × ℕ). key_at records row.1 ≡ Some row.0) (key_rows records slots) → All (λ slot. IsSome (key_at records slot)) slots
-    keyed slots sound i d lt = keyed_at slots i d sound lt
-
-pub folded_from_sorted : (records : List Record) (slots : List ℕ) → AreSortedSlots records slots → AreFoldedBesideKeys records → AreFolded records
-folded_from_sorted records slots sorted = folded_with_keys records (key_rows records slots) sorted.table sorted.rows
-
 -- the slots of sound rows have these rows
 pub rows_again : (records : List Record) (rows : List (Key × ℕ)) → All (λ (row : Key × ℕ). key_at records row.1 ≡ Some row.0) rows
     → key_rows records (map (λ (row : Key × ℕ). row.1) rows) ≡ rows
@@ -206,7 +203,39 @@ rows_again records [] sound = refl
 rows_again records (row ∷ rows) sound =
     rw (sound 0 row (omega arith), rows_again records rows (λ i d lt. sound (suc i) d (omega arith))) refl
 
+module _ (records : List Record) (rows : List (Key × ℕ)) (table : IsTable key_cmp rows) (all : AreRowsOf records rows) where
+  again : key_rows records (slots_in rows) ≡ rows
+  again = rows_again records rows all.sound
+
+  keyed : (i d : ℕ) → i < length (slots_in rows) → IsSome (key_at records (get_or (slots_in rows) i d))
+  keyed i d lt =
+      let row : Key × ℕ = (record { sale = []; poi = []; service = [] }, d) in
+      let inside : i < length rows = omega (arith, length-map rows (λ (row : Key × ℕ). row.1)) in
+      subst (λ s. IsSome (key_at records s)) (sym (get_or-map (λ (row : Key × ℕ). row.1) rows i row d inside)) (is_some-of (key_at records (get_or rows i row).1) (get_or rows i row).0 (all.sound i row inside))
+
+  pub keys_from_rows : AreKeys records (slots_in rows)
+  keys_from_rows = record {
+    table = subst (IsTable key_cmp) (sym again) table;
+    keyed = keyed;
+    values = λ key. ap (λ r. value_at key_cmp r key) again ∙ value_of records rows table all key (slot_of records key) refl;
+  }
+
+  pub folded_from_rows : AreFoldedBesideKeys records → AreFolded records
+  folded_from_rows = folded_with_keys records (one_slot records rows table all)
+
 -- ---- the rows of all records
+
+rising_push : (rows : List (Key × ℕ)) (row : Key × ℕ) → All (λ (r : Key × ℕ). r.1 < row.1) rows
+    → ((i j : ℕ) (d : Key × ℕ) → i < j → j < length rows → (get_or rows i d).1 < (get_or rows j d).1)
+    → (i j : ℕ) (d : Key × ℕ) → i < j → j < length (rows ++ row ∷ []) → (get_or (rows ++ row ∷ []) i d).1 < (get_or (rows ++ row ∷ []) j d).1
+rising_push rows row lower rising i j d lt inside = elim (cases_lt j (length rows)) [
+  | inl before ↦ rw (get_or-append rows (row ∷ []) d i (omega arith), get_or-append rows (row ∷ []) d j before) (rising i j d lt before)
+  | inr last ↦
+      let len : length (rows ++ row ∷ []) ≡ length rows + 1 = length-append rows (row ∷ []) in
+      let here : j ≡ length rows = omega (arith, len) in
+      let earlier : i < length rows = omega arith in
+      rw (get_or-append rows (row ∷ []) d i earlier, here, get_or-append_seam rows row [] d) (lower i d earlier)
+]
 
 pub rows_more : (records : List Record) (rows : List (Key × ℕ)) (slot : ℕ) (key : Key) → key_at records slot ≡ Some key → AreRowsBelow records slot rows
     → AreRowsBelow records (slot + 1) (rows ++ (key, slot) ∷ [])
@@ -219,6 +248,8 @@ rows_more records rows slot key own below = record {
         let same_key : key ≡ k = same_Some key k (sym own ∙ ap (key_at records) (sym same) ∙ at) in
         subst (Contains (rows ++ (key, slot) ∷ [])) (row_same key k slot s same_key (sym same)) (Contains-append_right rows ((key, slot) ∷ []) (key, slot) (0, omega arith, refl))
   ];
+  lower = All-push (λ (row : Key × ℕ). row.1 < slot + 1) rows (key, slot) (λ i d lt. let low : (get_or rows i d).1 < slot = below.lower i d lt in omega arith) (omega arith);
+  rising = rising_push rows (key, slot) below.lower below.rising;
 }
   where
     row_same : (a b : Key) (i j : ℕ) → a ≡ b → i ≡ j → ◌≡◌ {A = Key × ℕ} (a, i) (b, j)
@@ -234,6 +265,8 @@ rows_same records rows slot none below = record {
         let clash : None ≡ Some k = sym none ∙ ap (key_at records) (sym same) ∙ at in
         absurd (cc)
   ];
+  lower = λ i d lt. let low : (get_or rows i d).1 < slot = below.lower i d lt in omega arith;
+  rising = below.rising;
 }
 
 -- the rows with that of the next record, where it has a key
@@ -242,40 +275,49 @@ pub rows_next : (records : List Record) (rows : List (Key × ℕ)) (slot : ℕ) 
 rows_next records rows slot None none below = rows_same records rows slot (sym none) below
 rows_next records rows slot (Some key) own below = rows_more records rows slot key (sym own) below
 
-pub rows_all : (records : List Record) (to : ℕ) (rows : List (Key × ℕ)) → length records ≤ to → AreRowsBelow records to rows → AreRowsOf records rows
-rows_all records to rows le below =
-    record { sound = below.sound; complete = λ slot key at. below.complete slot key (omega (arith, key_inside records slot key at)) at }
+pub rows_all : (records : List Record) (to : ℕ) (rows : List (Key × ℕ)) → length records ≤ to → AreRowsBelow records to rows → AreKeyRows records rows
+rows_all records to rows le below = record {
+  rows_are = record { sound = below.sound; complete = λ slot key at. below.complete slot key (omega (arith, key_inside records slot key at)) at };
+  apart = IsDistinct-from_apart same_slot rows (λ i j d lt inside. let less : (get_or rows i d).1 < (get_or rows j d).1 = below.rising i j d lt inside in ne_eqb (get_or rows i d).1 (get_or rows j d).1 (omega arith));
+}
 
 pub no_rows : (records : List Record) → AreRowsBelow records 0 []
-no_rows records = record { sound = λ i d lt. absurd (omega arith); complete = λ slot key lt at. absurd (omega arith) }
+no_rows records = record {
+  sound = λ i d lt. absurd (omega arith);
+  complete = λ slot key lt at. absurd (omega arith);
+  lower = λ i d lt. absurd (omega arith);
+  rising = λ i j d lt inside. absurd (omega arith);
+}
+
+-- the rows in another order
+pub rows_moved : (records : List Record) (rows sorted : List (Key × ℕ)) → IsPermutation rows sorted → AreKeyRows records rows → AreKeyRows records sorted
+rows_moved records rows sorted moved all = record {
+  rows_are = record {
+    sound = All-permutation (λ (row : Key × ℕ). key_at records row.1 ≡ Some row.0) rows sorted moved all.rows_are.sound;
+    complete = λ slot key at. Contains-permutation rows sorted (key, slot) moved (all.rows_are.complete slot key at);
+  };
+  apart = IsDistinct-IsPermutation same_slot flips rows sorted moved all.apart;
+}
+  where
+    flips : (a b : Key × ℕ) → same_slot a b ≡ same_slot b a
+    flips a b = grind (arith, nat_tests)
 
 -- keys that rise from one to the next are a table
-module _ (rows : List (Key × ℕ)) (rise : (i : ℕ) (d : Key × ℕ) → i + 1 < length rows → key_cmp (get_or rows i d).0 (get_or rows (i + 1) d).0 ≡ Less) where
+module _ (rows : List (Key × ℕ)) (rise : RiseTo rows (length rows)) where
+  next_less : (i : ℕ) (d : Key × ℕ) → i + 1 < length rows → key_cmp (get_or rows i d).0 (get_or rows (i + 1) d).0 ≡ Less
+  next_less i d lt = is_less (key_cmp (get_or rows i d).0 (get_or rows (i + 1) d).0) (rise i d lt lt)
+
   far : (m i : ℕ) (d : Key × ℕ) → i + suc m < length rows → key_cmp (get_or rows i d).0 (get_or rows (i + suc m) d).0 ≡ Less
   far zero i d lt =
       let next : i + 1 ≡ i + suc zero = omega arith in
-      subst (λ j. key_cmp (get_or rows i d).0 (get_or rows j d).0 ≡ Less) next (rise i d (omega arith))
+      subst (λ j. key_cmp (get_or rows i d).0 (get_or rows j d).0 ≡ Less) next (next_less i d (omega arith))
   far (suc m) i d lt =
       let next : i + suc m + 1 ≡ i + suc (suc m) = omega arith in
       key_total.trans (get_or rows i d).0 (get_or rows (i + suc m) d).0 (get_or rows (i + suc (suc m)) d).0 (far m i d (omega arith))
-      (subst (λ j. key_cmp (get_or rows (i + suc m) d).0 (get_or rows j d).0 ≡ Less) next (rise (i + suc m) d (omega arith)))
+      (subst (λ j. key_cmp (get_or rows (i + suc m) d).0 (get_or rows j d).0 ≡ Less) next (next_less (i + suc m) d (omega arith)))
 
   pub table_from_rise : IsTable key_cmp rows
   unfolding IsTable
   table_from_rise i j d lt inside =
       let to : i + suc (j - i - 1) ≡ j = omega arith in
       subst (λ k. key_cmp (get_or rows i d).0 (get_or rows k d).0 ≡ Less) to (far (j - i - 1) i d (omega arith))
-
--- the slots of sorted rows of all records
-pub sorted_slots : (records : List Record) (rows sorted : List (Key × ℕ)) (slots : List ℕ) → AreRowsOf records rows → IsPermutation rows sorted → IsTable key_cmp sorted
-    → slots ≡ map (λ (row : Key × ℕ). row.1) sorted → AreSortedSlots records slots
-sorted_slots records rows sorted slots of moved table are =
-    let sound = All-permutation (λ (row : Key × ℕ). key_at records row.1 ≡ Some row.0) rows sorted moved of.sound in
-    let same : sorted ≡ key_rows records slots = sym (ap (key_rows records) are ∙ rows_again records sorted sound) in
-    record {
-      table = subst (IsTable key_cmp) same table;
-      rows = record {
-        sound = subst (All (λ (row : Key × ℕ). key_at records row.1 ≡ Some row.0)) same sound;
-        complete = λ slot key at. subst (λ r. Contains r (key, slot)) same (Contains-permutation rows sorted (key, slot) moved (of.complete slot key at));
-      };
-    }

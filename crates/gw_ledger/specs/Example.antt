@@ -1,9 +1,11 @@
 -- Closed examples of the fold: what each record leaves, and each reason for which a record may not come next.
-use Rattle.std.specs.Prelude.{◌≡◌, ℕ, true, false, List, [], ◌∷◌, ◌++◌, Some, None, refl, codes}
+use Rattle.std.specs.Prelude.{◌≡◌, ℕ, true, false, List, [], ◌∷◌, ◌++◌, slice_get, Some, None, refl, codes}
 use Rattle.std.specs.Prelude.{pos}
+use Rattle.std.specs.Fmt.{digits}
 use Rattle.gw_base.specs.declared.condition.Condition.TheVariants.{Aborted}
 use Rattle.gw_base.specs.declared.currency.Currency.TheVariants.{Eur, Chf}
 use Rattle.gw_base.specs.declared.key.Key.{Key}
+use Rattle.gw_base.specs.Transaction.{transaction_text}
 use Rattle.jrn_record.specs.declared.records.Deal.TheVariants.{Payment, Reversal}
 use Rattle.jrn_record.specs.declared.records.How.TheVariants.{Sale}
 use Rattle.jrn_record.specs.declared.records.Intent.{Intent as TheIntent}
@@ -12,13 +14,16 @@ use Rattle.jrn_record.specs.declared.records.Settled.{Settled as TheSettled}
 use Rattle.jrn_record.specs.declared.records.Record.{Record}
 use Rattle.jrn_record.specs.declared.records.Record.TheVariants.{Intent, Outcome, Settled}
 use Rattle.gw_ledger.specs.Accounts.{is_settled, last_number_of, open_slot}
+use Rattle.gw_ledger.specs.declared.entry.Entry.{Entry as TheEntry}
 use Rattle.gw_ledger.specs.declared.entry.Found.TheVariants.{Entry, Closed}
 use Rattle.gw_ledger.specs.declared.totals.Totals.{Totals}
 use Rattle.gw_ledger.specs.Fold.{fits, found_of, last_entry, open_entry}
 use Rattle.gw_ledger.specs.History.{history}
 use Rattle.gw_ledger.specs.Keys.{last_slot, slot_of}
-use Rattle.gw_ledger.specs.Slots.{ended_at, is_reversed}
-use Rattle.gw_ledger.specs.Sums.{count_of, minor_sum_of, open_count_of, tally_of, totals_of}
+use Rattle.gw_ledger.specs.Laws.{IsOriginalOf, IsTraceOf}
+use Rattle.gw_ledger.specs.Slots.{ended_at, entry_at, intent_at, is_reversed}
+use Rattle.gw_ledger.specs.Sums.{count_of, units_sum_of, open_count_of, tally_of, totals_of}
+use Rattle.gw_ledger.specs.Transaction.{named_of}
 
 -- a payment of till `S` at terminal `poi`
 abbrev payment : List ℕ → List ℕ → ℕ → ℕ → TheIntent
@@ -118,16 +123,20 @@ day =
     ∷ pay (codes "A") (codes "2") 500 123 ∷ approved 2 124 500
     ∷ undo (codes "A") (codes "3") 0 1099 124 ∷ approved 4 125 1099 ∷ []
 
+-- the day's second payment
+abbrev second : TheEntry
+second = record { slot = 2; intent = payment (codes "A") (codes "2") 500 123; result = Some (approval 2 124 500) }
+
 -- the totals of the day are two payments of 15.99 and one reversal of 10.99; those of another terminal are none
-example_totals : (count_of day (codes "A") Eur Payment ≡ 2) × (minor_sum_of day (codes "A") Eur Payment ≡ 1599)
-    × (count_of day (codes "A") Eur Reversal ≡ 1) × (minor_sum_of day (codes "A") Eur Reversal ≡ 1099)
+example_totals : (count_of day (codes "A") Eur Payment ≡ 2) × (units_sum_of day (codes "A") Eur Payment ≡ 1599)
+    × (count_of day (codes "A") Eur Reversal ≡ 1) × (units_sum_of day (codes "A") Eur Reversal ≡ 1099)
     × (count_of day (codes "A") Chf Payment ≡ 0) × (count_of day (codes "B") Eur Payment ≡ 0)
 unfolding history
 example_totals = (refl, refl, refl, refl, refl, refl)
 
 -- after a reconciliation they begin anew
 example_totals_after : (count_of (day ++ settled (codes "A") (codes "4") ∷ []) (codes "A") Eur Payment ≡ 0)
-    × (minor_sum_of (day ++ settled (codes "B") (codes "4") ∷ []) (codes "A") Eur Payment ≡ 1599)
+    × (units_sum_of (day ++ settled (codes "B") (codes "4") ∷ []) (codes "A") Eur Payment ≡ 1599)
 unfolding history
 example_totals_after = (refl, refl)
 
@@ -266,3 +275,30 @@ example_next : (found_of day (key (codes "4")) ≡ None) × (open_entry day (cod
     × (fits (day ++ pay (codes "A") (codes "4") 100 125 ∷ []) (approved 6 126 100) ≡ true)
 unfolding history
 example_next = (refl, refl, refl, refl, refl, refl)
+
+-- a reversal of the day's second payment, which is approved, neither reversed nor settled, and of its terminal, currency and
+-- amount; and a reconciliation under a key that is unknown
+example_reversal : (found_of day (key (codes "4")) ≡ None) × (open_entry day (codes "A") ≡ None) × (last_number_of day (codes "A") ≡ 125)
+    × (entry_at day 2 ≡ Some second) × IsOriginalOf (reversal (codes "A") (codes "4") 2 500 125) second
+    × (is_reversed day 2 ≡ false) × (is_settled day 2 ≡ false)
+    × (fits day (undo (codes "A") (codes "4") 2 500 125) ≡ true) × (fits day (settled (codes "A") (codes "4")) ≡ true)
+unfolding history
+example_reversal =
+    (refl, refl, refl, refl, record { what = refl; poi = refl; currency = refl; approved = (refl, refl) }, refl, refl, refl, refl)
+
+-- the day's second payment has its Outcome at slot 3, and a Settled of its terminal comes after that
+example_settled : (intent_at (day ++ settled (codes "A") (codes "4") ∷ []) 2 ≡ Some second.intent) × (ended_at (day ++ settled (codes "A") (codes "4") ∷ []) 2 ≡ Some 3)
+    × (is_settled (day ++ settled (codes "A") (codes "4") ∷ []) 2 ≡ true)
+    × (slice_get (day ++ settled (codes "A") (codes "4") ∷ []) 6 ≡ Some (settled (codes "A") (codes "4")))
+unfolding history
+example_settled = (refl, refl, refl, refl)
+
+-- the text of the day's second payment names it at its terminal, and nothing at another
+example_named : (named_of day (codes "A") (codes "000124-0017-2") ≡ Some second) × (named_of day (codes "B") (codes "000124-0017-2") ≡ None)
+unfolding history transaction_text digits
+example_named = (refl, refl)
+
+-- the last trace number of the day's terminal is that of the newest record, its last Outcome; another terminal has none
+example_last_number : IsTraceOf day (codes "A") 125 × (last_number_of day (codes "A") ≡ 125) × (last_number_of day (codes "B") ≡ 0)
+unfolding history
+example_last_number = (record { at = 0; placed = _; found = refl; of_poi = refl; trace_is = refl }, refl, refl)

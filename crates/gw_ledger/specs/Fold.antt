@@ -1,5 +1,5 @@
 -- The fold of the records: which record may come next, what has a key, and the ledger as plain data.
-use Rattle.std.specs.Prelude.{◌≡◌, ℕ, ◌<◌, nat_lt, nat_le, ◌==◌, Bool, true, false, ◌&&◌, not, IsTrue, List, [], ◌∷◌, ◌++◌, All, map, length, take, slice_get, Option, Some, None, is_some, option_and_then, option_map}
+use Rattle.std.specs.Prelude.{◌≡◌, ℕ, ◌<◌, ◌≤◌, nat_lt, nat_le, ◌==◌, Bool, true, false, ◌&&◌, not, IsTrue, List, [], ◌∷◌, ◌++◌, All, map, length, take, slice_get, Option, Some, None, is_some, option_and_then, option_map}
 use Rattle.gw_base.specs.declared.currency.Currency.{Currency}
 use Rattle.gw_base.specs.declared.key.Key.{Key}
 use Rattle.jrn_record.specs.Limits.{IsRecord}
@@ -115,23 +115,22 @@ abbrev pub IfBad : (ℕ → Type 0) → LedgerFault → Type 0
 IfBad P (BadRecord fault) = P fault.slot
 IfBad P Memory = Unit {0}
 
--- Inner: the body is that of a record that may come next, and the records have it
-pub record IsTaken (before : List Record) (body : List ℕ) (after : List Record) : Type 0 where
-  pub the_record : Record
-  pub within : IsRecord the_record
-  pub body_is : body ≡ record_body the_record
-  pub fitting : IsTrue (fits before the_record)
-  pub after_is : after ≡ before ++ the_record ∷ []
-
 -- Inner: the body is that of a record, and the records have it
 pub record IsBodyAdded (before : List Record) (body : List ℕ) (after : List Record) : Type 0 where
   pub the_record : Record
   pub body_is : body ≡ record_body the_record
   pub after_is : after ≡ before ++ the_record ∷ []
 
--- Inner: the body is that of no record that may come next
-abbrev pub IsRefused : List Record → List ℕ → Type 0
-IsRefused before body = (the_record : Record) → IsRecord the_record → body ≡ record_body the_record → IsTrue (fits before the_record) → ⊥
+-- Inner: the body is that of no record that may come next, whatever its key
+abbrev pub IsRefusedBesideKey : List Record → List ℕ → Type 0
+IsRefusedBesideKey before body =
+    (the_record : Record) → IsRecord the_record → body ≡ record_body the_record → IsTrue (fits_beside_key before the_record) → ⊥
+
+-- Inner: the records are those of the first bodies, and the next body is that of no record that may come next, whatever its key
+pub record AreFirstBodiesOf (bodies : List (List ℕ)) (records : List Record) : Type 0 where
+  pub inside : length records ≤ length bodies
+  pub bodies_are : map record_body records ≡ take (length records) bodies
+  pub refused : (body : List ℕ) → slice_get bodies (length records) ≡ Some body → IsRefusedBesideKey records body
 
 -- a reconciliation, with the totals of the records before it
 abbrev pub closed_of : List Record → ℕ → TheSettled → TheClosed

@@ -6,6 +6,7 @@ pub mod History
 pub mod KeyTable
 pub mod Keys
 pub mod Laws
+pub mod Records
 pub mod Slots
 pub mod Steps
 pub mod Sums

@@ -69,10 +69,10 @@ approves poi currency what before (Outcome outcome) =
 approves poi currency what before (Settled settled) = false
 
 -- the minor units of an Outcome
-abbrev pub minor_in : Record → ℕ
-minor_in (Intent intent) = 0
-minor_in (Outcome outcome) = outcome.amount
-minor_in (Settled settled) = 0
+abbrev pub units_in : Record → ℕ
+units_in (Intent intent) = 0
+units_in (Outcome outcome) = outcome.amount
+units_in (Settled settled) = 0
 
 -- how many were approved since the terminal's last Settled, in this currency
 abbrev pub count_of : List Record → List ℕ → Currency → Deal → ℕ
@@ -80,16 +80,16 @@ count_of records poi currency what =
     sum_over (λ before the_record. one_if (approves poi currency what before the_record)) (unsettled poi (history records))
 
 -- and their minor units
-abbrev pub minor_sum_of : List Record → List ℕ → Currency → Deal → ℕ
-minor_sum_of records poi currency what =
-    sum_over (λ before the_record. if approves poi currency what before the_record then minor_in the_record else 0)
+abbrev pub units_sum_of : List Record → List ℕ → Currency → Deal → ℕ
+units_sum_of records poi currency what =
+    sum_over (λ before the_record. if approves poi currency what before the_record then units_in the_record else 0)
     (unsettled poi (history records))
 
 -- the counts and sums of payments and of reversals
 abbrev pub sums_of : List Record → List ℕ → Currency → Sums
 sums_of records poi currency = record {
-  debit = (count_of records poi currency Payment, minor_sum_of records poi currency Payment);
-  reversed = (count_of records poi currency Reversal, minor_sum_of records poi currency Reversal);
+  debit = (count_of records poi currency Payment, units_sum_of records poi currency Payment);
+  reversed = (count_of records poi currency Reversal, units_sum_of records poi currency Reversal);
 }
 
 -- in this currency
@@ -144,5 +144,5 @@ tally_of records = record {
   approved = count_all records is_approval;
   declined = count_all records is_decline;
   unresolved = open_count_of records;
-  sum = sum_over (λ before the_record. if is_approval the_record then minor_in the_record else 0) (history records);
+  sum = sum_over (λ before the_record. if is_approval the_record then units_in the_record else 0) (history records);
 }

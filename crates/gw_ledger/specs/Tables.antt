@@ -17,6 +17,7 @@ use Rattle.gw_ledger.specs.Accounts.{account_of, new_account}
 use Rattle.gw_ledger.specs.Fold.{AreFoldedBesideKeys}
 use Rattle.gw_ledger.specs.History.{history}
 use Rattle.gw_ledger.specs.Keys.{last_slot}
+use Rattle.gw_ledger.specs.Records.{RecordsValue}
 use Rattle.gw_ledger.specs.Slots.{ended_at, intent_at, reversed_in}
 use Rattle.gw_ledger.specs.Sums.{ordinal, sums_of, tally_of, totals_of}
 use Rattle.gw_ledger.specs.Table.{IsTable, value_at}
@@ -67,9 +68,12 @@ pub record AreTables (records : List Record) (marks : List Mark) (lasts : List (
 
 -- the vectors have room for what is still to come: the Outcomes of the open Intents, and for `spare` more Intents or
 -- Settled, with the Outcome of each
-pub record HaveRoom {A : Type 0} (records : Vec Record A) (marks : Vec Mark A) (lasts : Vec ((List ℕ × List ℕ) × ℕ) A)
+pub record HaveRoom {A : Type 0} (records : RecordsValue) (marks : Vec Mark A) (lasts : Vec ((List ℕ × List ℕ) × ℕ) A)
     (desks : Vec (List ℕ × Desk) A) (closings : Vec (ℕ × Totals) A) (unresolved spare : ℕ) : Type 0 where
-  pub for_records : vec_len records + unresolved + 2 * spare ≤ vec_capacity records
+  pub for_slots : unresolved + 2 * spare ≤ records.slots
+  pub for_intents : spare ≤ records.intents
+  pub for_outcomes : unresolved + spare ≤ records.outcomes
+  pub for_reconciliations : spare ≤ records.reconciliations
   pub for_marks : vec_len marks + unresolved + 2 * spare ≤ vec_capacity marks
   pub for_lasts : vec_len lasts + spare ≤ vec_capacity lasts
   pub for_desks : vec_len desks + spare ≤ vec_capacity desks

@@ -1,5 +1,5 @@
 //! Laws of the fold of the records.
-ghost use Rattle.gw_ledger.specs.Laws.{CountIsOfOpenSlots, NewestIsFirst, OpenSlotIsOpen, OthersLeaveTerminal, OutcomeFits, PaymentFits, TextNamesOne};
+ghost use Rattle.gw_ledger.specs.Laws.{CountIsOfOpenSlots, EntriesAreWithin, LastNumberIsGreatest, NamedIsEntry, NewestIsFirst, OpenSlotIsOpen, OthersLeaveTerminal, OutcomeFits, PaymentFits, ReversalFits, SettledFits, SettledIsAfter, TextNamesOne};
 
 /// One more record is the newest of the history, and where it is one of another terminal it leaves a terminal's open slot
 /// and its last trace number.
@@ -15,13 +15,31 @@ pub fn law_open()
     ensures slot { OpenSlotIsOpen }
 {}
 
-/// A text names at most one entry of a terminal.
-pub fn law_named()
-    ensures { TextNamesOne }
+/// A terminal's last trace number is the greatest in its records.
+pub fn law_last_number()
+    ensures { LastNumberIsGreatest }
 {}
 
-/// When a payment and an Outcome may come next, by what the ledger returns.
+/// A payment is settled where a Settled of its terminal comes after its Outcome.
+pub fn law_settled()
+    ensures { SettledIsAfter }
+{}
+
+/// A text names at most one entry of a terminal, and what it names is an entry of that terminal.
+pub fn law_named()
+    ensures one { TextNamesOne }
+    ensures entry { NamedIsEntry }
+{}
+
+/// Each field of what the ledger returns lies within its limits.
+pub fn law_within()
+    ensures { EntriesAreWithin }
+{}
+
+/// When a record may come next, by what the ledger returns.
 pub fn law_fits()
     ensures payment { PaymentFits }
+    ensures reversal { ReversalFits }
     ensures outcome { OutcomeFits }
+    ensures settled { SettledFits }
 {}

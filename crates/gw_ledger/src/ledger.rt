@@ -1,22 +1,27 @@
 //! The ledger: its tables by slot and by terminal, and the table of keys.
-ghost use Rattle.std.specs.Prelude.{◌≡◌, ◌+◌, ◌<◌, ◌≤◌, [], ◌∷◌, ◌++◌, length, IsTrue, OnOk, OnErr, IfOk, IfErr, IfSome};
-ghost use Rattle.jrn_record.specs.Limits.{IsIntent, IsOutcome, IsRecord, IsSettled};
+ghost use Rattle.std.specs.Prelude.{◌≡◌, ◌+◌, ◌<◌, ◌≤◌, [], ◌∷◌, ◌++◌, length, IsTrue, OnOk, OnErr, IfOk, IfErr};
+ghost use Rattle.gw_base.specs.Key.{key_cmp};
+ghost use Rattle.jrn_record.specs.Limits.{IsIntent, IsOutcome, IsSettled};
+ghost use Rattle.jrn_record.specs.declared.records.Record.{Record};
 ghost use Rattle.gw_ledger.specs.Accounts.{is_settled, last_number_of};
-ghost use Rattle.gw_ledger.specs.Fold.{AreBodiesOf, AreFolded, IfBad, IsFirstBad, IsRefused, IsTaken, fits, found_of, has_new_key, is_unknown, last_entry, open_entry};
-ghost use Rattle.gw_ledger.specs.Keys.{intent_key, settled_key, slot_of};
+ghost use Rattle.gw_ledger.specs.Fold.{AreBodiesOf, AreFolded, IfBad, IsFirstBad, fits, found_of, last_entry, open_entry};
+ghost use Rattle.gw_ledger.specs.Keys.{slot_of};
+ghost use Rattle.gw_ledger.specs.KeyTable.{AreKeyRows};
 ghost use Rattle.gw_ledger.specs.Slots.{is_reversed};
 ghost use Rattle.gw_ledger.specs.Sums.{open_count_of, tally_of, totals_of};
+ghost use Rattle.gw_ledger.specs.Table.{IsTable};
 ghost use Rattle.gw_ledger.specs.Transaction.{named_of};
 
 use crate::entry::{Entry, Found};
 use crate::fault::{BadRecord, LedgerFault};
 use crate::keys;
-use crate::sorted::{slots_of, tables_of};
+use crate::records::{key_of_intent, key_of_settled};
+use crate::sorted::{least_fall, slots_of, sorted_rows, tables_of};
 use crate::table::insert_at;
-use crate::tables::{Tables, key_of_intent, key_of_settled};
+use crate::tables::Tables;
 use crate::totals::{Tally, Totals};
 use gw_base::{Bodies, Currency, Ident, Key};
-use jrn_record::{Intent, Outcome, Record, Settled, from_body, law_bodies};
+use jrn_record::{Intent, Outcome, Settled, law_bodies};
 use std::alloc::{AllocError, Global};
 use std::marker::Model;
 
@@ -46,121 +51,48 @@ impl Model for Ledger {
 
 impl Ledger {
     /// The ledger of the records of these bodies, or the first slot that is no record or one that may not come next.
+    ///
+    /// Each record is added whatever its key, as far as each may come next, and then the keys are sorted once. So the first
+    /// record that may not come next is the first whose key an earlier one has, or the one after those that were added.
     pub fn from_records(alloc: Global, bodies: &Bodies) -> Result<Ledger, LedgerFault>
         requires { length bodies.now ≤ 1000000 }
         ensures folded { IfOk result (λ ledger. AreBodiesOf bodies.now ledger.records) }
         ensures bad { IfErr result (IfBad (IsFirstBad bodies.now)) }
     {
-        match Ledger::sorted(alloc, bodies) {
-            Ok(Some(ledger)) => Ok(ledger),
-            // One of the records may not follow: they are added one by one to find which.
-            Ok(None) => Ledger::one_by_one(alloc, bodies),
+        law_bodies();
+        let tables = match tables_of(alloc, bodies) {
+            Ok(tables) => tables,
+            Err(_) => return Err(LedgerFault::Memory),
+        };
+        let rows = match sorted_rows(alloc, &tables) {
+            Ok(rows) => rows,
+            Err(_) => return Err(LedgerFault::Memory),
+        };
+        tables.law_folded();
+        match least_fall(&rows) {
+            Some(slot) => return Err(LedgerFault::BadRecord(BadRecord { slot })),
+            None => {}
+        }
+        if (tables.count() as usize) < bodies.as_slice().len() {
+            let slot = tables.count();
+            return Err(LedgerFault::BadRecord(BadRecord { slot }));
+        }
+        match Ledger::sorted(alloc, tables, &rows) {
+            Ok(ledger) => Ok(ledger),
             Err(_) => Err(LedgerFault::Memory),
         }
     }
 
-    /// The ledger of the records of these bodies, whose keys are sorted once; `None` where one of them may not come next.
-    fn sorted(alloc: Global, bodies: &Bodies) -> Result<Option<Ledger>, AllocError>
-        requires { length bodies.now ≤ 1000000 }
-        ensures { IfOk result (λ made. IfSome made (λ ledger. AreBodiesOf bodies.now ledger.records)) }
+    /// The ledger of these tables, whose keys these rows have in their order.
+    fn sorted(alloc: Global, tables: Tables, rows: &[(Key, u32)]) -> Result<Ledger, AllocError>
+        requires table { IsTable key_cmp rows.now }
+        requires rows { AreKeyRows tables.records rows.now }
+        ensures { IfOk result (λ ledger. ledger.records ≡ tables.records) }
     {
-        let tables = match tables_of(alloc, bodies)? {
-            Some(tables) => tables,
-            None => return Ok(None),
-        };
-        let mut slots = match slots_of(alloc, &tables)? {
-            Some(slots) => slots,
-            None => return Ok(None),
-        };
+        let mut slots = slots_of(alloc, rows)?;
         tables.law_folded();
         slots.reserve(tables.spare())?;
-        Ok(Some(Ledger { tables, slots }))
-    }
-
-    /// The ledger of the records of these bodies, each added to that of those before it.
-    fn one_by_one(alloc: Global, bodies: &Bodies) -> Result<Ledger, LedgerFault>
-        requires { length bodies.now ≤ 1000000 }
-        ensures folded { IfOk result (λ ledger. AreBodiesOf bodies.now ledger.records) }
-        ensures bad { IfErr result (IfBad (IsFirstBad bodies.now)) }
-    {
-        let mut ledger = Ledger {
-            tables: Tables::new(alloc),
-            slots: Vec::new(alloc),
-        };
-        for body in bodies.as_slice() {
-            match ledger.take_body(alloc, body) {
-                Ok(()) => {}
-                Err(fault) => return Err(fault),
-            }
-        }
-        Ok(ledger)
-    }
-
-    /// Adds the record of a body.
-    fn take_body(&mut self, alloc: Global, body: &[u8; 255]) -> Result<(), LedgerFault>
-        requires { length self.old.records < 1000000 }
-        ensures taken { OnOk result (IsTaken self.old.records body.now self.new.records) }
-        ensures bad { IfErr result (IfBad (λ slot. (slot ≡ length self.old.records) × IsRefused self.old.records body.now)) }
-    {
-        law_bodies();
-        let slot = self.tables.count();
-        let the_record = match from_body(body) {
-            Ok(the_record) => the_record,
-            Err(_) => return Err(LedgerFault::BadRecord(BadRecord { slot })),
-        };
-        if !self.fits(&the_record) {
-            return Err(LedgerFault::BadRecord(BadRecord { slot }));
-        }
-        match self.reserve(alloc, 1) {
-            Ok(()) => {}
-            Err(_) => return Err(LedgerFault::Memory),
-        }
-        self.add(&the_record);
-        Ok(())
-    }
-
-    /// Adds a record.
-    fn add(&mut self, the_record: &Record)
-        requires spare { 1 ≤ self.old.spare }
-        requires few { length self.old.records < 1000000 }
-        requires within { IsRecord the_record.now }
-        requires fits { IsTrue (fits self.old.records the_record.now) }
-        ensures { self.new.records ≡ self.old.records ++ the_record.now ∷ [] }
-    {
-        match the_record {
-            Record::Intent(intent) => {
-                let _slot = self.accept(intent);
-            }
-            Record::Outcome(outcome) => self.resolve(outcome),
-            Record::Settled(settled) => {
-                let _totals = self.settle(settled);
-            }
-        }
-    }
-
-    /// Whether the record may come next.
-    fn fits(&self, the_record: &Record) -> bool
-        ensures { result ≡ fits self.now.records the_record.now }
-    {
-        self.has_new_key(the_record) && self.tables.fits_beside_key(the_record)
-    }
-
-    /// Whether the record has a key that is unknown, or none.
-    fn has_new_key(&self, the_record: &Record) -> bool
-        ensures { result ≡ has_new_key self.now.records the_record.now }
-    {
-        match the_record {
-            Record::Intent(intent) => self.is_unknown(&key_of_intent(intent)),
-            Record::Outcome(_) => true,
-            Record::Settled(settled) => self.is_unknown(&key_of_settled(settled)),
-        }
-    }
-
-    /// Whether no record has the key.
-    fn is_unknown(&self, key: &Key) -> bool
-        ensures { result ≡ is_unknown self.now.records key.now }
-    {
-        self.slot_of(key).is_none()
+        Ok(Ledger { tables, slots })
     }
 
     /// The slot of the Intent or Settled that has the key.

@@ -7,6 +7,7 @@ mod fault;
 mod keys;
 mod laws;
 mod ledger;
+mod records;
 mod sorted;
 mod table;
 mod tables;
@@ -15,7 +16,7 @@ mod transaction;
 
 pub use entry::{Closed, Entry, Found};
 pub use fault::{BadRecord, LedgerFault};
-pub use laws::{law_fits, law_named, law_next, law_open};
+pub use laws::{law_fits, law_last_number, law_named, law_next, law_open, law_settled, law_within};
 pub use ledger::Ledger;
 pub use totals::{Tally, Totals};
 

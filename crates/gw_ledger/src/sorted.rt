@@ -1,8 +1,8 @@
 //! The keys of all records of a journal, sorted once.
-ghost use Rattle.std.specs.Prelude.{◌≡◌, ◌≤◌, IsTrue, IfOk, IfSome, OnOk, length, map};
+ghost use Rattle.std.specs.Prelude.{◌≡◌, ◌≤◌, IfOk, MatchOption, OnOk, IsSorted, length};
 ghost use Rattle.gw_base.specs.Key.{key_cmp};
-ghost use Rattle.jrn_record.specs.Grammar.{record_body};
-ghost use Rattle.gw_ledger.specs.KeyTable.{AreRowsOf, AreSortedSlots, rows_with};
+ghost use Rattle.gw_ledger.specs.Fold.{AreFirstBodiesOf};
+ghost use Rattle.gw_ledger.specs.KeyTable.{AreKeyRows, IsLeastFall, least_with, row_cmp, rows_with, slots_in};
 ghost use Rattle.gw_ledger.specs.Table.{IsTable};
 
 use crate::tables::Tables;
@@ -10,39 +10,34 @@ use gw_base::{Bodies, Key};
 use std::alloc::{AllocError, Global};
 use std::cmp::Ordering;
 
-/// The tables of the records of these bodies, where each may come after those before it, whatever their keys.
-pub fn tables_of(alloc: Global, bodies: &Bodies) -> Result<Option<Tables>, AllocError>
+/// The tables of the records of these bodies, up to the first body that is no record or one that may not come after those
+/// before it, whatever its key.
+pub fn tables_of(alloc: Global, bodies: &Bodies) -> Result<Tables, AllocError>
     requires { length bodies.now ≤ 1000000 }
-    ensures { IfOk result (λ made. IfSome made (λ tables. bodies.now ≡ map record_body tables.records)) }
+    ensures { IfOk result (λ tables. AreFirstBodiesOf bodies.now tables.records) }
 {
     let mut tables = Tables::new(alloc);
     for body in bodies.as_slice() {
         if !tables.take_body(body)? {
-            return Ok(None);
+            return Ok(tables);
         }
     }
-    Ok(Some(tables))
+    Ok(tables)
 }
 
-/// The slots of the records that have a key, sorted by it, where no two have the same key.
-pub fn slots_of(alloc: Global, tables: &Tables) -> Result<Option<Vec<u32>>, AllocError>
-    ensures { IfOk result (λ made. IfSome made (λ slots. AreSortedSlots tables.now.records slots.items)) }
+/// The keys of the records, each with its slot, sorted.
+pub fn sorted_rows(alloc: Global, tables: &Tables) -> Result<Vec<(Key, u32)>, AllocError>
+    ensures rows { IfOk result (λ rows. AreKeyRows tables.now.records rows.items) }
+    ensures sorted { IfOk result (λ rows. IsSorted row_cmp rows.items) }
 {
     let mut rows = rows_of(alloc, tables)?;
     rows.sort()?;
-    if !do_rise(&rows) {
-        return Ok(None);
-    }
-    let mut slots = Vec::with_capacity(alloc, rows.len())?;
-    for row in &rows {
-        slots.push(row.1)?;
-    }
-    Ok(Some(slots))
+    Ok(rows)
 }
 
 /// The keys of the records, each with its slot.
 fn rows_of(alloc: Global, tables: &Tables) -> Result<Vec<(Key, u32)>, AllocError>
-    ensures { IfOk result (λ rows. AreRowsOf tables.now.records rows.items) }
+    ensures { IfOk result (λ rows. AreKeyRows tables.now.records rows.items) }
 {
     let mut rows = Vec::new(alloc);
     for slot in 0..tables.count() {
@@ -62,15 +57,37 @@ fn push_row(rows: &mut Vec<(Key, u32)>, key: Option<Key>, slot: u32) -> Result<(
     Ok(())
 }
 
-/// Whether each key is below the next.
-fn do_rise(rows: &[(Key, u32)]) -> bool
-    ensures { IsTrue result → IsTable key_cmp rows.now }
+/// The least slot of a row whose key isn't above that of the row before it; `None` where each key is below the next.
+pub fn least_fall(rows: &[(Key, u32)]) -> Option<u32>
+    ensures { MatchOption result (IsTable key_cmp rows.now) (IsLeastFall rows.now) }
 {
+    let mut least = None;
     for at in 1..rows.len() {
-        match rows[at - 1].0.cmp(&rows[at].0) {
-            Ordering::Less => {}
-            Ordering::Equal | Ordering::Greater => return false,
-        }
+        least = least_with(least, &rows[at - 1], &rows[at]);
     }
-    true
+    least
+}
+
+/// The lesser of these slots: that of a row, where its key isn't above that of the row before it, and the least so far.
+fn least_with(least: Option<u32>, before: &(Key, u32), row: &(Key, u32)) -> Option<u32>
+    ensures { result ≡ least_with least before.now row.now }
+{
+    match before.0.cmp(&row.0) {
+        Ordering::Less => least,
+        Ordering::Equal | Ordering::Greater => match least {
+            Some(slot) => Some(slot.min(row.1)),
+            None => Some(row.1),
+        },
+    }
+}
+
+/// The slots of the rows.
+pub fn slots_of(alloc: Global, rows: &[(Key, u32)]) -> Result<Vec<u32>, AllocError>
+    ensures { IfOk result (λ slots. slots.items ≡ slots_in rows.now) }
+{
+    let mut slots = Vec::with_capacity(alloc, rows.len())?;
+    for row in rows {
+        slots.push(row.1)?;
+    }
+    Ok(slots)
 }

@@ -1,5 +1,5 @@
 //! Tables: vectors of a key and a value, sorted by the key.
-ghost use Rattle.std.specs.Prelude.{◌≡◌, ℕ, ◌+◌, ◌<◌, ◌≤◌, length, IsSome, IfOk, IfErr, Some, None, if◌then◌else◌, vec_len, vec_capacity, insert};
+ghost use Rattle.std.specs.Prelude.{◌≡◌, ℕ, ◌+◌, ◌<◌, ◌≤◌, [], ◌∷◌, ◌++◌, length, IsSome, IfOk, IfErr, Some, None, if◌then◌else◌, vec_len, vec_capacity, insert};
 ghost use Rattle.std.specs.Ordering.{is_eq};
 ghost use Rattle.gw_ledger.specs.Table.{IsGapFor, IsRowOf, IsTable, value_at};
 
@@ -36,6 +36,19 @@ pub fn put<K: Ord + Copy, V: Copy>(rows: &mut Vec<(K, V)>, key: K, value: V)
     match search(rows, &key) {
         Ok(at) => rows[at] = (key, value),
         Err(at) => insert_at(rows, at, (key, value)),
+    }
+}
+
+/// Appends the element, for which there is room.
+pub fn push<T: Copy>(elements: &mut Vec<T>, element: T)
+    requires { vec_len elements.old < vec_capacity elements.old }
+    ensures elements { elements.new.items ≡ elements.old.items ++ element ∷ [] }
+    ensures len { vec_len elements.new ≡ vec_len elements.old + 1 }
+    ensures capacity { vec_capacity elements.old ≤ vec_capacity elements.new }
+{
+    match elements.push(element) {
+        Ok(()) => {}
+        Err(_) => unreachable!(),
     }
 }
 

@@ -4,7 +4,7 @@ ghost use Rattle.std.specs.declared.cmp.Ordering.{Ordering};
 ghost use Rattle.gw_base.specs.Key.{key_cmp};
 ghost use Rattle.jrn_record.specs.Limits.{IsIntent, IsOutcome, IsRecord, IsSettled};
 ghost use Rattle.gw_ledger.specs.Accounts.{is_settled, last_number_of};
-ghost use Rattle.gw_ledger.specs.Fold.{AreFoldedBesideKeys, IsBodyAdded, fits_beside_key, found_by, has_fitting_original, is_approved_payment, is_approved_with, last_entry, may_reverse, open_entry};
+ghost use Rattle.gw_ledger.specs.Fold.{AreFoldedBesideKeys, IsBodyAdded, IsRefusedBesideKey, fits_beside_key, found_by, has_fitting_original, is_approved_payment, is_approved_with, last_entry, may_reverse, open_entry};
 ghost use Rattle.gw_ledger.specs.History.{same_text};
 ghost use Rattle.gw_ledger.specs.Keys.{intent_key, key_at, settled_key};
 ghost use Rattle.gw_ledger.specs.KeyTable.{compare_record};
@@ -15,11 +15,13 @@ ghost use Rattle.gw_ledger.specs.Steps.{changed_at, ended_mark, marks_reversed, 
 
 use crate::account::{Desk, asked, closed, desk_in, ordinal_of, resolved, totals_at};
 use crate::entry::{Closed, Entry, Found};
+use crate::records::Records;
 use crate::table;
+use crate::table::push;
 use crate::totals::{Tally, Totals};
 use crate::transaction::{is_named, slot_in};
 use gw_base::{Currency, Ident, Key};
-use jrn_record::{Deal, Intent, Outcome, Record, Settled, from_body};
+use jrn_record::{Deal, Intent, Outcome, Record, Settled, from_body, law_bodies};
 use std::alloc::{AllocError, Global};
 use std::cmp::Ordering;
 use std::marker::Model;
@@ -44,7 +46,7 @@ impl Mark {
 // that follows can be refused memory.
 #[derive(Debug, Drop)]
 pub struct Tables {
-    records: Vec<Record>,
+    records: Records,
     /// By slot.
     marks: Vec<Mark>,
     /// By till and terminal, the slot of the last Intent.
@@ -65,9 +67,9 @@ impl Model for Tables {
 
     ghost use Rattle.gw_ledger.specs.Tables.{AreTables, HaveRoom};
 
-    ghost view = { λ l. record { records = l.records.items; spare = l.spare } };
+    ghost view = { λ l. record { records = l.records.records; spare = l.spare } };
 
-    ghost invariant = { λ l. AreTables l.records.items l.marks.items l.lasts.items l.desks.items l.closings.items l.tally
+    ghost invariant = { λ l. AreTables l.records.records l.marks.items l.lasts.items l.desks.items l.closings.items l.tally
         × HaveRoom l.records l.marks l.lasts l.desks l.closings l.tally.unresolved l.spare };
 }
 
@@ -78,7 +80,7 @@ impl Tables {
         ensures spare { result.spare ≡ 0 }
     {
         Tables {
-            records: Vec::new(alloc),
+            records: Records::new(alloc),
             marks: Vec::new(alloc),
             lasts: Vec::new(alloc),
             desks: Vec::new(alloc),
@@ -98,14 +100,17 @@ impl Tables {
     pub fn count(&self) -> u32
         ensures { result ≡ length self.now.records }
     {
-        self.records.len() as u32
+        self.records.len()
     }
 
     /// Adds the record of a body, whatever its key, where it may come next; otherwise nothing changes.
     pub fn take_body(&mut self, body: &[u8; 255]) -> Result<bool, AllocError>
         requires { length self.old.records < 1000000 }
-        ensures { IfOk result (λ added. IsTrue added → IsBodyAdded self.old.records body.now self.new.records) }
+        ensures added { IfOk result (λ added. IsTrue added → IsBodyAdded self.old.records body.now self.new.records) }
+        ensures refused { IfOk result (λ added. added ≡ false → self.new.records ≡ self.old.records) }
+        ensures cause { IfOk result (λ added. added ≡ false → IsRefusedBesideKey self.old.records body.now) }
     {
+        law_bodies();
         let the_record = match from_body(body) {
             Ok(the_record) => the_record,
             Err(_) => return Ok(false),
@@ -187,7 +192,7 @@ impl Tables {
     fn fits_outcome(&self, outcome: &Outcome) -> bool
         ensures { result ≡ fits_beside_key self.now.records (Record.Outcome outcome.now) }
     {
-        match intent_in(&self.records, outcome.slot) {
+        match self.records.intent_at(outcome.slot) {
             Some(intent) => {
                 self.marks[outcome.slot as usize].ended.is_none()
                     && (!outcome.approved || intent.before < outcome.number)
@@ -210,7 +215,7 @@ impl Tables {
             Some(slots) => slots,
             None => return Err(AllocError),
         };
-        self.records.reserve(slots)?;
+        self.records.reserve(slots, more, slots - more)?;
         self.marks.reserve(slots)?;
         self.lasts.reserve(more)?;
         self.desks.reserve(more)?;
@@ -229,8 +234,8 @@ impl Tables {
         ensures records { self.new.records ≡ self.old.records ++ Record.Intent intent.now ∷ [] }
         ensures spare { self.new.spare + 1 ≡ self.old.spare }
     {
-        let slot = self.records.len() as u32;
-        push(&mut self.records, Record::Intent(*intent));
+        let slot = self.records.len();
+        self.records.add_intent(intent);
         push(&mut self.marks, Mark::NEW);
         table::put(&mut self.lasts, (intent.sale, intent.poi), slot);
         let desk = desk_in(&self.desks, &intent.poi);
@@ -253,12 +258,12 @@ impl Tables {
         ensures records { self.new.records ≡ self.old.records ++ Record.Outcome outcome.now ∷ [] }
         ensures spare { self.new.spare ≡ self.old.spare }
     {
-        let at = self.records.len() as u32;
-        let Some(intent) = intent_in(&self.records, outcome.slot) else {
+        let at = self.records.len();
+        let Some(intent) = self.records.intent_at(outcome.slot) else {
             unreachable!()
         };
         let desk = desk_in(&self.desks, &intent.poi);
-        push(&mut self.records, Record::Outcome(*outcome));
+        self.records.add_outcome(outcome);
         push_outcome(&mut self.marks, outcome, intent.original, at);
         table::put(
             &mut self.desks,
@@ -277,10 +282,10 @@ impl Tables {
         ensures records { self.new.records ≡ self.old.records ++ Record.Settled settled.now ∷ [] }
         ensures spare { self.new.spare + 1 ≡ self.old.spare }
     {
-        let slot = self.records.len() as u32;
+        let slot = self.records.len();
         let desk = desk_in(&self.desks, &settled.poi);
         let totals = totals_at(&desk, settled.currency);
-        push(&mut self.records, Record::Settled(*settled));
+        self.records.add_settled(settled);
         push(&mut self.marks, Mark::NEW);
         table::put(&mut self.desks, settled.poi, closed(desk, slot + 1));
         table::put(&mut self.closings, slot, totals);
@@ -307,49 +312,45 @@ impl Tables {
     pub fn key_at(&self, slot: u32) -> Option<Key>
         ensures { result ≡ key_at self.now.records slot }
     {
-        match self.records.get(slot as usize) {
-            Some(Record::Intent(intent)) => Some(key_of_intent(intent)),
-            Some(Record::Settled(settled)) => Some(key_of_settled(settled)),
-            Some(Record::Outcome(_)) | None => None,
-        }
+        self.records.key_at(slot)
     }
 
     /// How the key of the record at this slot compares with another.
     pub fn compare_key(&self, slot: u32, key: &Key) -> Ordering
         ensures { result ≡ compare_record (slice_get self.now.records slot) key.now }
     {
-        match self.records.get(slot as usize) {
-            Some(Record::Intent(intent)) => {
-                compare(&intent.sale, &intent.poi, &intent.service, key)
-            }
-            Some(Record::Settled(settled)) => {
-                compare(&settled.sale, &settled.poi, &settled.service, key)
-            }
-            Some(Record::Outcome(_)) | None => Ordering::Less,
-        }
+        self.records.compare_key(slot, key)
     }
 
     /// The entry whose Intent is at this slot.
     fn entry(&self, slot: u32) -> Option<Entry>
         ensures { result ≡ entry_at self.now.records slot }
     {
-        let intent = intent_in(&self.records, slot)?;
-        let result = match self.marks[slot as usize].ended {
-            Some(at) => outcome_in(&self.records, at),
+        match self.records.intent_at(slot) {
+            Some(intent) => Some(Entry {
+                slot,
+                intent,
+                result: self.outcome_of(self.marks[slot as usize].ended),
+            }),
             None => None,
-        };
-        Some(Entry {
-            slot,
-            intent,
-            result,
-        })
+        }
+    }
+
+    /// The Outcome at a slot, where there is one.
+    fn outcome_of(&self, ended: Option<u32>) -> Option<Outcome>
+        ensures { result ≡ option_and_then (outcome_at self.now.records) ended }
+    {
+        match ended {
+            Some(at) => self.records.outcome_at(at),
+            None => None,
+        }
     }
 
     /// What the record at this slot has begun.
     pub fn found(&self, slot: u32) -> Option<Found>
         ensures { result ≡ option_and_then (found_by self.now.records slot) (slice_get self.now.records slot) }
     {
-        match settled_in(&self.records, slot) {
+        match self.records.settled_at(slot) {
             Some(settled) => match table::get(&self.closings, &slot) {
                 Some(totals) => Some(Found::Closed(Closed {
                     slot,
@@ -441,7 +442,7 @@ impl Tables {
     pub fn reversed(&self, slot: u32) -> bool
         ensures { result ≡ is_reversed self.now.records slot }
     {
-        match intent_in(&self.records, slot) {
+        match self.records.intent_at(slot) {
             Some(intent) => is_payment(intent.what) && self.marks[slot as usize].reversed,
             None => false,
         }
@@ -451,7 +452,7 @@ impl Tables {
     pub fn settled(&self, slot: u32) -> bool
         ensures { result ≡ is_settled self.now.records slot }
     {
-        let Some(intent) = intent_in(&self.records, slot) else {
+        let Some(intent) = self.records.intent_at(slot) else {
             return false;
         };
         match self.marks[slot as usize].ended {
@@ -469,84 +470,11 @@ impl Tables {
     }
 }
 
-/// The key of an Intent.
-pub fn key_of_intent(intent: &Intent) -> Key
-    ensures { result ≡ intent_key intent.now }
-{
-    Key {
-        sale: intent.sale,
-        poi: intent.poi,
-        service: intent.service,
-    }
-}
-
-/// The key of a Settled.
-pub fn key_of_settled(settled: &Settled) -> Key
-    ensures { result ≡ settled_key settled.now }
-{
-    Key {
-        sale: settled.sale,
-        poi: settled.poi,
-        service: settled.service,
-    }
-}
-
-/// How a key compares with another.
-fn compare(sale: &Ident<40>, poi: &Ident<40>, service: &Ident<10>, key: &Key) -> Ordering
-    ensures { result ≡ key_cmp (record { sale = sale.now; poi = poi.now; service = service.now }) key.now }
-{
-    sale.cmp(&key.sale)
-        .then(poi.cmp(&key.poi).then(service.cmp(&key.service)))
-}
-
 /// The records that so many more Intents and the open ones bring, each with its Outcome; `None` where there is no such number.
 fn room_for(more: usize, unresolved: u32) -> Option<usize>
     ensures { IfSome result (λ slots. slots ≡ 2 * more + unresolved) }
 {
     more.checked_mul(2)?.checked_add(unresolved as usize)
-}
-
-/// Appends the element, for which there is room.
-fn push<T: Copy>(elements: &mut Vec<T>, element: T)
-    requires { vec_len elements.old < vec_capacity elements.old }
-    ensures elements { elements.new.items ≡ elements.old.items ++ element ∷ [] }
-    ensures len { vec_len elements.new ≡ vec_len elements.old + 1 }
-    ensures capacity { vec_capacity elements.old ≤ vec_capacity elements.new }
-{
-    match elements.push(element) {
-        Ok(()) => {}
-        Err(_) => unreachable!(),
-    }
-}
-
-/// The Intent at this slot.
-fn intent_in(records: &[Record], slot: u32) -> Option<Intent>
-    ensures { result ≡ intent_at records.now slot }
-{
-    match records.get(slot as usize) {
-        Some(Record::Intent(intent)) => Some(*intent),
-        Some(Record::Outcome(_)) | Some(Record::Settled(_)) | None => None,
-    }
-}
-
-/// The Outcome at this slot.
-fn outcome_in(records: &[Record], slot: u32) -> Option<Outcome>
-    ensures { result ≡ outcome_at records.now slot }
-{
-    match records.get(slot as usize) {
-        Some(Record::Outcome(outcome)) => Some(*outcome),
-        Some(Record::Intent(_)) | Some(Record::Settled(_)) | None => None,
-    }
-}
-
-/// The Settled at this slot.
-fn settled_in(records: &[Record], slot: u32) -> Option<Settled>
-    ensures { result ≡ settled_at records.now slot }
-{
-    match records.get(slot as usize) {
-        Some(Record::Settled(settled)) => Some(*settled),
-        Some(Record::Intent(_)) | Some(Record::Outcome(_)) | None => None,
-    }
 }
 
 /// Whether a payment is asked for.

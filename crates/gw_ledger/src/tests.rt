@@ -178,8 +178,28 @@ fn records_that_may_not_follow(rt: HostRuntime) -> Result<(), Fail> {
         // No record.
         [0; 255],
     ];
+    let good = settled(b"\x01B", b"\x019");
     for row in rows {
         assert_eq!(rt; refused_after(rt.alloc(), &[row])?, Some(6));
+        assert_eq!(rt; refused_after(rt.alloc(), &[row, good])?, Some(6));
+        assert_eq!(rt; refused_after(rt.alloc(), &[good, row])?, Some(7));
+    }
+    Ok(())
+}
+
+#[test]
+fn several_records_that_may_not_follow(rt: HostRuntime) -> Result<(), Fail> {
+    let second = settled(b"\x01A", b"\x012");
+    let first = settled(b"\x01A", b"\x011");
+    let level = pay(b"\x014", TEN, b"\x00\x01\x24");
+    let rows = [
+        [second, first],
+        [first, second],
+        [second, level],
+        [level, second],
+    ];
+    for row in rows {
+        assert_eq!(rt; refused_after(rt.alloc(), &row)?, Some(6));
     }
     Ok(())
 }

@@ -23,7 +23,7 @@ pub(crate) fn slot_in(text: &[u8]) -> Option<u32>
 
 /// The number that a text spells, perhaps with a sign or leading zeros.
 fn number_in(text: &[u8]) -> Option<u32>
-    ensures { (number : ℕ) → number < 2 ^ 32 → text.now ≡ decimal number → result ≡ Some number }
+    ensures { (value : ℕ) → value < 2 ^ 32 → text.now ≡ decimal value → result ≡ Some value }
 {
     match str::from_utf8(text) {
         Ok(text) => u32::from_str_radix(text, 10).ok(),

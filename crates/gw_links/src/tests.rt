@@ -94,7 +94,7 @@ fn one_of_three_is_taken(rt: HostRuntime) -> Result<(), Fail> {
     // Which one is taken, and then the first of the terminal and of the till, and the first by deadline: it is the first
     // of the two lists by acceptance, in their middle and last by deadline, or last and first by deadline.
     let rows = [(b"1", b"2", b"3"), (b"2", b"1", b"3"), (b"3", b"1", b"1")];
-    for (service, front, due) in rows {
+    for (service, first, due) in rows {
         let mut lines = Lines::new(rt.alloc());
         for (service, deadline) in [(b"1", 70), (b"2", 80), (b"3", 60)] {
             let waiting = item(service, 63, 31, deadline).expect(&rt, "a request");
@@ -107,9 +107,9 @@ fn one_of_three_is_taken(rt: HostRuntime) -> Result<(), Fail> {
         assert!(rt; taken.key == key);
         assert!(rt; lines.find(&key).is_none());
         assert_eq!(rt; lines.count(31), 2);
-        let first = lines.front(31).expect(&rt, "two wait");
-        assert!(rt; lines.get(first).key.service.as_bytes() == front.as_slice());
-        assert_eq!(rt; lines.first_of(63), Some(first));
+        let oldest = lines.front(31).expect(&rt, "two wait");
+        assert!(rt; lines.get(oldest).key.service.as_bytes() == first.as_slice());
+        assert_eq!(rt; lines.first_of(63), Some(oldest));
         let soonest = lines.due(80).expect(&rt, "two are due");
         assert!(rt; lines.get(soonest).key.service.as_bytes() == due.as_slice());
     }

@@ -50,7 +50,7 @@ pt-bytes-give number heard chunk before all rest left small old new =
       completed = sym second.0 ∙ ap (λ b. b ++ (decode_apdus waits).apdus) first.0;
       items_are = refl;
       too_long = λ n h. rw (second.1, too_long_prefix left n h) refl;
-      unfinished = λ h. rw (second.1, proper_prefix left left_bytes h) refl;
+      incomplete = λ h. rw (second.1, proper_prefix left left_bytes h) refl;
       after_bad = λ n h. none-after (decode_apdus heard).rest chunk n (subst (λ (b : List ℕ). BeginsTooLongApdu b n) (sym first.1) h);
     }
   where

@@ -8,10 +8,10 @@ use Rattle.std.specs.Prelude.{nat_le, nat_lt, ◌&&◌, not, if◌then◌else◌
 use Rattle.std.specs.List.{fold}
 use Rattle.std.specs.Int.{w32, to_be_bytes}
 use Rattle.sale_frame.specs.Grammar.{IsPayloadLength, IsPayload, frame, BeginsWithLength, IsIncompleteFrame, BeginsWithBadLength}
-use Rattle.sale_frame.specs.Decode.{DecodedFrames, spelled_length, is_frame, with_byte, decode_after, decode_frames, with_messages}
+use Rattle.sale_frame.specs.Decode.{DecodedFrames, spelled_length, is_frame, with_byte, decode_after, decode_frames, with_payloads}
 use Rattle.sale_frame.proofs.DecodeLemmas.{chunks_add, frame_passes, spells, reads_all}
 use Rattle.sale_frame.proofs.StreamLemmas.{one_reading}
-use Rattle.sale_frame.proofs.FrameLemmas.{spelled, length_fits, lengthened, length-frame, message_begins}
+use Rattle.sale_frame.proofs.FrameLemmas.{spelled, length_fits, lengthened, length-frame, payload_begins}
 use Rattle.gw_owes.specs.Items.{Message, Unframed}
 use Rattle.gw_owes.specs.Events.{decoded_items, has_bad_length}
 use Rattle.gw_owes.specs.Laws.{FindsBadLengths, TillBytesGiveItems}
@@ -21,18 +21,18 @@ use Rattle.gw_bytes.specs.Bytes.{AreBytes}
 pub record HasNoFrame (bytes : List ℕ) : Type 0 where
   pub prefixes : (prefix rest : List ℕ) → bytes ≡ prefix ++ rest → is_frame prefix ≡ false
 
-with_byte-false : (messages : List (List ℕ)) (rest : List ℕ) (byte : ℕ) → is_frame (rest ++ byte ∷ []) ≡ false → with_byte (record { messages = messages; rest = rest }) byte ≡ record { messages = messages; rest = rest ++ byte ∷ [] }
-with_byte-false messages rest byte e = rw e refl
+with_byte-false : (payloads : List (List ℕ)) (rest : List ℕ) (byte : ℕ) → is_frame (rest ++ byte ∷ []) ≡ false → with_byte (record { payloads = payloads; rest = rest }) byte ≡ record { payloads = payloads; rest = rest ++ byte ∷ [] }
+with_byte-false payloads rest byte e = rw e refl
 
 -- bytes of which no prefix is a frame wait
-waiting-from : (messages : List (List ℕ)) (rest chunk : List ℕ) → HasNoFrame (rest ++ chunk) → fold with_byte (record { messages = messages; rest = rest }) chunk ≡ record { messages = messages; rest = rest ++ chunk }
-waiting-from messages rest [] h = ap (λ r. record { messages = messages; rest = r }) (sym (append-nil rest))
-waiting-from messages rest (byte ∷ chunk) h =
-    let step = with_byte-false messages rest byte (h.prefixes (rest ++ byte ∷ []) chunk (sym (append_assoc rest (byte ∷ []) chunk))) in
-    ap (λ r. fold with_byte r chunk) step ∙ waiting-from messages (rest ++ byte ∷ []) chunk (subst HasNoFrame (sym (append_assoc rest (byte ∷ []) chunk)) h)
-    ∙ ap (λ r. record { messages = messages; rest = r }) (append_assoc rest (byte ∷ []) chunk)
+waiting-from : (payloads : List (List ℕ)) (rest chunk : List ℕ) → HasNoFrame (rest ++ chunk) → fold with_byte (record { payloads = payloads; rest = rest }) chunk ≡ record { payloads = payloads; rest = rest ++ chunk }
+waiting-from payloads rest [] h = ap (λ r. record { payloads = payloads; rest = r }) (sym (append-nil rest))
+waiting-from payloads rest (byte ∷ chunk) h =
+    let step = with_byte-false payloads rest byte (h.prefixes (rest ++ byte ∷ []) chunk (sym (append_assoc rest (byte ∷ []) chunk))) in
+    ap (λ r. fold with_byte r chunk) step ∙ waiting-from payloads (rest ++ byte ∷ []) chunk (subst HasNoFrame (sym (append_assoc rest (byte ∷ []) chunk)) h)
+    ∙ ap (λ r. record { payloads = payloads; rest = r }) (append_assoc rest (byte ∷ []) chunk)
 
-pub reading-waiting : (bytes : List ℕ) → HasNoFrame bytes → decode_frames bytes ≡ record { messages = []; rest = bytes }
+pub reading-waiting : (bytes : List ℕ) → HasNoFrame bytes → decode_frames bytes ≡ record { payloads = []; rest = bytes }
 reading-waiting bytes h = waiting-from [] [] bytes h
 
 prefix-begins : (bytes prefix rest : List ℕ) (n : ℕ) → bytes ≡ prefix ++ rest → 4 ≤ length prefix → BeginsWithLength bytes n → BeginsWithLength prefix n
@@ -48,26 +48,26 @@ short-prefix : (bytes prefix rest : List ℕ) → bytes ≡ prefix ++ rest → l
 short-prefix bytes prefix rest e = let l : length bytes ≡ length prefix + length rest = ap length e ∙ length-append prefix rest in omega arith
 
 -- less than a frame waits
-pub unfinished-waits : (bytes : List ℕ) → IsIncompleteFrame bytes → HasNoFrame bytes
-unfinished-waits bytes (inl few) = record {
+pub incomplete-waits : (bytes : List ℕ) → IsIncompleteFrame bytes → HasNoFrame bytes
+incomplete-waits bytes (inl few) = record {
   prefixes = λ prefix rest e. no_frame prefix (λ well_formed size. let l = short-prefix bytes prefix rest e in omega arith);
 }
-unfinished-waits bytes (inr (message, well_formed, more, some, is)) = record { prefixes = prefixes }
+incomplete-waits bytes (inr (payload, well_formed, more, some, is)) = record { prefixes = prefixes }
   where
-    shorter : length bytes < 4 + length message
-    shorter = let l : length (frame message) ≡ length bytes + length more = ap length is ∙ length-append bytes more in
-        let m : length (frame message) ≡ 4 + length message = (let k = length-frame message [] in let z : length (frame message ++ []) ≡ length (frame message) = ap length (append-nil (frame message)) in omega arith) in
+    shorter : length bytes < 4 + length payload
+    shorter = let l : length (frame payload) ≡ length bytes + length more = ap length is ∙ length-append bytes more in
+        let m : length (frame payload) ≡ 4 + length payload = (let k = length-frame payload [] in let z : length (frame payload ++ []) ≡ length (frame payload) = ap length (append-nil (frame payload)) in omega arith) in
         omega arith
 
-    begins : BeginsWithLength (frame message) (length message)
-    begins = message_begins (frame message) message [] well_formed (sym (append-nil (frame message)))
+    begins : BeginsWithLength (frame payload) (length payload)
+    begins = payload_begins (frame payload) payload [] well_formed (sym (append-nil (frame payload)))
 
     prefixes : (prefix rest : List ℕ) → bytes ≡ prefix ++ rest → is_frame prefix ≡ false
     prefixes prefix rest e = elim (cases_lt (length prefix) 4) [
       | inl few ↦ no_frame prefix (λ l size. omega arith)
       | inr fits ↦
-          let whole : frame message ≡ prefix ++ (rest ++ more) = is ∙ ap (λ b. b ++ more) e ∙ append_assoc prefix rest more in
-          let n : spelled_length prefix ≡ length message = spelled prefix (length message) (prefix-begins (frame message) prefix (rest ++ more) (length message) whole fits begins) in
+          let whole : frame payload ≡ prefix ++ (rest ++ more) = is ∙ ap (λ b. b ++ more) e ∙ append_assoc prefix rest more in
+          let n : spelled_length prefix ≡ length payload = spelled prefix (length payload) (prefix-begins (frame payload) prefix (rest ++ more) (length payload) whole fits begins) in
           let le : length prefix ≤ length bytes = short-prefix bytes prefix rest e in
           no_frame prefix (λ l size. omega (arith, shorter))
     ]
@@ -89,17 +89,17 @@ well_formed_tested n well_formed = and_from (nat_lt 0 n) (nat_le n 65536) (lt-lt
 tested_well_formed : (n : ℕ) → (nat_lt 0 n && nat_le n 65536) ≡ true → IsPayloadLength n
 tested_well_formed n h = let p = and_parts (nat_lt 0 n) (nat_le n 65536) h in (ltb-true 0 n p.0, leb-true n 65536 p.1)
 
-unfinished-framed : (bytes : List ℕ) → IsIncompleteFrame bytes → has_bad_length bytes ≡ false
-unfinished-framed bytes h = elim (cases_lt (length bytes) 4) [
+incomplete-framed : (bytes : List ℕ) → IsIncompleteFrame bytes → has_bad_length bytes ≡ false
+incomplete-framed bytes h = elim (cases_lt (length bytes) 4) [
   | inl few ↦ and_left (nat_le 4 (length bytes)) _ (lt-leb 4 (length bytes) few)
   | inr fits ↦ long_framed h fits
 ]
   where
     long_framed : IsIncompleteFrame bytes → 4 ≤ length bytes → has_bad_length bytes ≡ false
     long_framed (inl few) fits = absurd (omega arith)
-    long_framed (inr (message, well_formed, more, some, is)) fits =
-        let begins : BeginsWithLength (frame message) (length message) = message_begins (frame message) message [] well_formed (sym (append-nil (frame message))) in
-        let n : spelled_length bytes ≡ length message = spelled bytes (length message) (prefix-begins (frame message) bytes more (length message) is fits begins) in
+    long_framed (inr (payload, well_formed, more, some, is)) fits =
+        let begins : BeginsWithLength (frame payload) (length payload) = payload_begins (frame payload) payload [] well_formed (sym (append-nil (frame payload))) in
+        let n : spelled_length bytes ≡ length payload = spelled bytes (length payload) (prefix-begins (frame payload) bytes more (length payload) is fits begins) in
         and_right (nat_le 4 (length bytes)) _ (not_from_true _ (well_formed_tested (spelled_length bytes) (subst IsPayloadLength (sym n) well_formed)))
 
 bad-unframed : (bytes : List ℕ) → BeginsWithBadLength bytes → has_bad_length bytes ≡ true
@@ -113,38 +113,38 @@ snoc : (first : ℕ) (more : List ℕ) → (init : List ℕ) × (last : ℕ) × 
 snoc first [] = ([], first, refl)
 snoc first (second ∷ more) = let s = snoc second more in (first ∷ s.0, s.1, ap (λ l. first ∷ l) s.2)
 
-snoc_of : (message : List ℕ) → 0 < length message → (init : List ℕ) × (last : ℕ) × (message ≡ init ++ last ∷ [])
+snoc_of : (payload : List ℕ) → 0 < length payload → (init : List ℕ) × (last : ℕ) × (payload ≡ init ++ last ∷ [])
 snoc_of [] h = absurd (omega arith)
 snoc_of (first ∷ more) h = snoc first more
 
-with_byte-true : (messages : List (List ℕ)) (rest : List ℕ) (byte : ℕ) → is_frame (rest ++ byte ∷ []) ≡ true → with_byte (record { messages = messages; rest = rest }) byte ≡ record { messages = messages ++ drop 4 (rest ++ byte ∷ []) ∷ []; rest = [] }
-with_byte-true messages rest byte e = rw e refl
+with_byte-true : (payloads : List (List ℕ)) (rest : List ℕ) (byte : ℕ) → is_frame (rest ++ byte ∷ []) ≡ true → with_byte (record { payloads = payloads; rest = rest }) byte ≡ record { payloads = payloads ++ drop 4 (rest ++ byte ∷ []) ∷ []; rest = [] }
+with_byte-true payloads rest byte e = rw e refl
 
--- one frame is read as its message
-reading-frame : (message : List ℕ) → IsPayload message → decode_frames (frame message) ≡ record { messages = message ∷ []; rest = [] }
-reading-frame message well_formed =
-    let s = snoc_of message well_formed.0 in
-    let init : List ℕ = to_be_bytes w32 (length message) ++ s.0 in
-    let whole : frame message ≡ init ++ s.1 ∷ [] = ap (λ m. to_be_bytes w32 (length message) ++ m) s.2 in
-    let waits : HasNoFrame init = unfinished-waits init (inr (message, well_formed, s.1 ∷ [], omega arith, whole)) in
-    ap decode_frames whole ∙ fold-append with_byte (record { messages = []; rest = [] }) init (s.1 ∷ [])
+-- one frame is read as its payload
+reading-frame : (payload : List ℕ) → IsPayload payload → decode_frames (frame payload) ≡ record { payloads = payload ∷ []; rest = [] }
+reading-frame payload well_formed =
+    let s = snoc_of payload well_formed.0 in
+    let init : List ℕ = to_be_bytes w32 (length payload) ++ s.0 in
+    let whole : frame payload ≡ init ++ s.1 ∷ [] = ap (λ m. to_be_bytes w32 (length payload) ++ m) s.2 in
+    let waits : HasNoFrame init = incomplete-waits init (inr (payload, well_formed, s.1 ∷ [], omega arith, whole)) in
+    ap decode_frames whole ∙ fold-append with_byte (record { payloads = []; rest = [] }) init (s.1 ∷ [])
     ∙ ap (λ r. fold with_byte r (s.1 ∷ [])) (reading-waiting init waits)
-    ∙ with_byte-true [] init s.1 (ap is_frame (sym whole) ∙ frame_passes message well_formed)
-    ∙ ap (λ m. record { messages = m ∷ []; rest = [] }) (ap (drop 4) (sym whole))
+    ∙ with_byte-true [] init s.1 (ap is_frame (sym whole) ∙ frame_passes payload well_formed)
+    ∙ ap (λ m. record { payloads = m ∷ []; rest = [] }) (ap (drop 4) (sym whole))
 
--- a message at the beginning is read first
-pub reading-message : (message left : List ℕ) → IsPayload message → decode_frames (frame message ++ left) ≡ with_messages (message ∷ []) (decode_frames left)
-reading-message message left well_formed = chunks_add (frame message) left ∙ ap (λ r. with_messages r.messages (decode_after r.rest left)) (reading-frame message well_formed)
+-- a payload at the beginning is read first
+pub reading-payload : (payload left : List ℕ) → IsPayload payload → decode_frames (frame payload ++ left) ≡ with_payloads (payload ∷ []) (decode_frames left)
+reading-payload payload left well_formed = chunks_add (frame payload) left ∙ ap (λ r. with_payloads r.payloads (decode_after r.rest left)) (reading-frame payload well_formed)
 
 -- what a reader that holds these bytes has before it
 pub items-waiting : (till : ℕ) (bytes : List ℕ) → IsIncompleteFrame bytes → decoded_items till (decode_frames bytes) ≡ []
-items-waiting till bytes h = ap (decoded_items till) (reading-waiting bytes (unfinished-waits bytes h)) ∙ rw (unfinished-framed bytes h) refl
+items-waiting till bytes h = ap (decoded_items till) (reading-waiting bytes (incomplete-waits bytes h)) ∙ rw (incomplete-framed bytes h) refl
 
 pub items-unframed : (till : ℕ) (bytes : List ℕ) → BeginsWithBadLength bytes → decoded_items till (decode_frames bytes) ≡ Unframed till ∷ []
 items-unframed till bytes h = ap (decoded_items till) (reading-waiting bytes (bad-waits bytes h)) ∙ rw (bad-unframed bytes h) refl
 
-pub items-message : (till : ℕ) (message left : List ℕ) → IsPayload message → decoded_items till (decode_frames (frame message ++ left)) ≡ Message till message ∷ decoded_items till (decode_frames left)
-items-message till message left well_formed = ap (decoded_items till) (reading-message message left well_formed)
+pub items-payload : (till : ℕ) (payload left : List ℕ) → IsPayload payload → decoded_items till (decode_frames (frame payload ++ left)) ≡ Message till payload ∷ decoded_items till (decode_frames left)
+items-payload till payload left well_formed = ap (decoded_items till) (reading-payload payload left well_formed)
 
 empty-waits : HasNoFrame []
 empty-waits = record { prefixes = empty_prefixes }
@@ -172,14 +172,14 @@ more-waits rest byte h e = record { prefixes = λ prefix more is. by_more prefix
         let same : rest ++ byte ∷ [] ≡ (prefix ++ s.0) ++ s.1 ∷ [] = is ∙ ap (λ m. prefix ++ m) s.2 ∙ sym (append_assoc prefix s.0 (s.1 ∷ [])) in
         h.prefixes prefix s.0 (push-same rest (prefix ++ s.0) byte s.1 same)
 
-by-test : (messages : List (List ℕ)) (rest : List ℕ) (byte : ℕ) (chunk : List ℕ) → ((messages : List (List ℕ)) (rest : List ℕ) → HasNoFrame rest → HasNoFrame (fold with_byte (record { messages = messages; rest = rest }) chunk).rest) →
-    HasNoFrame rest → (test : Bool) → is_frame (rest ++ byte ∷ []) ≡ test → HasNoFrame (fold with_byte (with_byte (record { messages = messages; rest = rest }) byte) chunk).rest
-by-test messages rest byte chunk later h true e = rw (with_byte-true messages rest byte e) (later (messages ++ drop 4 (rest ++ byte ∷ []) ∷ []) [] empty-waits)
-by-test messages rest byte chunk later h false e = rw (with_byte-false messages rest byte e) (later messages (rest ++ byte ∷ []) (more-waits rest byte h e))
+by-test : (payloads : List (List ℕ)) (rest : List ℕ) (byte : ℕ) (chunk : List ℕ) → ((payloads : List (List ℕ)) (rest : List ℕ) → HasNoFrame rest → HasNoFrame (fold with_byte (record { payloads = payloads; rest = rest }) chunk).rest) →
+    HasNoFrame rest → (test : Bool) → is_frame (rest ++ byte ∷ []) ≡ test → HasNoFrame (fold with_byte (with_byte (record { payloads = payloads; rest = rest }) byte) chunk).rest
+by-test payloads rest byte chunk later h true e = rw (with_byte-true payloads rest byte e) (later (payloads ++ drop 4 (rest ++ byte ∷ []) ∷ []) [] empty-waits)
+by-test payloads rest byte chunk later h false e = rw (with_byte-false payloads rest byte e) (later payloads (rest ++ byte ∷ []) (more-waits rest byte h e))
 
-rest-waits-from : (messages : List (List ℕ)) (rest chunk : List ℕ) → HasNoFrame rest → HasNoFrame (fold with_byte (record { messages = messages; rest = rest }) chunk).rest
-rest-waits-from messages rest [] h = h
-rest-waits-from messages rest (byte ∷ chunk) h = by-test messages rest byte chunk (λ m r k. rest-waits-from m r chunk k) h (is_frame (rest ++ byte ∷ [])) refl
+rest-waits-from : (payloads : List (List ℕ)) (rest chunk : List ℕ) → HasNoFrame rest → HasNoFrame (fold with_byte (record { payloads = payloads; rest = rest }) chunk).rest
+rest-waits-from payloads rest [] h = h
+rest-waits-from payloads rest (byte ∷ chunk) h = by-test payloads rest byte chunk (λ m r k. rest-waits-from m r chunk k) h (is_frame (rest ++ byte ∷ [])) refl
 
 -- what is left of a reading holds no frame
 pub rest-waits : (bytes : List ℕ) → HasNoFrame (decode_frames bytes).rest
@@ -189,7 +189,7 @@ rest-waits bytes = rest-waits-from [] [] bytes empty-waits
 pub reading-chunk : (heard chunk : List ℕ) → decode_frames ((decode_frames heard).rest ++ chunk) ≡ decode_after (decode_frames heard).rest chunk
 reading-chunk heard chunk =
     let rest = (decode_frames heard).rest in
-    chunks_add rest chunk ∙ ap (λ r. with_messages r.messages (decode_after r.rest chunk)) (reading-waiting rest (rest-waits heard))
+    chunks_add rest chunk ∙ ap (λ r. with_payloads r.payloads (decode_after r.rest chunk)) (reading-waiting rest (rest-waits heard))
 
 -- what is left once the chunk was heard
 pub rest-chunk : (heard chunk : List ℕ) → (decode_frames (heard ++ chunk)).rest ≡ (decode_frames ((decode_frames heard).rest ++ chunk)).rest
@@ -210,9 +210,9 @@ pub finds-bad : FindsBadLengths
 finds-bad rest small = (unframed-bad rest small, bad-unframed rest)
 
 -- bytes after a bad rest complete nothing
-bad-completes : (rest chunk : List ℕ) → BeginsWithBadLength rest → (decode_after rest chunk).messages ≡ []
+bad-completes : (rest chunk : List ℕ) → BeginsWithBadLength rest → (decode_after rest chunk).payloads ≡ []
 bad-completes rest chunk (n, begins, malformed) =
-    ap (λ (r : DecodedFrames). r.messages) (waiting-from [] rest chunk (bad-waits (rest ++ chunk) (n, lengthened rest chunk n begins, malformed)))
+    ap (λ (r : DecodedFrames). r.payloads) (waiting-from [] rest chunk (bad-waits (rest ++ chunk) (n, lengthened rest chunk n begins, malformed)))
 
 bytes-prefix : (prefix more : List ℕ) → AreBytes (prefix ++ more) → AreBytes prefix
 bytes-prefix [] more small = tt
@@ -220,17 +220,17 @@ bytes-prefix (byte ∷ prefix) more small = (small.0, bytes-prefix prefix more s
 
 pub till-bytes-give : TillBytesGiveItems
 till-bytes-give till heard chunk before all rest left small old new =
-    let first = one_reading heard (decode_frames heard).messages before (decode_frames heard).rest rest (reads_all heard (bytes-prefix heard chunk small)) old in
-    let second = one_reading (heard ++ chunk) (decode_frames (heard ++ chunk)).messages all (decode_frames (heard ++ chunk)).rest left (reads_all (heard ++ chunk) small) new in
+    let first = one_reading heard (decode_frames heard).payloads before (decode_frames heard).rest rest (reads_all heard (bytes-prefix heard chunk small)) old in
+    let second = one_reading (heard ++ chunk) (decode_frames (heard ++ chunk)).payloads all (decode_frames (heard ++ chunk)).rest left (reads_all (heard ++ chunk) small) new in
     let more = chunks_add heard chunk in
     let reading : DecodedFrames = decode_after (decode_frames heard).rest chunk in
     let left_is : reading.rest ≡ left = sym (ap (λ (r : DecodedFrames). r.rest) more) ∙ second.1 in
     record {
-      new = reading.messages;
+      new = reading.payloads;
       last = if has_bad_length reading.rest then Unframed till ∷ [] else [];
-      completed = sym second.0 ∙ ap (λ (r : DecodedFrames). r.messages) more ∙ ap (λ b. b ++ reading.messages) first.0;
+      completed = sym second.0 ∙ ap (λ (r : DecodedFrames). r.payloads) more ∙ ap (λ b. b ++ reading.payloads) first.0;
       items_are = refl;
       bad = λ h. rw (left_is, bad-unframed left h) refl;
-      unfinished = λ h. rw (left_is, unfinished-framed left h) refl;
+      incomplete = λ h. rw (left_is, incomplete-framed left h) refl;
       after_bad = λ h. bad-completes (decode_frames heard).rest chunk (subst BeginsWithBadLength (sym first.1) h);
     }

@@ -1,5 +1,10 @@
 -- The lemmas of what each item of a round owes.
 pub mod ApduLemmas
+pub mod DialogueLemmas
+pub mod ExampleLemmas
 pub mod FrameLemmas
+pub mod HandlingLemmas
 pub mod ReadLemmas
 pub mod RowLemmas
+pub mod SetLemmas
+pub mod TerminalLemmas

@@ -48,7 +48,7 @@ pub data OwedCall : Type 0 where
 
 -- the calls that keep a record in this slot
 abbrev pub keep_calls : ℕ → Record → List OwedCall
-keep_calls slot item = WriteBody slot item ∷ Sync ∷ WriteGate slot item ∷ Sync ∷ []
+keep_calls slot the_record = WriteBody slot the_record ∷ Sync ∷ WriteGate slot the_record ∷ Sync ∷ []
 
 -- the turn of a call that writes; every other call has none
 abbrev pub write_turn : OwedCall → Option Turn
@@ -57,7 +57,7 @@ write_turn (SendPt pt sending) = None
 write_turn (CutTill till) = None
 write_turn (CutPt pt) = None
 write_turn (LinkPt pt) = None
-write_turn (WriteBody slot item) = Some (body_write slot (record_body item))
-write_turn (WriteGate slot item) = Some (gate_write slot)
+write_turn (WriteBody slot the_record) = Some (body_write slot (record_body the_record))
+write_turn (WriteGate slot the_record) = Some (gate_write slot)
 write_turn WriteFirstGate = Some first_gate_write
 write_turn Sync = None

@@ -20,9 +20,9 @@ till_opened_items till tills = if nat_lt (length tills) 64 then [] else Crowded 
 abbrev pub has_bad_length : List ℕ → Bool
 has_bad_length rest = nat_le 4 (length rest) && not (nat_lt 0 (spelled_length rest) && nat_le (spelled_length rest) 65536)
 
--- the messages, and then the bad rest where there is one
+-- the payloads, and then the bad rest where there is one
 abbrev pub decoded_items : ℕ → DecodedFrames → List RoundItem
-decoded_items till decoded = map (Message till) decoded.messages ++ (if has_bad_length decoded.rest then Unframed till ∷ [] else [])
+decoded_items till decoded = map (Message till) decoded.payloads ++ (if has_bad_length decoded.rest then Unframed till ∷ [] else [])
 
 -- what a chunk of a till's bytes newly completes, after what was heard before
 abbrev pub till_bytes_items : ℕ → List ℕ → List ℕ → List RoundItem

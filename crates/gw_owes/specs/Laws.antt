@@ -35,8 +35,8 @@ ends_in_one (SendPt pt sending ∷ calls) = owes_none calls
 ends_in_one (CutTill till ∷ calls) = owes_none calls
 ends_in_one (CutPt pt ∷ calls) = owes_none calls
 ends_in_one (LinkPt pt ∷ calls) = owes_none calls
-ends_in_one (WriteBody slot item ∷ calls) = ends_in_one calls
-ends_in_one (WriteGate slot item ∷ calls) = ends_in_one calls
+ends_in_one (WriteBody slot the_record ∷ calls) = ends_in_one calls
+ends_in_one (WriteGate slot the_record ∷ calls) = ends_in_one calls
 ends_in_one (WriteFirstGate ∷ calls) = ends_in_one calls
 ends_in_one (Sync ∷ calls) = ends_in_one calls
 
@@ -70,7 +70,7 @@ pub record BringsFrames (till : ℕ) (before all : List (List ℕ)) (rest left :
   pub completed : all ≡ before ++ new
   pub items_are : items ≡ map (Message till) new ++ last
   pub bad : BeginsWithBadLength left → last ≡ Unframed till ∷ []
-  pub unfinished : IsIncompleteFrame left → last ≡ []
+  pub incomplete : IsIncompleteFrame left → last ≡ []
   pub after_bad : BeginsWithBadLength rest → new ≡ []
 
 -- what bytes bring is said by the frames of all bytes heard before them and of all bytes heard with them
@@ -84,7 +84,7 @@ pub record BringsApdus (number : ℕ) (before all : List ApduValue) (rest left :
   pub completed : all ≡ before ++ new
   pub items_are : items ≡ flat_map (apdu_items number) new ++ last
   pub too_long : (length : ℕ) → BeginsTooLongApdu left length → last ≡ Oversized number ∷ []
-  pub unfinished : IsProperApduPrefix left → last ≡ []
+  pub incomplete : IsProperApduPrefix left → last ≡ []
   pub after_bad : (length : ℕ) → BeginsTooLongApdu rest length → new ≡ []
 
 -- what bytes bring is said by the APDUs of all bytes heard before them and of all bytes heard with them

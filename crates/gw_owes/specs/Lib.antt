@@ -1,12 +1,23 @@
 -- The definitions of what each item of a round owes: what a till's bytes are read as, the calls, and what is remembered.
 pub mod Calls
 pub mod Core
+pub mod Deadlines
+pub mod Diagnosis
+pub mod Dialogues
 pub mod Events
+pub mod Greeting
+pub mod Handling
 pub mod Items
 pub mod Laws
+pub mod Links
 pub mod ReadAs
 pub mod Replies
 pub mod Reply
+pub mod Reports
+pub mod Requests
 pub mod Row
 pub mod Rows
+pub mod TerminalExample
+pub mod TerminalLaws
+pub mod TerminalRows
 pub mod Terminals

@@ -5,8 +5,13 @@
 ghost use Rattle.gw_owes.specs.Laws.{EachRowEndsInOne, FindsBadLengths, LinksEndInOne, PtBytesGiveItems, ReadsOneWay, TillBytesGiveItems};
 
 mod terminal;
+mod terminal_laws;
 
 pub use terminal::{Service, Standing, Terminal};
+pub use terminal_laws::{
+    law_awaited, law_dialogues, law_terminal_alone, law_terminal_cuts, law_terminal_row_examples,
+    law_terminal_rows, law_unlinked, law_way_to_ready, law_without_terminals,
+};
 
 /// A till's bytes are read one way.
 pub fn law_reads()

@@ -22,16 +22,16 @@ use Rattle.gw_rules.specs.Triple.{Triple, Owing, Sent, AtEvent}
 use Rattle.gw_site.specs.Sorts.{IsQuiet}
 use Rattle.gw_rules.specs.View.{View, view_from, till_cut}
 use Rattle.gw_rules.proofs.CourseLemmas.{makes, stands-outside}
-use Rattle.gw_rules.proofs.TripleLemmas.{call-keeps}
+use Rattle.gw_rules.proofs.TripleLemmas.{call-triple}
 
 module _ (scene : Scene) (items : List RoundItem) (old new : Observed) where
-  pub cut-till-keeps : (till : ℕ) → Grows old new (IsTurn (CutTill till)) → Triple old new (Owing scene (OwedCutTill till ∷ []) items) (Owing (till_cut scene till) [] items)
-  cut-till-keeps till grows = call-keeps old new _ _ _ grows (λ before v e stands p. record { each = λ turns t. rw (p, t) ((refl, tt), (refl, tt), refl) })
+  pub cut-till-triple : (till : ℕ) → Grows old new (IsTurn (CutTill till)) → Triple old new (Owing scene (OwedCutTill till ∷ []) items) (Owing (till_cut scene till) [] items)
+  cut-till-triple till grows = call-triple old new _ _ _ grows (λ before v e stands p. record { each = λ turns t. rw (p, t) ((refl, tt), (refl, tt), refl) })
 
-  pub send-till-keeps : {E : Type 0} (till : ℕ) (reply : ReplyValue) (r : Result (Unit {0}) E) → Grows old new (SentTillTurns till (reply_value_bytes reply) r) →
+  pub send-till-triple : {E : Type 0} (till : ℕ) (reply : ReplyValue) (r : Result (Unit {0}) E) → Grows old new (SentTillTurns till (reply_value_bytes reply) r) →
       Triple old new (Owing scene (SendTill till reply ∷ []) items) (Sent r scene till (reply_value_bytes reply) items)
-  send-till-keeps till reply (Ok u) grows = call-keeps old new _ _ _ grows (λ before v e stands p. record { each = λ turns t. rw (p, t) (((reply, refl, refl), tt), (refl, tt), refl) })
-  send-till-keeps till reply (Err f) grows = call-keeps old new _ _ _ grows (λ before v e stands p. record { each = λ turns t. rw (p, t.2) (((reply, refl, t.1), tt), (refl, tt), (t.0, refl)) })
+  send-till-triple till reply (Ok u) grows = call-triple old new _ _ _ grows (λ before v e stands p. record { each = λ turns t. rw (p, t) (((reply, refl, refl), tt), (refl, tt), refl) })
+  send-till-triple till reply (Err f) grows = call-triple old new _ _ _ grows (λ before v e stands p. record { each = λ turns t. rw (p, t.2) (((reply, refl, t.1), tt), (refl, tt), (t.0, refl)) })
 
 taken-chunk : (count : ℕ) (buf : List ℕ) → length buf ≡ 4096 → AreBytes buf → IsCount count → IsChunk (take count buf)
 taken-chunk count buf long small c = record {
@@ -40,10 +40,10 @@ taken-chunk count buf long small c = record {
 }
 
 -- a poll, and the event that it brings
-pub poll-keeps : (scene : Scene) (polled : PollResult) (buf : List ℕ) (old new : Observed) → Grows old new (PolledTurns polled buf) →
+pub poll-triple : (scene : Scene) (polled : PollResult) (buf : List ℕ) (old new : Observed) → Grows old new (PolledTurns polled buf) →
     IfObserved old (λ log. IsPromised (outside_of log) polled.what) → IsWithinBuf polled.what → length buf ≡ 4096 → AreBytes buf →
     Triple old new (λ v. Owing scene [] [] v × (is_running scene.stage ≡ true)) (AtEvent scene polled.now polled.what buf)
-poll-keeps scene polled buf old new grows promise within long small = call-keeps old new _ _ _ grows (λ before v e stands p. record {
+poll-triple scene polled buf old new grows promise within long small = call-triple old new _ _ _ grows (λ before v e stands p. record {
   each = λ turns t.
       polled_leads polled.what (subst (λ o. IsPromised o polled.what) (sym (stands-outside before v stands) ∙ ap (λ (w : View). w.scene.outside) p.0) (promise before e)) within v turns p t;
 })

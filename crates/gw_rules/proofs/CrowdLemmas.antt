@@ -16,17 +16,17 @@ use Rattle.gw_rules.proofs.CutLemmas.{IsAmong, has-before, Holds, cut-before-pol
 use Rattle.gw_rules.proofs.SetupLemmas.{IsInRun, first-run, begin-run, read-run, turn-run, polled-setup}
 
 -- a till that has opened is there
-connected-new : (lines : List Connection) (number : ℕ) → is_connected (lines ++ new_connection number ∷ []) number ≡ true
+connected-new : (connections : List Connection) (number : ℕ) → is_connected (connections ++ new_connection number ∷ []) number ≡ true
 connected-new [] number = rw (eq-eqb number number refl) refl
-connected-new (line ∷ lines) number = by_test (line.number == number) refl (connected-new lines number)
+connected-new (connection ∷ connections) number = by_test (connection.number == number) refl (connected-new connections number)
   where
-    by_test : (test : Bool) → (line.number == number) ≡ test → is_connected (lines ++ new_connection number ∷ []) number ≡ true → is_connected (line ∷ (lines ++ new_connection number ∷ [])) number ≡ true
+    by_test : (test : Bool) → (connection.number == number) ≡ test → is_connected (connections ++ new_connection number ∷ []) number ≡ true → is_connected (connection ∷ (connections ++ new_connection number ∷ [])) number ≡ true
     by_test true t h = rw t refl
     by_test false t h = rw t h
 
 -- a till that is one too many brings an item that says so
-crowd-brings : (till : ℕ) (lines : List Connection) → 64 ≤ length lines → IsAmong (Crowded till) (till_opened_items till lines)
-crowd-brings till lines many = ([], [], rw (le-ltb (length lines) 64 many) refl)
+crowd-brings : (till : ℕ) (connections : List Connection) → 64 ≤ length connections → IsAmong (Crowded till) (till_opened_items till connections)
+crowd-brings till connections many = ([], [], rw (le-ltb (length connections) 64 many) refl)
 
 opened-holds : (till : ℕ) (v : View) → IsInRun v → AllowedTurn v (Opened till) → 64 ≤ length v.scene.outside.tills → Holds till (after_turn v (Opened till))
 opened-holds till v run ok many =

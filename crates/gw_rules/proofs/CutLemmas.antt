@@ -129,18 +129,18 @@ owed-more till v w call more (inr owed) next other e = absurd (other (sym (ap fi
 -- a till that isn't cut stays
 connected-without : (connections : List Connection) (number other : ℕ) → (other == number) ≡ false → is_connected connections number ≡ true → is_connected (without connections other) number ≡ true
 connected-without [] number other d e = e
-connected-without (line ∷ lines) number other d e = by_tests (connected-without lines number other d) (line.number == other) (line.number == number) refl refl
+connected-without (connection ∷ connections) number other d e = by_tests (connected-without connections number other d) (connection.number == other) (connection.number == number) refl refl
   where
-    by_tests : (is_connected lines number ≡ true → is_connected (without lines other) number ≡ true) → (one two : Bool) → (line.number == other) ≡ one → (line.number == number) ≡ two → is_connected (without (line ∷ lines) other) number ≡ true
+    by_tests : (is_connected connections number ≡ true → is_connected (without connections other) number ≡ true) → (one two : Bool) → (connection.number == other) ≡ one → (connection.number == number) ≡ two → is_connected (without (connection ∷ connections) other) number ≡ true
     by_tests more true true t u =
-        let same : line.number ≡ other = eqb-true line.number other t in
+        let same : connection.number ≡ other = eqb-true connection.number other t in
         no-true (sym d ∙ ap (λ n. n == number) (sym same) ∙ u)
     by_tests more true false t u =
-        let rest : is_connected lines number ≡ true = (let h : is_connected (line ∷ lines) number ≡ true = e in rw u at h) in
+        let rest : is_connected connections number ≡ true = (let h : is_connected (connection ∷ connections) number ≡ true = e in rw u at h) in
         rw t (more rest)
     by_tests more false true t u = rw (t, u) refl
     by_tests more false false t u =
-        let rest : is_connected lines number ≡ true = (let h : is_connected (line ∷ lines) number ≡ true = e in rw u at h) in
+        let rest : is_connected connections number ≡ true = (let h : is_connected (connection ∷ connections) number ≡ true = e in rw u at h) in
         rw (t, u) (more rest)
 
 -- what one turn of the round leaves: it is the cut itself, or the same holds
@@ -335,58 +335,58 @@ cut-before-poll till now rest v (Make turn ∷ moves) (other ∷ inside) h c e a
     by_after more heads (inl cut) = ([], inside, ap (λ t. t ∷ inside) (sym heads ∙ cut))
     by_after more heads (inr holds) = cut-later till other inside (more holds)
 
-connected-hears : (lines : List Connection) (number : ℕ) (bytes : List ℕ) → is_connected (hears lines number bytes) number ≡ is_connected lines number
+connected-hears : (connections : List Connection) (number : ℕ) (bytes : List ℕ) → is_connected (hears connections number bytes) number ≡ is_connected connections number
 connected-hears [] number bytes = refl
-connected-hears (line ∷ lines) number bytes = by_test (line.number == number) refl (connected-hears lines number bytes)
+connected-hears (connection ∷ connections) number bytes = by_test (connection.number == number) refl (connected-hears connections number bytes)
   where
-    by_test : (test : Bool) → (line.number == number) ≡ test → is_connected (hears lines number bytes) number ≡ is_connected lines number → is_connected (hears (line ∷ lines) number bytes) number ≡ is_connected (line ∷ lines) number
+    by_test : (test : Bool) → (connection.number == number) ≡ test → is_connected (hears connections number bytes) number ≡ is_connected connections number → is_connected (hears (connection ∷ connections) number bytes) number ≡ is_connected (connection ∷ connections) number
     by_test true t h = rw t (rw t refl)
     by_test false t h = rw t (rw t h)
 
 -- bytes that begin no frame bring an item that says so
-bad-brings : (till : ℕ) (heard chunk : List ℕ) (messages : List (List ℕ)) (left : List ℕ) → AreBytes (heard ++ chunk) → Frames (heard ++ chunk) messages left → BeginsWithBadLength left → IsAmong (Unframed till) (till_bytes_items till heard chunk)
-bad-brings till heard chunk messages left small all bad =
+bad-brings : (till : ℕ) (heard chunk : List ℕ) (payloads : List (List ℕ)) (left : List ℕ) → AreBytes (heard ++ chunk) → Frames (heard ++ chunk) payloads left → BeginsWithBadLength left → IsAmong (Unframed till) (till_bytes_items till heard chunk)
+bad-brings till heard chunk payloads left small all bad =
     let old = reads_all heard (bytes_prefix heard chunk small) in
-    let brings = till-bytes-give till heard chunk (decode_frames heard).messages messages (decode_frames heard).rest left small old all in
+    let brings = till-bytes-give till heard chunk (decode_frames heard).payloads payloads (decode_frames heard).rest left small old all in
     (map (Message till) brings.new, [], brings.items_are ∙ ap (λ l. map (Message till) brings.new ++ l) (brings.bad bad))
 
-heard-holds : (till : ℕ) (v : View) (chunk : List ℕ) (messages : List (List ℕ)) (left : List ℕ) → HeardBytes v.scene.outside → IsInRun v → AllowedTurn v (HeardTill till chunk)
-    → Frames (heard_on v.scene.outside.tills till ++ chunk) messages left → BeginsWithBadLength left → Holds till (after_turn v (HeardTill till chunk))
-heard-holds till v chunk messages left small run ok all bad =
+heard-holds : (till : ℕ) (v : View) (chunk : List ℕ) (payloads : List (List ℕ)) (left : List ℕ) → HeardBytes v.scene.outside → IsInRun v → AllowedTurn v (HeardTill till chunk)
+    → Frames (heard_on v.scene.outside.tills till ++ chunk) payloads left → BeginsWithBadLength left → Holds till (after_turn v (HeardTill till chunk))
+heard-holds till v chunk payloads left small run ok all bad =
     let heard : List ℕ = heard_on v.scene.outside.tills till in
     let known = polled-setup v run ok.0.polled in
     inl (record {
       stage = refl;
       run = (known.setup, known.setup_is);
       there = connected-hears v.scene.outside.tills till chunk ∙ ok.0.connected_is;
-      owed = inl (Unframed till, inl refl, has-before (Unframed till) (till_bytes_items till heard chunk) _ (bad-brings till heard chunk messages left (bytes-append heard chunk (heard-bytes v.scene.outside.tills till small.tills) ok.1.bytes) all bad));
+      owed = inl (Unframed till, inl refl, has-before (Unframed till) (till_bytes_items till heard chunk) _ (bad-brings till heard chunk payloads left (bytes-append heard chunk (heard-bytes v.scene.outside.tills till small.tills) ok.1.bytes) all bad));
     })
 
 -- what was heard of the till ends in bytes that begin no frame
 abbrev EndsBad : Outside → ℕ → List ℕ → List (List ℕ) → List ℕ → Type 0
-EndsBad o till chunk messages left = Frames (heard_on o.tills till ++ chunk) messages left × BeginsWithBadLength left
+EndsBad o till chunk payloads left = Frames (heard_on o.tills till ++ chunk) payloads left × BeginsWithBadLength left
 
-to-heard : (till : ℕ) (chunk : List ℕ) (now : ℤ) (messages : List (List ℕ)) (left : List ℕ) (inside rest : List Turn) (v : View) (moves : List Move) (before : List Turn)
+to-heard : (till : ℕ) (chunk : List ℕ) (now : ℤ) (payloads : List (List ℕ)) (left : List ℕ) (inside rest : List Turn) (v : View) (moves : List Move) (before : List Turn)
     → HeardBytes v.scene.outside → IsInRun v → IsCourse v moves → turns_of moves ≡ before ++ HeardTill till chunk ∷ (inside ++ Polled now ∷ rest) → AreOfRound inside
-    → EndsBad (outside_from v.scene.outside before) till chunk messages left → IsCutIn till inside
-to-heard till chunk now messages left inside rest v [] [] small run c e a bad = absurd (let n : [] ≡ HeardTill till chunk ∷ (inside ++ Polled now ∷ rest) = e in cc)
-to-heard till chunk now messages left inside rest v [] (turn ∷ before) small run c e a bad = absurd (let n : [] ≡ turn ∷ (before ++ HeardTill till chunk ∷ (inside ++ Polled now ∷ rest)) = e in cc)
-to-heard till chunk now messages left inside rest v (Begin ∷ moves) before small run c e a bad =
-    to-heard till chunk now messages left inside rest (after v Begin) moves before (begin-bytes v small) (begin-run v run c.0.idle.round) c.1 e a
-    (subst (λ (o : Outside). EndsBad (outside_from o before) till chunk messages left) (sym (begin-outside v.scene v.items)) bad)
-to-heard till chunk now messages left inside rest v (Read as_read ∷ moves) before small run c e a bad =
-    to-heard till chunk now messages left inside rest (after v (Read as_read)) moves before small (read-run v as_read run c.0.idle.round) c.1 e a bad
-to-heard till chunk now messages left inside rest v (Make turn ∷ moves) [] small run c e a bad =
+    → EndsBad (outside_from v.scene.outside before) till chunk payloads left → IsCutIn till inside
+to-heard till chunk now payloads left inside rest v [] [] small run c e a bad = absurd (let n : [] ≡ HeardTill till chunk ∷ (inside ++ Polled now ∷ rest) = e in cc)
+to-heard till chunk now payloads left inside rest v [] (turn ∷ before) small run c e a bad = absurd (let n : [] ≡ turn ∷ (before ++ HeardTill till chunk ∷ (inside ++ Polled now ∷ rest)) = e in cc)
+to-heard till chunk now payloads left inside rest v (Begin ∷ moves) before small run c e a bad =
+    to-heard till chunk now payloads left inside rest (after v Begin) moves before (begin-bytes v small) (begin-run v run c.0.idle.round) c.1 e a
+    (subst (λ (o : Outside). EndsBad (outside_from o before) till chunk payloads left) (sym (begin-outside v.scene v.items)) bad)
+to-heard till chunk now payloads left inside rest v (Read as_read ∷ moves) before small run c e a bad =
+    to-heard till chunk now payloads left inside rest (after v (Read as_read)) moves before small (read-run v as_read run c.0.idle.round) c.1 e a bad
+to-heard till chunk now payloads left inside rest v (Make turn ∷ moves) [] small run c e a bad =
     let heads : turn ≡ HeardTill till chunk = (let n : turn ∷ turns_of moves ≡ HeardTill till chunk ∷ (inside ++ Polled now ∷ rest) = e in cc) in
     let tails : turns_of moves ≡ inside ++ Polled now ∷ rest = (let n : turn ∷ turns_of moves ≡ HeardTill till chunk ∷ (inside ++ Polled now ∷ rest) = e in cc) in
     let course : IsCourse (after_turn v (HeardTill till chunk)) moves = subst (λ t. IsCourse (after_turn v t) moves) heads c.1 in
-    cut-before-poll till now rest (after_turn v (HeardTill till chunk)) moves inside (heard-holds till v chunk messages left small run (subst (AllowedTurn v) heads c.0) bad.0 bad.1) course tails a
-to-heard till chunk now messages left inside rest v (Make turn ∷ moves) (other ∷ before) small run c e a bad =
+    cut-before-poll till now rest (after_turn v (HeardTill till chunk)) moves inside (heard-holds till v chunk payloads left small run (subst (AllowedTurn v) heads c.0) bad.0 bad.1) course tails a
+to-heard till chunk now payloads left inside rest v (Make turn ∷ moves) (other ∷ before) small run c e a bad =
     let heads : turn ≡ other = (let n : turn ∷ turns_of moves ≡ other ∷ (before ++ HeardTill till chunk ∷ (inside ++ Polled now ∷ rest)) = e in cc) in
     let tails : turns_of moves ≡ before ++ HeardTill till chunk ∷ (inside ++ Polled now ∷ rest) = (let n : turn ∷ turns_of moves ≡ other ∷ (before ++ HeardTill till chunk ∷ (inside ++ Polled now ∷ rest)) = e in cc) in
-    to-heard till chunk now messages left inside rest (after_turn v turn) moves before (turn-bytes v turn small c.0) (turn-run v turn run c.0) c.1 tails a
-    (subst (λ (o : Outside). EndsBad (outside_from o before) till chunk messages left) (sym (after-outside v turn ∙ ap (outside_after v.scene.outside) heads)) bad)
+    to-heard till chunk now payloads left inside rest (after_turn v turn) moves before (turn-bytes v turn small c.0) (turn-run v turn run c.0) c.1 tails a
+    (subst (λ (o : Outside). EndsBad (outside_from o before) till chunk payloads left) (sym (after-outside v turn ∙ ap (outside_after v.scene.outside) heads)) bad)
 
 pub bad-frame-cuts : BadFrameCuts
-bad-frame-cuts before inside rest till chunk now messages left (v, s) a all bad =
-    to-heard till chunk now messages left inside rest at_first s.course before first-bytes first-run s.lawful s.log_is a (all, bad)
+bad-frame-cuts before inside rest till chunk now payloads left (v, s) a all bad =
+    to-heard till chunk now payloads left inside rest at_first s.course before first-bytes first-run s.lawful s.log_is a (all, bad)

@@ -118,8 +118,8 @@ write-on-disk (SendPt pt sending) turn e h = (let n : None ≡ Some turn = e in 
 write-on-disk (OwedCutTill till) turn e h = (let n : None ≡ Some turn = e in cc)
 write-on-disk (OwedCutPt pt) turn e h = (let n : None ≡ Some turn = e in cc)
 write-on-disk (LinkPt pt) turn e h = (let n : None ≡ Some turn = e in cc)
-write-on-disk (WriteBody slot item) turn e h = no-true h
-write-on-disk (WriteGate slot item) turn e h = no-true h
+write-on-disk (WriteBody slot the_record) turn e h = no-true h
+write-on-disk (WriteGate slot the_record) turn e h = no-true h
 write-on-disk WriteFirstGate turn e h = no-true h
 write-on-disk Sync turn e h = no-true h
 
@@ -129,20 +129,20 @@ write-on-disk Sync turn e h = no-true h
 record IsKeeping (made left : ℕ → List ℕ → List Turn) (owed : ℕ → Record → List OwedCall) (log : List Turn) (calls : List OwedCall) : Type 0 where
   base : List Turn
   bodies : List (List ℕ)
-  item : Record
+  the_record : Record
   more : List OwedCall
   at_rest : IsAtRest base (length bodies)
   kept : AreKept base bodies
   ends : EndsClosed (outside_of base).file (length bodies)
-  size : length (record_body item) ≡ 255
-  parts : append_turns (length bodies) (record_body item) ≡ made (length bodies) (record_body item) ++ left (length bodies) (record_body item)
-  log_is : log ≡ base ++ made (length bodies) (record_body item)
-  calls_are : calls ≡ owed (length bodies) item ++ more
+  size : length (record_body the_record) ≡ 255
+  parts : append_turns (length bodies) (record_body the_record) ≡ made (length bodies) (record_body the_record) ++ left (length bodies) (record_body the_record)
+  log_is : log ≡ base ++ made (length bodies) (record_body the_record)
+  calls_are : calls ≡ owed (length bodies) the_record ++ more
   spares : spare_disk more ≡ true
 
 keeping-leaves : (made left : ℕ → List ℕ → List Turn) (owed : ℕ → Record → List OwedCall) (log : List Turn) (calls : List OwedCall) → IsKeeping made left owed log calls → LeavesJournals log
 keeping-leaves made left owed log calls k =
-    subst LeavesJournals (sym k.log_is) (append_leaves k.base k.bodies (record_body k.item) (made (length k.bodies) (record_body k.item)) (left (length k.bodies) (record_body k.item)) k.at_rest k.kept k.ends k.size k.parts)
+    subst LeavesJournals (sym k.log_is) (append_leaves k.base k.bodies (record_body k.the_record) (made (length k.bodies) (record_body k.the_record)) (left (length k.bodies) (record_body k.the_record)) k.at_rest k.kept k.ends k.size k.parts)
 
 abbrev made_none : ℕ → List ℕ → List Turn
 made_none slot body = []
@@ -169,16 +169,16 @@ abbrev left_last : ℕ → List ℕ → List Turn
 left_last slot body = Synced ∷ []
 
 abbrev owed_all : ℕ → Record → List OwedCall
-owed_all slot item = WriteBody slot item ∷ Sync ∷ WriteGate slot item ∷ Sync ∷ []
+owed_all slot the_record = WriteBody slot the_record ∷ Sync ∷ WriteGate slot the_record ∷ Sync ∷ []
 
 abbrev owed_sync : ℕ → Record → List OwedCall
-owed_sync slot item = Sync ∷ WriteGate slot item ∷ Sync ∷ []
+owed_sync slot the_record = Sync ∷ WriteGate slot the_record ∷ Sync ∷ []
 
 abbrev owed_gate : ℕ → Record → List OwedCall
-owed_gate slot item = WriteGate slot item ∷ Sync ∷ []
+owed_gate slot the_record = WriteGate slot the_record ∷ Sync ∷ []
 
 abbrev owed_last : ℕ → Record → List OwedCall
-owed_last slot item = Sync ∷ []
+owed_last slot the_record = Sync ∷ []
 
 -- no call on the disk is owed, and whatever a power failure leaves a journal can have left
 record IsSpared (log : List Turn) (calls : List OwedCall) : Type 0 where
@@ -276,20 +276,20 @@ still log turn before calls g leaves spares = inl (record { spares = spares; lea
 
 -- the keeping goes on by the turn of its next call
 keeps-on : (made left next_made next_left : ℕ → List ℕ → List Turn) (owed next_owed : ℕ → Record → List OwedCall) (log : List Turn) (calls : List OwedCall) (turn : Turn)
-    → (k : IsKeeping made left owed log calls) → made (length k.bodies) (record_body k.item) ++ turn ∷ [] ≡ next_made (length k.bodies) (record_body k.item)
-    → append_turns (length k.bodies) (record_body k.item) ≡ next_made (length k.bodies) (record_body k.item) ++ next_left (length k.bodies) (record_body k.item)
-    → later calls ≡ next_owed (length k.bodies) k.item ++ k.more → IsKeeping next_made next_left next_owed (log ++ turn ∷ []) (later calls)
+    → (k : IsKeeping made left owed log calls) → made (length k.bodies) (record_body k.the_record) ++ turn ∷ [] ≡ next_made (length k.bodies) (record_body k.the_record)
+    → append_turns (length k.bodies) (record_body k.the_record) ≡ next_made (length k.bodies) (record_body k.the_record) ++ next_left (length k.bodies) (record_body k.the_record)
+    → later calls ≡ next_owed (length k.bodies) k.the_record ++ k.more → IsKeeping next_made next_left next_owed (log ++ turn ∷ []) (later calls)
 keeps-on made left next_made next_left owed next_owed log calls turn k more parts calls_are = record {
   base = k.base;
   bodies = k.bodies;
-  item = k.item;
+  the_record = k.the_record;
   more = k.more;
   at_rest = k.at_rest;
   kept = k.kept;
   ends = k.ends;
   size = k.size;
   parts = parts;
-  log_is = ap (λ l. l ++ turn ∷ []) k.log_is ∙ append_assoc k.base (made (length k.bodies) (record_body k.item)) (turn ∷ []) ∙ ap (λ l. k.base ++ l) more;
+  log_is = ap (λ l. l ++ turn ∷ []) k.log_is ∙ append_assoc k.base (made (length k.bodies) (record_body k.the_record)) (turn ∷ []) ∙ ap (λ l. k.base ++ l) more;
   calls_are = calls_are;
   spares = k.spares;
 }
@@ -321,12 +321,12 @@ wrote-opens log calls call turn (inr (inr g)) f w = absurd (no-write turn (write
 
 wrote-keeps : (log : List Turn) (calls : List OwedCall) (call : OwedCall) (turn : Turn) → Appends log calls → first_call calls ≡ Some call → write_turn call ≡ Some turn → Goes (log ++ turn ∷ []) (later calls)
 wrote-keeps log calls call turn (inl k) f w =
-    let is : turn ≡ body_write (length k.bodies) (record_body k.item) = some-turn _ turn (write-is calls _ _ call turn k.calls_are f w) in
+    let is : turn ≡ body_write (length k.bodies) (record_body k.the_record) = some-turn _ turn (write-is calls _ _ call turn k.calls_are f w) in
     inr (inr (inr (inl (keeps-on made_none left_all made_body left_sync owed_all owed_sync log calls turn k (ap (λ t. t ∷ []) is) refl (ap later k.calls_are)))))
 wrote-keeps log calls call turn (inr (inl k)) f w = absurd (no-write turn (write-is calls _ _ call turn k.calls_are f w))
 wrote-keeps log calls call turn (inr (inr (inl k))) f w =
     let is : turn ≡ gate_write (length k.bodies) = some-turn _ turn (write-is calls _ _ call turn k.calls_are f w) in
-    inr (inr (inr (inr (inr (keeps-on made_sync left_gate made_gate left_last owed_gate owed_last log calls turn k (ap (λ t. body_write (length k.bodies) (record_body k.item) ∷ Synced ∷ t ∷ []) is) refl (ap later k.calls_are))))))
+    inr (inr (inr (inr (inr (keeps-on made_sync left_gate made_gate left_last owed_gate owed_last log calls turn k (ap (λ t. body_write (length k.bodies) (record_body k.the_record) ∷ Synced ∷ t ∷ []) is) refl (ap later k.calls_are))))))
 wrote-keeps log calls call turn (inr (inr (inr k))) f w = absurd (no-write turn (write-is calls _ _ call turn k.calls_are f w))
 
 wrote-goes : (log : List Turn) (calls : List OwedCall) (call : OwedCall) (turn : Turn) → Goes log calls → first_call calls ≡ Some call → write_turn call ≡ Some turn → Goes (log ++ turn ∷ []) (later calls)
@@ -334,11 +334,11 @@ wrote-goes log calls call turn (inl s) f w = absurd (write-on-disk call turn w (
 wrote-goes log calls call turn (inr (inl o)) f w = wrote-opens log calls call turn o f w
 wrote-goes log calls call turn (inr (inr k)) f w = wrote-keeps log calls call turn k f w
 
-not-body : (slot : ℕ) (item : Record) → Sync ≡ WriteBody slot item → ⊥
-not-body slot item e = cc
+not-body : (slot : ℕ) (the_record : Record) → Sync ≡ WriteBody slot the_record → ⊥
+not-body slot the_record e = cc
 
-not-gate : (slot : ℕ) (item : Record) → Sync ≡ WriteGate slot item → ⊥
-not-gate slot item e = cc
+not-gate : (slot : ℕ) (the_record : Record) → Sync ≡ WriteGate slot the_record → ⊥
+not-gate slot the_record e = cc
 
 not-first-gate : Sync ≡ WriteFirstGate → ⊥
 not-first-gate e = cc
@@ -377,8 +377,8 @@ synced-keeps log calls (inr (inl k)) f = inr (inr (inr (inr (inl (keeps-on made_
 synced-keeps log calls (inr (inr (inl k))) f = absurd (not-gate _ _ (next-is calls _ _ Sync k.calls_are f))
 synced-keeps log calls (inr (inr (inr k))) f = inl (record {
   spares = ap (λ l. spare_disk (later l)) k.calls_are ∙ k.spares;
-  leaves = subst LeavesJournals (sym (ap (λ l. l ++ Synced ∷ []) k.log_is ∙ append_assoc k.base (made_gate (length k.bodies) (record_body k.item)) (Synced ∷ [])))
-      (append_leaves k.base k.bodies (record_body k.item) (append_turns (length k.bodies) (record_body k.item)) [] k.at_rest k.kept k.ends k.size refl);
+  leaves = subst LeavesJournals (sym (ap (λ l. l ++ Synced ∷ []) k.log_is ∙ append_assoc k.base (made_gate (length k.bodies) (record_body k.the_record)) (Synced ∷ [])))
+      (append_leaves k.base k.bodies (record_body k.the_record) (append_turns (length k.bodies) (record_body k.the_record)) [] k.at_rest k.kept k.ends k.size refl);
 })
 
 synced-goes : (log : List Turn) (calls : List OwedCall) → Goes log calls → first_call calls ≡ Some Sync → Goes (log ++ Synced ∷ []) (later calls)
@@ -435,13 +435,13 @@ pub each-has-journal-files : EachHasJournalFiles
 each-has-journal-files log (v, s) =
     has-files log (subst LeavesJournals s.log_is (course-leaves at_first [] s.course refl (inl (record { spares = refl; leaves = beginning_leaves })) s.lawful))
 
-keeping-goes : (log : List Turn) (v : View) (item : Record) (calls : List OwedCall) → HasJournal log v → length (record_body item) ≡ 255 → v.calls ≡ owed_all (length v.scene.kept) item ++ calls → spare_disk calls ≡ true → Goes log v.calls
-keeping-goes log v item calls h size e spares =
+keeping-goes : (log : List Turn) (v : View) (the_record : Record) (calls : List OwedCall) → HasJournal log v → length (record_body the_record) ≡ 255 → v.calls ≡ owed_all (length v.scene.kept) the_record ++ calls → spare_disk calls ≡ true → Goes log v.calls
+keeping-goes log v the_record calls h size e spares =
     let n : length v.scene.kept ≡ length (map record_body v.scene.kept) = sym (length-map v.scene.kept record_body) in
     inr (inr (inl (record {
       base = log;
       bodies = map record_body v.scene.kept;
-      item = item;
+      the_record = the_record;
       more = calls;
       at_rest = subst (IsAtRest log) n h.at_rest;
       kept = h.kept;
@@ -449,13 +449,13 @@ keeping-goes log v item calls h size e spares =
       size = size;
       parts = refl;
       log_is = sym (append-nil log);
-      calls_are = e ∙ ap (λ slot. owed_all slot item ++ calls) n;
+      calls_are = e ∙ ap (λ slot. owed_all slot the_record ++ calls) n;
       spares = spares;
     })))
 
 pub keeping-leaves-journals : KeepingLeavesJournals
-keeping-leaves-journals log v item calls moves h is e spares course =
-    has-files (log ++ turns_of moves) (course-leaves v log moves h.outside_is (keeping-goes log v item calls h (record_body-offsets item is).0 e spares) course)
+keeping-leaves-journals log v the_record calls moves h is e spares course =
+    has-files (log ++ turns_of moves) (course-leaves v log moves h.outside_is (keeping-goes log v the_record calls h (record_body-offsets the_record is).0 e spares) course)
 
 pub opening-leaves-journal-files : OpeningLeavesJournalFiles
 opening-leaves-journal-files log v calls moves o leaves e spares course =
@@ -546,40 +546,40 @@ opening-has-journal log v calls o leaves slots gate e =
 
 -- ---- a record is kept
 
-keeping-course : (v : View) (slot : ℕ) (item : Record) (calls : List OwedCall) → IsCourse (owing_calls v (keep_calls slot item ++ calls)) (map Make (append_turns slot (record_body item)))
-keeping-course v slot item calls = ((WriteBody slot item, refl, refl), (refl, ((WriteGate slot item, refl, refl), (refl, tt))))
+keeping-course : (v : View) (slot : ℕ) (the_record : Record) (calls : List OwedCall) → IsCourse (owing_calls v (keep_calls slot the_record ++ calls)) (map Make (append_turns slot (record_body the_record)))
+keeping-course v slot the_record calls = ((WriteBody slot the_record, refl, refl), (refl, ((WriteGate slot the_record, refl, refl), (refl, tt))))
 
-keeping-has : (log : List Turn) (v : View) (item : Record) (calls : List OwedCall) → HasJournal log v → IsRecord item
-    → IsKept log (owing_calls v (keep_calls (length v.scene.kept) item ++ calls)) item calls (append_turns (length v.scene.kept) (record_body item))
-keeping-has log v item calls h is =
+keeping-has : (log : List Turn) (v : View) (the_record : Record) (calls : List OwedCall) → HasJournal log v → IsRecord the_record
+    → IsKept log (owing_calls v (keep_calls (length v.scene.kept) the_record ++ calls)) the_record calls (append_turns (length v.scene.kept) (record_body the_record))
+keeping-has log v the_record calls h is =
     let n : length v.scene.kept ≡ length (map record_body v.scene.kept) = sym (length-map v.scene.kept record_body) in
-    let size = (record_body-offsets item is).0 in
+    let size = (record_body-offsets the_record is).0 in
     let before : IsAtRest log (length (map record_body v.scene.kept)) = subst (IsAtRest log) n h.at_rest in
     let closed : EndsClosed (outside_of log).file (length (map record_body v.scene.kept)) = subst (EndsClosed (outside_of log).file) n h.ends in
-    let rests = append_rests log (map record_body v.scene.kept) (record_body item) before h.kept size in
-    let ends = append_closed log (map record_body v.scene.kept) (record_body item) before h.kept closed size in
-    let turns : List Turn = append_turns (length v.scene.kept) (record_body item) in
-    let all : List Record = v.scene.kept ++ item ∷ [] in
-    let kept : (v.scene.kept ++ option_to_list v.scene.flight) ++ item ∷ [] ≡ all = rw h.no_flight (ap (λ l. l ++ item ∷ []) (append-nil v.scene.kept)) in
-    let count : length (map record_body v.scene.kept) + 1 ≡ length all = sym (length-append v.scene.kept (item ∷ []) ∙ ap (λ k. k + 1) n) in
-    let same : log ++ append_turns (length (map record_body v.scene.kept)) (record_body item) ≡ log ++ turns = ap (λ k. log ++ append_turns k (record_body item)) (sym n) in
+    let rests = append_rests log (map record_body v.scene.kept) (record_body the_record) before h.kept size in
+    let ends = append_closed log (map record_body v.scene.kept) (record_body the_record) before h.kept closed size in
+    let turns : List Turn = append_turns (length v.scene.kept) (record_body the_record) in
+    let all : List Record = v.scene.kept ++ the_record ∷ [] in
+    let kept : (v.scene.kept ++ option_to_list v.scene.flight) ++ the_record ∷ [] ≡ all = rw h.no_flight (ap (λ l. l ++ the_record ∷ []) (append-nil v.scene.kept)) in
+    let count : length (map record_body v.scene.kept) + 1 ≡ length all = sym (length-append v.scene.kept (the_record ∷ []) ∙ ap (λ k. k + 1) n) in
+    let same : log ++ append_turns (length (map record_body v.scene.kept)) (record_body the_record) ≡ log ++ turns = ap (λ k. log ++ append_turns k (record_body the_record)) (sym n) in
     record {
-      lawful = keeping-course v (length v.scene.kept) item calls;
+      lawful = keeping-course v (length v.scene.kept) the_record calls;
       journal = record {
         outside_is = ap (λ o. outside_from o turns) h.outside_is ∙ sym (outside_of-append log turns);
         no_flight = refl;
-        at_rest = rw kept (subst (λ l. IsAtRest l (length all)) same (subst (IsAtRest (log ++ append_turns (length (map record_body v.scene.kept)) (record_body item))) count rests.0));
+        at_rest = rw kept (subst (λ l. IsAtRest l (length all)) same (subst (IsAtRest (log ++ append_turns (length (map record_body v.scene.kept)) (record_body the_record))) count rests.0));
         kept = rw kept (subst (λ l. AreKept l (map record_body all)) same (rw map-append rests.1));
-        ends = rw kept (subst (λ l. EndsClosed (outside_of l).file (length all)) same (subst (EndsClosed (outside_of (log ++ append_turns (length (map record_body v.scene.kept)) (record_body item))).file) count ends));
+        ends = rw kept (subst (λ l. EndsClosed (outside_of l).file (length all)) same (subst (EndsClosed (outside_of (log ++ append_turns (length (map record_body v.scene.kept)) (record_body the_record))).file) count ends));
       };
       kept_is = kept;
       calls_are = refl;
     }
 
 pub keeping-has-journal : KeepingHasJournal
-keeping-has-journal log v item calls h is e =
-    let same : owing_calls v (keep_calls (length v.scene.kept) item ++ calls) ≡ v = ap (owing_calls v) (sym e) in
-    subst (λ w. IsKept log w item calls (append_turns (length v.scene.kept) (record_body item))) same (keeping-has log v item calls h is)
+keeping-has-journal log v the_record calls h is e =
+    let same : owing_calls v (keep_calls (length v.scene.kept) the_record ++ calls) ≡ v = ap (owing_calls v) (sym e) in
+    subst (λ w. IsKept log w the_record calls (append_turns (length v.scene.kept) (record_body the_record))) same (keeping-has log v the_record calls h is)
 
 -- ---- the closed example
 

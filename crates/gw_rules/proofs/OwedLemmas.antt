@@ -45,8 +45,8 @@ later-ends (SendPt pt sending ∷ calls) e = none-ends calls e
 later-ends (OwedCutTill till ∷ calls) e = none-ends calls e
 later-ends (OwedCutPt pt ∷ calls) e = none-ends calls e
 later-ends (LinkPt pt ∷ calls) e = none-ends calls e
-later-ends (WriteBody slot item ∷ calls) e = e
-later-ends (WriteGate slot item ∷ calls) e = e
+later-ends (WriteBody slot the_record ∷ calls) e = e
+later-ends (WriteGate slot the_record ∷ calls) e = e
 later-ends (WriteFirstGate ∷ calls) e = e
 later-ends (Sync ∷ calls) e = e
 

@@ -21,8 +21,8 @@ pub record Leads (Call : List Turn → Type 0) (v : View) (Q : View → Type 0) 
 pub nothing-extends : (before : List Turn) (v : View) (new : Observed) (Q : View → Type 0) → new.log ≡ Some before → (new.dark ≡ false → Q v) → Extends before v new Q
 nothing-extends before v new Q l q = record { moves = []; log_is = rw append-nil l; lawful = tt; quiet = tt; owed = q }
 
-pub keeps-refl : (s : Observed) (P : View → Type 0) → Triple s s P P
-keeps-refl s P = record {
+pub triple-refl : (s : Observed) (P : View → Type 0) → Triple s s P P
+triple-refl s P = record {
   observed = λ before v e stands p. nothing-extends before v s P e p;
   unobserved = λ e. e;
   stays = λ e. e;
@@ -42,8 +42,8 @@ extends-then before v b c Q R stands x k =
       owed = λ d. rw view_from-append (y.owed d);
     }
 
-pub keeps-then : (a b c : Observed) (P Q R : View → Type 0) → Triple a b P Q → Triple b c Q R → Triple a c P R
-keeps-then a b c P Q R x y = record {
+pub triple-then : (a b c : Observed) (P Q R : View → Type 0) → Triple a b P Q → Triple b c Q R → Triple a c P R
+triple-then a b c P Q R x y = record {
   observed = λ before v e stands p. extends-then before v b c Q R stands (x.observed before v e stands p) y;
   unobserved = λ e. y.unobserved (x.unobserved e);
   stays = λ e. y.stays (x.stays e);
@@ -51,8 +51,8 @@ keeps-then a b c P Q R x y = record {
   origin = y.origin ∙ x.origin;
 }
 
-pub keeps-weaker : (a b : Observed) (P' P Q Q' : View → Type 0) → ((v : View) → P' v → P v) → ((v : View) → Q v → Q' v) → Triple a b P Q → Triple a b P' Q'
-keeps-weaker a b P' P Q Q' f g k = record {
+pub triple-weaker : (a b : Observed) (P' P Q Q' : View → Type 0) → ((v : View) → P' v → P v) → ((v : View) → Q v → Q' v) → Triple a b P Q → Triple a b P' Q'
+triple-weaker a b P' P Q Q' f g k = record {
   observed = λ before v e stands p.
       let x = k.observed before v e stands (λ d. f v (p d)) in
       record { moves = x.moves; log_is = x.log_is; lawful = x.lawful; quiet = x.quiet; owed = λ d. g (view_from v x.moves) (x.owed d) };
@@ -62,19 +62,19 @@ keeps-weaker a b P' P Q Q' f g k = record {
   origin = k.origin;
 }
 
-pub keeps-after : (a b : Observed) (P Q R : View → Type 0) → Triple a b P Q → ((v : View) → Q v → R v) → Triple a b P R
-keeps-after a b P Q R x f = keeps-weaker a b P P Q R (λ v p. p) f x
+pub triple-after : (a b : Observed) (P Q R : View → Type 0) → Triple a b P Q → ((v : View) → Q v → R v) → Triple a b P R
+triple-after a b P Q R x f = triple-weaker a b P P Q R (λ v p. p) f x
 
-pub keeps-before : (a b : Observed) (P' P Q : View → Type 0) → ((v : View) → P' v → P v) → Triple a b P Q → Triple a b P' Q
-keeps-before a b P' P Q f x = keeps-weaker a b P' P Q Q f (λ v q. q) x
+pub triple-before : (a b : Observed) (P' P Q : View → Type 0) → ((v : View) → P' v → P v) → Triple a b P Q → Triple a b P' Q
+triple-before a b P' P Q f x = triple-weaker a b P' P Q Q f (λ v q. q) x
 
 lit-before : (d : Bool) (a b : Observed) → a.dark ≡ d → (a.dark ≡ true → b.dark ≡ true) → b.dark ≡ false → a.dark ≡ false
 lit-before false a b e stays lit = e
 lit-before true a b e stays lit = absurd (let h : true ≡ false = sym (stays e) ∙ lit in cc)
 
 -- a fact that was there stays
-pub keeps-frame : (a b : Observed) (P Q : View → Type 0) (A : Type 0) → Triple a b P Q → Triple a b (λ v. P v × A) (λ v. Q v × A)
-keeps-frame a b P Q A k = record {
+pub triple-frame : (a b : Observed) (P Q : View → Type 0) (A : Type 0) → Triple a b P Q → Triple a b (λ v. P v × A) (λ v. Q v × A)
+triple-frame a b P Q A k = record {
   observed = λ before v e stands p.
       let x = k.observed before v e stands (λ d. (p d).0) in
       record { moves = x.moves; log_is = x.log_is; lawful = x.lawful; quiet = x.quiet; owed = λ d. (x.owed d, (p (lit-before a.dark a b refl k.stays d)).1) };
@@ -90,8 +90,8 @@ some-observed a b P Q w k false d before v e stands p = (k (p d).0).observed bef
 some-observed a b P Q w k true d before v e stands p = (k w).observed before v e stands (λ f. absurd (let h : true ≡ false = sym d ∙ f in cc))
 
 -- for some value, where it holds for each; a value is wanted for a dark site
-pub keeps-some : {W : Type 0} (a b : Observed) (P : W → View → Type 0) (Q : View → Type 0) → (w : W) → ((w : W) → Triple a b (P w) Q) → Triple a b (λ v. (w : W) × P w v) Q
-keeps-some a b P Q w k = record {
+pub triple-some : {W : Type 0} (a b : Observed) (P : W → View → Type 0) (Q : View → Type 0) → (w : W) → ((w : W) → Triple a b (P w) Q) → Triple a b (λ v. (w : W) × P w v) Q
+triple-some a b P Q w k = record {
   observed = λ before v e stands p. some-observed a b P Q w k a.dark refl before v e stands p;
   unobserved = (k w).unobserved;
   stays = (k w).stays;
@@ -133,9 +133,9 @@ grows-still old new Call grows None e d = grows.unobserved e ∙ sym e
 grows-still old new Call grows (Some before) e d = let x = grows.observed before e in still-by before old new e old.dark new.dark x.0 x.1 d x.3 x.4
 
 -- a single call of a site, where each of its turns is allowed
-pub call-keeps : (old new : Observed) (Call : List Turn → Type 0) (P Q : View → Type 0) → Grows old new Call →
+pub call-triple : (old new : Observed) (Call : List Turn → Type 0) (P Q : View → Type 0) → Grows old new Call →
     ((before : List Turn) (v : View) → old.log ≡ Some before → Stands before v → P v → Leads Call v Q) → Triple old new P Q
-call-keeps old new Call P Q grows step = record {
+call-triple old new Call P Q grows step = record {
   observed = λ before v e stands p.
       let x = grows.observed before e in
       extends-by before x.0 x.1 v new Q old.dark new.dark refl x.3 x.4 (λ d. (step before v e stands (p d)).each x.0 x.2);
@@ -155,8 +155,8 @@ quiet-observed s P move Q step none false d before v e p =
     record { moves = move ∷ []; log_is = rw none (rw append-nil e); lawful = (b.0, tt); quiet = rw none tt; owed = λ f. b.1 }
 
 -- a move that makes no turn
-pub quiet-keeps : (s : Observed) (P : View → Type 0) (move : Move) (Q : View → Type 0) → ((v : View) → P v → Allowed v move × Q (after v move)) → turns_of (move ∷ []) ≡ [] → Triple s s P Q
-quiet-keeps s P move Q step none = record {
+pub quiet-triple : (s : Observed) (P : View → Type 0) (move : Move) (Q : View → Type 0) → ((v : View) → P v → Allowed v move × Q (after v move)) → turns_of (move ∷ []) ≡ [] → Triple s s P Q
+quiet-triple s P move Q step none = record {
   observed = λ before v e stands p. quiet-observed s P move Q step none s.dark refl before v e p;
   unobserved = λ e. e;
   stays = λ e. e;
@@ -165,17 +165,17 @@ quiet-keeps s P move Q step none = record {
 }
 
 -- the first item begins: its row is owed
-pub begin-keeps : (s : Observed) (scene : Scene) (item : RoundItem) (items : List RoundItem) → is_round scene.stage ≡ true → may_begin scene (item ∷ items) ≡ true →
+pub begin-triple : (s : Observed) (scene : Scene) (item : RoundItem) (items : List RoundItem) → is_round scene.stage ≡ true → may_begin scene (item ∷ items) ≡ true →
     Triple s s (Owing scene [] (item ∷ items)) (λ v. v ≡ begun scene (row_at scene item) items)
-begin-keeps s scene item items round first = quiet-keeps s (Owing scene [] (item ∷ items)) Begin (λ v. v ≡ begun scene (row_at scene item) items) step refl
+begin-triple s scene item items round first = quiet-triple s (Owing scene [] (item ∷ items)) Begin (λ v. v ≡ begun scene (row_at scene item) items) step refl
   where
     step : (v : View) → Owing scene [] (item ∷ items) v → Allowed v Begin × (after v Begin ≡ begun scene (row_at scene item) items)
     step v e = subst (λ w. Allowed w Begin × (after w Begin ≡ begun scene (row_at scene item) items)) (sym e) (record { idle = record { round = round; calls = refl }; first = first }, refl)
 
 -- a message of a till that is there is read
-pub read-keeps : (s : Observed) (scene : Scene) (till : ℕ) (bytes : List ℕ) (as_read : ReadAs) (items : List RoundItem) → is_round scene.stage ≡ true → is_connected scene.outside.tills till ≡ true → IsReadAs bytes as_read →
+pub read-triple : (s : Observed) (scene : Scene) (till : ℕ) (bytes : List ℕ) (as_read : ReadAs) (items : List RoundItem) → is_round scene.stage ≡ true → is_connected scene.outside.tills till ≡ true → IsReadAs bytes as_read →
     Triple s s (Owing scene [] (Message till bytes ∷ items)) (Owing (at_item scene) [] (Asked till as_read ∷ items))
-read-keeps s scene till bytes as_read items round there reads = quiet-keeps s (Owing scene [] (Message till bytes ∷ items)) (Read as_read) (Owing (at_item scene) [] (Asked till as_read ∷ items)) step refl
+read-triple s scene till bytes as_read items round there reads = quiet-triple s (Owing scene [] (Message till bytes ∷ items)) (Read as_read) (Owing (at_item scene) [] (Asked till as_read ∷ items)) step refl
   where
     step : (v : View) → Owing scene [] (Message till bytes ∷ items) v → Allowed v (Read as_read) × Owing (at_item scene) [] (Asked till as_read ∷ items) (after v (Read as_read))
     step v e = subst (λ w. Allowed w (Read as_read) × Owing (at_item scene) [] (Asked till as_read ∷ items) (after w (Read as_read))) (sym e)

@@ -38,8 +38,8 @@ is_on_disk (SendPt pt sending) = false
 is_on_disk (CutTill till) = false
 is_on_disk (CutPt pt) = false
 is_on_disk (LinkPt pt) = false
-is_on_disk (WriteBody slot item) = true
-is_on_disk (WriteGate slot item) = true
+is_on_disk (WriteBody slot the_record) = true
+is_on_disk (WriteGate slot the_record) = true
 is_on_disk WriteFirstGate = true
 is_on_disk Sync = true
 
@@ -73,21 +73,21 @@ pub record HasJournal (log : List Turn) (v : View) : Type 0 where
 -- Where a view has a journal and owes that a record is kept in the next slot, each lawful course from it leaves such files after each of its turns, whichever they are.
 abbrev pub KeepingLeavesJournals : Type 0
 KeepingLeavesJournals =
-    (log : List Turn) (v : View) (item : Record) (calls : List OwedCall) (moves : List Move) → HasJournal log v → IsRecord item
-    → v.calls ≡ keep_calls (length v.scene.kept) item ++ calls → spare_disk calls ≡ true → IsCourse v moves → HasJournalFiles (log ++ turns_of moves)
+    (log : List Turn) (v : View) (the_record : Record) (calls : List OwedCall) (moves : List Move) → HasJournal log v → IsRecord the_record
+    → v.calls ≡ keep_calls (length v.scene.kept) the_record ++ calls → spare_disk calls ≡ true → IsCourse v moves → HasJournalFiles (log ++ turns_of moves)
 
 -- once its body and its gate are written and synced, the view has the journal with this record too, and owes the later calls
-pub record IsKept (log : List Turn) (v : View) (item : Record) (calls : List OwedCall) (turns : List Turn) : Type 0 where
+pub record IsKept (log : List Turn) (v : View) (the_record : Record) (calls : List OwedCall) (turns : List Turn) : Type 0 where
   pub lawful : IsCourse v (map Make turns)
   pub journal : HasJournal (log ++ turns) (view_from v (map Make turns))
-  pub kept_is : (view_from v (map Make turns)).scene.kept ≡ v.scene.kept ++ item ∷ []
+  pub kept_is : (view_from v (map Make turns)).scene.kept ≡ v.scene.kept ++ the_record ∷ []
   pub calls_are : (view_from v (map Make turns)).calls ≡ calls
 
 -- so records may be kept one after the other
 abbrev pub KeepingHasJournal : Type 0
 KeepingHasJournal =
-    (log : List Turn) (v : View) (item : Record) (calls : List OwedCall) → HasJournal log v → IsRecord item → v.calls ≡ keep_calls (length v.scene.kept) item ++ calls
-    → IsKept log v item calls (append_turns (length v.scene.kept) (record_body item))
+    (log : List Turn) (v : View) (the_record : Record) (calls : List OwedCall) → HasJournal log v → IsRecord the_record → v.calls ≡ keep_calls (length v.scene.kept) the_record ++ calls
+    → IsKept log v the_record calls (append_turns (length v.scene.kept) (record_body the_record))
 
 -- ---- an opening gives a journal
 

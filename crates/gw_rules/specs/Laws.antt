@@ -96,9 +96,9 @@ IsCutIn till turns = (first : List Turn) × (rest : List Turn) × (turns ≡ fir
 -- in a lawful log, after bytes with which what was heard of a till ends in bytes that begin no frame, the till is cut before the next poll
 abbrev pub BadFrameCuts : Type 0
 BadFrameCuts =
-    (before inside rest : List Turn) (till : ℕ) (chunk : List ℕ) (now : ℤ) (messages : List (List ℕ)) (left : List ℕ)
+    (before inside rest : List Turn) (till : ℕ) (chunk : List ℕ) (now : ℤ) (payloads : List (List ℕ)) (left : List ℕ)
     → IsLawful (before ++ HeardTill till chunk ∷ (inside ++ Polled now ∷ rest)) → AreOfRound inside
-    → Frames (heard_on (outside_of before).tills till ++ chunk) messages left → BeginsWithBadLength left → IsCutIn till inside
+    → Frames (heard_on (outside_of before).tills till ++ chunk) payloads left → BeginsWithBadLength left → IsCutIn till inside
 
 -- in a lawful log, after a till opens while 64 others are there, it is cut before the next poll
 abbrev pub CrowdedCuts : Type 0

@@ -91,8 +91,8 @@ flight_after (SendPt pt sending ∷ calls) flight = flight
 flight_after (OwedCutTill till ∷ calls) flight = flight
 flight_after (OwedCutPt pt ∷ calls) flight = flight
 flight_after (LinkPt pt ∷ calls) flight = flight
-flight_after (WriteBody slot item ∷ calls) flight = flight
-flight_after (WriteGate slot item ∷ calls) flight = Some item
+flight_after (WriteBody slot the_record ∷ calls) flight = flight
+flight_after (WriteGate slot the_record ∷ calls) flight = Some the_record
 flight_after (WriteFirstGate ∷ calls) flight = flight
 flight_after (Sync ∷ calls) flight = flight
 

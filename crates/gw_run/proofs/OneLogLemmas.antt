@@ -31,8 +31,8 @@ outcome (SendPt pt sending) = SentPt pt (sending_bytes sending) true
 outcome (calls.CutTill till) = CutTill till
 outcome (calls.CutPt pt) = CutPt pt
 outcome (LinkPt pt) = Linked pt
-outcome (WriteBody slot item) = body_write slot (record_body item)
-outcome (WriteGate slot item) = gate_write slot
+outcome (WriteBody slot the_record) = body_write slot (record_body the_record)
+outcome (WriteGate slot the_record) = gate_write slot
 outcome WriteFirstGate = first_gate_write
 outcome Sync = Synced
 
@@ -46,8 +46,8 @@ write-outcome (SendPt pt sending) turn e = absurd (let h : None ≡ Some turn = 
 write-outcome (calls.CutTill till) turn e = absurd (let h : None ≡ Some turn = e in cc)
 write-outcome (calls.CutPt pt) turn e = absurd (let h : None ≡ Some turn = e in cc)
 write-outcome (LinkPt pt) turn e = absurd (let h : None ≡ Some turn = e in cc)
-write-outcome (WriteBody slot item) turn e = some-turn (body_write slot (record_body item)) turn e
-write-outcome (WriteGate slot item) turn e = some-turn (gate_write slot) turn e
+write-outcome (WriteBody slot the_record) turn e = some-turn (body_write slot (record_body the_record)) turn e
+write-outcome (WriteGate slot the_record) turn e = some-turn (gate_write slot) turn e
 write-outcome WriteFirstGate turn e = some-turn first_gate_write turn e
 write-outcome Sync turn e = absurd (let h : None ≡ Some turn = e in cc)
 

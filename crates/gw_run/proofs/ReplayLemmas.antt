@@ -4,7 +4,7 @@ use Rattle.std.specs.Prelude.{◌⊎◌, Option, Some, None, Ok, Err}
 use Rattle.gw_bytes.specs.Bytes.{IsPrefix}
 use Rattle.gw_script.specs.Decode.{Script, script_limit, script_of}
 use Rattle.gw_run.specs.Top.{Stream, Cause, HasRisen, IfBytesObserved, IsAccepted, IsReadWhole, IsScript, IsScriptLeft, Prints, PrintsPrefix, Printed, status_of, tail_of}
-use Rattle.gw_run.specs.Replay.{IsInputFault, IsInputRead, IsPlayEnd, WritesTail, IsReportedEnd, NamesLine}
+use Rattle.gw_run.specs.Replay.{IsInputFault, IsInputRead, IsPlayEnd, WritesTail, IsReportedEnd}
 use Rattle.gw_run.specs.declared.ending.Ending.{Ending}
 use Rattle.gw_run.specs.declared.ending.Ending.TheVariants.{Played, Words, Long, Line as AtLine, Input, Memory, OutputFailed}
 

@@ -103,7 +103,7 @@ printable_ascii [] e i = lit< tt
 printable_ascii (byte ∷ bytes) e zero = below_128 byte (both (is_space_or_visible byte) (list_all is_space_or_visible bytes) e).0
 printable_ascii (byte ∷ bytes) e (suc i) = printable_ascii bytes (both (is_space_or_visible byte) (list_all is_space_or_visible bytes) e).1 i
 
--- what a result of `framed_message` says of the bytes
+-- what a result of `framed_payload` says of the bytes
 found_frame : (one : Bool) (bytes message : List ℕ) → Some message ≡ (if one then Some (drop 4 bytes) else None) → (one ≡ true) × (message ≡ drop 4 bytes)
 found_frame true bytes message e = (refl, cc)
 found_frame false bytes message e = cc

@@ -39,7 +39,7 @@ fn reply(alloc: Global, class: &str, category: &str, body: &str) -> Result<Strin
     )
 }
 
-/// The line of the event that a message is rejected.
+/// The line of the event that rejects a message.
 fn reject(alloc: Global, sale: &str, poi: &str, details: &str) -> Result<String, AllocError> {
     format!(in alloc;
         "till 1 out '{{\"SaleToPOIRequest\":{{\"MessageHeader\":{{\"ProtocolVersion\":\"3.0\",\"MessageClass\":\"Event\",\

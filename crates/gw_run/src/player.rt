@@ -117,7 +117,7 @@ impl<'a> Player<'a> {
         self.play.dark
     }
 
-    /// The log plays the script, or a prefix of it.
+    /// For the prover alone: the log plays the script, or a prefix of it.
     pub(crate) fn played(&self)
         ensures { (log : List LogTurn) → (player_observed self.now).log ≡ Some log → Plays (player_observed self.now).origin log }
     {

@@ -10,7 +10,7 @@ use crate::last_lines::write_last_lines;
 use crate::replay::play;
 use crate::script::{ScriptFault, read_script};
 use gw_base::Text;
-use gw_bytes::LONGEST_SCRIPT;
+use gw_bytes::{LONGEST_CHUNK, LONGEST_SCRIPT};
 use gw_site::{Failed, Sink, Site, Source};
 use std::alloc::{AllocError, Global};
 
@@ -33,7 +33,7 @@ fn read_input<I: Source>(alloc: Global, input: &mut I) -> Result<Vec<u8>, Ending
 {
     let mut bytes = Vec::new(alloc);
     // A chunk at a time, so that at most one is read beyond the limit: an input may have no end.
-    let mut buf = [0; 4096];
+    let mut buf = [0; LONGEST_CHUNK];
     while bytes.len() <= LONGEST_SCRIPT {
         match input.read(&mut buf) {
             Err(Failed) => return Err(Ending::Input),

@@ -157,7 +157,7 @@ fn the_longest_lines(rt: HostRuntime) -> Result<(), Fail> {
 }
 
 #[test]
-fn a_name_stands_in_a_reject(rt: HostRuntime) -> Result<(), Fail> {
+fn a_name_is_in_a_reject(rt: HostRuntime) -> Result<(), Fail> {
     let (status, written) = played(rt.alloc(), b"# named\nname G~1\nopen 1\nsay 1 x\n")?;
     let written = str::from_utf8(written.as_slice())?;
     assert!(rt; written.contains("\"POIID\":\"G~1\""), "{written}");

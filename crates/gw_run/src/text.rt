@@ -10,7 +10,7 @@ ghost use Rattle.gw_run.specs.LogWritten.{Adds, LogWritten};
 
 use gw_base::Bytes;
 use gw_site::{Failed, Sink, Turn};
-use sale_frame::framed_message;
+use sale_frame::framed_payload;
 use std::alloc::{AllocError, Global};
 use std::str;
 
@@ -61,7 +61,7 @@ fn are_printable(bytes: &[u8]) -> bool
 fn printable_message(bytes: &[u8]) -> Option<&str>
     ensures { option_copied result ≡ (if is_printable_frame bytes.now then Some (drop 4 bytes.now) else None) }
 {
-    let message = framed_message(bytes)?;
+    let message = framed_payload(bytes)?;
     if are_printable(message) {
         str::from_utf8(message).ok()
     } else {

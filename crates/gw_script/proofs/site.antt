@@ -1,5 +1,6 @@
 -- The laws of the whole script.
 pub mod ByLinesLemmas
+pub mod CallLemmas
 pub mod ExactLemmas
 pub mod FormLemmas
 pub mod LeadsLemmas

@@ -1,9 +1,12 @@
 -- The whole script: its lines, their grammar, and which logs play it.
 pub mod ByLines
+pub mod CallExample
+pub mod Calls
 pub mod Decode
 pub mod Example
 pub mod Grammar
 pub mod Hazards
 pub mod Laws
 pub mod Playing
+pub mod Runs
 pub mod ScriptLine

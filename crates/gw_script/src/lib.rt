@@ -5,15 +5,16 @@ ghost use Rattle.gw_script.specs.Example.{EachFormIsRead, TextOfMessage, TextOfP
 ghost use Rattle.gw_script.specs.Grammar.{ReadsScripts};
 ghost use Rattle.gw_script.specs.Laws.{TextOfBytes, TextOfFrame};
 ghost use Rattle.gw_script.specs.site.ByLines.{PlainLinesGoOn};
+ghost use Rattle.gw_script.specs.site.CallExample.{LooksAndWrites, OtherSetupIsNotItsOwn, PollReachesPower, SendsTakeExactly, SendsTakeNoFewer, StartsWithItsOwn};
 ghost use Rattle.gw_script.specs.site.Example.{AllFormsAreRead, DefaultsHold, EarlyLinesFail, MisplacedAreReported, NumbersRise, PowerFailsAfterTwo, PowerFailsAtOnce, PowerFailsNoLater, SendsFail, SyncMustFail, TwiceIsReported, WritesFail, WrongLinesAreReported};
-ghost use Rattle.gw_script.specs.site.Laws.{PlaysOn, PrefixesPlay, ReadsSiteScripts, SendsTakeTheirs, SplitsLines};
+ghost use Rattle.gw_script.specs.site.Laws.{CallsGoOn, CallsPlay, OneLogOfCalls, PlaysOn, PowerGoesOn, PrefixesPlay, ReadsSiteScripts, SendsAreCut, SendsTakeTheirs, SplitsLines};
 
 /// A text is read as the script that its lines make, and exactly where they make none the first wrong line is reported.
 pub fn law_scripts()
     ensures reads { ReadsScripts }
 {}
 
-/// In the text of a log a frame whose message is printable ASCII is write_made as `'` and the message, and other bytes in
+/// In the text of a log a frame whose message is printable ASCII is written as `'` and the message, and other bytes in
 /// hexadecimal.
 pub fn law_log_text()
     ensures framed { TextOfFrame }
@@ -21,7 +22,7 @@ pub fn law_log_text()
 {}
 
 /// A script with a line of each form is read so; a second name is a wrong line, and so is a line that begins with a word of
-/// no form; a printable message is write_made as it is, and a frame that is incomplete in hexadecimal.
+/// no form; a printable message is written as it is, and a frame that is incomplete in hexadecimal.
 pub fn law_forms()
     ensures script { EachFormIsRead }
     ensures second_name { SecondNameIsWrong }
@@ -71,4 +72,20 @@ pub fn law_site_logs()
     ensures prefixes { PrefixesPlay }
     ensures sends { SendsTakeTheirs }
     ensures by_lines { PlainLinesGoOn }
+{}
+
+/// The calls on a site and its power failures determine the log, which plays the script. A send that fails takes exactly the
+/// lesser of its length and its line's number. Closed logs show it, with writes, looks and the setup of the runs.
+pub fn law_site_calls()
+    ensures play { CallsPlay }
+    ensures one_log { OneLogOfCalls }
+    ensures calls { CallsGoOn }
+    ensures power_back { PowerGoesOn }
+    ensures cut { SendsAreCut }
+    ensures sends { SendsTakeExactly }
+    ensures no_fewer { SendsTakeNoFewer }
+    ensures looks { LooksAndWrites }
+    ensures power { PollReachesPower }
+    ensures own { StartsWithItsOwn }
+    ensures other { OtherSetupIsNotItsOwn }
 {}

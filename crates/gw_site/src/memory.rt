@@ -115,12 +115,12 @@ impl Source for MemSource {
 }
 
 /// Takes at most so many of the bytes; none where there is no memory.
-fn take_part(held: &mut Bytes, bytes: &[u8], most: usize)
-    ensures prefix { (part : List ℕ) × IsPrefix part bytes.now × (held.new ≡ held.old ++ part) }
-    ensures most { (held.new ≡ held.old ++ take most bytes.now) ⊎ (held.new ≡ held.old) }
+fn take_part(stored: &mut Bytes, bytes: &[u8], most: usize)
+    ensures prefix { (part : List ℕ) × IsPrefix part bytes.now × (stored.new ≡ stored.old ++ part) }
+    ensures most { (stored.new ≡ stored.old ++ take most bytes.now) ⊎ (stored.new ≡ stored.old) }
 {
     let count = most.min(bytes.len());
-    match held.extend(&bytes[..count]) {
+    match stored.extend(&bytes[..count]) {
         Ok(()) => {}
         Err(_) => {}
     }

@@ -1,4 +1,4 @@
--- Which files openings and appends leave: a journal's file is hardly longer than its open slots, and the gate after these is closed until a body was written after it.
+-- What holds of each file that openings and appends leave: a journal's file is hardly longer than its open slots, and the gate after these is closed until a body was written after it.
 use Rattle.std.specs.Prelude.{◌≡◌, ℕ, ◌+◌, ◌*◌, ◌<◌, ◌≤◌, List, [], ◌∷◌, ◌++◌, length, slice_index}
 use Rattle.gw_site.specs.Outside.{Outside, outside_after, outside_of}
 use Rattle.gw_site.specs.Image.{Image}
@@ -13,7 +13,7 @@ pub record FitsSlots (size open_slots gate : ℕ) : Type 0 where
   pub bounded : size ≤ 256 * (open_slots + 1) + 1
   pub closed : 1 < size → size ≤ 256 * (open_slots + 1) → gate ≡ 0
 
--- a journal can have left this file
+-- the file fits its open slots, as every file does that a journal leaves; 'a journal can have left it' says no more than this
 abbrev pub CanBeJournal : List ℕ → Type 0
 CanBeJournal file = (bodies : List (List ℕ)) → AreSlots file bodies → FitsSlots (length file) (length bodies) (slice_index file (256 * length bodies))
 

@@ -6,8 +6,10 @@ ghost use Rattle.jrn_log.specs.JournalLogs.{JournalLogsAreOpen, JournalLogsLeave
 
 use crate::layout::SLOT_SIZE;
 
-/// Whether openings, appends and power failures can leave a file of so many bytes, of which so many slots are open and
-/// the gate after them is this byte, `00` past the file's end.
+/// Whether a file of so many bytes, of which so many slots are open and the gate after them is this byte (`00` past the
+/// file's end), fits its open slots.
+///
+/// Whatever openings, appends and power failures leave fits ([`law_files`]); a file that fits may come from elsewhere.
 pub fn can_be_journal(length: u64, slots: u32, gate: u8) -> bool
     ensures { IsTrue result ↔ FitsSlots length slots gate }
 {

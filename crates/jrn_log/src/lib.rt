@@ -14,6 +14,7 @@ mod write;
 pub use fault::{AppendFault, OpenFault};
 pub use foreign::{can_be_journal, law_file_examples, law_files};
 pub use journal::Journal;
+pub use layout::{OPEN, SLOT_SIZE, SLOTS_OF_CHUNK};
 pub use slots::{read_part, read_slots};
 
 /// Each file has one list of the bodies of its open slots, which can be computed.

@@ -29,7 +29,7 @@ use Rattle.jrn_record.specs.declared.records.Record.{Record}
 use Rattle.jrn_record.specs.declared.records.Record.TheVariants.{Intent, Outcome, Settled}
 use Rattle.jrn_record.proofs.FieldLemmas.{text_field-injective, present_below}
 use Rattle.jrn_record.proofs.ReadLemmas.{same_approval, same_deal}
-use Rattle.jrn_record.proofs.BodyLemmas.{IsRun}
+use Rattle.jrn_record.proofs.BodyLemmas.{AreAdjacent}
 
 -- ---- the fields are at their offsets
 
@@ -41,17 +41,17 @@ HasSizes (field ∷ spelled) [] = ⊥
 HasSizes (field ∷ spelled) (there ∷ table) = (length field ≡ there.size) × HasSizes spelled table
 
 -- fields of the right sizes, one after the other, are at their offsets
-laid : (spelled : List (List ℕ)) (table : List FieldRange) (offset end : ℕ) (prefix : List ℕ) → HasSizes spelled table → IsRun offset table end
+laid : (spelled : List (List ℕ)) (table : List FieldRange) (offset end : ℕ) (prefix : List ℕ) → HasSizes spelled table → AreAdjacent offset table end
     → length prefix ≡ offset → Agree (length table) spelled table (prefix ++ joined spelled) × (offset + length (joined spelled) ≡ end)
-laid [] [] offset end prefix sizes run len = (tt, omega (arith, run))
-laid [] (there ∷ table) offset end prefix sizes run len = absurd sizes
-laid (field ∷ spelled) [] offset end prefix sizes run len = absurd sizes
-laid (field ∷ spelled) (there ∷ table) offset end prefix sizes run len =
-    let next = laid spelled table (offset + there.size) end (prefix ++ field) sizes.1 run.1
+laid [] [] offset end prefix sizes adjacent len = (tt, omega (arith, adjacent))
+laid [] (there ∷ table) offset end prefix sizes adjacent len = absurd sizes
+laid (field ∷ spelled) [] offset end prefix sizes adjacent len = absurd sizes
+laid (field ∷ spelled) (there ∷ table) offset end prefix sizes adjacent len =
+    let next = laid spelled table (offset + there.size) end (prefix ++ field) sizes.1 adjacent.1
     (omega (arith, length-append prefix field, len, sizes.0)) in
     let body : (prefix ++ field) ++ joined spelled ≡ prefix ++ (field ++ joined spelled) = append_assoc prefix field (joined spelled) in
     let rest : drop there.offset (prefix ++ (field ++ joined spelled)) ≡ field ++ joined spelled =
-    ap (λ offset. drop offset (prefix ++ (field ++ joined spelled))) (run.0 ∙ sym len) ∙ drop-append_seam prefix (field ++ joined spelled) in
+    ap (λ offset. drop offset (prefix ++ (field ++ joined spelled))) (adjacent.0 ∙ sym len) ∙ drop-append_seam prefix (field ++ joined spelled) in
     let here : field ≡ take there.size (drop there.offset (prefix ++ (field ++ joined spelled))) =
     sym (ap (take there.size) rest ∙ ap (λ n. take n (field ++ joined spelled)) (sym sizes.0) ∙ take-append_seam field (joined spelled)) in (
       (here, subst (λ b. Agree (length table) spelled table b) body next.0),
@@ -116,15 +116,15 @@ sizes_of (Settled s) is = (
   ),
 )
 
-run_of : (the_record : Record) → IsRun 0 (table_of the_record) 255
-run_of (Intent i) = (refl, (refl, (refl, (refl, (refl, (refl, (refl, (refl, (refl, (refl, (refl, (refl, (refl, refl)))))))))))))
-run_of (Outcome o) = (refl, (refl, (refl, (refl, (refl, (refl, (refl, (refl, (refl, refl)))))))))
-run_of (Settled s) = (refl, (refl, (refl, (refl, (refl, (refl, (refl, (refl, refl))))))))
+adjacent_fields : (the_record : Record) → AreAdjacent 0 (table_of the_record) 255
+adjacent_fields (Intent i) = (refl, (refl, (refl, (refl, (refl, (refl, (refl, (refl, (refl, (refl, (refl, (refl, (refl, refl)))))))))))))
+adjacent_fields (Outcome o) = (refl, (refl, (refl, (refl, (refl, (refl, (refl, (refl, (refl, refl)))))))))
+adjacent_fields (Settled s) = (refl, (refl, (refl, (refl, (refl, (refl, (refl, (refl, refl))))))))
 
 pub record_body-offsets : (the_record : Record) → IsRecord the_record
     → (length (record_body the_record) ≡ 255) × Agree (length (table_of the_record)) (record_fields the_record) (table_of the_record) (record_body the_record)
 record_body-offsets the_record is =
-    let h = laid (record_fields the_record) (table_of the_record) 0 255 [] (sizes_of the_record is) (run_of the_record) refl in
+    let h = laid (record_fields the_record) (table_of the_record) 0 255 [] (sizes_of the_record is) (adjacent_fields the_record) refl in
     (omega (arith, h.1), h.0)
 
 -- ---- one spelling, one value
@@ -283,7 +283,7 @@ outcome_same : (o p : TheOutcome) → IsOutcome o → IsOutcome p → Same (outc
 outcome_same o p is too s =
     let approved : o.approved ≡ p.approved = same_approval o.approved p.approved _ s.1.0 refl in
     let slot = sym (from_be_bytes-to_be_bytes_4 o.slot is.slot) ∙ ap (from_be_bytes w32) s.1.1.0 ∙ from_be_bytes-to_be_bytes_4 p.slot too.slot in
-    let number = bcd_same 3 o.number p.number (present_below o.approved 1 999999 3 o.number (omega arith) is.number)
+    let trace = bcd_same 3 o.number p.number (present_below o.approved 1 999999 3 o.number (omega arith) is.number)
     (present_below p.approved 1 999999 3 p.number (omega arith) too.number) s.1.1.1.0 in
     let receipt = bcd_same 2 o.receipt p.receipt (present_below o.approved 0 9999 2 o.receipt (omega arith) is.receipt)
     (present_below p.approved 0 9999 2 p.receipt (omega arith) too.receipt) s.1.1.1.1.0 in
@@ -295,7 +295,7 @@ outcome_same o p is too s =
     λ k. record {
       approved = approved k;
       slot = slot k;
-      number = number k;
+      number = trace k;
       receipt = receipt k;
       amount = amount k;
       condition = condition k;

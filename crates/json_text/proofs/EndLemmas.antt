@@ -63,8 +63,8 @@ inside_open (modes.Str t text) fs w lt = other_open (modes.Str t text) fs w (λ 
 inside_open (modes.Character t text s) fs w lt = other_open (modes.Character t text s) fs w (λ x e. absurd cc) (λ t p e. absurd cc)
 
 -- outside of all of them a number may end where it is whole
-pub number_unfinished : (m : Mode) (text : String Global) (p : NumberState) (fs : List OpenLevel) → m ≡ modes.Number text p → (LeftOfNumber p [] → ⊥) → CannotEnd (reader_state m) (levels fs)
-number_unfinished m text p fs is half = subst (λ (x : Mode). CannotEnd (reader_state x) (levels fs)) (sym is) (λ R v h. half (numeral_nil (LeftOfNumber p) (λ s n. After R (levels fs) (number s) n v) (string_bytes text) h).0)
+pub number_incomplete : (m : Mode) (text : String Global) (p : NumberState) (fs : List OpenLevel) → m ≡ modes.Number text p → (LeftOfNumber p [] → ⊥) → CannotEnd (reader_state m) (levels fs)
+number_incomplete m text p fs is half = subst (λ (x : Mode). CannotEnd (reader_state x) (levels fs)) (sym is) (λ R v h. half (numeral_nil (LeftOfNumber p) (λ s n. After R (levels fs) (number s) n v) (string_bytes text) h).0)
 
 pub number_ends : (m : Mode) (text : String Global) (p : NumberState) (fs : List OpenLevel) (x : Tree) → m ≡ modes.Number text p → LeftOfNumber p [] → length fs ≡ 0 → x ≡ number (string_bytes text) → Ends (reader_state m) (levels fs) x
 number_ends m text p fs x is whole none e =

@@ -93,7 +93,7 @@ pub steps_to : (p : ReaderState) (st : List Level) (c : ℕ) (t : State) (q : Re
     → ((R : Rules) → 32 ≤ R.limit → LeadsTo R p st c q st') → scan_step (scan_of p) c ≡ scan_of q → StepsOn p st c t
 steps_to p st c t q st' e f w m s = record {
   within = w;
-  moves = λ R le. subst (λ (x : ReaderState). LeadsTo R p st c x (levels t.stack.items)) (sym e) (subst (λ (x : List Level). LeadsTo R p st c q x) (sym f) (m R le));
+  leads = λ R le. subst (λ (x : ReaderState). LeadsTo R p st c x (levels t.stack.items)) (sym e) (subst (λ (x : List Level). LeadsTo R p st c q x) (sym f) (m R le));
   scans = s ∙ ap scan_of (sym e);
 }
 
@@ -110,7 +110,7 @@ pub record IsSame (p : ReaderState) (st : List Level) (c : ℕ) (q : ReaderState
 same_steps : (p : ReaderState) (st : List Level) (c : ℕ) (q : ReaderState) (st' : List Level) (t : State) → IsSame p st c q st' → StepsOn q st' c t → StepsOn p st c t
 same_steps p st c q st' t i h = record {
   within = h.within;
-  moves = λ R le. record { on = λ b v g. (h.moves R le).on b v (i.on R b v g); back = λ b v g. i.back R b v ((h.moves R le).back b v g) };
+  leads = λ R le. record { on = λ b v g. (h.leads R le).on b v (i.on R b v g); back = λ b v g. i.back R b v ((h.leads R le).back b v g) };
   scans = ap (λ (s : Scan). scan_step s c) i.scans ∙ h.scans;
 }
 

@@ -21,7 +21,7 @@ first_read fs e = subst (λ (st : List Level). IsRead [] value st) (sym (ap leve
 
 one_read : (b : List ℕ) (offset c : ℕ) (p : ReaderState) (st : List Level) (t : State) → IsAt b offset c → IsRead (take offset b) p st → StepsOn p st c t → IsRead (take (offset + 1) b) (reader_state t.mode) (levels t.stack.items)
 one_read b offset c p st t i r s = record {
-  follows = λ R le. rw i.taken (one_more R (take offset b) p st c (reader_state t.mode) (levels t.stack.items) (r.follows R le) (s.moves R le));
+  follows = λ R le. rw i.taken (one_more R (take offset b) p st c (reader_state t.mode) (levels t.stack.items) (r.follows R le) (s.leads R le));
   live = λ R. mode_live R t.mode t.stack.items s.within;
   scans = ap scan i.taken ∙ stand_from-append outside (take offset b) c ∙ ap (λ (x : Scan). scan_step x c) r.scans ∙ s.scans;
 }

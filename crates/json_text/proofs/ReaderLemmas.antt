@@ -32,7 +32,7 @@ use Rattle.json_text.specs.declared.tree.Json.TheViews as jsons
 use Rattle.json_text.specs.declared.fault.StepError.{StepError}
 use Rattle.json_text.specs.declared.fault.FaultKind.{FaultKind}
 use Rattle.json_text.specs.declared.fault.FaultKind.TheVariants as kinds
-use Rattle.json_text.proofs.TreeLemmas.{view-List, view-Object}
+use Rattle.json_text.proofs.TreeLemmas.{value_of-List, value_of-Object}
 use Rattle.json_text.proofs.ScanLemmas.{stays_outside, space_is}
 use Rattle.json_text.proofs.NameLemmas.{repeated}
 use Rattle.json_text.proofs.CharacterLemmas.{starts_scalar, first_ascii}
@@ -107,7 +107,7 @@ element_space o c e = stays first_element o c c modes.FirstElement first_element
 pub empty_list : (o : Vec OpenLevel Global) (v : Vec Json Global) (c : ℕ) → c ≡ 93 → v.items ≡ [] → StepsOn first_element (levels o.items) c (state o (modes.After (jsons.List v)))
 empty_list o v c e none =
     stays first_element o c 93 (modes.After (jsons.List v)) (after (array no_elements)) e
-    (ap after (view-List v ∙ ap (λ (x : List Json). array (elements_onto (map value_of x) no_elements)) none)) tt (λ R le. values.closes_empty R (levels o.items)) refl
+    (ap after (value_of-List v ∙ ap (λ (x : List Json). array (elements_onto (map value_of x) no_elements)) none)) tt (λ R le. values.closes_empty R (levels o.items)) refl
 
 pub first_result : {U : Type 0} (r : Result U StepError) (t : State) (old new : List OpenLevel) (v : Vec Json Global) (c : ℕ) → is_space c ≡ false → c ≢ 93 → new ≡ old ++ open_levels.List v ∷ [] → v.items ≡ []
     → MatchResult r (λ _. StepsOn value (levels new) c t) (Fails value (levels new) c) → MatchResult r (λ _. StepsOn first_element (levels old) c t) (Fails first_element (levels old) c)
@@ -118,13 +118,13 @@ first_result r t old new v c solid ne e none h =
     (subst (λ (st : List Level). MatchResult r (λ _. StepsOn value st c t) (Fails value st c)) pushed h)
 
 -- the elements with one more
-list_view : (elements done : List Json) (j : Json) → elements ≡ done ++ j ∷ [] → map value_of elements ≡ map value_of done ++ value_of j ∷ []
-list_view elements done j e = ap (map value_of) e ∙ map-append value_of done (j ∷ [])
+list_value_of : (elements done : List Json) (j : Json) → elements ≡ done ++ j ∷ [] → map value_of elements ≡ map value_of done ++ value_of j ∷ []
+list_value_of elements done j e = ap (map value_of) e ∙ map-append value_of done (j ∷ [])
 
 pub next_element : (o new : Vec OpenLevel Global) (elements done : Vec Json Global) (j : Json) (c : ℕ) → c ≡ 44 → elements.items ≡ done.items ++ j ∷ [] → new.items ≡ o.items ++ open_levels.List elements ∷ []
     → StepsOn (after (value_of j)) (in_list (map value_of done.items) ∷ levels o.items) c (state new modes.Value)
 next_element o new elements done j c e f g =
-    let pushed : levels new.items ≡ in_list (map value_of done.items ++ value_of j ∷ []) ∷ levels o.items = levels_pushed o.items new.items (open_levels.List elements) g ∙ ap (λ (x : List Tree). in_list x ∷ levels o.items) (list_view elements.items done.items j f) in
+    let pushed : levels new.items ≡ in_list (map value_of done.items ++ value_of j ∷ []) ∷ levels o.items = levels_pushed o.items new.items (open_levels.List elements) g ∙ ap (λ (x : List Tree). in_list x ∷ levels o.items) (list_value_of elements.items done.items j f) in
     subst (λ (x : ℕ). StepsOn (after (value_of j)) (in_list (map value_of done.items) ∷ levels o.items) x (state new modes.Value)) (sym e)
     (steps_to (after (value_of j)) (in_list (map value_of done.items) ∷ levels o.items) 44 (state new modes.Value) value (in_list (map value_of done.items ++ value_of j ∷ []) ∷ levels o.items) refl pushed tt
     (λ R le. values.next_element R (map value_of done.items) (value_of j) (levels o.items)) refl)
@@ -133,7 +133,7 @@ pub list_closes : (o : Vec OpenLevel Global) (elements done : Vec Json Global) (
 list_closes o elements done j c e f =
     subst (λ (x : ℕ). StepsOn (after (value_of j)) (in_list (map value_of done.items) ∷ levels o.items) x (state o (modes.After (jsons.List elements)))) (sym e)
     (steps_to (after (value_of j)) (in_list (map value_of done.items) ∷ levels o.items) 93 (state o (modes.After (jsons.List elements))) (after (array (elements_onto (map value_of done.items ++ value_of j ∷ []) no_elements))) (levels o.items)
-    (ap after (view-List elements ∙ ap (λ (x : List Tree). array (elements_onto x no_elements)) (list_view elements.items done.items j f))) refl tt
+    (ap after (value_of-List elements ∙ ap (λ (x : List Tree). array (elements_onto x no_elements)) (list_value_of elements.items done.items j f))) refl tt
     (λ R le. values.closes_list R (map value_of done.items) (value_of j) (levels o.items)) refl)
 
 pub no_element : (x : Tree) (done : List Tree) (st : List Level) (c : ℕ) → is_space c ≡ false → c ≢ 44 → c ≢ 93 → FailsAt (after x) (in_list done ∷ st) c kinds.NotJson
@@ -152,7 +152,7 @@ first_quote o f text c e none empty =
 pub empty_object : (o : Vec OpenLevel Global) (v : Vec (List ℕ × Json) Global) (c : ℕ) → c ≡ 125 → v.items ≡ [] → StepsOn first_name (levels o.items) c (state o (modes.After (jsons.Object v)))
 empty_object o v c e none =
     stays first_name o c 125 (modes.After (jsons.Object v)) (after (object no_members)) e
-    (ap after (view-Object v ∙ ap (λ (x : List (List ℕ × Json)). object (members_onto (pairs x) no_members)) none)) tt (λ R le. objects.closes_empty R (levels o.items)) refl
+    (ap after (value_of-Object v ∙ ap (λ (x : List (List ℕ × Json)). object (members_onto (pairs x) no_members)) none)) tt (λ R le. objects.closes_empty R (levels o.items)) refl
 
 pub no_name : (fs : List OpenLevel) (c : ℕ) → is_space c ≡ false → c ≢ 34 → c ≢ 125 → FailsAt first_name (levels fs) c kinds.NotJson
 no_name fs c solid quote brace = outside_wrong first_name (levels fs) c refl (λ R. objects.first_name_dead R (levels fs) c solid quote brace)
@@ -173,7 +173,7 @@ pub object_closes : (o : Vec OpenLevel Global) (n : NamedObject) (v : Vec (List 
 object_closes o n v j c e g =
     subst (λ (x : ℕ). StepsOn (after (value_of j)) (in_object (pairs n.members.items) n.name ∷ levels o.items) x (state o (modes.After (jsons.Object v)))) (sym e)
     (steps_to (after (value_of j)) (in_object (pairs n.members.items) n.name ∷ levels o.items) 125 (state o (modes.After (jsons.Object v))) (after (object (members_onto (pairs n.members.items ++ (n.name, value_of j) ∷ []) no_members))) (levels o.items)
-    (ap after (view-Object v ∙ ap (λ (x : List (List ℕ × Tree)). object (members_onto x no_members)) (pairs_more v.items n.members.items n.name j g))) refl tt
+    (ap after (value_of-Object v ∙ ap (λ (x : List (List ℕ × Tree)). object (members_onto x no_members)) (pairs_more v.items n.members.items n.name j g))) refl tt
     (λ R le. objects.closes_object R (pairs n.members.items) n.name (value_of j) (levels o.items) (named_distinct n)) refl)
 
 pub no_member : (x : Tree) (done : List (List ℕ × Tree)) (k : List ℕ) (st : List Level) (c : ℕ) → is_space c ≡ false → c ≢ 44 → c ≢ 125 → FailsAt (after x) (in_object done k ∷ st) c kinds.NotJson
@@ -242,7 +242,7 @@ text_stays m t old new x ch is p e f =
     let l : LeavesNone Starts inside x ch = subst (λ (k : ℕ). LeavesNone Starts inside x k) (sym e) (first_ascii x p.0 (omega (arith, p)) p.2 p.3) in
     subst (λ (n : Mode). Stays n x (modes.Str t new)) (sym is) (record {
       within = tt;
-      moves = λ R st. subst (λ (q : ReaderState). LeadsTo R (string_in (role_of t) (string_bytes old)) st x q st) (sym (ap (string_in (role_of t)) f)) (text_whole R st (role_of t) (string_bytes old) x ch p.2 l);
+      leads = λ R st. subst (λ (q : ReaderState). LeadsTo R (string_in (role_of t) (string_bytes old)) st x q st) (sym (ap (string_in (role_of t)) f)) (text_whole R st (role_of t) (string_bytes old) x ch p.2 l);
       scans = l.scans;
     })
 
@@ -251,12 +251,12 @@ number_stays m old new p q c ch is l e f =
     let g : string_bytes new ≡ string_bytes old ++ c ∷ [] = f ∙ ap (λ (t : List ℕ). string_bytes old ++ t) (ap encode_utf8 e ∙ encode_ascii c l.byte.ascii) in
     subst (λ (n : Mode). Stays n c (modes.Number new q)) (sym is) (record {
       within = tt;
-      moves = λ R st. subst (λ (t : List ℕ). LeadsTo R (number_in (string_bytes old) p) st c (number_in t q) st) (sym g) (number_on R st (string_bytes old) p q c l);
+      leads = λ R st. subst (λ (t : List ℕ). LeadsTo R (number_in (string_bytes old) p) st c (number_in t q) st) (sym g) (number_on R st (string_bytes old) p q c l);
       scans = stays_outside c l.byte.no_mark.3;
     })
 
 pub stays_steps : (m : Mode) (c : ℕ) (n : Mode) (o : Vec OpenLevel Global) → Stays m c n → StepsOn (reader_state m) (levels o.items) c (state o n)
-stays_steps m c n o h = record { within = h.within; moves = λ R le. h.moves R (levels o.items); scans = h.scans }
+stays_steps m c n o h = record { within = h.within; leads = λ R le. h.leads R (levels o.items); scans = h.scans }
 
 -- ---- the closing quotation mark
 

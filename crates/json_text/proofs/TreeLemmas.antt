@@ -13,21 +13,21 @@ pub elements_list-elements_onto : (xs : List Tree) → elements_list (elements_o
 elements_list-elements_onto [] = refl
 elements_list-elements_onto (x ∷ xs) = ap (λ (l : List Tree). x ∷ l) (elements_list-elements_onto xs)
 
-pub view-List : (v : Vec Json Global) → value_of (jsons.List v) ≡ array (elements_onto (map value_of v.items) no_elements)
-view-List v = search (rules, the_lemmas)
+pub value_of-List : (v : Vec Json Global) → value_of (jsons.List v) ≡ array (elements_onto (map value_of v.items) no_elements)
+value_of-List v = search (rules, the_lemmas)
 
-pub view-Object : (v : Vec (List ℕ × Json) Global) → value_of (jsons.Object v) ≡ object (members_onto (map (λ m. (m.0, value_of m.1)) v.items) no_members)
-view-Object v = search (rules, the_lemmas)
+pub value_of-Object : (v : Vec (List ℕ × Json) Global) → value_of (jsons.Object v) ≡ object (members_onto (map (λ m. (m.0, value_of m.1)) v.items) no_members)
+value_of-Object v = search (rules, the_lemmas)
 
-pub view-Number : (text : List ℕ) → value_of (variants.Number text) ≡ number text
-view-Number text = search (rules, the_lemmas)
+pub value_of-Number : (text : List ℕ) → value_of (variants.Number text) ≡ number text
+value_of-Number text = search (rules, the_lemmas)
 
-pub view-Str : (text : List ℕ) → value_of (variants.Str text) ≡ string text
-view-Str text = search (rules, the_lemmas)
+pub value_of-Str : (text : List ℕ) → value_of (variants.Str text) ≡ string text
+value_of-Str text = search (rules, the_lemmas)
 
-pub array_of-view : (j : Json) (v : Vec Json Global) → j ≡ jsons.List v → Some (map value_of v.items) ≡ array_of (value_of j)
-array_of-view j v e =
-    sym (ap (λ (j : Json). array_of (value_of j)) e ∙ ap array_of (view-List v) ∙ ap (λ (l : List Tree). Some l) (elements_list-elements_onto (map value_of v.items)))
+pub array_of-value_of : (j : Json) (v : Vec Json Global) → j ≡ jsons.List v → Some (map value_of v.items) ≡ array_of (value_of j)
+array_of-value_of j v e =
+    sym (ap (λ (j : Json). array_of (value_of j)) e ∙ ap array_of (value_of-List v) ∙ ap (λ (l : List Tree). Some l) (elements_list-elements_onto (map value_of v.items)))
 
 -- ---- members
 

@@ -7,7 +7,7 @@
 //! let tree = json_text::read(alloc, b"{\"a\":[1,\"x\"],\"b\":true}")?;
 //! assert_eq!(tree.get(b"b").ok_or("b")?.as_bool(), Some(true));
 //! let mut out = Vec::new(alloc);
-//! json_text::write(alloc, &tree, &mut out)?; // the same text, which is in the one spelling
+//! json_text::write(alloc, &tree, &mut out)?; // text in its one spelling: that which was read
 //! ```
 #![tactic(auto)]
 

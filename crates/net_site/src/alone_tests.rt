@@ -1,11 +1,13 @@
 //! Tests that need a process of their own, which they start through a shell.
 use crate::NetSite;
-use crate::fixture::{address, brings, check, is_child, opened, path, tried};
+use crate::fixture::{address, brings, check, four_quiet_polls, is_child, opened, path, tried};
 use gw_site::{Site, What};
+use std::fs::File;
 use std::io::Read;
 use std::net::TcpStream;
 use std::process::Command;
 use std::test::Fail;
+use std::time::Duration;
 use std::{env, fs};
 
 /// Starts this test program anew with some words of a shell before and after it, and returns what the child wrote to
@@ -143,5 +145,42 @@ fn too_few_descriptors_for_a_poll(rt: HostRuntime) -> Result<(), Fail> {
     )?;
     let found = if is_made { "opened" } else { "refused" };
     fs::write(&rt, report.as_str(), found)?;
+    Ok(())
+}
+
+/// Opens `/dev/null` until the process may have no more descriptors.
+fn take_descriptors(rt: &HostRuntime) -> Result<Vec<File>, Fail> {
+    let mut held = Vec::new(rt.alloc());
+    for _ in 0..98 {
+        match File::open(rt, "/dev/null") {
+            Ok(file) => held.push(file)?,
+            Err(_) => break,
+        }
+    }
+    check(held.len() < 98, "none is left")?;
+    Ok(held)
+}
+
+/// A till that can't be accepted waits, and the polls do too: every second one leaves the listener out.
+#[test]
+fn no_descriptor_for_a_till(rt: HostRuntime) -> Result<(), Fail> {
+    let Some(report) = child_file(&rt, "none") else {
+        if is_child(&rt) {
+            return Ok(());
+        }
+        let text = run_child(&rt, "none", "ulimit -n 98;", "")?;
+        return check(text.as_str() == "it opens later", "the child has failed");
+    };
+    let journal = path(&rt, "none_journal")?;
+    let near = address(&rt, 47022);
+    let mut site = opened(&rt, near, journal.as_str(), &[])?;
+    let _peer = TcpStream::connect(&rt, near)?;
+    let held = take_descriptors(&rt)?;
+    let took = four_quiet_polls(&rt, &mut site)?;
+    check(took >= Duration::from_millis(90), "the polls wait")?;
+    drop(held);
+    brings(&mut site, What::TillOpened(1), "then it opens")?;
+    fs::remove_file(&rt, journal.as_str())?;
+    fs::write(&rt, report.as_str(), "it opens later")?;
     Ok(())
 }

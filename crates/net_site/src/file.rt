@@ -1,8 +1,9 @@
 //! The journal's file: how it is opened, so that what is read is what the disk has, and that nobody else writes it.
-ghost use Rattle.std.specs.Prelude.{◌≡◌, ◌≤◌, length};
+ghost use Rattle.std.specs.Prelude.{◌≡◌, ◌↔◌, ◌<◌, ◌≤◌, ℕ, length};
+ghost use Rattle.jrn_log.specs.Slots.{IsOpenSlot};
 
 use gw_bytes::MOST_SLOTS;
-use jrn_log::can_be_journal;
+use jrn_log::{OPEN, SLOT_SIZE, SLOTS_OF_CHUNK, can_be_journal};
 use libc::{POSIX_FADV_DONTNEED, posix_fadvise};
 use std::fs::{self, File, OpenOptions, TryLockError};
 use std::io::{self, ErrorKind};
@@ -10,16 +11,8 @@ use std::os::fd::AsRawFd;
 use std::os::unix::fs::{FileExt, MetadataExt, OpenOptionsExt};
 use std::rt::Files;
 
-/// The bytes of a slot of the journal, and of its open gate.
-const SLOT: u64 = 256;
-
-const OPEN: u8 = 0xA5;
-
-/// The slots that are read together, and the most such groups: one more than the greatest journal has, whose last gate comes
-/// after its slots.
-const GROUP: usize = 16;
-
-const GROUPS: u32 = MOST_SLOTS / 16 + 1;
+/// The most chunks of slots: one more than the greatest journal has, whose last gate comes after its slots.
+const CHUNKS: u32 = MOST_SLOTS / SLOTS_OF_CHUNK as u32 + 1;
 
 /// Opens the journal's file, and makes it where it is missing and its folder is there.
 pub(crate) fn open_journal<R: Files<File = File>>(rt: &R, path: &str) -> io::Result<File> {
@@ -102,34 +95,33 @@ fn read_from_disk<R: Files<File = File>>(rt: &R, file: &File, path: &str) -> io:
 
 /// How many of the slots in this buffer are open, from the first on.
 fn open_gates(buf: &[u8; 4096]) -> usize
-    ensures { result ≤ 16 }
+    ensures few { result ≤ 16 }
+    ensures exactly { (slot : ℕ) → IsOpenSlot buf.now slot ↔ (slot < result) }
 {
-    let mut count = 0;
-    for slot in 0..GROUP {
-        if buf[256 * slot] != OPEN {
-            break;
+    for slot in 0..SLOTS_OF_CHUNK {
+        if buf[SLOT_SIZE * slot] != OPEN {
+            return slot;
         }
-        count = slot + 1;
     }
-    count
+    SLOTS_OF_CHUNK
 }
 
 /// How many slots of the file are open, and the byte that is the gate after them, 0 past the file's end.
 fn open_slots(file: &File, length: u64) -> io::Result<(u32, u8)> {
-    let mut buf = [0; 4096];
+    let mut buf = [0; SLOT_SIZE * SLOTS_OF_CHUNK];
     // A file of one byte has no open slot, whatever the byte is.
     if length <= 1 {
         return Ok((0, 0));
     }
-    for group in 0..GROUPS {
-        let slot = 16 * group;
-        read_full(file, SLOT * u64::from(slot), &mut buf)?;
+    for chunk in 0..CHUNKS {
+        let slot = SLOTS_OF_CHUNK as u32 * chunk;
+        read_full(file, SLOT_SIZE as u64 * u64::from(slot), &mut buf)?;
         let count = open_gates(&buf);
-        if count < GROUP {
-            return Ok((slot + count as u32, buf[256 * count]));
+        if count < SLOTS_OF_CHUNK {
+            return Ok((slot + count as u32, buf[SLOT_SIZE * count]));
         }
     }
-    Ok((16 * GROUPS, 0))
+    Ok((SLOTS_OF_CHUNK as u32 * CHUNKS, 0))
 }
 
 /// Fails where no gateway has left the file.

@@ -94,20 +94,32 @@ const ROWS: [(usize, [u8; 5], bool); 13] = [
     (1025, [0xA5; 5], true),
 ];
 
-/// A file of so many bytes with these gates is opened or refused, and left as it is.
-fn is_left(
-    rt: &HostRuntime,
-    site: &mut NetSite<&HostRuntime>,
-    setup: &Setup,
-    length: usize,
-    gates: [u8; 5],
-    is_ours: bool,
-) -> Result<(), Fail> {
+/// Five slots with these gates, of which the last ends after its gate.
+fn five_slots(gates: [u8; 5]) -> [u8; 1025] {
     let mut slots = [0x2A; 1025];
     for slot in 0..5usize {
         slots[256 * slot] = gates[slot];
     }
-    let file = slots.get(..length).ok_or("a length")?;
+    slots
+}
+
+/// Forty slots and the gate after them, which are open but for one.
+fn forty_slots(closed: usize) -> [u8; 10_241] {
+    let mut slots = [0x2A; 10_241];
+    for slot in 0..41usize {
+        slots[256 * slot] = if slot == closed { 0x00 } else { 0xA5 };
+    }
+    slots
+}
+
+/// A file is opened or refused, and left as it is.
+fn is_left(
+    rt: &HostRuntime,
+    site: &mut NetSite<&HostRuntime>,
+    setup: &Setup,
+    file: &[u8],
+    is_ours: bool,
+) -> Result<(), Fail> {
     fs::write(rt, setup.journal.as_str(), file)?;
     let is_open = open(site, setup)?;
     check(is_open == is_ours, "which files are opened")?;
@@ -125,7 +137,12 @@ fn a_file_that_is_no_journal_is_refused(rt: HostRuntime) -> Result<(), Fail> {
     let mut site = NetSite::new(&rt, rt.alloc())?;
     let there = setup(&rt, near.as_str(), journal.as_str(), &[])?;
     for (length, gates, is_ours) in ROWS {
-        is_left(&rt, &mut site, &there, length, gates, is_ours)?;
+        let slots = five_slots(gates);
+        let file = slots.get(..length).ok_or("a length")?;
+        is_left(&rt, &mut site, &there, file, is_ours)?;
+    }
+    for (closed, is_ours) in [(40, true), (20, false)] {
+        is_left(&rt, &mut site, &there, &forty_slots(closed), is_ours)?;
     }
     fs::remove_file(&rt, journal.as_str())?;
     // A folder, devices, a folder that is missing, and no path.

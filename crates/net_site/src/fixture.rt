@@ -5,7 +5,7 @@ use gw_site::{Site, What};
 use std::io::{self, Read};
 use std::net::{Ipv4Addr, SocketAddr, TcpStream};
 use std::test::Fail;
-use std::time::Duration;
+use std::time::{Clock, Duration, Instant};
 use std::{env, process};
 
 /// A loopback address of this process's own, so that runs side by side don't meet.
@@ -144,4 +144,28 @@ pub(crate) fn brings_bytes(
     let mut buf = [0; 4096];
     check(next(site, &mut buf) == what, words)?;
     check(buf.starts_with(bytes), words)
+}
+
+/// The moment, in seconds.
+fn seconds(rt: &HostRuntime) -> Result<i64, Fail> {
+    Ok(i64::try_from(rt.since_1970()?.as_secs()).unwrap_or(i64::MAX))
+}
+
+/// How long four polls took that brought nothing. The moment of each is that of the clock.
+pub(crate) fn four_quiet_polls(
+    rt: &HostRuntime,
+    site: &mut NetSite<&HostRuntime>,
+) -> Result<Duration, Fail> {
+    let mut buf = [0; 4096];
+    let start = Instant::now(rt)?;
+    for _ in 0..4 {
+        let before = seconds(rt)?;
+        let polled = site.poll(&mut buf);
+        check(polled.what == What::Nothing, "nothing comes")?;
+        check(
+            before <= polled.now && polled.now <= seconds(rt)?,
+            "the moment is the clock's",
+        )?;
+    }
+    Ok(start.elapsed(rt)?)
 }

@@ -1,7 +1,8 @@
 //! Tests of the sockets, over loopback.
 use crate::NetSite;
 use crate::fixture::{
-    address, brings, brings_bytes, check, is_child, open, opened, path, read, setup, terminal_at,
+    address, brings, brings_bytes, check, four_quiet_polls, is_child, open, opened, path, read,
+    setup, terminal_at,
 };
 use gw_base::Pts;
 use gw_bytes::{LONGEST_CHUNK, MOST_TERMINALS};
@@ -12,7 +13,7 @@ use std::io::Write;
 use std::net::{Shutdown, SocketAddr, TcpListener, TcpStream};
 use std::os::fd::AsRawFd;
 use std::test::Fail;
-use std::time::{Clock, Duration, Instant};
+use std::time::{Duration, Instant};
 
 fn a_till(
     rt: &HostRuntime,
@@ -143,7 +144,20 @@ fn a_half_close(
     brings(site, What::TillClosed(3), "then the end")
 }
 
-/// A send to a peer that never reads fails after a tenth of a second.
+/// How long a send to a till took, where it failed.
+fn failed_send(
+    rt: &HostRuntime,
+    site: &mut NetSite<&HostRuntime>,
+    till: u64,
+) -> Result<Option<Duration>, Fail> {
+    let start = Instant::now(rt)?;
+    if site.send_till(till, &[7; 4096]).is_ok() {
+        return Ok(None);
+    }
+    Ok(Some(start.elapsed(rt)?))
+}
+
+/// A send to a peer that never reads waits a tenth of a second, and fails.
 fn a_peer_that_never_reads(
     rt: &HostRuntime,
     site: &mut NetSite<&HostRuntime>,
@@ -151,34 +165,35 @@ fn a_peer_that_never_reads(
 ) -> Result<(), Fail> {
     let _peer = TcpStream::connect(rt, near)?;
     brings(site, What::TillOpened(4), "a till opens")?;
-    let start = Instant::now(rt)?;
-    let mut failed = false;
+    let mut took = None;
     for _ in 0..10_000 {
-        if site.send_till(4, &[7; 4096]).is_err() {
-            failed = true;
+        took = failed_send(rt, site, 4)?;
+        if took.is_some() {
             break;
         }
     }
     site.cut_till(4);
+    let took = took.ok_or("a send fails")?;
     check(
-        failed && start.elapsed(rt)? < Duration::from_secs(10),
-        "a send fails in time",
+        took >= Duration::from_millis(100) && took < Duration::from_secs(2),
+        "it fails in time, and not at once",
     )
 }
 
-/// A connection that has more bytes than are read at once doesn't keep another from being heard.
+/// A connection that has more bytes than are read at once doesn't keep one that opened after it from being heard.
 fn a_talker(
     rt: &HostRuntime,
     site: &mut NetSite<&HostRuntime>,
     near: SocketAddr,
-    other: &mut TcpStream,
+    talker: &mut TcpStream,
 ) -> Result<(), Fail> {
-    let mut talker = TcpStream::connect(rt, near)?;
+    let mut other = TcpStream::connect(rt, near)?;
     brings(site, What::TillOpened(5), "a till opens")?;
     talker.write_all(&[9; 20_000])?;
     other.write_all(b"x")?;
-    brings(site, What::TillBytes(1, 1), "the other is heard")?;
-    brings(site, What::TillBytes(5, 4096), "and then the talker")
+    brings(site, What::TillBytes(1, 4096), "the talker is heard")?;
+    brings(site, What::TillBytes(5, 1), "then the other")?;
+    brings(site, What::TillBytes(1, 4096), "then the talker again")
 }
 
 #[test]
@@ -200,30 +215,6 @@ fn peers_that_misbehave(rt: HostRuntime) -> Result<(), Fail> {
     Ok(())
 }
 
-/// The moment, in seconds.
-fn seconds(rt: &HostRuntime) -> Result<i64, Fail> {
-    Ok(i64::try_from(rt.since_1970()?.as_secs()).unwrap_or(i64::MAX))
-}
-
-/// The others wait, and the poll does too: it doesn't return at once for them. Its moment is that of the clock.
-fn four_quiet_polls(rt: &HostRuntime, site: &mut NetSite<&HostRuntime>) -> Result<(), Fail> {
-    let mut buf = [0; 4096];
-    let start = Instant::now(rt)?;
-    for _ in 0..4 {
-        let before = seconds(rt)?;
-        let polled = site.poll(&mut buf);
-        check(polled.what == What::Nothing, "nothing comes")?;
-        check(
-            before <= polled.now && polled.now <= seconds(rt)?,
-            "the moment is the clock's",
-        )?;
-    }
-    check(
-        start.elapsed(rt)? >= Duration::from_millis(150),
-        "a poll waits",
-    )
-}
-
 #[test]
 fn a_hundred_connections(rt: HostRuntime) -> Result<(), Fail> {
     if is_child(&rt) {
@@ -239,7 +230,11 @@ fn a_hundred_connections(rt: HostRuntime) -> Result<(), Fail> {
     for till in 1..=65 {
         brings(&mut site, What::TillOpened(till), "65 tills open")?;
     }
-    four_quiet_polls(&rt, &mut site)?;
+    // The others wait, and the poll does too: it doesn't return at once for them.
+    check(
+        four_quiet_polls(&rt, &mut site)? >= Duration::from_millis(150),
+        "a poll waits",
+    )?;
     site.cut_till(33);
     brings(&mut site, What::TillOpened(66), "one more has room")?;
     fs::remove_file(&rt, journal.as_str())?;
@@ -292,21 +287,6 @@ fn links_wait_together(rt: &HostRuntime, site: &mut NetSite<&HostRuntime>) -> Re
     )
 }
 
-/// The connection goes on being made, and is taken up once the queue has room.
-fn link_is_taken_up(site: &mut NetSite<&HostRuntime>, listener: &TcpListener) -> Result<(), Fail> {
-    let mut buf = [0; LONGEST_CHUNK];
-    listener.set_nonblocking(true)?;
-    for _ in 0..200 {
-        // The other terminals' connections come into the queue too.
-        let _ = listener.accept();
-        let _ = site.poll(&mut buf);
-        if site.link_pt(0).is_ok() {
-            return Ok(());
-        }
-    }
-    check(false, "the connection is taken up")
-}
-
 #[test]
 fn terminals_that_are_switched_off(rt: HostRuntime) -> Result<(), Fail> {
     if is_child(&rt) {
@@ -318,9 +298,63 @@ fn terminals_that_are_switched_off(rt: HostRuntime) -> Result<(), Fail> {
     let _held = fill_queue(&rt, &listener, far)?;
     let mut site = opened(&rt, near, journal.as_str(), &[far; MOST_TERMINALS])?;
     links_wait_together(&rt, &mut site)?;
-    link_is_taken_up(&mut site, &listener)?;
-    // Where nobody listens, the link fails at once.
+    fs::remove_file(&rt, journal.as_str())?;
+    Ok(())
+}
+
+/// Accepts a connection, if one waits, and writes a byte to it.
+fn greet(listener: &TcpListener, accepted: &mut Vec<TcpStream>) -> Result<(), Fail> {
+    match listener.accept() {
+        Ok((stream, _)) => {
+            let mut writer = &stream;
+            writer.write_all(b"x")?;
+            accepted.push(stream)?;
+            Ok(())
+        }
+        Err(_) => Ok(()),
+    }
+}
+
+/// Accepts so many connections while the site only polls.
+fn greet_while_polling(
+    rt: &HostRuntime,
+    site: &mut NetSite<&HostRuntime>,
+    listener: &TcpListener,
+    count: usize,
+) -> Result<Vec<TcpStream>, Fail> {
+    let mut buf = [0; LONGEST_CHUNK];
+    let mut accepted = Vec::new(rt.alloc());
+    for _ in 0..200 {
+        if accepted.len() == count {
+            break;
+        }
+        greet(listener, &mut accepted)?;
+        let _ = site.poll(&mut buf);
+    }
+    check(accepted.len() == count, "so many connections are made")?;
+    Ok(accepted)
+}
+
+/// A link that isn't made in time goes on being made, and is the one that is taken up.
+#[test]
+fn a_link_goes_on_being_made(rt: HostRuntime) -> Result<(), Fail> {
+    if is_child(&rt) {
+        return Ok(());
+    }
+    let journal = path(&rt, "making")?;
+    let (near, far) = (address(&rt, 47020), address(&rt, 47021));
+    let listener = TcpListener::bind(&rt, far)?;
+    let held = fill_queue(&rt, &listener, far)?;
+    let mut site = opened(&rt, near, journal.as_str(), &[far])?;
+    check(site.link_pt(0).is_err(), "nobody accepts")?;
+    listener.set_nonblocking(true)?;
+    // Those that filled the queue, and then the terminal's.
+    let _accepted = greet_while_polling(&rt, &mut site, &listener, held.len() + 1)?;
+    check(site.link_pt(0).is_ok(), "it is taken up")?;
+    brings(&mut site, What::PtBytes(0, 1), "it is the one accepted")?;
+    // Where nobody listens, a link fails.
     drop(listener);
+    site.cut_pt(0);
     check(site.link_pt(0).is_err(), "nobody listens")?;
     fs::remove_file(&rt, journal.as_str())?;
     Ok(())

@@ -91,13 +91,13 @@ ends_at dialogue before (Message message at ∷ rest) end e =
 
 -- ---- what a message means, by the messages before it alone
 
-abbrev kind_meaning : DialogueKind → ℕ → Bool → List MessageValue → MessageValue → Heard
-kind_meaning dialogue_kind none stop_wished taken message =
+abbrev dialogue_meaning : DialogueKind → ℕ → Bool → List MessageValue → MessageValue → Heard
+dialogue_meaning dialogue_kind none stop_wished taken message =
     cond (is_asked taken) (meaning_when_asked dialogue_kind stop_wished message)
     (meaning_when_begun dialogue_kind none (record { last = last_or None (filter_map status_fields_of taken); approved = list_any (λ status. has_result 0 status.result) (filter_map status_fields_of taken) }) message)
 
 -- an end is none that the message Other brings
-other_never : (dialogue_kind : DialogueKind) (none : ℕ) (stop_wished : Bool) (taken : List MessageValue) → is_end (kind_meaning dialogue_kind none stop_wished taken Other) ≡ true → ⊥
+other_never : (dialogue_kind : DialogueKind) (none : ℕ) (stop_wished : Bool) (taken : List MessageValue) → is_end (dialogue_meaning dialogue_kind none stop_wished taken Other) ≡ true → ⊥
 other_never dialogue_kind none stop_wished [] e = cc
 other_never dialogue_kind none stop_wished (first ∷ taken) e = cc
 
@@ -138,7 +138,7 @@ at_three (x ∷ y ∷ z ∷ w ∷ before) message following a b c e = absurd cc
 
 -- where the message ends the dialogue, that is true
 abbrev EndsTruly : DialogueKind → ℕ → Bool → List BookEntry → List BookEntry → List MessageValue → MessageValue → Type 0
-EndsTruly dialogue_kind none stop_wished book entries taken message = is_end (kind_meaning dialogue_kind none stop_wished taken message) ≡ true → IsTrueEnd book entries (kind_meaning dialogue_kind none stop_wished taken message)
+EndsTruly dialogue_kind none stop_wished book entries taken message = is_end (dialogue_meaning dialogue_kind none stop_wished taken message) ≡ true → IsTrueEnd book entries (dialogue_meaning dialogue_kind none stop_wished taken message)
 
 ends_along : (dialogue_kind : DialogueKind) (none : ℕ) (stop_wished : Bool) (book entries : List BookEntry) {taken earlier : List MessageValue} {message here : MessageValue}
     → taken ≡ earlier → message ≡ here → EndsTruly dialogue_kind none stop_wished book entries earlier here → EndsTruly dialogue_kind none stop_wished book entries taken message
@@ -240,32 +240,32 @@ enquiry_truly : (tail : ℕ) (last : Option BookEntry) (none own : ℕ) (stop_wi
 enquiry_truly tail None none own stop_wished book is = two_end Enquiry none stop_wished book [] Ack (Abort (Some own)) (λ _. tt) (λ _. reports_none (eqb own 0) (eqb own none) own book [] is)
 enquiry_truly tail (Some entry) none own stop_wished book is = three_end Enquiry none stop_wished book [] Ack (Status (read_status tail entry)) Completion (λ _. tt) (λ _. tt) (λ _. reports (leb 1 entry.number && leb 1 entry.amount) entry book [] is)
 
-kind_is : (a b : DialogueKind) → (let o : Option DialogueKind = Some a in o) ≡ Some b → a ≡ b
-kind_is a b e = cc
+same_dialogue_kind : (a b : DialogueKind) → (let o : Option DialogueKind = Some a in o) ≡ Some b → a ≡ b
+same_dialogue_kind a b e = cc
 
-no_kind : (b : DialogueKind) → (let o : Option DialogueKind = None in o) ≡ Some b → ⊥
-no_kind b e = cc
+no_dialogue_kind : (b : DialogueKind) → (let o : Option DialogueKind = None in o) ≡ Some b → ⊥
+no_dialogue_kind b e = cc
 
 command_truly : (tail own : ℕ) (chosen : Play) (book : List BookEntry) (asked : Command) (which : DialogueKind) (none : ℕ) (stop_wished : Bool) → dialogue_kind_of asked ≡ Some which → Truly tail which none stop_wished book (at_command own chosen book asked)
 command_truly tail own chosen book (command.Register password config currency) which none stop_wished e =
     let P : DialogueKind → Type 0 = λ k. Truly tail k none stop_wished book reaction.Completed in
-    subst P (kind_is Registration which e) (two_end Registration none stop_wished book [] Ack Completion (λ _. tt) (λ _. refl))
+    subst P (same_dialogue_kind Registration which e) (two_end Registration none stop_wished book [] Ack Completion (λ _. tt) (λ _. refl))
 command_truly tail own chosen book (command.Authorise amount currency) which none stop_wished e =
     let P : DialogueKind → Type 0 = λ k. Truly tail k none stop_wished book (at_command own chosen book (command.Authorise amount currency)) in
-    subst P (kind_is Payment which e) (payment_truly tail (is_full book) chosen none stop_wished book amount)
+    subst P (same_dialogue_kind Payment which e) (payment_truly tail (is_full book) chosen none stop_wished book amount)
 command_truly tail own chosen book (command.Enquire password) which none stop_wished e =
     let P : DialogueKind → Type 0 = λ k. Truly tail k none stop_wished book (at_command own chosen book (command.Enquire password)) in
-    subst P (kind_is Enquiry which e) (enquiry_truly tail (last_book_entry book) none own stop_wished book refl)
+    subst P (same_dialogue_kind Enquiry which e) (enquiry_truly tail (last_book_entry book) none own stop_wished book refl)
 command_truly tail own chosen book (command.Reverse password receipt) which none stop_wished e =
     let P : DialogueKind → Type 0 = λ k. Truly tail k none stop_wished book (at_command own chosen book (command.Reverse password receipt)) in
-    subst P (kind_is Reversal which e) (reversal_truly tail (is_full book) (last_payment receipt book) none stop_wished book)
+    subst P (same_dialogue_kind Reversal which e) (reversal_truly tail (is_full book) (last_payment receipt book) none stop_wished book)
 command_truly tail own chosen book (command.EndOfDay password) which none stop_wished e =
     let P : DialogueKind → Type 0 = λ k. Truly tail k none stop_wished book reaction.Completed in
-    subst P (kind_is EndOfDay which e) (two_end EndOfDay none stop_wished book [] Ack Completion (λ _. tt) (λ _. refl))
-command_truly tail own chosen book command.Stop which none stop_wished e = absurd (no_kind which e)
+    subst P (same_dialogue_kind EndOfDay which e) (two_end EndOfDay none stop_wished book [] Ack Completion (λ _. tt) (λ _. refl))
+command_truly tail own chosen book command.Stop which none stop_wished e = absurd (no_dialogue_kind which e)
 command_truly tail own chosen book (command.Show display_lines) which none stop_wished e =
     let P : DialogueKind → Type 0 = λ k. Truly tail k none stop_wished book reaction.Acknowledged in
-    subst P (kind_is Display which e) (one_ends Display none stop_wished book [] Ack (λ _. refl))
+    subst P (same_dialogue_kind Display which e) (one_ends Display none stop_wished book [] Ack (λ _. refl))
 
 -- ---- any dialogue
 
@@ -280,7 +280,7 @@ true_end tail own chosen book class asked command dialogue came end spells which
     let found = ends_at dialogue [] came end e in
     let stop_wished = is_stop_wished found.before in
     let apart : found.message ≡ Other → ⊥ = λ other.
-    let R : MessageValue → Type 0 = λ m. is_end (kind_meaning dialogue.dialogue_kind dialogue.none stop_wished (messages found.before) m) ≡ true in
+    let R : MessageValue → Type 0 = λ m. is_end (dialogue_meaning dialogue.dialogue_kind dialogue.none stop_wished (messages found.before) m) ≡ true in
     other_never dialogue.dialogue_kind dialogue.none stop_wished (messages found.before) (subst R other found.ends) in
     let all : messages came ≡ messages found.before ++ (found.message ∷ messages found.following) =
     ap messages found.parts ∙ filter_map-append taken_message found.before (Message found.message found.at ∷ found.following)
@@ -313,23 +313,23 @@ pub whole_reaction : (tail own : ℕ) (chosen : Play) (book : List BookEntry) (a
     → cuts (at_command own chosen book asked) ≡ false → has_ended which (read_messages tail (at_command own chosen book asked)) ≡ true
 whole_reaction tail own chosen book (command.Register password config currency) which e goes_on =
     let P : DialogueKind → Type 0 = λ k. has_ended k (Ack ∷ Completion ∷ []) ≡ true in
-    subst P (kind_is Registration which e) refl
+    subst P (same_dialogue_kind Registration which e) refl
 whole_reaction tail own chosen book (command.Authorise amount currency) which e goes_on =
     let P : DialogueKind → Type 0 = λ k. has_ended k (read_messages tail (at_command own chosen book (command.Authorise amount currency))) ≡ true in
-    subst P (kind_is Payment which e) (whole_payment (is_full book) chosen tail book amount goes_on)
+    subst P (same_dialogue_kind Payment which e) (whole_payment (is_full book) chosen tail book amount goes_on)
 whole_reaction tail own chosen book (command.Enquire password) which e goes_on =
     let P : DialogueKind → Type 0 = λ k. has_ended k (read_messages tail (at_command own chosen book (command.Enquire password))) ≡ true in
-    subst P (kind_is Enquiry which e) (whole_enquiry (last_book_entry book) tail own)
+    subst P (same_dialogue_kind Enquiry which e) (whole_enquiry (last_book_entry book) tail own)
 whole_reaction tail own chosen book (command.Reverse password receipt) which e goes_on =
     let P : DialogueKind → Type 0 = λ k. has_ended k (read_messages tail (at_command own chosen book (command.Reverse password receipt))) ≡ true in
-    subst P (kind_is Reversal which e) (whole_reversal (is_full book) (last_payment receipt book) tail book)
+    subst P (same_dialogue_kind Reversal which e) (whole_reversal (is_full book) (last_payment receipt book) tail book)
 whole_reaction tail own chosen book (command.EndOfDay password) which e goes_on =
     let P : DialogueKind → Type 0 = λ k. has_ended k (Ack ∷ Completion ∷ []) ≡ true in
-    subst P (kind_is EndOfDay which e) refl
-whole_reaction tail own chosen book command.Stop which e goes_on = absurd (no_kind which e)
+    subst P (same_dialogue_kind EndOfDay which e) refl
+whole_reaction tail own chosen book command.Stop which e goes_on = absurd (no_dialogue_kind which e)
 whole_reaction tail own chosen book (command.Show display_lines) which e goes_on =
     let P : DialogueKind → Type 0 = λ k. has_ended k (Ack ∷ []) ≡ true in
-    subst P (kind_is Display which e) refl
+    subst P (same_dialogue_kind Display which e) refl
 
 -- ---- an end stays the end
 

@@ -8,7 +8,7 @@ pub mod GrowthLemmas
 pub mod HearingLemmas
 pub mod HistoryLemmas
 pub mod HonestLemmas
-pub mod KeptLemmas
+pub mod NextLemmas
 pub mod PlaceLemmas
 pub mod PrefixLemmas
 pub mod ProgressLemmas

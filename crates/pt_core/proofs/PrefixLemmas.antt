@@ -28,8 +28,8 @@ record Stays (longer : DecodedApdu) (apdu : ApduValue) (rest more bytes : List �
   pub same : longer ≡ DecodedApdu.Whole apdu (rest ++ more)
   pub shorter : length rest ≤ length bytes
 
-body_stays : (class instr n : ℕ) (bytes more : List ℕ) (apdu : ApduValue) (rest : List ℕ) → decode_apdu_data class instr n bytes ≡ DecodedApdu.Whole apdu rest → Stays (decode_apdu_data class instr n (bytes ++ more)) apdu rest more bytes
-body_stays class instr n bytes more apdu rest e =
+data_stays : (class instr n : ℕ) (bytes more : List ℕ) (apdu : ApduValue) (rest : List ℕ) → decode_apdu_data class instr n bytes ≡ DecodedApdu.Whole apdu rest → Stays (decode_apdu_data class instr n (bytes ++ more)) apdu rest more bytes
+data_stays class instr n bytes more apdu rest e =
     let choice = whole_choice (ltb 12000 n) (ltb (length bytes) n) n (record { class = class; instr = instr; body = take n bytes }) apdu (drop n bytes) rest e in
     let fits : n ≤ length bytes = ltb-false (length bytes) n choice.1 in
     let still : ltb (length (bytes ++ more)) n ≡ false = le-ltb _ _ (omega (arith, length-append bytes more)) in
@@ -42,12 +42,12 @@ long_stays : (class instr : ℕ) (bytes more : List ℕ) (apdu : ApduValue) (res
 long_stays class instr [] more apdu rest e = absurd cc
 long_stays class instr (low ∷ []) more apdu rest e = absurd cc
 long_stays class instr (low ∷ high ∷ bytes) more apdu rest e =
-    let stays = body_stays class instr (low + 256 * high) bytes more apdu rest e in
+    let stays = data_stays class instr (low + 256 * high) bytes more apdu rest e in
     record { same = stays.same; shorter = omega (arith, stays.shorter) }
 
 header_stays : (is_long : Bool) (class instr n : ℕ) (bytes more : List ℕ) (apdu : ApduValue) (rest : List ℕ) → cond is_long (decode_long_apdu class instr bytes) (decode_apdu_data class instr n bytes) ≡ DecodedApdu.Whole apdu rest → Stays (cond is_long (decode_long_apdu class instr (bytes ++ more)) (decode_apdu_data class instr n (bytes ++ more))) apdu rest more bytes
 header_stays true class instr n bytes more apdu rest e = long_stays class instr bytes more apdu rest e
-header_stays false class instr n bytes more apdu rest e = body_stays class instr n bytes more apdu rest e
+header_stays false class instr n bytes more apdu rest e = data_stays class instr n bytes more apdu rest e
 
 pub prefix_stays : (bytes more : List ℕ) (apdu : ApduValue) (rest : List ℕ) → decode_apdu bytes ≡ DecodedApdu.Whole apdu rest → (decode_apdu (bytes ++ more) ≡ DecodedApdu.Whole apdu (rest ++ more)) × (length rest < length bytes)
 prefix_stays [] more apdu rest e = absurd cc
@@ -59,19 +59,19 @@ prefix_stays (class ∷ instr ∷ n ∷ bytes) more apdu rest e =
 
 -- ---- bytes that can't begin an APDU never will
 
-body_bad : (class instr n m : ℕ) (bytes more : List ℕ) → decode_apdu_data class instr n bytes ≡ DecodedApdu.TooLong m → decode_apdu_data class instr n (bytes ++ more) ≡ DecodedApdu.TooLong m
-body_bad class instr n m bytes more e =
+data_bad : (class instr n m : ℕ) (bytes more : List ℕ) → decode_apdu_data class instr n bytes ≡ DecodedApdu.TooLong m → decode_apdu_data class instr n (bytes ++ more) ≡ DecodedApdu.TooLong m
+data_bad class instr n m bytes more e =
     let choice = long_choice (ltb 12000 n) (ltb (length bytes) n) n m (record { class = class; instr = instr; body = take n bytes }) (drop n bytes) e in
     rw (choice.0, choice.1) refl
 
 long_bad : (class instr m : ℕ) (bytes more : List ℕ) → decode_long_apdu class instr bytes ≡ DecodedApdu.TooLong m → decode_long_apdu class instr (bytes ++ more) ≡ DecodedApdu.TooLong m
 long_bad class instr m [] more e = absurd cc
 long_bad class instr m (low ∷ []) more e = absurd cc
-long_bad class instr m (low ∷ high ∷ bytes) more e = body_bad class instr (low + 256 * high) m bytes more e
+long_bad class instr m (low ∷ high ∷ bytes) more e = data_bad class instr (low + 256 * high) m bytes more e
 
 header_bad : (is_long : Bool) (class instr n m : ℕ) (bytes more : List ℕ) → cond is_long (decode_long_apdu class instr bytes) (decode_apdu_data class instr n bytes) ≡ DecodedApdu.TooLong m → cond is_long (decode_long_apdu class instr (bytes ++ more)) (decode_apdu_data class instr n (bytes ++ more)) ≡ DecodedApdu.TooLong m
 header_bad true class instr n m bytes more e = long_bad class instr m bytes more e
-header_bad false class instr n m bytes more e = body_bad class instr n m bytes more e
+header_bad false class instr n m bytes more e = data_bad class instr n m bytes more e
 
 pub prefix_bad : (bytes more : List ℕ) (m : ℕ) → decode_apdu bytes ≡ DecodedApdu.TooLong m → decode_apdu (bytes ++ more) ≡ DecodedApdu.TooLong m
 prefix_bad [] more m e = absurd cc
@@ -81,31 +81,31 @@ prefix_bad (class ∷ instr ∷ n ∷ bytes) more m e = header_bad (eqb n 255) c
 
 -- ---- an APDU that becomes whole ends among the bytes that made it so
 
-body_shrinks : (class instr n : ℕ) (bytes : List ℕ) (apdu : ApduValue) (rest : List ℕ) → decode_apdu_data class instr n bytes ≡ DecodedApdu.Whole apdu rest → length rest + n ≡ length bytes
-body_shrinks class instr n bytes apdu rest e =
+data_shrinks : (class instr n : ℕ) (bytes : List ℕ) (apdu : ApduValue) (rest : List ℕ) → decode_apdu_data class instr n bytes ≡ DecodedApdu.Whole apdu rest → length rest + n ≡ length bytes
+data_shrinks class instr n bytes apdu rest e =
     let choice = whole_choice (ltb 12000 n) (ltb (length bytes) n) n (record { class = class; instr = instr; body = take n bytes }) apdu (drop n bytes) rest e in
     omega (arith, ap length choice.3, length-drop n bytes, ltb-false (length bytes) n choice.1)
 
-body_cut : (class instr n : ℕ) (bytes : List ℕ) → decode_apdu_data class instr n bytes ≡ DecodedApdu.Incomplete → length bytes < n
-body_cut class instr n bytes e =
+data_truncated : (class instr n : ℕ) (bytes : List ℕ) → decode_apdu_data class instr n bytes ≡ DecodedApdu.Incomplete → length bytes < n
+data_truncated class instr n bytes e =
     let choice = incomplete_choice (ltb 12000 n) (ltb (length bytes) n) n (record { class = class; instr = instr; body = take n bytes }) (drop n bytes) e in
     ltb-true (length bytes) n choice.1
 
-body_within : (class instr n : ℕ) (bytes more : List ℕ) (apdu : ApduValue) (rest : List ℕ) → decode_apdu_data class instr n bytes ≡ DecodedApdu.Incomplete → decode_apdu_data class instr n (bytes ++ more) ≡ DecodedApdu.Whole apdu rest → length rest < length more
-body_within class instr n bytes more apdu rest cut e =
-    omega (arith, body_cut class instr n bytes cut, body_shrinks class instr n (bytes ++ more) apdu rest e, length-append bytes more)
+data_within : (class instr n : ℕ) (bytes more : List ℕ) (apdu : ApduValue) (rest : List ℕ) → decode_apdu_data class instr n bytes ≡ DecodedApdu.Incomplete → decode_apdu_data class instr n (bytes ++ more) ≡ DecodedApdu.Whole apdu rest → length rest < length more
+data_within class instr n bytes more apdu rest cut e =
+    omega (arith, data_truncated class instr n bytes cut, data_shrinks class instr n (bytes ++ more) apdu rest e, length-append bytes more)
 
 long_within : (class instr : ℕ) (bytes more : List ℕ) (apdu : ApduValue) (rest : List ℕ) → decode_long_apdu class instr bytes ≡ DecodedApdu.Incomplete → decode_long_apdu class instr (bytes ++ more) ≡ DecodedApdu.Whole apdu rest → length rest < length more
 long_within class instr [] [] apdu rest cut e = absurd cc
 long_within class instr [] (low ∷ []) apdu rest cut e = absurd cc
-long_within class instr [] (low ∷ high ∷ more) apdu rest cut e = omega (arith, body_shrinks class instr (low + 256 * high) more apdu rest e)
+long_within class instr [] (low ∷ high ∷ more) apdu rest cut e = omega (arith, data_shrinks class instr (low + 256 * high) more apdu rest e)
 long_within class instr (low ∷ []) [] apdu rest cut e = absurd cc
-long_within class instr (low ∷ []) (high ∷ more) apdu rest cut e = omega (arith, body_shrinks class instr (low + 256 * high) more apdu rest e)
-long_within class instr (low ∷ high ∷ bytes) more apdu rest cut e = body_within class instr (low + 256 * high) bytes more apdu rest cut e
+long_within class instr (low ∷ []) (high ∷ more) apdu rest cut e = omega (arith, data_shrinks class instr (low + 256 * high) more apdu rest e)
+long_within class instr (low ∷ high ∷ bytes) more apdu rest cut e = data_within class instr (low + 256 * high) bytes more apdu rest cut e
 
 header_within : (is_long : Bool) (class instr n : ℕ) (bytes more : List ℕ) (apdu : ApduValue) (rest : List ℕ) → cond is_long (decode_long_apdu class instr bytes) (decode_apdu_data class instr n bytes) ≡ DecodedApdu.Incomplete → cond is_long (decode_long_apdu class instr (bytes ++ more)) (decode_apdu_data class instr n (bytes ++ more)) ≡ DecodedApdu.Whole apdu rest → length rest < length more
 header_within true class instr n bytes more apdu rest cut e = long_within class instr bytes more apdu rest cut e
-header_within false class instr n bytes more apdu rest cut e = body_within class instr n bytes more apdu rest cut e
+header_within false class instr n bytes more apdu rest cut e = data_within class instr n bytes more apdu rest cut e
 
 pub prefix_within : (bytes more : List ℕ) (apdu : ApduValue) (rest : List ℕ) → decode_apdu bytes ≡ DecodedApdu.Incomplete → decode_apdu (bytes ++ more) ≡ DecodedApdu.Whole apdu rest → length rest < length more
 prefix_within [] more apdu rest cut e = (prefix_stays more [] apdu rest e).1
@@ -120,11 +120,11 @@ prefix_within (class ∷ instr ∷ n ∷ bytes) more apdu rest cut e = header_wi
 
 -- ---- what bytes begin with, by the grammar
 
-data_whole : (class instr : ℕ) (body rest : List ℕ) → length body ≤ 12000 → decode_apdu_data class instr (length body) (body ++ rest) ≡ DecodedApdu.Whole (record { class = class; instr = instr; body = body }) rest
-data_whole class instr body rest within =
-    let small : ltb 12000 (length body) ≡ false = le-ltb _ _ within in
-    let long : ltb (length (body ++ rest)) (length body) ≡ false = le-ltb _ _ (omega (arith, length-append body rest)) in
-    rw (small, long, take_at body rest (length body) refl, drop_at body rest (length body) refl) refl
+data_whole : (class instr : ℕ) (apdu_data rest : List ℕ) → length apdu_data ≤ 12000 → decode_apdu_data class instr (length apdu_data) (apdu_data ++ rest) ≡ DecodedApdu.Whole (record { class = class; instr = instr; body = apdu_data }) rest
+data_whole class instr apdu_data rest within =
+    let small : ltb 12000 (length apdu_data) ≡ false = le-ltb _ _ within in
+    let long : ltb (length (apdu_data ++ rest)) (length apdu_data) ≡ false = le-ltb _ _ (omega (arith, length-append apdu_data rest)) in
+    rw (small, long, take_at apdu_data rest (length apdu_data) refl, drop_at apdu_data rest (length apdu_data) refl) refl
 
 header_whole : (class instr n : ℕ) (length_bytes bytes : List ℕ) → SpellsApduLength length_bytes n → decode_apdu (class ∷ instr ∷ (length_bytes ++ bytes)) ≡ decode_apdu_data class instr n bytes
 header_whole class instr n length_bytes bytes (inl short) =

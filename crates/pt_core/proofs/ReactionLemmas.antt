@@ -23,7 +23,7 @@ use Rattle.pt_core.specs.declared.play.Play.TheVariants as play
 use Rattle.pt_core.specs.declared.reaction.Reaction.{Reaction}
 use Rattle.pt_core.specs.declared.reaction.Reaction.TheVariants as reaction
 use Rattle.pt_core.specs.Book.{all_fit, fits_status, is_full, last_book_entry, last_payment, next_entry}
-use Rattle.pt_core.specs.Table.{all_written, at_other, by_command, bytes_of, enquiry, entries_of, messages_of, payment, reported_fits, reversal, status_of_entry}
+use Rattle.pt_core.specs.Table.{all_canonical, at_other, by_command, bytes_of, enquiry, entries_of, messages_of, payment, reported_fits, reversal, status_of_entry}
 use Rattle.pt_core.specs.History.{Setting, book_of, play_left, reaction_after}
 use Rattle.pt_core.specs.Exchange.{message_in, messages_in}
 use Rattle.pt_core.proofs.PrefixLemmas.{begins_at_prefix}
@@ -137,11 +137,11 @@ message_read laws read message rest (form, sizes, small) =
     ap (λ (s : DecodedApdus). filter_map message_of s.apdus) (laws.whole (canonical_pt_message message ++ rest) apdu rest begins)
     ∙ ap (λ (r : Result MessageValue PtFault). cons_option (message_in r) (messages_in rest)) is
 
-all_read : Laws → ReadLaws → (messages : List MessageValue) (rest : List ℕ) → AllByRecursion IsWritable messages → messages_in (all_written messages ++ rest) ≡ map pt_message_read_again messages ++ messages_in rest
+all_read : Laws → ReadLaws → (messages : List MessageValue) (rest : List ℕ) → AllByRecursion IsWritable messages → messages_in (all_canonical messages ++ rest) ≡ map pt_message_read_again messages ++ messages_in rest
 all_read laws read [] rest writable = refl
 all_read laws read (message ∷ messages) rest writable =
-    ap messages_in (append_assoc (canonical_pt_message message) (all_written messages) rest)
-    ∙ message_read laws read message (all_written messages ++ rest) writable.0
+    ap messages_in (append_assoc (canonical_pt_message message) (all_canonical messages) rest)
+    ∙ message_read laws read message (all_canonical messages ++ rest) writable.0
     ∙ ap (λ (l : List MessageValue). pt_message_read_again message ∷ l) (all_read laws read messages rest writable.1)
 
 status_writable : (entry : BookEntry) → fits_status entry ≡ true → IsWritable (MessageValue.Status (status_of_entry entry))

@@ -82,13 +82,13 @@ messages_of (reaction.Booked entry) = MessageValue.Ack ∷ []
 messages_of reaction.Dropped = []
 
 -- the bytes of messages, one after another
-abbrev pub all_written : List MessageValue → List ℕ
-all_written [] = []
-all_written (message ∷ messages) = canonical_pt_message message ++ all_written messages
+abbrev pub all_canonical : List MessageValue → List ℕ
+all_canonical [] = []
+all_canonical (message ∷ messages) = canonical_pt_message message ++ all_canonical messages
 
 -- the bytes that are sent
 abbrev pub bytes_of : Reaction → List ℕ
-bytes_of reaction = all_written (messages_of reaction)
+bytes_of reaction = all_canonical (messages_of reaction)
 
 -- the entries that are booked: one or none
 abbrev pub entries_of : Reaction → List BookEntry

@@ -7,11 +7,9 @@ ghost use Rattle.pt_core.specs.Serving.{heard};
 ghost use Rattle.pt_core.specs.inner.Results.{account_value, HearsAll};
 
 use crate::account::Account;
+use gw_bytes::LONGEST_CHUNK;
 use std::alloc::AllocError;
 use zvt_apdu::{ApduReader, law_decode_apdus};
-
-/// The most bytes that a reader takes at once.
-const CHUNK: usize = 4096;
 
 /// What is sent for one request has at most so many bytes.
 const REACTION: usize = 32;
@@ -61,7 +59,7 @@ impl Account<'_> {
         law_decode_apdus();
         let mut rest = bytes;
         'chunks: while !rest.is_empty() {
-            let (chunk, more) = rest.split_at(rest.len().min(CHUNK));
+            let (chunk, more) = rest.split_at(rest.len().min(LONGEST_CHUNK));
             reader.feed(chunk);
             if self.serve_all(reader, out) {
                 return true;

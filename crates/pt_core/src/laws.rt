@@ -62,7 +62,7 @@ pub fn law_book()
 }
 
 /// What a terminal sends is true of its book. Where the messages of a command's dialogue are the first of those that are
-/// sent for it, at any moments and with any wishes to stop between them, the dialogue ends with nothing that its book
+/// sent for it, at any moments and with any stops wished between them, the dialogue ends with nothing that its book
 /// denies.
 pub fn law_ends()
     ensures { (setting : Setting) (before : List ApduValue) (apdu : ApduValue) (command : Command) (dialogue : Dialogue)

@@ -96,7 +96,7 @@ impl Terminal {
             → has_cut setting (Chunk bytes.now ∷ met) ≡ (has_cut setting met || done.cut)) }
         ensures err { OnErr result (self.new ≡ self.old) }
 
-        // What is kept and sent, by what was kept before and the bytes.
+        // What is remembered and sent, by what was remembered before and the bytes.
         ensures next { IfOk result (λ done. self.new ≡ next_terminal self.old bytes.now) }
         ensures bytes { IfOk result (λ done. done.bytes ≡ (heard_by_terminal self.old self.old.connection bytes.now).bytes) }
         ensures cuts { IfOk result (λ done. done.cut ≡ (heard_by_terminal self.old self.old.connection bytes.now).cut) }
@@ -146,7 +146,7 @@ impl Terminal {
             → result.now ≡ book_after setting met }
 
         // It is the account's.
-        ensures kept { result.now ≡ self.now.account.book }
+        ensures account { result.now ≡ self.now.account.book }
     {
         &self.book
     }

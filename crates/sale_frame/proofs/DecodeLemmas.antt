@@ -12,17 +12,17 @@ use Rattle.std.specs.Int.{w32, to_be_bytes, from_be_bytes}
 use Rattle.gw_bytes.specs.Bytes.{AreBytes}
 use Rattle.gw_bytes.proofs.ByteLemmas.{each_byte}
 use Rattle.sale_frame.specs.Grammar.{IsPayloadLength, IsPayload, frame, IsFrame, frames, BeginsWithLength, BeginsWithPayload, IsIncompleteFrame, IsFrameRest, Frames}
-use Rattle.sale_frame.specs.Decode.{DecodedFrames, spelled_length, is_frame, with_byte, decode_after, decode_frames, with_messages}
+use Rattle.sale_frame.specs.Decode.{DecodedFrames, spelled_length, is_frame, with_byte, decode_after, decode_frames, with_payloads}
 use Rattle.sale_frame.proofs.StreamLemmas.{one_reading}
-use Rattle.sale_frame.proofs.FrameLemmas.{spelled, message_begins, length-frame, prefix_is_shorter, shorter_is_prefix, lengthened}
+use Rattle.sale_frame.proofs.FrameLemmas.{spelled, payload_begins, length-frame, prefix_is_shorter, shorter_is_prefix, lengthened}
 
 bytes_more : (bytes : List ℕ) (byte : ℕ) → AreBytes bytes → byte < 256 → AreBytes (bytes ++ byte ∷ [])
 bytes_more [] byte small one = (one, tt)
 bytes_more (first ∷ bytes) byte small one = (small.0, bytes_more bytes byte small.1 one)
 
-each_more : (messages : List (List ℕ)) (message : List ℕ) → AllByRecursion IsPayload messages → IsPayload message → AllByRecursion IsPayload (messages ++ message ∷ [])
-each_more [] message each one = (one, tt)
-each_more (first ∷ messages) message each one = (each.0, each_more messages message each.1 one)
+each_more : (payloads : List (List ℕ)) (payload : List ℕ) → AllByRecursion IsPayload payloads → IsPayload payload → AllByRecursion IsPayload (payloads ++ payload ∷ [])
+each_more [] payload each one = (one, tt)
+each_more (first ∷ payloads) payload each one = (each.0, each_more payloads payload each.1 one)
 
 -- four bytes spell some length
 pub spells : (bytes : List ℕ) → AreBytes bytes → 4 ≤ length bytes → BeginsWithLength bytes (spelled_length bytes)
@@ -76,8 +76,8 @@ longer_rest : (rest : List ℕ) (byte : ℕ) → AreBytes rest → byte < 256 �
 longer_rest rest byte small one (inl incomplete) test = longer_prefix rest byte small one incomplete test
 longer_rest rest byte small one (inr (n, begins, impossible)) test = inr (n, lengthened rest (byte ∷ []) n begins, impossible)
 
-frame_size : (message : List ℕ) → length (frame message) ≡ 4 + length message
-frame_size message = omega (arith, length-frame message [], ap length (append-nil (frame message)))
+frame_size : (payload : List ℕ) → length (frame payload) ≡ 4 + length payload
+frame_size payload = omega (arith, length-frame payload [], ap length (append-nil (frame payload)))
 
 -- a frame is that of the bytes after its length
 pub is_framed : (bytes : List ℕ) → AreBytes bytes → is_frame bytes ≡ true → IsPayload (drop 4 bytes) × (bytes ≡ frame (drop 4 bytes))
@@ -89,14 +89,14 @@ is_framed bytes small test =
       sym (take-append-drop 4 bytes) ∙ ap (λ head. head ++ drop 4 bytes) begins.1 ∙ ap (λ k. to_be_bytes w32 k ++ drop 4 bytes) (sym size),
     )
 
--- and the frame of a message passes the test
-pub frame_passes : (message : List ℕ) → IsPayload message → is_frame (frame message) ≡ true
-frame_passes message possible =
-    let begins : BeginsWithLength (frame message) (length message) = message_begins (frame message) message [] possible (sym (append-nil (frame message))) in
-    let same : spelled_length (frame message) ≡ length message = spelled (frame message) (length message) begins in
-    let size : length (frame message) ≡ 4 + length message = frame_size message in
+-- and the frame of a payload passes the test
+pub frame_passes : (payload : List ℕ) → IsPayload payload → is_frame (frame payload) ≡ true
+frame_passes payload possible =
+    let begins : BeginsWithLength (frame payload) (length payload) = payload_begins (frame payload) payload [] possible (sym (append-nil (frame payload))) in
+    let same : spelled_length (frame payload) ≡ length payload = spelled (frame payload) (length payload) begins in
+    let size : length (frame payload) ≡ 4 + length payload = frame_size payload in
     and_from _ _ (lt-ltb 0 _ (subst (λ n. 0 < n) (sym same) possible.0))
-    (and_from _ _ (le-leb _ 65536 (subst (λ n. n ≤ 65536) (sym same) possible.1)) (eq-eqb (length (frame message)) _ (size ∙ ap (λ n. 4 + n) (sym same))))
+    (and_from _ _ (le-leb _ 65536 (subst (λ n. n ≤ 65536) (sym same) possible.1)) (eq-eqb (length (frame payload)) _ (size ∙ ap (λ n. 4 + n) (sym same))))
 
 pub frames_found : (bytes : List ℕ) → AreBytes bytes → is_frame bytes ≡ true ↔ IsFrame bytes
 frames_found bytes small = (
@@ -123,38 +123,38 @@ no_frame_yet bytes incomplete = is_no (is_frame bytes) (λ test.
   where
     begun : (bytes : List ℕ) → IsIncompleteFrame bytes → 4 ≤ length bytes → length bytes ≡ 4 + spelled_length bytes → ⊥
     begun bytes (inl less) fits size = absurd (omega arith)
-    begun bytes (inr (message, possible, more, some, is)) fits size =
-        let all : BeginsWithLength (bytes ++ more) (length message) = message_begins (bytes ++ more) message [] possible (sym is ∙ sym (append-nil (frame message))) in
-        let begins : BeginsWithLength bytes (length message) = (all.0, sym (take-append-le 4 bytes more fits) ∙ all.1) in
-        let shorter = prefix_is_shorter bytes (length message) (inr (message, possible, more, some, is)) begins in
-        let same : spelled_length bytes ≡ length message = spelled bytes (length message) begins in
+    begun bytes (inr (payload, possible, more, some, is)) fits size =
+        let all : BeginsWithLength (bytes ++ more) (length payload) = payload_begins (bytes ++ more) payload [] possible (sym is ∙ sym (append-nil (frame payload))) in
+        let begins : BeginsWithLength bytes (length payload) = (all.0, sym (take-append-le 4 bytes more fits) ∙ all.1) in
+        let shorter = prefix_is_shorter bytes (length payload) (inr (payload, possible, more, some, is)) begins in
+        let same : spelled_length bytes ≡ length payload = spelled bytes (length payload) begins in
         absurd (omega (arith, shorter.1, size, same))
 
--- the frame of a message is one, and the message follows its length
-pub whole_frame : (bytes message : List ℕ) → BeginsWithPayload bytes message → 4 + length message ≡ length bytes → (is_frame bytes ≡ true) × (drop 4 bytes ≡ message)
-whole_frame bytes message (possible, left, is) size =
-    let none : left ≡ [] = no_more left (omega (arith, size, ap length is, length-frame message left)) in
-    let same : bytes ≡ frame message = is ∙ ap (λ rest. frame message ++ rest) none ∙ append-nil (frame message) in
-    (subst (λ b. is_frame b ≡ true) (sym same) (frame_passes message possible), ap (drop 4) same)
+-- the frame of a payload is one, and the payload follows its length
+pub whole_frame : (bytes payload : List ℕ) → BeginsWithPayload bytes payload → 4 + length payload ≡ length bytes → (is_frame bytes ≡ true) × (drop 4 bytes ≡ payload)
+whole_frame bytes payload (possible, left, is) size =
+    let none : left ≡ [] = no_more left (omega (arith, size, ap length is, length-frame payload left)) in
+    let same : bytes ≡ frame payload = is ∙ ap (λ rest. frame payload ++ rest) none ∙ append-nil (frame payload) in
+    (subst (λ b. is_frame b ≡ true) (sym same) (frame_passes payload possible), ap (drop 4) same)
   where
     no_more : (left : List ℕ) → length left ≡ 0 → left ≡ []
     no_more [] e = refl
     no_more (_ ∷ _) e = absurd (omega arith)
 
--- bytes that begin with a message's frame and are longer are none
-pub no_whole_frame : (bytes message : List ℕ) → BeginsWithPayload bytes message → (4 + length message ≡ length bytes → ⊥) → is_frame bytes ≡ false
-no_whole_frame bytes message (possible, left, is) longer =
-    no_frame bytes (length message) (message_begins bytes message left possible is) (λ _ size. longer (sym size))
+-- bytes that begin with a payload's frame and are longer are none
+pub no_whole_frame : (bytes payload : List ℕ) → BeginsWithPayload bytes payload → (4 + length payload ≡ length bytes → ⊥) → is_frame bytes ≡ false
+no_whole_frame bytes payload (possible, left, is) longer =
+    no_frame bytes (length payload) (payload_begins bytes payload left possible is) (λ _ size. longer (sym size))
 
-frames-append : (messages : List (List ℕ)) (message : List ℕ) → frames (messages ++ message ∷ []) ≡ frames messages ++ frame message
-frames-append messages message = flat_map-append frame messages (message ∷ []) ∙ ap (λ s. frames messages ++ s) (append-nil (frame message))
+frames-append : (payloads : List (List ℕ)) (payload : List ℕ) → frames (payloads ++ payload ∷ []) ≡ frames payloads ++ frame payload
+frames-append payloads payload = flat_map-append frame payloads (payload ∷ []) ∙ ap (λ s. frames payloads ++ s) (append-nil (frame payload))
 
 -- one byte more, by whether it ends a frame
 abbrev after_test : DecodedFrames → List ℕ → Bool → DecodedFrames
-after_test read bytes test = cond test (record { messages = read.messages ++ drop 4 bytes ∷ []; rest = [] }) (record { messages = read.messages; rest = bytes })
+after_test read bytes test = cond test (record { payloads = read.payloads ++ drop 4 bytes ∷ []; rest = [] }) (record { payloads = read.payloads; rest = bytes })
 
 pub record IsRead (bytes_read : List ℕ) (read : DecodedFrames) : Type 0 where
-  pub frames : Frames bytes_read read.messages read.rest
+  pub frames : Frames bytes_read read.payloads read.rest
   pub bytes : AreBytes read.rest
 
 by_test : (bytes_read : List ℕ) (read : DecodedFrames) (byte : ℕ) → IsRead bytes_read read → byte < 256 → (test : Bool) → is_frame (read.rest ++ byte ∷ []) ≡ test
@@ -164,16 +164,16 @@ by_test bytes_read read byte so_far one true h =
     let framed : IsPayload (drop 4 bytes) × (bytes ≡ frame (drop 4 bytes)) = is_framed bytes (bytes_more read.rest byte so_far.bytes one) h in
     record {
       frames = record {
-        whole = ap (λ s. s ++ byte ∷ []) so_far.frames.whole ∙ append_assoc (frames read.messages) read.rest (byte ∷ [])
-            ∙ ap (λ s. frames read.messages ++ s) framed.1 ∙ sym (frames-append read.messages (drop 4 bytes)) ∙ sym (append-nil (frames (read.messages ++ drop 4 bytes ∷ [])));
-        each = each_more read.messages (drop 4 bytes) so_far.frames.each framed.0;
+        whole = ap (λ s. s ++ byte ∷ []) so_far.frames.whole ∙ append_assoc (frames read.payloads) read.rest (byte ∷ [])
+            ∙ ap (λ s. frames read.payloads ++ s) framed.1 ∙ sym (frames-append read.payloads (drop 4 bytes)) ∙ sym (append-nil (frames (read.payloads ++ drop 4 bytes ∷ [])));
+        each = each_more read.payloads (drop 4 bytes) so_far.frames.each framed.0;
         ended = inl (inl (lit< tt));
       };
       bytes = tt;
     }
 by_test bytes_read read byte so_far one false h = record {
   frames = record {
-    whole = ap (λ s. s ++ byte ∷ []) so_far.frames.whole ∙ append_assoc (frames read.messages) read.rest (byte ∷ []);
+    whole = ap (λ s. s ++ byte ∷ []) so_far.frames.whole ∙ append_assoc (frames read.payloads) read.rest (byte ∷ []);
     each = so_far.frames.each;
     ended = longer_rest read.rest byte so_far.bytes one so_far.frames.ended h;
   };
@@ -186,45 +186,45 @@ reads_on bytes_read (byte ∷ bytes) read so_far small =
     subst (λ s. IsRead s (fold with_byte (with_byte read byte) bytes)) (append_assoc bytes_read (byte ∷ []) bytes)
     (reads_on (bytes_read ++ byte ∷ []) bytes (with_byte read byte) (by_test bytes_read read byte so_far small.0 (is_frame (read.rest ++ byte ∷ [])) refl) small.1)
 
-pub reads_all : (bytes : List ℕ) → AreBytes bytes → Frames bytes (decode_frames bytes).messages (decode_frames bytes).rest
-reads_all bytes small = (reads_on [] bytes (record { messages = []; rest = [] }) (record { frames = record { whole = refl; each = tt; ended = inl (inl (lit< tt)) }; bytes = tt }) small).frames
+pub reads_all : (bytes : List ℕ) → AreBytes bytes → Frames bytes (decode_frames bytes).payloads (decode_frames bytes).rest
+reads_all bytes small = (reads_on [] bytes (record { payloads = []; rest = [] }) (record { frames = record { whole = refl; each = tt; ended = inl (inl (lit< tt)) }; bytes = tt }) small).frames
 
--- messages before change nothing of what a chunk completes
+-- payloads before change nothing of what a chunk completes
 before_test : (before : List (List ℕ)) (chunk : List ℕ)
-    → ((messages : List (List ℕ)) (rest : List ℕ) → fold with_byte (record { messages = before ++ messages; rest = rest }) chunk ≡ with_messages before (fold with_byte (record { messages = messages; rest = rest }) chunk))
-    → (messages : List (List ℕ)) (rest bytes : List ℕ) (test : Bool)
-    → fold with_byte (after_test (record { messages = before ++ messages; rest = rest }) bytes test) chunk ≡ with_messages before (fold with_byte (after_test (record { messages = messages; rest = rest }) bytes test) chunk)
-before_test before chunk others messages rest bytes true =
-    ap (λ m. fold with_byte (record { messages = m; rest = [] }) chunk) (append_assoc before messages (drop 4 bytes ∷ [])) ∙ others (messages ++ drop 4 bytes ∷ []) []
-before_test before chunk others messages rest bytes false = others messages bytes
+    → ((payloads : List (List ℕ)) (rest : List ℕ) → fold with_byte (record { payloads = before ++ payloads; rest = rest }) chunk ≡ with_payloads before (fold with_byte (record { payloads = payloads; rest = rest }) chunk))
+    → (payloads : List (List ℕ)) (rest bytes : List ℕ) (test : Bool)
+    → fold with_byte (after_test (record { payloads = before ++ payloads; rest = rest }) bytes test) chunk ≡ with_payloads before (fold with_byte (after_test (record { payloads = payloads; rest = rest }) bytes test) chunk)
+before_test before chunk others payloads rest bytes true =
+    ap (λ m. fold with_byte (record { payloads = m; rest = [] }) chunk) (append_assoc before payloads (drop 4 bytes ∷ [])) ∙ others (payloads ++ drop 4 bytes ∷ []) []
+before_test before chunk others payloads rest bytes false = others payloads bytes
 
-before_others : (before : List (List ℕ)) (chunk : List ℕ) (messages : List (List ℕ)) (rest : List ℕ)
-    → fold with_byte (record { messages = before ++ messages; rest = rest }) chunk ≡ with_messages before (fold with_byte (record { messages = messages; rest = rest }) chunk)
-before_others before [] messages rest = refl
-before_others before (byte ∷ chunk) messages rest =
-    before_test before chunk (before_others before chunk) messages rest (rest ++ byte ∷ []) (is_frame (rest ++ byte ∷ []))
+before_others : (before : List (List ℕ)) (chunk : List ℕ) (payloads : List (List ℕ)) (rest : List ℕ)
+    → fold with_byte (record { payloads = before ++ payloads; rest = rest }) chunk ≡ with_payloads before (fold with_byte (record { payloads = payloads; rest = rest }) chunk)
+before_others before [] payloads rest = refl
+before_others before (byte ∷ chunk) payloads rest =
+    before_test before chunk (before_others before chunk) payloads rest (rest ++ byte ∷ []) (is_frame (rest ++ byte ∷ []))
 
-pub chunks_add : (bytes chunk : List ℕ) → decode_frames (bytes ++ chunk) ≡ with_messages (decode_frames bytes).messages (decode_after (decode_frames bytes).rest chunk)
+pub chunks_add : (bytes chunk : List ℕ) → decode_frames (bytes ++ chunk) ≡ with_payloads (decode_frames bytes).payloads (decode_after (decode_frames bytes).rest chunk)
 chunks_add bytes chunk =
-    fold-append with_byte (record { messages = []; rest = [] }) bytes chunk
-    ∙ ap (λ m. fold with_byte (record { messages = m; rest = (decode_frames bytes).rest }) chunk) (sym (append-nil (decode_frames bytes).messages))
-    ∙ before_others (decode_frames bytes).messages chunk [] (decode_frames bytes).rest
+    fold-append with_byte (record { payloads = []; rest = [] }) bytes chunk
+    ∙ ap (λ m. fold with_byte (record { payloads = m; rest = (decode_frames bytes).rest }) chunk) (sym (append-nil (decode_frames bytes).payloads))
+    ∙ before_others (decode_frames bytes).payloads chunk [] (decode_frames bytes).rest
 
 bytes_prefix : (rest chunk : List ℕ) → AreBytes (rest ++ chunk) → AreBytes rest
 bytes_prefix [] chunk small = tt
 bytes_prefix (byte ∷ rest) chunk small = (small.0, bytes_prefix rest chunk small.1)
 
--- a rest is read as no message and itself
-rest_alone : (rest : List ℕ) → IsFrameRest rest → AreBytes rest → decode_frames rest ≡ record { messages = []; rest = rest }
+-- a rest is read as no payload and itself
+rest_alone : (rest : List ℕ) → IsFrameRest rest → AreBytes rest → decode_frames rest ≡ record { payloads = []; rest = rest }
 rest_alone rest is_rest small =
-    let same : ([] ≡ (decode_frames rest).messages) × (rest ≡ (decode_frames rest).rest) =
-    one_reading rest [] (decode_frames rest).messages rest (decode_frames rest).rest (record { whole = refl; each = tt; ended = is_rest }) (reads_all rest small) in
-    ap (λ m. record { messages = m; rest = (decode_frames rest).rest }) (sym same.0) ∙ ap (λ r. record { messages = []; rest = r }) (sym same.1)
+    let same : ([] ≡ (decode_frames rest).payloads) × (rest ≡ (decode_frames rest).rest) =
+    one_reading rest [] (decode_frames rest).payloads rest (decode_frames rest).rest (record { whole = refl; each = tt; ended = is_rest }) (reads_all rest small) in
+    ap (λ m. record { payloads = m; rest = (decode_frames rest).rest }) (sym same.0) ∙ ap (λ r. record { payloads = []; rest = r }) (sym same.1)
 
-pub completes : (rest chunk left : List ℕ) (messages : List (List ℕ)) → IsFrameRest rest → AreBytes (rest ++ chunk) → Frames (rest ++ chunk) messages left
-    → ((decode_after rest chunk).messages ≡ messages) × ((decode_after rest chunk).rest ≡ left)
-completes rest chunk left messages is_rest small frames =
-    let alone : decode_frames rest ≡ record { messages = []; rest = rest } = rest_alone rest is_rest (bytes_prefix rest chunk small) in
-    let both : decode_frames (rest ++ chunk) ≡ decode_after rest chunk = chunks_add rest chunk ∙ ap (λ r. with_messages r.messages (decode_after r.rest chunk)) alone in
-    subst (λ r. (r.messages ≡ messages) × (r.rest ≡ left)) both
-    (one_reading (rest ++ chunk) (decode_frames (rest ++ chunk)).messages messages (decode_frames (rest ++ chunk)).rest left (reads_all (rest ++ chunk) small) frames)
+pub completes : (rest chunk left : List ℕ) (payloads : List (List ℕ)) → IsFrameRest rest → AreBytes (rest ++ chunk) → Frames (rest ++ chunk) payloads left
+    → ((decode_after rest chunk).payloads ≡ payloads) × ((decode_after rest chunk).rest ≡ left)
+completes rest chunk left payloads is_rest small frames =
+    let alone : decode_frames rest ≡ record { payloads = []; rest = rest } = rest_alone rest is_rest (bytes_prefix rest chunk small) in
+    let both : decode_frames (rest ++ chunk) ≡ decode_after rest chunk = chunks_add rest chunk ∙ ap (λ r. with_payloads r.payloads (decode_after r.rest chunk)) alone in
+    subst (λ r. (r.payloads ≡ payloads) × (r.rest ≡ left)) both
+    (one_reading (rest ++ chunk) (decode_frames (rest ++ chunk)).payloads payloads (decode_frames (rest ++ chunk)).rest left (reads_all (rest ++ chunk) small) frames)

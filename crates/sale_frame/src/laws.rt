@@ -3,7 +3,7 @@
 ghost use Rattle.std.specs.Prelude.{◌≡◌, ◌↔◌, ℕ, ◌<◌, true, List, [], ◌++◌};
 ghost use Rattle.std.specs.List.{AllByRecursion};
 ghost use Rattle.sale_frame.specs.Grammar.{IsPayload, IsFrame, IsFrameRest, frame, Frames};
-ghost use Rattle.sale_frame.specs.Decode.{is_frame, decode_frames, decode_after, with_messages};
+ghost use Rattle.sale_frame.specs.Decode.{is_frame, decode_frames, decode_after, with_payloads};
 ghost use Rattle.sale_frame.specs.Steps.{FrameStep, IsFrameFault, TakesFrame, OnlyRefuses};
 ghost use Rattle.gw_bytes.specs.Bytes.{AreBytes};
 ghost use Rattle.gw_bytes.specs.Chunks.{Steps, fed, given};
@@ -15,7 +15,7 @@ pub fn no_frame_begins_another()
         → (a ≡ b) × (x ≡ y) }
 {}
 
-/// The test of a frame finds exactly the frames of messages.
+/// The test of a frame finds exactly the frames of payloads.
 pub fn frame_found()
     ensures { (bytes : List ℕ) → AreBytes bytes
         → is_frame bytes ≡ true ↔ IsFrame bytes }
@@ -30,28 +30,28 @@ pub fn one_reading()
 /// Each stream of bytes is decoded in one way: as `decode_frames` computes it.
 pub fn reading()
     ensures { (bytes : List ℕ) → AreBytes bytes
-        → Frames bytes (decode_frames bytes).messages (decode_frames bytes).rest }
+        → Frames bytes (decode_frames bytes).payloads (decode_frames bytes).rest }
 {}
 
-/// One more chunk completes its own messages, and changes none of those before.
+/// One more chunk completes its own payloads, and changes none of those before.
 pub fn chunk_more()
     ensures { (bytes chunk : List ℕ) → decode_frames (bytes ++ chunk)
-        ≡ with_messages (decode_frames bytes).messages (decode_after (decode_frames bytes).rest chunk) }
+        ≡ with_payloads (decode_frames bytes).payloads (decode_after (decode_frames bytes).rest chunk) }
 {}
 
-/// After a rest, a chunk completes the messages that the two together have.
+/// After a rest, a chunk completes the payloads that the two together have.
 pub fn chunk_completes()
-    ensures { (rest chunk left : List ℕ) (messages : List (List ℕ)) → IsFrameRest rest
-        → AreBytes (rest ++ chunk) → Frames (rest ++ chunk) messages left
-        → ((decode_after rest chunk).messages ≡ messages) × ((decode_after rest chunk).rest ≡ left) }
+    ensures { (rest chunk left : List ℕ) (payloads : List (List ℕ)) → IsFrameRest rest
+        → AreBytes (rest ++ chunk) → Frames (rest ++ chunk) payloads left
+        → ((decode_after rest chunk).payloads ≡ payloads) × ((decode_after rest chunk).rest ≡ left) }
 {}
 
-/// However the calls on a reader went, the messages returned, and then those of the bytes that
+/// However the calls on a reader went, the payloads returned, and then those of the bytes that
 /// wait, are those of all bytes fed.
 pub fn any_chunks()
-    ensures { (steps : List FrameStep) (waiting rest : List ℕ) (messages : List (List ℕ))
-        → Steps TakesFrame [] steps waiting → Frames waiting messages rest
-        → Frames (fed steps) (given steps ++ messages) rest }
+    ensures { (steps : List FrameStep) (waiting rest : List ℕ) (payloads : List (List ℕ))
+        → Steps TakesFrame [] steps waiting → Frames waiting payloads rest
+        → Frames (fed steps) (given steps ++ payloads) rest }
 {}
 
 /// After a fault each result is this fault, whatever is fed.

@@ -2,7 +2,7 @@
 //! significant first. The reader takes the stream in any chunks and returns each message.
 //!
 //! nexo Sale to POI leaves framing to the transport, so these frames are this profile's: four bytes of length, 1 to
-//! 65,536, and so many bytes of message. A length of 0 or above 65,536 is a fault, and nothing after it is read.
+//! 65,536, and so many bytes of payload. A length of 0 or above 65,536 is a fault, and nothing after it is read.
 //!
 //! ```
 //! let mut reader = FrameReader::new(alloc)?;
@@ -22,7 +22,7 @@ pub use laws::{
     any_chunks, chunk_completes, chunk_more, frame_found, no_frame_begins_another, one_reading,
     reading, refused_for_good,
 };
-pub use reader::{FrameReader, frame_length, framed_message};
+pub use reader::{FrameReader, frame_length, framed_payload};
 
 #[cfg(test)]
 mod tests;

@@ -15,7 +15,7 @@ use gw_bytes::{FRAME_LENGTH_SIZE, LONGEST_PAYLOAD};
 use std::alloc::{AllocError, Global};
 use std::marker::Model;
 
-/// The least room after the waiting bytes of a new buffer: two of the largest chunks, so that a usual message, which
+/// The least room after the waiting bytes of a new buffer: two of the largest chunks, so that a usual payload, which
 /// comes in one chunk or two, never needs another buffer.
 const ROOM: usize = 8_192;
 
@@ -26,8 +26,8 @@ const ROOM: usize = 8_192;
 #[derive(Drop)]
 pub struct FrameReader {
     buffer: Vec<u8>,
-    /// Where the waiting bytes begin. Those of messages that were returned stay before it until the buffer is used
-    /// again: to move the rest at each message would take time in the square of the stream's length.
+    /// Where the waiting bytes begin. Those of payloads that were returned stay before it until the buffer is used
+    /// again: to move the rest at each payload would take time in the square of the stream's length.
     start: usize,
 }
 
@@ -50,8 +50,8 @@ fn length_at(bytes: &[u8]) -> Option<u32>
         .map(|head| u32::from_be_bytes(*head))
 }
 
-/// The message that the bytes begin with, where it is whole.
-fn message_at(waiting: &[u8]) -> Result<Option<&[u8]>, FrameFault>
+/// The payload that the bytes begin with, where it is whole.
+fn payload_at(waiting: &[u8]) -> Result<Option<&[u8]>, FrameFault>
     ensures { ReadsFrame waiting.now result }
 {
     let Some(length) = length_at(waiting) else {
@@ -64,12 +64,12 @@ fn message_at(waiting: &[u8]) -> Result<Option<&[u8]>, FrameFault>
     }
 }
 
-/// The message of this length after its four bytes, where it is whole.
+/// The payload of this length after its four bytes, where it is whole.
 fn whole(waiting: &[u8], length: usize) -> Option<&[u8]>
     requires length { IsPayloadLength length }
     requires begins { BeginsWithLength waiting.now length }
     ensures { MatchOption result (IsIncompleteFrame waiting.now)
-        (λ message. BeginsWithPayload waiting.now message.now) }
+        (λ payload. BeginsWithPayload waiting.now payload.now) }
 {
     waiting.get(FRAME_LENGTH_SIZE..FRAME_LENGTH_SIZE + length)
 }
@@ -90,7 +90,7 @@ impl FrameReader {
     /// A chunk that has no room after the buffered bytes moves those that wait to the beginning of a
     /// new buffer. That has as much room again as waits, and two chunks at least, so a byte is
     /// moved three times at most for each byte fed, however many wait. Where nothing waits, the buffer is used again,
-    /// so a message that fits takes no memory.
+    /// so a payload that fits takes no memory.
     pub fn feed(&mut self, alloc: Global, bytes: &[u8]) -> Result<(), AllocError>
         requires { length bytes.now ≤ 4096 }
         ensures ok { OnOk result (self.new ≡ self.old ++ bytes.now) }
@@ -119,43 +119,43 @@ impl FrameReader {
         }
     }
 
-    /// The next message, without its length; `None` where it is not whole yet.
+    /// The next payload, without its length; `None` where it is not whole yet.
     ///
     /// A fault is for good, since nothing says where the next frame would begin: nothing is taken, and each later call returns it too, whatever is
     /// fed.
     pub fn next(&mut self) -> Result<Option<&[u8]>, FrameFault>
-        // Once the message is no longer borrowed, what waits is what comes after its frame.
+        // Once the payload is no longer borrowed, what waits is what comes after its frame.
         ensures* step { sem 𝓛 (Rests the_row self.entry (TakesFrame self.old (frame_step result))) }
-        ensures message { (message : List ℕ) → GivesPayload result message
-            ↔ BeginsWithPayload self.old message }
+        ensures payload { (payload : List ℕ) → GivesPayload result payload
+            ↔ BeginsWithPayload self.old payload }
         ensures none { (result ≡ Ok None) ↔ IsIncompleteFrame self.old }
         ensures fault { (fault : FrameFault) → (result ≡ Err fault) ↔ IsFrameFault self.old fault }
     {
-        let message = message_at(&self.buffer[self.start..])?;
-        if let Some(message) = message {
-            self.start += FRAME_LENGTH_SIZE + message.len();
+        let payload = payload_at(&self.buffer[self.start..])?;
+        if let Some(payload) = payload {
+            self.start += FRAME_LENGTH_SIZE + payload.len();
         }
-        Ok(message)
+        Ok(payload)
     }
 }
 
-/// The message of one whole frame and nothing else; `None` of other bytes.
-pub fn framed_message(bytes: &[u8]) -> Option<&[u8]>
-    ensures message { option_copied result ≡ (if is_frame bytes.now then Some (drop 4 bytes.now) else None) }
+/// The payload of one whole frame and nothing else; `None` of other bytes.
+pub fn framed_payload(bytes: &[u8]) -> Option<&[u8]>
+    ensures payload { option_copied result ≡ (if is_frame bytes.now then Some (drop 4 bytes.now) else None) }
 {
-    let Ok(Some(message)) = message_at(bytes) else {
+    let Ok(Some(payload)) = payload_at(bytes) else {
         return None;
     };
-    if FRAME_LENGTH_SIZE + message.len() != bytes.len() {
+    if FRAME_LENGTH_SIZE + payload.len() != bytes.len() {
         return None;
     }
-    Some(message)
+    Some(payload)
 }
 
-/// The four bytes of length before a message of this many bytes, most significant first.
-pub fn frame_length(message: usize) -> [u8; 4]
-    requires { IsPayloadLength message }
-    ensures { result ≡ to_be_bytes w32 message }
+/// The four bytes of length before a payload of this many bytes, most significant first.
+pub fn frame_length(payload: usize) -> [u8; 4]
+    requires { IsPayloadLength payload }
+    ensures { result ≡ to_be_bytes w32 payload }
 {
-    (message as u32).to_be_bytes()
+    (payload as u32).to_be_bytes()
 }

@@ -3,23 +3,23 @@ use super::*;
 use std::alloc::{AllocError, Global};
 use std::test::Fail;
 
-/// The messages of a stream that comes byte by byte, each with a bar after it, and the last result.
+/// The payloads of a stream that comes byte by byte, each with a bar after it, and the last result.
 fn by_byte(alloc: Global, stream: &[u8]) -> Result<(Vec<u8>, Option<FrameFault>), AllocError> {
     let mut reader = FrameReader::new(alloc)?;
-    let mut messages = Vec::new(alloc);
+    let mut payloads = Vec::new(alloc);
     let mut fault = None;
     for byte in stream {
         reader.feed(alloc, &[*byte])?;
         match reader.next() {
-            Ok(Some(message)) => {
-                messages.extend_from_slice(message)?;
-                messages.push(b'|')?;
+            Ok(Some(payload)) => {
+                payloads.extend_from_slice(payload)?;
+                payloads.push(b'|')?;
             }
             Ok(None) => (),
             Err(own) => fault = Some(own),
         }
     }
-    Ok((messages, fault))
+    Ok((payloads, fault))
 }
 
 #[test]
@@ -43,9 +43,9 @@ fn rows(rt: HostRuntime) -> Result<(), Fail> {
         ),
         (b"\xff\xff\xff".as_slice(), b"".as_slice(), None),
     ];
-    for (stream, messages, fault) in rows {
+    for (stream, payloads, fault) in rows {
         let (found, own) = by_byte(rt.alloc(), stream)?;
-        assert_eq!(rt; found.as_slice(), messages, "in {stream:?}");
+        assert_eq!(rt; found.as_slice(), payloads, "in {stream:?}");
         assert_eq!(rt; own, fault, "in {stream:?}");
     }
     Ok(())
@@ -63,7 +63,7 @@ fn one_chunk(rt: HostRuntime) -> Result<(), Fail> {
 }
 
 #[test]
-fn greatest_message(rt: HostRuntime) -> Result<(), Fail> {
+fn greatest_payload(rt: HostRuntime) -> Result<(), Fail> {
     let mut reader = FrameReader::new(rt.alloc())?;
     reader.feed(rt.alloc(), &frame_length(65_536))?;
     for _ in 0..16 {

@@ -8,11 +8,11 @@ use Rattle.json_text.specs.Tree.{Tree, array_of, numeral_of}
 use Rattle.sale_msg.specs.Form.{HasTextMember, IsAmountNumber, IsJsonObject, IsOutputList, IsTextList}
 
 -- a number is an amount where its minor units are found
-by_minor : (numeral : List ℕ) (units : Option ℕ) (b : Bool)
+by_units : (numeral : List ℕ) (units : Option ℕ) (b : Bool)
     → MatchOption units ((m : ℕ) → ¬ SpellsAmount numeral m) (SpellsAmount numeral)
     → b ≡ is_some units → IsTrue b ↔ ((m : ℕ) × SpellsAmount numeral m)
-by_minor numeral None b none e = (λ t. absurd (true≢false (sym t ∙ e)), λ h. absurd (none h.0 h.1))
-by_minor numeral (Some m) b is e = (λ t. (m, is), λ h. e)
+by_units numeral None b none e = (λ t. absurd (true≢false (sym t ∙ e)), λ h. absurd (none h.0 h.1))
+by_units numeral (Some m) b is e = (λ t. (m, is), λ h. e)
 
 pub amount_form : (tree : Tree) (numeral : List ℕ) (units : Option ℕ) (b : Bool)
     → Some numeral ≡ numeral_of tree
@@ -20,7 +20,7 @@ pub amount_form : (tree : Tree) (numeral : List ℕ) (units : Option ℕ) (b : B
     → b ≡ is_some units → IsTrue b ↔ IsAmountNumber tree
 amount_form tree numeral units b e h f =
     let P : Option (List ℕ) → Type 0 = λ found. IsTrue b ↔ MatchOption found ⊥ (λ text. (m : ℕ) × SpellsAmount text m) in
-    subst P e (by_minor numeral units b h f)
+    subst P e (by_units numeral units b h f)
 
 -- what holds of each element's tree holds of each tree of the elements
 pub each_back : {A : Type 0} (P : Tree → Type 0) (f : A → Tree) (xs : List A) → All P (map f xs) → All (λ x. P (f x)) xs
@@ -45,9 +45,9 @@ output_list_form f tree elements b e h =
     )
 
 -- a number that is an amount has minor units
-pub amount_has_minor : (found : Option Tree) (tree : Tree) (numeral : List ℕ) → Some tree ≡ found → Some numeral ≡ numeral_of tree
+pub amount_has_units : (found : Option Tree) (tree : Tree) (numeral : List ℕ) → Some tree ≡ found → Some numeral ≡ numeral_of tree
     → MatchOption found ⊥ IsAmountNumber → ((m : ℕ) → ¬ SpellsAmount numeral m) → ⊥
-amount_has_minor found tree numeral e f h none =
+amount_has_units found tree numeral e f h none =
     let P : Option Tree → Type 0 = λ o. MatchOption o ⊥ IsAmountNumber in
     let Q : Option (List ℕ) → Type 0 = λ o. MatchOption o ⊥ (λ text. (m : ℕ) × SpellsAmount text m) in
     let is : (m : ℕ) × SpellsAmount numeral m = subst Q (sym f) (subst P (sym e) h) in

@@ -3,9 +3,10 @@ use Rattle.std.proofs.Common.{◌≡◌, ℕ, List, [], ◌∷◌, ◌++◌, Opt
 use Rattle.std.specs.Result.{is_ok}
 use Rattle.json_text.specs.Canonical.{canonical, canonical_first, canonical_string}
 use Rattle.json_text.specs.Tree.{boolean, array, object, Elements, Members, no_members, member, number}
-use Rattle.sale_msg.specs.inner.OptionalParts.{money_part, optional_part, texts_part}
+use Rattle.sale_msg.specs.inner.OptionalParts.{money_part, texts_part}
 use Rattle.sale_values.specs.MemberShapes.{object_member, optional_member, text_member}
 use Rattle.sale_values.specs.Money.{money_text}
+use Rattle.sale_values.specs.PartBytes.{optional_text}
 use Rattle.sale_msg.specs.Canonical.{payment_data, reversed_amount, text_elements, texts_members}
 
 -- the last part
@@ -41,8 +42,8 @@ message_spelled header body name =
 
 abbrev pub referring_prefix : List ℕ → Option (List ℕ) → Option (List ℕ) → List ℕ
 referring_prefix service sale poi =
-    ((codes "{\"MessageReference\":{\"ServiceID\":" ++ canonical_string service) ++ optional_part (codes ",\"SaleID\":") sale)
-    ++ optional_part (codes ",\"POIID\":") poi
+    ((codes "{\"MessageReference\":{\"ServiceID\":" ++ canonical_string service) ++ optional_text (codes ",\"SaleID\":") sale)
+    ++ optional_text (codes ",\"POIID\":") poi
 
 pub referring_spelled : (service : List ℕ) (sale poi : Option (List ℕ)) → referring_prefix service sale poi ++ codes "}}"
     ≡ canonical (object (object_member (codes "MessageReference")

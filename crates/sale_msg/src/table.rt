@@ -94,7 +94,7 @@ const REQUEST_HEADER: [MemberRow; 9] = header!(Form::RequestKind);
 const RESPONSE_HEADER: [MemberRow; 9] = header!(Form::Kind);
 
 // A header may lack its ServiceID in a message of class `Device`; every body but those of Display and Print asks for it
-// again, since its request is kept by it.
+// again, since its request is found by it.
 const LOGIN: [MemberRow; 2] = rows! {
     HEADER_SERVICE Required Form::Ident(10),
     LOGIN Required Form::Object,

@@ -3,9 +3,9 @@ ghost use Rattle.std.specs.Prelude.{◌≡◌, ◌++◌, codes, OnOk, OnErr};
 ghost use Rattle.gw_bytes.specs.Bytes.{IsPrefix};
 ghost use Rattle.json_text.specs.Canonical.{canonical, canonical_first, canonical_string};
 ghost use Rattle.json_text.specs.Tree.{boolean, object};
-ghost use Rattle.sale_msg.specs.inner.OptionalParts.{money_part, optional_part, texts_part};
+ghost use Rattle.sale_msg.specs.inner.OptionalParts.{money_part, texts_part};
 ghost use Rattle.sale_values.specs.Money.{money_text};
-ghost use Rattle.sale_values.specs.PartBytes.{part_text, parts_text};
+ghost use Rattle.sale_values.specs.PartBytes.{optional_text, part_text, parts_text};
 ghost use Rattle.sale_msg.specs.Canonical.{body_members, body_name, output_elements, display_output_tree, payment_members, referring_members, request_tree, reversal_members, text_elements};
 
 use crate::paths;
@@ -121,7 +121,7 @@ fn write_optional<const N: usize>(
     text: &Option<Ident<N>>,
     out: &mut Vec<u8>,
 ) -> Result<(), AllocError>
-    ensures ok { OnOk result (out.new.items ≡ out.old.items ++ optional_part prefix.now text.now) }
+    ensures ok { OnOk result (out.new.items ≡ out.old.items ++ optional_text prefix.now text.now) }
     ensures grows { IsPrefix out.old.items out.new.items }
 {
     match text {

@@ -7,4 +7,5 @@ pub mod ReplySizeLemmas
 pub mod RequestSizeLemmas
 pub mod SizeLemmas
 pub mod SpellableLemmas
+pub mod StretchLemmas
 pub mod TextLemmas

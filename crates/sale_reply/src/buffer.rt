@@ -1,5 +1,6 @@
 //! The buffer of a message to a till.
-ghost use Rattle.std.specs.Prelude.{◌≡◌, ◌<◌, ◌≤◌, [], ◌∷◌, length, drop, IfOk, flat_map, encode_utf8};
+ghost use Rattle.std.specs.Prelude.{◌≡◌, ◌<◌, ◌≤◌, [], ◌∷◌, ◌++◌, length, drop, IfOk, flat_map, encode_utf8};
+ghost use Rattle.std.specs.Bool.{OnFalse};
 ghost use Rattle.sale_reply.specs.Texts.{line_text};
 ghost use Rattle.json_text.specs.Canonical.{canonical_string, canonical_byte};
 ghost use Rattle.sale_frame.specs.Grammar.{frame};
@@ -94,6 +95,30 @@ impl Out {
         self.raw(escaped(byte).as_slice());
     }
 
+    /// Appends the bytes of a string. Those between two that have to be escaped are copied at once.
+    fn escape(&mut self, text: &[u8])
+        ensures { Appends self.old self.new (flat_map canonical_byte text.now) }
+    {
+        let mut start = 0;
+        for (index, byte) in text.iter().enumerate() {
+            if is_escaped(*byte) {
+                self.raw(&text[start..index]);
+                self.byte(*byte);
+                start = index + 1;
+            }
+        }
+        self.raw(&text[start..]);
+    }
+
+    /// Appends the bytes of a string between these bytes.
+    fn string_between(&mut self, before: &[u8], text: &[u8], after: &[u8])
+        ensures { Appends self.old self.new (before.now ++ (flat_map canonical_byte text.now ++ after.now)) }
+    {
+        self.raw(before);
+        self.escape(text);
+        self.raw(after);
+    }
+
     /// Appends the parts of a message.
     pub(crate) fn parts(&mut self, parts: &[Part<'_>])
         ensures { Appends self.old self.new (parts_text parts.now) }
@@ -121,11 +146,7 @@ impl Out {
     pub(crate) fn string(&mut self, text: &[u8])
         ensures { Appends self.old self.new (canonical_string text.now) }
     {
-        self.raw(b"\"");
-        for byte in text {
-            self.byte(*byte);
-        }
-        self.raw(b"\"");
+        self.string_between(b"\"", text, b"\"");
     }
 
     /// Appends the characters of a terminal's line, between quotation marks.
@@ -143,26 +164,21 @@ impl Out {
     fn character(&mut self, character: char)
         ensures { Appends self.old self.new (flat_map canonical_byte (encode_utf8 character)) }
     {
-        for byte in character.encode_utf8(&mut [0; 4]).as_bytes() {
-            self.byte(*byte);
-        }
+        self.escape(character.encode_utf8(&mut [0; 4]).as_bytes());
     }
 
     /// Appends `"name":`.
     pub(crate) fn first_name(&mut self, name: &[u8])
         ensures { Appends self.old self.new (first_name name.now) }
     {
-        self.string(name);
-        self.raw(b":");
+        self.string_between(b"\"", name, b"\":");
     }
 
     /// Appends `,"name":`.
     pub(crate) fn next_name(&mut self, name: &[u8])
         ensures { Appends self.old self.new (next_name name.now) }
     {
-        self.raw(b",");
-        self.string(name);
-        self.raw(b":");
+        self.string_between(b",\"", name, b"\":");
     }
 
     /// Appends `"name":"text"`.
@@ -197,4 +213,11 @@ impl Out {
         self.next_name(name);
         self.raw(digits);
     }
+}
+
+/// Whether a byte of a string has to be escaped (RFC 8259, section 7).
+fn is_escaped(byte: u8) -> bool
+    ensures { OnFalse result (canonical_byte byte ≡ byte ∷ []) }
+{
+    byte == b'"' || byte == b'\\' || byte < 32
 }

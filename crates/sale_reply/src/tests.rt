@@ -40,7 +40,6 @@ fn approved() -> Option<Told> {
 /// Writes it where it is within the limits, and says whether it is.
 fn put(reply: &SaleReply<'_>, out: &mut Out) -> bool {
     if is_within_limits(reply) {
-        law_size();
         write_reply(reply, out);
         true
     } else {

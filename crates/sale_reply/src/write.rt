@@ -4,6 +4,7 @@ ghost use Rattle.json_text.specs.Canonical.{canonical};
 ghost use Rattle.sale_frame.specs.Grammar.{frame};
 ghost use Rattle.sale_reply.specs.inner.Appends.{Appends};
 ghost use Rattle.sale_reply.specs.inner.CanonicalMembers.{message_prefix};
+ghost use Rattle.sale_reply.specs.Limits.{IsWithinLimits};
 ghost use Rattle.sale_reply.specs.Reply.{header_tree, event_header, status_body, result_body, event_tree, tree_of};
 
 use crate::body::{
@@ -11,6 +12,7 @@ use crate::body::{
 };
 use crate::buffer::Out;
 use crate::device::{write_display, write_display_request, write_print_request};
+use crate::limits::law_size;
 use crate::reply::{Detail, SaleReply, Told};
 use crate::text::body_name;
 use gw_base::Ident;
@@ -19,11 +21,12 @@ use sale_values::{Class, Header, Kind, header_parts};
 /// Puts the message into the buffer, in its frame, and drops what was there. It takes no memory.
 ///
 /// JSON text (RFC 8259) of nexo Sale to POI 3.0 without white space. A message within the limits of this profile has
-/// at most 65,536 bytes.
+/// at most 65,536 bytes, and a transaction in it a trace number of six digits and a receipt number of four.
 pub fn write_reply(reply: &SaleReply<'_>, out: &mut Out)
-    requires { length (canonical (tree_of reply.now)) ≤ 65536 }
+    requires { IsWithinLimits reply.now }
     ensures { out.new ≡ frame (canonical (tree_of reply.now)) }
 {
+    law_size();
     out.begin();
     write_message(reply, out);
     out.end();

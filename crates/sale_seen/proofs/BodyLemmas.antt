@@ -19,7 +19,7 @@ use Rattle.sale_reply.specs.declared.reply.Verdict.{Verdict}
 use Rattle.sale_seen.specs.ReplyMembers.{OutcomeValue, amount_text_in, by_category, condition_in, outcome_in, outcome_of, repeated_in, transaction_in}
 use Rattle.sale_seen.specs.Transaction.{IsTransactionIdentifier}
 use Rattle.sale_seen.specs.Grammar.{FindsMember, NamesCondition, IsAmountMember, IsTransactionText}
-use Rattle.sale_seen.specs.Expected.{expected_condition, expected_amount, expected_result, expected_transaction, paid_minor, reversed_minor, text_of_outcome}
+use Rattle.sale_seen.specs.Expected.{expected_condition, expected_amount, expected_result, expected_transaction, paid_units, reversed_units, text_of_outcome}
 use Rattle.sale_seen.proofs.NameLemmas.{same_eq}
 use Rattle.sale_seen.proofs.TransactionLemmas.{transaction_is}
 
@@ -42,9 +42,9 @@ pub finds_transaction : (text transaction : Option (List ℕ)) → text ≡ tran
 finds_transaction text None e h = λ t named. let nothing : Option (List ℕ) = None in let f : nothing ≡ Some t = sym e ∙ named.0 in absurd cc
 finds_transaction text (Some t) e h = (e, h)
 
-pub finds_minor : (numeral : Option (List ℕ)) (units : Option ℕ) → numeral ≡ option_map money_text units → IfSome units (λ m. m < 2 ^ 64) → FindsMember (IsAmountMember numeral) units
-finds_minor numeral None e h = λ m named. let nothing : Option (List ℕ) = None in let f : nothing ≡ Some (money_text m) = sym e ∙ named.0 in absurd cc
-finds_minor numeral (Some m) e h = (e, h)
+pub finds_units : (numeral : Option (List ℕ)) (units : Option ℕ) → numeral ≡ option_map money_text units → IfSome units (λ m. m < 2 ^ 64) → FindsMember (IsAmountMember numeral) units
+finds_units numeral None e h = λ m named. let nothing : Option (List ℕ) = None in let f : nothing ≡ Some (money_text m) = sym e ∙ named.0 in absurd cc
+finds_units numeral (Some m) e h = (e, h)
 
 -- a body has this result and condition
 pub record HasResult (body : Tree) (outcome : ReplyResult) (why : Option Condition) : Type 0 where
@@ -192,7 +192,7 @@ body_text (ReversalDeclined mark condition) = refl
 body_text (Reconciled period currency debit reversed) = refl
 
 body_paid : (told : Told) → option_and_then numeral_of (tree_at (codes "PaymentResult.AmountsResp.AuthorizedAmount") (result_body told))
-    ≡ option_map money_text (paid_minor told)
+    ≡ option_map money_text (paid_units told)
 unfolding tree_at result_body approved_body payment_result
 body_paid (PaymentApproved transaction stamp mark requested paid) = refl
 body_paid (PaymentDeclined transaction stamp mark condition) = refl
@@ -200,7 +200,7 @@ body_paid (ReversalApproved mark reversed) = refl
 body_paid (ReversalDeclined mark condition) = refl
 body_paid (Reconciled period currency debit reversed) = refl
 
-body_reversed : (told : Told) → option_and_then numeral_of (tree_at (codes "ReversedAmount") (result_body told)) ≡ option_map money_text (reversed_minor told)
+body_reversed : (told : Told) → option_and_then numeral_of (tree_at (codes "ReversedAmount") (result_body told)) ≡ option_map money_text (reversed_units told)
 unfolding tree_at result_body approved_body
 body_reversed (PaymentApproved transaction stamp mark requested paid) = refl
 body_reversed (PaymentDeclined transaction stamp mark condition) = refl
@@ -211,7 +211,7 @@ body_reversed (Reconciled period currency debit reversed) = refl
 pub body_outcome : (category : List ℕ) (told : Told) → HasOutcome (outcome_of category (result_body told)) told
 body_outcome category told = record {
   transaction = ap (λ text. by_category category text text) (body_text told);
-  amount_text = either money_text category (paid_minor told) (reversed_minor told)
+  amount_text = either money_text category (paid_units told) (reversed_units told)
       (option_and_then numeral_of (tree_at (codes "PaymentResult.AmountsResp.AuthorizedAmount") (result_body told)))
       (option_and_then numeral_of (tree_at (codes "ReversedAmount") (result_body told))) (body_paid told) (body_reversed told);
 }
@@ -229,20 +229,20 @@ pub transaction_fits : (category : List ℕ) (told : Told) → IsToldWithinLimit
 transaction_fits category told h =
     fits_either IsTransactionIdentifier category (text_of_outcome told) (text_of_outcome told) (text_fits told h) (text_fits told h)
 
-paid_fits : (told : Told) → IsToldWithinLimits told → IfSome (paid_minor told) (λ m. m < 2 ^ 64)
+paid_fits : (told : Told) → IsToldWithinLimits told → IfSome (paid_units told) (λ m. m < 2 ^ 64)
 paid_fits (PaymentApproved transaction stamp mark requested paid) h = h.3
 paid_fits (PaymentDeclined transaction stamp mark condition) h = tt
 paid_fits (ReversalApproved mark reversed) h = tt
 paid_fits (ReversalDeclined mark condition) h = tt
 paid_fits (Reconciled period currency debit reversed) h = tt
 
-reversed_fits : (told : Told) → IsToldWithinLimits told → IfSome (reversed_minor told) (λ m. m < 2 ^ 64)
+reversed_fits : (told : Told) → IsToldWithinLimits told → IfSome (reversed_units told) (λ m. m < 2 ^ 64)
 reversed_fits (PaymentApproved transaction stamp mark requested paid) h = tt
 reversed_fits (PaymentDeclined transaction stamp mark condition) h = tt
 reversed_fits (ReversalApproved mark reversed) h = h.1
 reversed_fits (ReversalDeclined mark condition) h = tt
 reversed_fits (Reconciled period currency debit reversed) h = tt
 
-pub minor_fits : (category : List ℕ) (told : Told) → IsToldWithinLimits told → IfSome (expected_amount category told) (λ m. m < 2 ^ 64)
-minor_fits category told h =
-    fits_either (λ m. m < 2 ^ 64) category (paid_minor told) (reversed_minor told) (paid_fits told h) (reversed_fits told h)
+pub units_fit : (category : List ℕ) (told : Told) → IsToldWithinLimits told → IfSome (expected_amount category told) (λ m. m < 2 ^ 64)
+units_fit category told h =
+    fits_either (λ m. m < 2 ^ 64) category (paid_units told) (reversed_units told) (paid_fits told h) (reversed_fits told h)

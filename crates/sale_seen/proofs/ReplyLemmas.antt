@@ -19,7 +19,7 @@ use Rattle.sale_seen.specs.Fault.{LacksResult, result_path}
 use Rattle.sale_seen.specs.ReplyMembers.{OutcomeValue, amount_text_in, outcome_in, outcome_of, repeated_in, transaction_in}
 use Rattle.sale_seen.specs.Grammar.{ReadsReply, ReadReply}
 use Rattle.sale_seen.specs.Expected.{IsReadable, Suits, expected_condition, display_header_of, expected_outcome, expected_plain, expected_result, expected_reply}
-use Rattle.sale_seen.proofs.BodyLemmas.{HasOutcome, HasResult, IsAlone, alone_amount, alone_transaction, diagnosis_alone, diagnosis_shows, finds_minor, finds_transaction, minor_fits, plain_alone, plain_shows, print_alone, print_shows, status_repeats, status_shows, body_outcome, body_shows, transaction_fits}
+use Rattle.sale_seen.proofs.BodyLemmas.{HasOutcome, HasResult, IsAlone, alone_amount, alone_transaction, diagnosis_alone, diagnosis_shows, finds_units, finds_transaction, units_fit, plain_alone, plain_shows, print_alone, print_shows, status_repeats, status_shows, body_outcome, body_shows, transaction_fits}
 use Rattle.sale_seen.proofs.HeaderLemmas.{bodied, headed, object_of_reply}
 use Rattle.sale_seen.proofs.NameLemmas.{not_eq}
 
@@ -39,7 +39,7 @@ plain_reply header body condition h r shows own = (
     condition = shows.condition;
     transaction = finds_transaction (option_and_then transaction_in (outcome_in header.category body)) None
         (alone_transaction header.category body own) tt;
-    minor = finds_minor (option_and_then amount_text_in (outcome_in header.category body)) None
+    minor = finds_units (option_and_then amount_text_in (outcome_in header.category body)) None
         (alone_amount header.category body own) tt;
   },
 )
@@ -61,8 +61,8 @@ outcome_reply header body within result condition told h r shows found has fits 
     condition = shows.condition;
     transaction = finds_transaction (option_and_then transaction_in (outcome_in header.category body)) _
         (ap (option_and_then transaction_in) found ∙ has.transaction) (transaction_fits within.category told fits);
-    minor = finds_minor (option_and_then amount_text_in (outcome_in header.category body)) _
-        (ap (option_and_then amount_text_in) found ∙ has.amount_text) (minor_fits within.category told fits);
+    minor = finds_units (option_and_then amount_text_in (outcome_in header.category body)) _
+        (ap (option_and_then amount_text_in) found ∙ has.amount_text) (units_fit within.category told fits);
   },
 )
 

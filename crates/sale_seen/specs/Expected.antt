@@ -54,24 +54,24 @@ abbrev pub expected_transaction : List ℕ → Told → Option (List ℕ)
 expected_transaction category told = by_category category (text_of_outcome told) (text_of_outcome told)
 
 -- the minor units that were paid
-abbrev pub paid_minor : Told → Option ℕ
-paid_minor (PaymentApproved transaction stamp mark requested paid) = Some paid.minor
-paid_minor (PaymentDeclined transaction stamp mark condition) = None
-paid_minor (ReversalApproved mark reversed) = None
-paid_minor (ReversalDeclined mark condition) = None
-paid_minor (Reconciled period currency debit reversed) = None
+abbrev pub paid_units : Told → Option ℕ
+paid_units (PaymentApproved transaction stamp mark requested paid) = Some paid.minor
+paid_units (PaymentDeclined transaction stamp mark condition) = None
+paid_units (ReversalApproved mark reversed) = None
+paid_units (ReversalDeclined mark condition) = None
+paid_units (Reconciled period currency debit reversed) = None
 
 -- the minor units that were reversed
-abbrev pub reversed_minor : Told → Option ℕ
-reversed_minor (PaymentApproved transaction stamp mark requested paid) = None
-reversed_minor (PaymentDeclined transaction stamp mark condition) = None
-reversed_minor (ReversalApproved mark reversed) = Some reversed.minor
-reversed_minor (ReversalDeclined mark condition) = None
-reversed_minor (Reconciled period currency debit reversed) = None
+abbrev pub reversed_units : Told → Option ℕ
+reversed_units (PaymentApproved transaction stamp mark requested paid) = None
+reversed_units (PaymentDeclined transaction stamp mark condition) = None
+reversed_units (ReversalApproved mark reversed) = Some reversed.minor
+reversed_units (ReversalDeclined mark condition) = None
+reversed_units (Reconciled period currency debit reversed) = None
 
 -- the minor units that were paid in a payment, or reversed in a reversal
 abbrev pub expected_amount : List ℕ → Told → Option ℕ
-expected_amount category told = by_category category (paid_minor told) (reversed_minor told)
+expected_amount category told = by_category category (paid_units told) (reversed_units told)
 
 -- a result without an outcome
 abbrev pub expected_plain : Header → Option Condition → ReadReply

@@ -8,7 +8,7 @@ use sale_values::money;
 
 /// The minor units that are written with this text: whole units, a point and two digits. `None` where 64 bits don't
 /// hold them, or where they are written in another way.
-pub(crate) fn minor_of(text: &[u8]) -> Option<u64>
+pub(crate) fn units_of(text: &[u8]) -> Option<u64>
     ensures { FindsMember (λ units. (text.now ≡ money_text units) × (units < 2 ^ 64)) result }
 {
     // The digits are read whatever bytes are among them, and then the number is written again: one comparison refuses

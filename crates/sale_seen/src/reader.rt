@@ -12,7 +12,7 @@ ghost use Rattle.sale_seen.specs.ReplyMembers.{amount_text_in, condition_in, res
 ghost use Rattle.sale_seen.specs.inner.OutcomeRead.{outcome_value};
 ghost use Rattle.sale_seen.specs.Grammar.{FindsMember, ReadsReply, ReadReply, NamesCondition, IsAmountMember, NamesResult, IsTransactionText, read_reply_value};
 
-use crate::amount_text::minor_of;
+use crate::amount_text::units_of;
 use crate::reply_members::{Outcome, amount_text, find_outcome, response, text, transaction_text};
 use crate::transaction::is_transaction;
 use crate::{ReplySeen, paths};
@@ -170,7 +170,7 @@ fn units(outcome: Option<Outcome<'_>>) -> Option<u64>
         None => None,
         Some(outcome) => match amount_text(&outcome) {
             None => None,
-            Some(numeral) => minor_of(numeral),
+            Some(numeral) => units_of(numeral),
         },
     }
 }

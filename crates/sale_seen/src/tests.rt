@@ -1,6 +1,6 @@
 //! Replies as a till receives them.
 
-use crate::amount_text::minor_of;
+use crate::amount_text::units_of;
 use crate::transaction::is_transaction;
 use crate::{ReplySeen, read_reply};
 use gw_base::Ident;
@@ -249,7 +249,7 @@ fn money(rt: HostRuntime) -> Result<(), Fail> {
         (b"", None),
     ];
     for (text, units) in rows {
-        assert_eq!(rt; minor_of(text), units);
+        assert_eq!(rt; units_of(text), units);
     }
     Ok(())
 }

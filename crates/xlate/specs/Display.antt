@@ -15,13 +15,13 @@ abbrev pub customer_output : List Output → Option Output
 customer_output outputs = find is_for_customer outputs
 
 -- a line: the first 40 characters of a text, in the bytes of a terminal's text
-abbrev pub shown_line : List ℕ → List ℕ
-shown_line text = map byte_of (take 40 (chars text))
+abbrev pub display_line : List ℕ → List ℕ
+display_line text = map byte_of (take 40 (chars text))
 
 -- the lines: one for each of the first eight texts; none where there are no texts
-abbrev pub shown_lines : Option (List (List ℕ)) → List (List ℕ)
-shown_lines None = []
-shown_lines (Some texts) = map shown_line (take 8 texts)
+abbrev pub display_lines : Option (List (List ℕ)) → List (List ℕ)
+display_lines None = []
+display_lines (Some texts) = map display_line (take 8 texts)
 
 -- the command that shows these lines
 abbrev pub show_lines : List (List ℕ) → Command
@@ -29,4 +29,4 @@ show_lines lines = Show (record { items = map (λ line. record { items = line })
 
 -- the command that shows the first output for the customer's display; none where there is none
 abbrev pub show : List Output → Option Command
-show outputs = option_map (λ output. show_lines (shown_lines output.texts)) (customer_output outputs)
+show outputs = option_map (λ output. show_lines (display_lines output.texts)) (customer_output outputs)

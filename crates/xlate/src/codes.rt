@@ -5,13 +5,13 @@ ghost use Rattle.xlate.specs.Codes.{condition_of_code};
 
 use gw_base::Condition;
 
-/// The condition of a code that declines: that of a result or of an abort. `stop_sent` says whether this dialogue sent a stop;
-/// what an enquiry reports is read with none.
-pub fn condition_of(code: u8, stop_sent: bool) -> Condition
-    ensures condition { result ≡ condition_of_code code stop_sent }
+/// The condition of a code that declines: the error code of a refusal, or the result code of a status or an abort. `stop_sent`
+/// says whether this dialogue sent a stop; what an enquiry reports is read with none.
+pub fn condition_of(result_code: u8, stop_sent: bool) -> Condition
+    ensures condition { result ≡ condition_of_code result_code stop_sent }
     ensures reason { 1 ≤ reason_code result }
 {
-    match code {
+    match result_code {
         0x6C => {
             if stop_sent {
                 Condition::Aborted

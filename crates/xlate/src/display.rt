@@ -2,7 +2,7 @@
 ghost use Rattle.std.specs.Prelude.{◌≡◌, List, ℕ, map, option_map, find, bytes_eq, codes};
 ghost use Rattle.std.specs.Option.{option_copied};
 ghost use Rattle.arrayvec.specs.ArrayVec.{ArrayVec};
-ghost use Rattle.xlate.specs.Display.{customer_output, is_for_customer, show, shown_line, shown_lines};
+ghost use Rattle.xlate.specs.Display.{customer_output, is_for_customer, show, display_line, display_lines};
 
 use gw_base::byte_of_437;
 use gw_bytes::{LONGEST_SHOWN_LINE, MOST_SHOWN_LINES};
@@ -17,7 +17,7 @@ pub fn show_of(outputs: &Outputs) -> Option<Command>
     match customer_output(outputs.as_slice()) {
         None => None,
         Some(output) => Some(Command::Show {
-            lines: shown_lines(&output.texts),
+            lines: display_lines(&output.texts),
         }),
     }
 }
@@ -42,21 +42,21 @@ fn is_for_customer(output: &Output) -> bool
 }
 
 /// The lines of an output's texts; none where it has no texts.
-fn shown_lines(texts: &Option<Texts>) -> Lines
-    ensures { map (λ (line : ArrayVec ℕ). line.items) result.items ≡ shown_lines texts.now }
+fn display_lines(texts: &Option<Texts>) -> Lines
+    ensures { map (λ (line : ArrayVec ℕ). line.items) result.items ≡ display_lines texts.now }
 {
     let mut lines = Lines::new();
     if let Some(texts) = texts {
         for text in texts.as_slice().iter().take(MOST_SHOWN_LINES) {
-            lines.push(shown_line(text.as_str()));
+            lines.push(display_line(text.as_str()));
         }
     }
     lines
 }
 
 /// The line of a text.
-fn shown_line(text: &str) -> Line
-    ensures { result.items ≡ shown_line text.now }
+fn display_line(text: &str) -> Line
+    ensures { result.items ≡ display_line text.now }
 {
     let mut line = Line::new();
     for c in text.chars().take(LONGEST_SHOWN_LINE) {

@@ -1,5 +1,6 @@
 //! Laws of what is asked of terminals and replied to tills.
 ghost use Rattle.xlate.specs.Ask.{CommandsHaveDigits};
+ghost use Rattle.xlate.specs.Example.{ExampleCommands, ExampleNumbers, ExampleReplies, ExampleTexts};
 ghost use Rattle.xlate.specs.ReplyRead.{RepliesSayRecords};
 ghost use Rattle.xlate.specs.Text.{TextIdentifiesEntry};
 
@@ -25,3 +26,12 @@ pub fn law_replies()
 {
     law_reply_read();
 }
+
+/// Examples of the laws, which are computed: their premises hold of a payment, its reversal and its replies, and those of
+/// `law_transaction_texts` of the greatest numbers.
+pub fn law_examples()
+    ensures commands { ExampleCommands }
+    ensures texts { ExampleTexts }
+    ensures numbers { ExampleNumbers }
+    ensures replies { ExampleReplies }
+{}

@@ -237,18 +237,22 @@ fn period_of(how: How) -> Period
 // For the prover alone: what follows holds by the types of the arguments, and these functions do nothing. A contract
 // learns what a type says of a value by a call that the value is handed to.
 
+/// A number of this type has 32 bits.
 fn law_u32(value: u32)
     ensures { value < 2 ^ 32 }
 {
     let _value = value;
 }
 
+/// A number of this type has 64 bits.
 fn law_u64(value: u64)
     ensures { value < 2 ^ 64 }
 {
     let _value = value;
 }
 
+/// A count and a sum of these types lie within the limits of a reply's totals. `sale_reply` has the same for itself: it is
+/// private there, since a caller in Rust has no use of it.
 fn law_total(total: &(u32, u64))
     ensures { IsTotalWithinLimits total.now }
 {

@@ -8,11 +8,11 @@ use Rattle.zvt_apdu.specs.Grammar.{ApduValue, longest_apdu_data, short_length, l
 use Rattle.zvt_apdu.specs.Decode.{DecodedApdu, decode_apdu_data, decode_apdu}
 
 -- after a header, the data are there whole
-pub body_is_whole : (class instr : ℕ) (body rest : List ℕ) → length body ≤ 12000 → decode_apdu_data class instr (length body) (body ++ rest) ≡ DecodedApdu.Whole (record { class = class; instr = instr; body = body }) rest
-body_is_whole class instr body rest within =
-    let small : ltb 12000 (length body) ≡ false = le-ltb _ _ within in
-    let long : ltb (length (body ++ rest)) (length body) ≡ false = le-ltb _ _ (omega (arith, length-append body rest)) in
-    rw (small, long, take_at body rest (length body) refl, drop_at body rest (length body) refl) refl
+pub data_is_whole : (class instr : ℕ) (apdu_data rest : List ℕ) → length apdu_data ≤ 12000 → decode_apdu_data class instr (length apdu_data) (apdu_data ++ rest) ≡ DecodedApdu.Whole (record { class = class; instr = instr; body = apdu_data }) rest
+data_is_whole class instr apdu_data rest within =
+    let small : ltb 12000 (length apdu_data) ≡ false = le-ltb _ _ within in
+    let long : ltb (length (apdu_data ++ rest)) (length apdu_data) ≡ false = le-ltb _ _ (omega (arith, length-append apdu_data rest)) in
+    rw (small, long, take_at apdu_data rest (length apdu_data) refl, drop_at apdu_data rest (length apdu_data) refl) refl
 
 -- after a header of either form, the function looks at the length
 pub prefix_of_header : (class instr n : ℕ) (length_bytes bytes : List ℕ) → SpellsApduLength length_bytes n → decode_apdu (class ∷ instr ∷ (length_bytes ++ bytes)) ≡ decode_apdu_data class instr n bytes
@@ -24,7 +24,7 @@ prefix_of_header class instr n length_bytes bytes (inr (low, high, value, long))
 pub begins_whole : (bytes : List ℕ) (apdu : ApduValue) (rest : List ℕ) → BeginsWithApdu bytes apdu rest → decode_apdu bytes ≡ DecodedApdu.Whole apdu rest
 begins_whole bytes apdu rest (prefix, spells, parts) =
     let regrouped : bytes ≡ apdu.class ∷ apdu.instr ∷ (spells.length_bytes ++ (apdu.body ++ rest)) = parts ∙ ap (λ (f : List ℕ). f ++ rest) spells.whole ∙ ap (λ (t : List ℕ). apdu.class ∷ apdu.instr ∷ t) (append_assoc spells.length_bytes apdu.body rest) in
-    ap decode_apdu regrouped ∙ prefix_of_header apdu.class apdu.instr (length apdu.body) spells.length_bytes (apdu.body ++ rest) spells.is_length ∙ body_is_whole apdu.class apdu.instr apdu.body rest spells.within
+    ap decode_apdu regrouped ∙ prefix_of_header apdu.class apdu.instr (length apdu.body) spells.length_bytes (apdu.body ++ rest) spells.is_length ∙ data_is_whole apdu.class apdu.instr apdu.body rest spells.within
 
 pub too_long_prefix : (bytes : List ℕ) (n : ℕ) → BeginsTooLongApdu bytes n → decode_apdu bytes ≡ DecodedApdu.TooLong n
 too_long_prefix bytes n (class, instr, length_bytes, more, is_length, above, parts) =
@@ -50,10 +50,10 @@ record Headed (bytes : List ℕ) : Type 0 where
 completes : (class instr n : ℕ) (length_bytes more : List ℕ) → SpellsApduLength length_bytes n → n ≤ 12000 → length more < n → IsProperApduPrefix (class ∷ instr ∷ (length_bytes ++ more))
 completes class instr n length_bytes more is_length within truncated =
     let missing : List ℕ = replicate (n - length more) 0 in
-    let body : List ℕ = more ++ missing in
-    let size : length body ≡ n = omega (arith, length-append more missing, length-replicate {A = ℕ} (n - length more) 0) in
+    let apdu_data : List ℕ = more ++ missing in
+    let size : length apdu_data ≡ n = omega (arith, length-append more missing, length-replicate {A = ℕ} (n - length more) 0) in
     let some : missing ≢ [] = λ e. omega (arith, ap length e, length-replicate {A = ℕ} (n - length more) 0) in
-    let apdu : ApduValue = record { class = class; instr = instr; body = body } in
+    let apdu : ApduValue = record { class = class; instr = instr; body = apdu_data } in
     let spells : SpellsApdu ((class ∷ instr ∷ (length_bytes ++ more)) ++ missing) apdu = record {
       length_bytes = length_bytes;
       is_length = rw size is_length;
@@ -89,15 +89,15 @@ truncated_long class instr =
 
 truncated_longer : (class instr low : ℕ) → low < 256 → IsProperApduPrefix (class ∷ instr ∷ 255 ∷ low ∷ [])
 truncated_longer class instr low small =
-    let body : List ℕ = replicate low 0 in
-    let size : length body ≡ low = length-replicate {A = ℕ} low 0 in
-    let spells : SpellsApdu (class ∷ instr ∷ 255 ∷ low ∷ 0 ∷ body) (record { class = class; instr = instr; body = body }) = record {
+    let apdu_data : List ℕ = replicate low 0 in
+    let size : length apdu_data ≡ low = length-replicate {A = ℕ} low 0 in
+    let spells : SpellsApdu (class ∷ instr ∷ 255 ∷ low ∷ 0 ∷ apdu_data) (record { class = class; instr = instr; body = apdu_data }) = record {
       length_bytes = long_length low 0;
       is_length = inr (low, 0, omega (arith, size), refl);
       within = omega (arith, size);
       whole = refl;
     } in
-    (0 ∷ body, record { class = class; instr = instr; body = body }, (λ e. absurd cc), spells)
+    (0 ∷ apdu_data, record { class = class; instr = instr; body = apdu_data }, (λ e. absurd cc), spells)
 
 long_header : (class instr : ℕ) (bytes : List ℕ) → AreBytes bytes → IsTruncatedHeader (class ∷ instr ∷ 255 ∷ bytes) ⊎ Headed (class ∷ instr ∷ 255 ∷ bytes)
 long_header class instr [] bounds = inl (refl, truncated_long class instr)
@@ -151,9 +151,9 @@ whole_begins bytes apdu rest bounds e =
     elim (header bytes bounds) [
       | inl truncated ↦ absurd (cc (truncated.0, e))
       | inr h ↦
-          let at_body : decode_apdu_data h.class h.instr h.n h.more ≡ DecodedApdu.Whole apdu rest = sym (ap decode_apdu h.parts ∙ prefix_of_header h.class h.instr h.n h.length_bytes h.more h.is_length) ∙ e in
+          let at_data : decode_apdu_data h.class h.instr h.n h.more ≡ DecodedApdu.Whole apdu rest = sym (ap decode_apdu h.parts ∙ prefix_of_header h.class h.instr h.n h.length_bytes h.more h.is_length) ∙ e in
           let found : ApduValue = record { class = h.class; instr = h.instr; body = take h.n h.more } in
-          let choice = whole_choice (ltb 12000 h.n) (ltb (length h.more) h.n) h.n found apdu (drop h.n h.more) rest at_body in
+          let choice = whole_choice (ltb 12000 h.n) (ltb (length h.more) h.n) h.n found apdu (drop h.n h.more) rest at_data in
           let within : h.n ≤ 12000 = ltb-false _ _ choice.0 in
           let there : h.n ≤ length h.more = ltb-false _ _ choice.1 in
           let size : length (take h.n h.more) ≡ h.n = omega (arith, length-take h.n h.more) in
@@ -173,8 +173,8 @@ prefix_too_long bytes n bounds e =
     elim (header bytes bounds) [
       | inl truncated ↦ absurd (cc (truncated.0, e))
       | inr h ↦
-          let at_body : decode_apdu_data h.class h.instr h.n h.more ≡ DecodedApdu.TooLong n = sym (ap decode_apdu h.parts ∙ prefix_of_header h.class h.instr h.n h.length_bytes h.more h.is_length) ∙ e in
-          let choice = long_choice (ltb 12000 h.n) (ltb (length h.more) h.n) h.n n (record { class = h.class; instr = h.instr; body = take h.n h.more }) (drop h.n h.more) at_body in
+          let at_data : decode_apdu_data h.class h.instr h.n h.more ≡ DecodedApdu.TooLong n = sym (ap decode_apdu h.parts ∙ prefix_of_header h.class h.instr h.n h.length_bytes h.more h.is_length) ∙ e in
+          let choice = long_choice (ltb 12000 h.n) (ltb (length h.more) h.n) h.n n (record { class = h.class; instr = h.instr; body = take h.n h.more }) (drop h.n h.more) at_data in
           let above : 12000 < h.n = ltb-true _ _ choice.0 in
           subst (λ (k : ℕ). BeginsTooLongApdu bytes k) choice.1 (h.class, h.instr, h.length_bytes, h.more, h.is_length, above, h.parts)
     ]
@@ -184,8 +184,8 @@ prefix_incomplete bytes bounds e =
     elim (header bytes bounds) [
       | inl truncated ↦ truncated.1
       | inr h ↦
-          let at_body : decode_apdu_data h.class h.instr h.n h.more ≡ DecodedApdu.Incomplete = sym (ap decode_apdu h.parts ∙ prefix_of_header h.class h.instr h.n h.length_bytes h.more h.is_length) ∙ e in
-          let choice = incomplete_choice (ltb 12000 h.n) (ltb (length h.more) h.n) h.n (record { class = h.class; instr = h.instr; body = take h.n h.more }) (drop h.n h.more) at_body in
+          let at_data : decode_apdu_data h.class h.instr h.n h.more ≡ DecodedApdu.Incomplete = sym (ap decode_apdu h.parts ∙ prefix_of_header h.class h.instr h.n h.length_bytes h.more h.is_length) ∙ e in
+          let choice = incomplete_choice (ltb 12000 h.n) (ltb (length h.more) h.n) h.n (record { class = h.class; instr = h.instr; body = take h.n h.more }) (drop h.n h.more) at_data in
           let within : h.n ≤ 12000 = ltb-false _ _ choice.0 in
           let truncated : length h.more < h.n = ltb-true _ _ choice.1 in
           subst IsProperApduPrefix (sym h.parts) (completes h.class h.instr h.n h.length_bytes h.more h.is_length within truncated)

@@ -11,19 +11,19 @@ use Rattle.zvt_apdu.proofs.DecodeLemmas.{whole_choice, begins_whole, whole_begin
 
 -- ---- an APDU takes at least its header
 
-body_shrinks : (class instr n : ℕ) (bytes : List ℕ) (apdu : ApduValue) (rest : List ℕ) → decode_apdu_data class instr n bytes ≡ DecodedApdu.Whole apdu rest → length rest ≤ length bytes
-body_shrinks class instr n bytes apdu rest e =
+data_shrinks : (class instr n : ℕ) (bytes : List ℕ) (apdu : ApduValue) (rest : List ℕ) → decode_apdu_data class instr n bytes ≡ DecodedApdu.Whole apdu rest → length rest ≤ length bytes
+data_shrinks class instr n bytes apdu rest e =
     let choice = whole_choice (ltb 12000 n) (ltb (length bytes) n) n (record { class = class; instr = instr; body = take n bytes }) apdu (drop n bytes) rest e in
     omega (arith, ap length choice.3, length-drop n bytes)
 
 long_shrinks : (class instr : ℕ) (bytes : List ℕ) (apdu : ApduValue) (rest : List ℕ) → decode_long_apdu class instr bytes ≡ DecodedApdu.Whole apdu rest → length rest ≤ length bytes
 long_shrinks class instr [] apdu rest e = absurd cc
 long_shrinks class instr (low ∷ []) apdu rest e = absurd cc
-long_shrinks class instr (low ∷ high ∷ bytes) apdu rest e = omega (arith, body_shrinks class instr _ bytes apdu rest e)
+long_shrinks class instr (low ∷ high ∷ bytes) apdu rest e = omega (arith, data_shrinks class instr _ bytes apdu rest e)
 
 header_shrinks : (is_long : Bool) (class instr n : ℕ) (bytes : List ℕ) (apdu : ApduValue) (rest : List ℕ) → cond is_long (decode_long_apdu class instr bytes) (decode_apdu_data class instr n bytes) ≡ DecodedApdu.Whole apdu rest → length rest ≤ length bytes
 header_shrinks true class instr n bytes apdu rest e = long_shrinks class instr bytes apdu rest e
-header_shrinks false class instr n bytes apdu rest e = body_shrinks class instr n bytes apdu rest e
+header_shrinks false class instr n bytes apdu rest e = data_shrinks class instr n bytes apdu rest e
 
 prefix_shrinks : (bytes : List ℕ) (apdu : ApduValue) (rest : List ℕ) → decode_apdu bytes ≡ DecodedApdu.Whole apdu rest → length rest < length bytes
 prefix_shrinks [] apdu rest e = absurd cc

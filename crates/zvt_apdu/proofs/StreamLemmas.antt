@@ -51,19 +51,19 @@ Splits-more [] bytes rest apdu left same begins = (left, subst (λ (b : List ℕ
 Splits-more (first ∷ apdus) bytes rest apdu left (more, starts, splits) begins = (more, starts, Splits-more apdus more rest apdu left splits begins)
 
 -- what was read before the steps, and what they read
-pub run_splits : (steps : List ApduStep) (bytes old new : List ℕ) (apdus : List ApduValue) → BeginsWithApdus bytes apdus old → Steps TakesApdu old steps new → BeginsWithApdus (bytes ++ fed steps) (apdus ++ given steps) new
-run_splits [] bytes old new apdus before same =
+pub steps_split : (steps : List ApduStep) (bytes old new : List ℕ) (apdus : List ApduValue) → BeginsWithApdus bytes apdus old → Steps TakesApdu old steps new → BeginsWithApdus (bytes ++ fed steps) (apdus ++ given steps) new
+steps_split [] bytes old new apdus before same =
     rw (append-nil bytes, append-nil apdus) (subst (BeginsWithApdus bytes apdus) (sym same) before)
-run_splits (Fed chunk ∷ steps) bytes old new apdus before (mid, takes, run) =
+steps_split (Fed chunk ∷ steps) bytes old new apdus before (mid, takes, taken) =
     let longer : BeginsWithApdus (bytes ++ chunk) apdus mid = subst (BeginsWithApdus (bytes ++ chunk) apdus) (sym takes) (Splits-extend apdus bytes old chunk before) in
-    rw append_assoc at (run_splits steps (bytes ++ chunk) mid new apdus longer run)
-run_splits (Gave apdu ∷ steps) bytes old new apdus before (mid, takes, run) =
+    rw append_assoc at (steps_split steps (bytes ++ chunk) mid new apdus longer taken)
+steps_split (Gave apdu ∷ steps) bytes old new apdus before (mid, takes, taken) =
     subst (λ (found : List ApduValue). BeginsWithApdus (bytes ++ fed steps) found new) (append_assoc apdus (apdu ∷ []) (given steps))
-    (run_splits steps bytes mid new (apdus ++ apdu ∷ []) (Splits-more apdus bytes old apdu mid before takes) run)
-run_splits (Incomplete ∷ steps) bytes old new apdus before (mid, takes, run) =
-    run_splits steps bytes mid new apdus (subst (BeginsWithApdus bytes apdus) (sym takes.1) before) run
-run_splits (Refused n ∷ steps) bytes old new apdus before (mid, takes, run) =
-    run_splits steps bytes mid new apdus (subst (BeginsWithApdus bytes apdus) (sym takes.1) before) run
+    (steps_split steps bytes mid new (apdus ++ apdu ∷ []) (Splits-more apdus bytes old apdu mid before takes) taken)
+steps_split (Incomplete ∷ steps) bytes old new apdus before (mid, takes, taken) =
+    steps_split steps bytes mid new apdus (subst (BeginsWithApdus bytes apdus) (sym takes.1) before) taken
+steps_split (Refused n ∷ steps) bytes old new apdus before (mid, takes, taken) =
+    steps_split steps bytes mid new apdus (subst (BeginsWithApdus bytes apdus) (sym takes.1) before) taken
 
 pub chunks : (steps : List ApduStep) (waiting : List ℕ) → Steps TakesApdu [] steps waiting → BeginsWithApdus (fed steps) (given steps) waiting
-chunks steps waiting run = run_splits steps [] [] waiting [] refl run
+chunks steps waiting taken = steps_split steps [] [] waiting [] refl taken

@@ -55,4 +55,4 @@ canonical_apdu_length n = if nat_lt n 255 then short_length n else long_length (
 
 -- the one written form of an APDU
 abbrev pub canonical_apdu : ℕ → ℕ → List ℕ → List ℕ
-canonical_apdu class instr body = class ∷ instr ∷ (canonical_apdu_length (length body) ++ body)
+canonical_apdu class instr apdu_data = class ∷ instr ∷ (canonical_apdu_length (length apdu_data) ++ apdu_data)

@@ -16,17 +16,17 @@ pub(crate) fn first_apdu(bytes: &[u8]) -> Result<Option<(Apdu<'_>, &[u8])>, Apdu
 {
     match bytes {
         [class, instr, 0xFF, low, high, rest @ ..] => {
-            with_body(*class, *instr, u16::from_le_bytes([*low, *high]), rest)
+            with_data(*class, *instr, u16::from_le_bytes([*low, *high]), rest)
         }
         [class, instr, length, rest @ ..] if *length != 0xFF => {
-            with_body(*class, *instr, u16::from(*length), rest)
+            with_data(*class, *instr, u16::from(*length), rest)
         }
         _ => Ok(None),
     }
 }
 
 /// The APDU whose header was read, with its data from the `bytes` after the header.
-fn with_body(
+fn with_data(
     class: u8,
     instr: u8,
     length: u16,
@@ -42,6 +42,13 @@ fn with_body(
     if bytes.len() < length {
         return Ok(None);
     }
-    let (body, rest) = bytes.split_at(length);
-    Ok(Some((Apdu { class, instr, body }, rest)))
+    let (apdu_data, rest) = bytes.split_at(length);
+    Ok(Some((
+        Apdu {
+            class,
+            instr,
+            body: apdu_data,
+        },
+        rest,
+    )))
 }

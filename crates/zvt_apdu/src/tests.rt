@@ -45,9 +45,9 @@ fn compare_chunk(
     reader.feed(chunk);
     while let Some(apdu) = reader.next()? {
         let row = rows.get(*given).expect(rt, "no more APDUs than rows");
-        let body = stream.get(row.2..row.3).expect(rt, "a range of the stream");
+        let data = stream.get(row.2..row.3).expect(rt, "a range of the stream");
         assert_eq!(rt; (apdu.class, apdu.instr), (row.0, row.1));
-        assert!(rt; apdu.body == body, "the data of APDU {}", *given);
+        assert!(rt; apdu.body == data, "the data of APDU {}", *given);
         *given = given.saturating_add(1);
     }
     Ok(())
@@ -148,9 +148,9 @@ fn lengths_are_written_in_the_shortest_form(rt: HostRuntime) {
         (255, b"\x06\x0f\xff\xff\x00".as_slice()),
         (300, b"\x06\x0f\xff\x2c\x01".as_slice()),
     ] {
-        let body = [0x41; 300];
+        let data = [0x41; 300];
         let mut out = ArrayVec::new();
-        write_apdu(0x06, 0x0F, &body[..length], &mut out);
+        write_apdu(0x06, 0x0F, &data[..length], &mut out);
         assert!(rt; out.as_slice().starts_with(header), "{length} bytes");
         assert_eq!(rt; out.len(), header.len() + length);
     }

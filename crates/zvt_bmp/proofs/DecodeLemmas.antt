@@ -16,7 +16,7 @@ use Rattle.zvt_bmp.specs.Decode.{decode_field_value, may_not_repeat, put_field, 
 use Rattle.gw_base.specs.Bcd.{is_bcd}
 use Rattle.gw_base.proofs.BcdLemmas.{bcd_passes, passes_bcd}
 use Rattle.zvt_bmp.proofs.ValueLemmas.{value_found, value_read, value_wrong, wrong_value, value_truncated, truncated_value, value_shorter}
-use Rattle.zvt_bmp.proofs.PutLemmas.{seen_of, seen_has, put_field_of, put_none}
+use Rattle.zvt_bmp.proofs.PutLemmas.{fields_so_far, may_not_repeat_is, put_field_of, put_none}
 
 -- ---- from the grammar to the function, one field
 
@@ -25,23 +25,23 @@ not_true true h = absurd (h refl)
 not_true false h = refl
 
 -- a field that may come there is looked at
-looked_at : (before : List Field) (offset number : ℕ) (form : LengthForm) (body : List ℕ) → length_form_of number ≡ Some form → (RepeatsField before number → ⊥) → decode_status_field (seen_of before) offset (number ∷ body) ≡ after_field_value (seen_of before) offset number (decode_field_value form body)
+looked_at : (before : List Field) (offset number : ℕ) (form : LengthForm) (after_number : List ℕ) → length_form_of number ≡ Some form → (RepeatsField before number → ⊥) → decode_status_field (fields_so_far before) offset (number ∷ after_number) ≡ after_field_value (fields_so_far before) offset number (decode_field_value form after_number)
 unfolding decode_status_field
-looked_at before offset number form body known once =
-    let new : may_not_repeat (seen_of before) number ≡ false = seen_has before number ∙ not_true (is_single number && has_field number before) once in
-    ap (after_field_number (seen_of before) offset number body) known
-    ∙ ap (λ (b : Bool). cond b (Err (Twice number)) (after_field_value (seen_of before) offset number (decode_field_value form body))) new
+looked_at before offset number form after_number known once =
+    let new : may_not_repeat (fields_so_far before) number ≡ false = may_not_repeat_is before number ∙ not_true (is_single number && has_field number before) once in
+    ap (after_field_number (fields_so_far before) offset number after_number) known
+    ∙ ap (λ (b : Bool). cond b (Err (Twice number)) (after_field_value (fields_so_far before) offset number (decode_field_value form after_number))) new
 
-pub field_goes : (before : List Field) (offset : ℕ) (bytes : List ℕ) (field : Field) (rest : List ℕ) → BeginsWithField bytes field rest → IsWellFormedAfter before field → decode_status_field (seen_of before) offset bytes ≡ Ok (Some (seen_of (before ++ field ∷ []), rest))
-field_goes before offset bytes field rest (form, body, known, parts, value) well_formed =
-    ap (decode_status_field (seen_of before) offset) parts ∙ looked_at before offset field.number form body known well_formed.once
-    ∙ ap (after_field_value (seen_of before) offset field.number) (value_found form body field.value rest value)
+pub field_goes : (before : List Field) (offset : ℕ) (bytes : List ℕ) (field : Field) (rest : List ℕ) → BeginsWithField bytes field rest → IsWellFormedAfter before field → decode_status_field (fields_so_far before) offset bytes ≡ Ok (Some (fields_so_far (before ++ field ∷ []), rest))
+field_goes before offset bytes field rest (form, after_number, known, parts, value) well_formed =
+    ap (decode_status_field (fields_so_far before) offset) parts ∙ looked_at before offset field.number form after_number known well_formed.once
+    ∙ ap (after_field_value (fields_so_far before) offset field.number) (value_found form after_number field.value rest value)
     ∙ ap (after_put_field offset rest) (put_field_of before field well_formed)
 
 tail_ends : (so_far : FieldsSoFar) (offset : ℕ) (bytes : List ℕ) → IsFieldTail bytes → decode_status_field so_far offset bytes ≡ Ok None
 unfolding decode_status_field
 tail_ends so_far offset [] tail = refl
-tail_ends so_far offset (number ∷ body) tail = ap (after_field_number so_far offset number body) tail
+tail_ends so_far offset (number ∷ after_number) tail = ap (after_field_number so_far offset number after_number) tail
 
 -- a number that comes once at most is in the table
 data Single : ℕ → Type 0 where
@@ -63,25 +63,25 @@ single_known number single =
       ]
     ]
 
-repeated : (before : List Field) (offset number : ℕ) (body : List ℕ) → RepeatsField before number → Single number → decode_status_field (seen_of before) offset (number ∷ body) ≡ Err (Twice number)
+repeated : (before : List Field) (offset number : ℕ) (after_number : List ℕ) → RepeatsField before number → Single number → decode_status_field (fields_so_far before) offset (number ∷ after_number) ≡ Err (Twice number)
 unfolding decode_status_field
-repeated before offset number body repeats (One form known) =
-    ap (after_field_number (seen_of before) offset number body) known
-    ∙ ap (λ (b : Bool). cond b (Err (Twice number)) (after_field_value (seen_of before) offset number (decode_field_value form body))) (seen_has before number ∙ repeats)
+repeated before offset number after_number repeats (One form known) =
+    ap (after_field_number (fields_so_far before) offset number after_number) known
+    ∙ ap (λ (b : Bool). cond b (Err (Twice number)) (after_field_value (fields_so_far before) offset number (decode_field_value form after_number))) (may_not_repeat_is before number ∙ repeats)
 
-pub field_fails : (before : List Field) (bytes : List ℕ) (offset : ℕ) (fault : FieldFault) → FieldsEndAt before bytes offset (Err fault) → decode_status_field (seen_of before) offset bytes ≡ Err fault
+pub field_fails : (before : List Field) (bytes : List ℕ) (offset : ℕ) (fault : FieldFault) → FieldsEndAt before bytes offset (Err fault) → decode_status_field (fields_so_far before) offset bytes ≡ Err fault
 field_fails before bytes offset (Twice number) (more, parts, repeats) =
-    ap (decode_status_field (seen_of before) offset) parts ∙ repeated before offset number more repeats (single_known number (and_parts (is_single number) (has_field number before) repeats).0)
-field_fails before bytes offset (BadLength reported) (is, form, body, begins, wrong) =
-    ap (decode_status_field (seen_of before) offset) begins.parts ∙ looked_at before offset begins.number form body begins.known begins.once
-    ∙ ap (after_field_value (seen_of before) offset begins.number) (wrong_value form body wrong) ∙ ap (λ (p : ℕ). Err (BadLength p)) (sym is)
-field_fails before bytes offset (Short reported) (is, form, body, begins, truncated) =
-    ap (decode_status_field (seen_of before) offset) begins.parts ∙ looked_at before offset begins.number form body begins.known begins.once
-    ∙ ap (after_field_value (seen_of before) offset begins.number) (truncated_value form body truncated) ∙ ap (λ (p : ℕ). Err (Short p)) (sym is)
-field_fails before bytes offset (NotDigits reported) (is, field, more, (form, body, known, parts, value), once, in_digits, not) =
-    ap (decode_status_field (seen_of before) offset) parts ∙ looked_at before offset field.number form body known once
-    ∙ ap (after_field_value (seen_of before) offset field.number) (value_found form body field.value more value)
-    ∙ ap (after_put_field offset more) (put_none (seen_of before) field.number field.value in_digits not)
+    ap (decode_status_field (fields_so_far before) offset) parts ∙ repeated before offset number more repeats (single_known number (and_parts (is_single number) (has_field number before) repeats).0)
+field_fails before bytes offset (BadLength reported) (is, form, after_number, begins, wrong) =
+    ap (decode_status_field (fields_so_far before) offset) begins.parts ∙ looked_at before offset begins.number form after_number begins.known begins.once
+    ∙ ap (after_field_value (fields_so_far before) offset begins.number) (wrong_value form after_number wrong) ∙ ap (λ (p : ℕ). Err (BadLength p)) (sym is)
+field_fails before bytes offset (Short reported) (is, form, after_number, begins, truncated) =
+    ap (decode_status_field (fields_so_far before) offset) begins.parts ∙ looked_at before offset begins.number form after_number begins.known begins.once
+    ∙ ap (after_field_value (fields_so_far before) offset begins.number) (truncated_value form after_number truncated) ∙ ap (λ (p : ℕ). Err (Short p)) (sym is)
+field_fails before bytes offset (NotDigits reported) (is, field, more, (form, after_number, known, parts, value), once, in_digits, not) =
+    ap (decode_status_field (fields_so_far before) offset) parts ∙ looked_at before offset field.number form after_number known once
+    ∙ ap (after_field_value (fields_so_far before) offset field.number) (value_found form after_number field.value more value)
+    ∙ ap (after_put_field offset more) (put_none (fields_so_far before) field.number field.value in_digits not)
     ∙ ap (λ (p : ℕ). Err (NotDigits p)) (sym is)
 
 -- ---- each of them is one of three
@@ -107,29 +107,29 @@ with_value before bytes offset field rest false begins once passed =
       | inr other ↦ Goes field rest begins (record { once = once; digits = λ in_digits. absurd (other in_digits) })
     ]
 
-by_value : (before : List Field) (offset number : ℕ) (form : LengthForm) (body : List ℕ) (value : Result (List ℕ × List ℕ) LengthFault) → length_form_of number ≡ Some form → (RepeatsField before number → ⊥) → decode_field_value form body ≡ value → Prefix before (number ∷ body) offset
-by_value before offset number form body (Err Wrong) known once is =
-    Fails (BadLength offset) (refl, form, body, record { number = number; known = known; once = once; parts = refl }, value_wrong form body is)
-by_value before offset number form body (Err Truncated) known once is =
-    Fails (Short offset) (refl, form, body, record { number = number; known = known; once = once; parts = refl }, value_truncated form body is)
-by_value before offset number form body (Ok (value, rest)) known once is =
-    with_value before (number ∷ body) offset (record { number = number; value = value }) rest (is_bcd value) (form, body, known, refl, value_read form body value rest is) once refl
+by_value : (before : List Field) (offset number : ℕ) (form : LengthForm) (after_number : List ℕ) (value : Result (List ℕ × List ℕ) LengthFault) → length_form_of number ≡ Some form → (RepeatsField before number → ⊥) → decode_field_value form after_number ≡ value → Prefix before (number ∷ after_number) offset
+by_value before offset number form after_number (Err Wrong) known once is =
+    Fails (BadLength offset) (refl, form, after_number, record { number = number; known = known; once = once; parts = refl }, value_wrong form after_number is)
+by_value before offset number form after_number (Err Truncated) known once is =
+    Fails (Short offset) (refl, form, after_number, record { number = number; known = known; once = once; parts = refl }, value_truncated form after_number is)
+by_value before offset number form after_number (Ok (value, rest)) known once is =
+    with_value before (number ∷ after_number) offset (record { number = number; value = value }) rest (is_bcd value) (form, after_number, known, refl, value_read form after_number value rest is) once refl
 
-by_form : (before : List Field) (offset number : ℕ) (body : List ℕ) (form : Option LengthForm) (again : Bool) → length_form_of number ≡ form → (is_single number && has_field number before) ≡ again → Prefix before (number ∷ body) offset
-by_form before offset number body None again known repeats = Ends known
-by_form before offset number body (Some form) true known repeats = Fails (Twice number) (body, refl, repeats)
-by_form before offset number body (Some form) false known repeats =
-    by_value before offset number form body (decode_field_value form body) known (λ again. cc (again, repeats)) refl
+by_form : (before : List Field) (offset number : ℕ) (after_number : List ℕ) (form : Option LengthForm) (again : Bool) → length_form_of number ≡ form → (is_single number && has_field number before) ≡ again → Prefix before (number ∷ after_number) offset
+by_form before offset number after_number None again known repeats = Ends known
+by_form before offset number after_number (Some form) true known repeats = Fails (Twice number) (after_number, refl, repeats)
+by_form before offset number after_number (Some form) false known repeats =
+    by_value before offset number form after_number (decode_field_value form after_number) known (λ again. cc (again, repeats)) refl
 
 pub prefix_of : (before : List Field) (bytes : List ℕ) (offset : ℕ) → Prefix before bytes offset
 prefix_of before [] offset = Ends tt
-prefix_of before (number ∷ body) offset = by_form before offset number body (length_form_of number) (is_single number && has_field number before) refl refl
+prefix_of before (number ∷ after_number) offset = by_form before offset number after_number (length_form_of number) (is_single number && has_field number before) refl refl
 
 -- ---- all fields
 
 begins_shrinks : (bytes : List ℕ) (field : Field) (rest : List ℕ) → BeginsWithField bytes field rest → length rest < length bytes
-begins_shrinks bytes field rest (form, body, known, parts, value) =
-    let shorter = value_shorter form body field.value rest (value_found form body field.value rest value) in
+begins_shrinks bytes field rest (form, after_number, known, parts, value) =
+    let shorter = value_shorter form after_number field.value rest (value_found form after_number field.value rest value) in
     omega (arith, ap length parts)
 
 -- reading on after well-formed fields gives what the rest gives
@@ -158,16 +158,16 @@ On-last before bytes whole reported stops = record {
   stops = subst (λ (fs : List Field). FieldsEndAt fs bytes (whole - length bytes) reported) (sym (append-nil before)) stops;
 }
 
-on_at : (n whole : ℕ) (before : List Field) (bytes : List ℕ) → ((fields : List Field) (rest : List ℕ) → length rest < length bytes → On fields rest whole (decode_status_within n whole (seen_of fields) rest)) → Prefix before bytes (whole - length bytes) → On before bytes whole (decode_status_from (decode_status_within n whole) (seen_of before) (whole - length bytes) (decode_status_field (seen_of before) (whole - length bytes) bytes))
+on_at : (n whole : ℕ) (before : List Field) (bytes : List ℕ) → ((fields : List Field) (rest : List ℕ) → length rest < length bytes → On fields rest whole (decode_status_within n whole (fields_so_far fields) rest)) → Prefix before bytes (whole - length bytes) → On before bytes whole (decode_status_from (decode_status_within n whole) (fields_so_far before) (whole - length bytes) (decode_status_field (fields_so_far before) (whole - length bytes) bytes))
 on_at n whole before bytes others (Prefix.Ends tail) =
-    rw (tail_ends (seen_of before) (whole - length bytes) bytes tail) (On-last before bytes whole _ (tail, refl))
+    rw (tail_ends (fields_so_far before) (whole - length bytes) bytes tail) (On-last before bytes whole _ (tail, refl))
 on_at n whole before bytes others (Prefix.Goes field rest begins well_formed) =
     rw (field_goes before (whole - length bytes) bytes field rest begins well_formed)
     (On-first before bytes whole _ field rest begins well_formed (others (before ++ field ∷ []) rest (begins_shrinks bytes field rest begins)))
 on_at n whole before bytes others (Prefix.Fails fault stops) =
     rw (field_fails before bytes (whole - length bytes) fault stops) (On-last before bytes whole (Err fault) stops)
 
-read_on : (n whole : ℕ) (before : List Field) (bytes : List ℕ) → length bytes ≤ n → On before bytes whole (decode_status_within n whole (seen_of before) bytes)
+read_on : (n whole : ℕ) (before : List Field) (bytes : List ℕ) → length bytes ≤ n → On before bytes whole (decode_status_within n whole (fields_so_far before) bytes)
 unfolding decode_status_within
 read_on zero whole before [] few = On-last before [] whole _ (tt, refl)
 read_on zero whole before (b ∷ bytes) few = absurd (omega arith)
@@ -182,24 +182,24 @@ fields_report bytes =
 
 -- ---- and nothing else is computed
 
-stops_read : (n whole : ℕ) (before : List Field) (bytes : List ℕ) (reported : Result Fields FieldFault) → length bytes ≤ n → FieldsEndAt before bytes (whole - length bytes) reported → decode_status_within n whole (seen_of before) bytes ≡ reported
+stops_read : (n whole : ℕ) (before : List Field) (bytes : List ℕ) (reported : Result Fields FieldFault) → length bytes ≤ n → FieldsEndAt before bytes (whole - length bytes) reported → decode_status_within n whole (fields_so_far before) bytes ≡ reported
 unfolding decode_status_within
 stops_read zero whole before [] (Ok fields) few (tail, is) = ap (λ (f : Fields). Ok f) (sym is)
-stops_read zero whole before [] (Err fault) few stops = let fails = field_fails before [] (whole - 0) fault stops in let ends = tail_ends (seen_of before) (whole - 0) [] tt in absurd (cc (fails, ends))
+stops_read zero whole before [] (Err fault) few stops = let fails = field_fails before [] (whole - 0) fault stops in let ends = tail_ends (fields_so_far before) (whole - 0) [] tt in absurd (cc (fails, ends))
 stops_read zero whole before (b ∷ bytes) reported few stops = absurd (omega arith)
 stops_read (suc n) whole before bytes (Ok fields) few (tail, is) =
-    ap (decode_status_from (decode_status_within n whole) (seen_of before) (whole - length bytes)) (tail_ends (seen_of before) (whole - length bytes) bytes tail) ∙ ap (λ (f : Fields). Ok f) (sym is)
+    ap (decode_status_from (decode_status_within n whole) (fields_so_far before) (whole - length bytes)) (tail_ends (fields_so_far before) (whole - length bytes) bytes tail) ∙ ap (λ (f : Fields). Ok f) (sym is)
 stops_read (suc n) whole before bytes (Err fault) few stops =
-    ap (decode_status_from (decode_status_within n whole) (seen_of before) (whole - length bytes)) (field_fails before bytes (whole - length bytes) fault stops)
+    ap (decode_status_from (decode_status_within n whole) (fields_so_far before) (whole - length bytes)) (field_fails before bytes (whole - length bytes) fault stops)
 
-reported_read : (n whole : ℕ) (fields : List Field) (before : List Field) (bytes rest : List ℕ) (reported : Result Fields FieldFault) → length bytes ≤ n → BeginsWithFields bytes fields rest → AreWellFormedFields before fields → FieldsEndAt (before ++ fields) rest (whole - length rest) reported → decode_status_within n whole (seen_of before) bytes ≡ reported
+reported_read : (n whole : ℕ) (fields : List Field) (before : List Field) (bytes rest : List ℕ) (reported : Result Fields FieldFault) → length bytes ≤ n → BeginsWithFields bytes fields rest → AreWellFormedFields before fields → FieldsEndAt (before ++ fields) rest (whole - length rest) reported → decode_status_within n whole (fields_so_far before) bytes ≡ reported
 unfolding decode_status_within
 reported_read n whole [] before bytes rest reported few same well_formed stops =
     stops_read n whole before bytes reported few (subst (λ (b : List ℕ). FieldsEndAt before b (whole - length b) reported) (sym same) (subst (λ (fs : List Field). FieldsEndAt fs rest (whole - length rest) reported) (append-nil before) stops))
 reported_read zero whole (field ∷ fields) before bytes rest reported few (more, begins, splits) well_formed stops = absurd (let shorter = begins_shrinks bytes field more begins in omega arith)
 reported_read (suc n) whole (field ∷ fields) before bytes rest reported few (more, begins, splits) (here, well_formed) stops =
     let shorter = begins_shrinks bytes field more begins in
-    ap (decode_status_from (decode_status_within n whole) (seen_of before) (whole - length bytes)) (field_goes before (whole - length bytes) bytes field more begins here)
+    ap (decode_status_from (decode_status_within n whole) (fields_so_far before) (whole - length bytes)) (field_goes before (whole - length bytes) bytes field more begins here)
     ∙ reported_read n whole fields (before ++ field ∷ []) more rest reported (omega arith) splits well_formed (subst (λ (fs : List Field). FieldsEndAt fs rest (whole - length rest) reported) (sym (append_assoc before (field ∷ []) fields)) stops)
 
 pub only_reported : (bytes : List ℕ) (reported : Result Fields FieldFault) → SpellsStatusOrFault bytes reported → decode_status bytes ≡ reported
@@ -220,25 +220,25 @@ put_shorter : (offset : ℕ) (rest : List ℕ) (o : Option FieldsSoFar) (so_far 
 put_shorter offset rest None so_far left e = absurd cc
 put_shorter offset rest (Some now) so_far left e = ap (λ (p : FieldsSoFar × List ℕ). p.1) (goes_is (now, rest) (so_far, left) e)
 
-value_rest : (so_far : FieldsSoFar) (offset number : ℕ) (form : LengthForm) (body : List ℕ) (value : Result (List ℕ × List ℕ) LengthFault) (now : FieldsSoFar) (left : List ℕ) → decode_field_value form body ≡ value → after_field_value so_far offset number value ≡ Ok (Some (now, left)) → length left ≤ length body
-value_rest so_far offset number form body (Err Wrong) now left is e = absurd cc
-value_rest so_far offset number form body (Err Truncated) now left is e = absurd cc
-value_rest so_far offset number form body (Ok (value, rest)) now left is e =
+value_rest : (so_far : FieldsSoFar) (offset number : ℕ) (form : LengthForm) (after_number : List ℕ) (value : Result (List ℕ × List ℕ) LengthFault) (now : FieldsSoFar) (left : List ℕ) → decode_field_value form after_number ≡ value → after_field_value so_far offset number value ≡ Ok (Some (now, left)) → length left ≤ length after_number
+value_rest so_far offset number form after_number (Err Wrong) now left is e = absurd cc
+value_rest so_far offset number form after_number (Err Truncated) now left is e = absurd cc
+value_rest so_far offset number form after_number (Ok (value, rest)) now left is e =
     let same = put_shorter offset rest (put_field so_far number value) now left e in
-    omega (arith, value_shorter form body value rest is, ap length same)
+    omega (arith, value_shorter form after_number value rest is, ap length same)
 
-once_rest : (again : Bool) (so_far : FieldsSoFar) (offset number : ℕ) (form : LengthForm) (body : List ℕ) (now : FieldsSoFar) (left : List ℕ) → cond again (Err (Twice number)) (after_field_value so_far offset number (decode_field_value form body)) ≡ Ok (Some (now, left)) → length left ≤ length body
-once_rest true so_far offset number form body now left e = absurd cc
-once_rest false so_far offset number form body now left e = value_rest so_far offset number form body (decode_field_value form body) now left refl e
+once_rest : (again : Bool) (so_far : FieldsSoFar) (offset number : ℕ) (form : LengthForm) (after_number : List ℕ) (now : FieldsSoFar) (left : List ℕ) → cond again (Err (Twice number)) (after_field_value so_far offset number (decode_field_value form after_number)) ≡ Ok (Some (now, left)) → length left ≤ length after_number
+once_rest true so_far offset number form after_number now left e = absurd cc
+once_rest false so_far offset number form after_number now left e = value_rest so_far offset number form after_number (decode_field_value form after_number) now left refl e
 
-form_rest : (so_far : FieldsSoFar) (offset number : ℕ) (body : List ℕ) (form : Option LengthForm) (now : FieldsSoFar) (left : List ℕ) → after_field_number so_far offset number body form ≡ Ok (Some (now, left)) → length left ≤ length body
-form_rest so_far offset number body None now left e = absurd cc
-form_rest so_far offset number body (Some form) now left e = once_rest (may_not_repeat so_far number) so_far offset number form body now left e
+form_rest : (so_far : FieldsSoFar) (offset number : ℕ) (after_number : List ℕ) (form : Option LengthForm) (now : FieldsSoFar) (left : List ℕ) → after_field_number so_far offset number after_number form ≡ Ok (Some (now, left)) → length left ≤ length after_number
+form_rest so_far offset number after_number None now left e = absurd cc
+form_rest so_far offset number after_number (Some form) now left e = once_rest (may_not_repeat so_far number) so_far offset number form after_number now left e
 
 field_shrinks : (so_far : FieldsSoFar) (offset : ℕ) (bytes : List ℕ) (now : FieldsSoFar) (left : List ℕ) → decode_status_field so_far offset bytes ≡ Ok (Some (now, left)) → length left < length bytes
 unfolding decode_status_field
 field_shrinks so_far offset [] now left e = absurd cc
-field_shrinks so_far offset (number ∷ body) now left e = omega (arith, form_rest so_far offset number body (length_form_of number) now left e)
+field_shrinks so_far offset (number ∷ after_number) now left e = omega (arith, form_rest so_far offset number after_number (length_form_of number) now left e)
 
 from_same : (n m whole : ℕ) (so_far : FieldsSoFar) (bytes : List ℕ) (found : Result (Option (FieldsSoFar × List ℕ)) FieldFault) → ((now : FieldsSoFar) (left : List ℕ) → length left < length bytes → decode_status_within n whole now left ≡ decode_status_within m whole now left) → decode_status_field so_far (whole - length bytes) bytes ≡ found → decode_status_from (decode_status_within n whole) so_far (whole - length bytes) found ≡ decode_status_from (decode_status_within m whole) so_far (whole - length bytes) found
 from_same n m whole so_far bytes (Err fault) same e = refl

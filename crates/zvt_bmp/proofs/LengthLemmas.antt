@@ -37,12 +37,12 @@ pub data IsDigitOrOther : ℕ → Type 0 where
   Digit : {b : ℕ} → is_length_digit b ≡ true → IsLengthDigit b → IsDigitOrOther b
   Other : {b : ℕ} → is_length_digit b ≡ false → (IsLengthDigit b → ⊥) → IsDigitOrOther b
 
-kind_by : (b : ℕ) (passed : Bool) → is_length_digit b ≡ passed → IsDigitOrOther b
-kind_by b true e = Digit e (passes_digit b e)
-kind_by b false e = Other e (λ is. let passed = and_from _ _ (le-leb 240 b is.0) (le-leb b 249 is.1) in cc (passed, e))
+digit_or_other_by : (b : ℕ) (passed : Bool) → is_length_digit b ≡ passed → IsDigitOrOther b
+digit_or_other_by b true e = Digit e (passes_digit b e)
+digit_or_other_by b false e = Other e (λ is. let passed = and_from _ _ (le-leb 240 b is.0) (le-leb b 249 is.1) in cc (passed, e))
 
-pub kind_of : (b : ℕ) → IsDigitOrOther b
-kind_of b = kind_by b (is_length_digit b) refl
+pub digit_or_other : (b : ℕ) → IsDigitOrOther b
+digit_or_other b = digit_or_other_by b (is_length_digit b) refl
 
 -- ---- from the grammar to the function
 
@@ -82,11 +82,11 @@ digit_byte b is = omega arith
 llvar_read : (bytes : List ℕ) (n : ℕ) (rest : List ℕ) → decode_llvar bytes ≡ Ok (n, rest) → Measured Llvar bytes n rest
 llvar_read [] n rest e = absurd cc
 llvar_read (tens ∷ []) n rest e =
-    elim (kind_of tens) [ Digit test is ↦ let none = rw test at e in absurd (cc none) | Other test not ↦ let none = rw test at e in absurd (cc none) ]
+    elim (digit_or_other tens) [ Digit test is ↦ let none = rw test at e in absurd (cc none) | Other test not ↦ let none = rw test at e in absurd (cc none) ]
 llvar_read (tens ∷ units ∷ bytes) n rest e =
-    elim (kind_of tens) [
+    elim (digit_or_other tens) [
       | Other test not ↦ let none = rw test at e in absurd (cc none)
-      | Digit first is ↦ elim (kind_of units) [
+      | Digit first is ↦ elim (digit_or_other units) [
         | Other test not ↦ let none = rw (first, test) at e in absurd (cc none)
         | Digit second has ↦
             let both = found_length (10 * (tens - 240) + (units - 240)) n bytes rest (rw (first, second) at e) in
@@ -113,7 +113,7 @@ lllvar_by hundreds bytes n rest (Ok (m, left)) test is tail e =
 lllvar_read : (bytes : List ℕ) (n : ℕ) (rest : List ℕ) → decode_lllvar bytes ≡ Ok (n, rest) → Measured Lllvar bytes n rest
 lllvar_read [] n rest e = absurd cc
 lllvar_read (hundreds ∷ bytes) n rest e =
-    elim (kind_of hundreds) [
+    elim (digit_or_other hundreds) [
       | Other test not ↦ let none = rw test at e in absurd (cc none)
       | Digit test is ↦ lllvar_by hundreds bytes n rest (decode_llvar bytes) test is refl (rw test at e)
     ]
@@ -202,11 +202,11 @@ length_read Tlv bytes n rest e = tlv_same bytes n rest (decode_tlv_length bytes)
 llvar_wrong : (bytes : List ℕ) → decode_llvar bytes ≡ Err Wrong → HasWrongDigit 2 bytes
 llvar_wrong [] e = absurd cc
 llvar_wrong (tens ∷ []) e =
-    elim (kind_of tens) [ Digit test is ↦ let truncated = rw test at e in absurd (cc truncated) | Other test not ↦ inl not ]
+    elim (digit_or_other tens) [ Digit test is ↦ let truncated = rw test at e in absurd (cc truncated) | Other test not ↦ inl not ]
 llvar_wrong (tens ∷ units ∷ bytes) e =
-    elim (kind_of tens) [
+    elim (digit_or_other tens) [
       | Other test not ↦ inl not
-      | Digit first is ↦ elim (kind_of units) [ Digit second has ↦ let there = rw (first, second) at e in absurd (cc there) | Other test not ↦ inr (inl not) ]
+      | Digit first is ↦ elim (digit_or_other units) [ Digit second has ↦ let there = rw (first, second) at e in absurd (cc there) | Other test not ↦ inr (inl not) ]
     ]
 
 lllvar_wrong_by : (hundreds : ℕ) (bytes : List ℕ) (tail : Result (ℕ × List ℕ) LengthFault) → decode_llvar bytes ≡ tail → with_hundreds_digit hundreds tail ≡ Err Wrong → HasWrongDigit 2 bytes
@@ -216,7 +216,7 @@ lllvar_wrong_by hundreds bytes (Err fault) tail e = llvar_wrong bytes (cc (tail,
 lllvar_wrong : (bytes : List ℕ) → decode_lllvar bytes ≡ Err Wrong → HasWrongDigit 3 bytes
 lllvar_wrong [] e = absurd cc
 lllvar_wrong (hundreds ∷ bytes) e =
-    elim (kind_of hundreds) [
+    elim (digit_or_other hundreds) [
       | Other test not ↦ inl not
       | Digit test is ↦ inr (lllvar_wrong_by hundreds bytes (decode_llvar bytes) refl (rw test at e))
     ]
@@ -244,23 +244,23 @@ length_wrong Tlv bytes e = tlv_wrong bytes (decode_tlv_length bytes) e
 wrong_llvar : (bytes : List ℕ) → HasWrongDigit 2 bytes → decode_llvar bytes ≡ Err Wrong
 wrong_llvar [] h = absurd h
 wrong_llvar (tens ∷ []) (inl not) =
-    elim (kind_of tens) [ Digit test is ↦ absurd (not is) | Other test _ ↦ rw test refl ]
+    elim (digit_or_other tens) [ Digit test is ↦ absurd (not is) | Other test _ ↦ rw test refl ]
 wrong_llvar (tens ∷ []) (inr h) = absurd h
 wrong_llvar (tens ∷ units ∷ bytes) (inl not) =
-    elim (kind_of tens) [ Digit test is ↦ absurd (not is) | Other test _ ↦ rw test refl ]
+    elim (digit_or_other tens) [ Digit test is ↦ absurd (not is) | Other test _ ↦ rw test refl ]
 wrong_llvar (tens ∷ units ∷ bytes) (inr (inl not)) =
-    elim (kind_of tens) [
+    elim (digit_or_other tens) [
       | Other test _ ↦ rw test refl
-      | Digit first is ↦ elim (kind_of units) [ Digit test has ↦ absurd (not has) | Other test _ ↦ rw (first, test) refl ]
+      | Digit first is ↦ elim (digit_or_other units) [ Digit test has ↦ absurd (not has) | Other test _ ↦ rw (first, test) refl ]
     ]
 wrong_llvar (tens ∷ units ∷ bytes) (inr (inr h)) = absurd h
 
 wrong_lllvar : (bytes : List ℕ) → HasWrongDigit 3 bytes → decode_lllvar bytes ≡ Err Wrong
 wrong_lllvar [] h = absurd h
 wrong_lllvar (hundreds ∷ bytes) (inl not) =
-    elim (kind_of hundreds) [ Digit test is ↦ absurd (not is) | Other test _ ↦ rw test refl ]
+    elim (digit_or_other hundreds) [ Digit test is ↦ absurd (not is) | Other test _ ↦ rw test refl ]
 wrong_lllvar (hundreds ∷ bytes) (inr low) =
-    elim (kind_of hundreds) [ Other test _ ↦ rw test refl | Digit test is ↦ rw test (ap (with_hundreds_digit hundreds) (wrong_llvar bytes low)) ]
+    elim (digit_or_other hundreds) [ Other test _ ↦ rw test refl | Digit test is ↦ rw test (ap (with_hundreds_digit hundreds) (wrong_llvar bytes low)) ]
 
 wrong_fault : (b : ℕ) (more : List ℕ) → (b ≡ 128) ⊎ (130 < b) → tlv_length_fault (b ∷ more) ≡ Wrong
 wrong_fault b more (inl is) = rw is refl

@@ -9,8 +9,8 @@ use Rattle.zvt_bmp.specs.Grammar.{Field, has_field, first_field_value, digits_of
 use Rattle.zvt_bmp.specs.Decode.{may_not_repeat, first_currency, put_field}
 use Rattle.gw_base.proofs.BcdLemmas.{bcd_passes, passes_bcd}
 
-abbrev pub seen_of : List Field → FieldsSoFar
-seen_of before = record { fields = status_of_fields before 0; receipt = has_field 0x87 before }
+abbrev pub fields_so_far : List Field → FieldsSoFar
+fields_so_far before = record { fields = status_of_fields before 0; receipt = has_field 0x87 before }
 
 -- ---- which number it is
 
@@ -55,8 +55,8 @@ some_has : (number : ℕ) (fields : List Field) → is_some (first_field_value n
 some_has number [] = refl
 some_has number (field ∷ fields) = some_cond (eqb field.number number) field.value (first_field_value number fields) ∙ ap (λ (b : Bool). eqb field.number number || b) (some_has number fields)
 
-pub seen_has : (before : List Field) (number : ℕ) → may_not_repeat (seen_of before) number ≡ (is_single number && has_field number before)
-seen_has before number =
+pub may_not_repeat_is : (before : List Field) (number : ℕ) → may_not_repeat (fields_so_far before) number ≡ (is_single number && has_field number before)
+may_not_repeat_is before number =
     elim (which number) [
       | Result_ e ↦ rw e (is_some-map (λ (v : List ℕ). slice_index v 0) (first_field_value 0x27 before) ∙ some_has 0x27 before)
       | Amount_ e ↦ rw e (is_some-map bcd_value (first_field_value 0x04 before) ∙ some_has 0x04 before)
@@ -167,7 +167,7 @@ some_fields so_far = Some so_far
 now_known : (before : List Field) (field : Field) (a b c d e : Option (List ℕ)) (f : Bool)
     → first_field_value 0x27 (before ++ field ∷ []) ≡ a → first_field_value 0x04 (before ++ field ∷ []) ≡ b → first_field_value 0x0B (before ++ field ∷ []) ≡ c
     → first_field_value 0x87 (before ++ field ∷ []) ≡ d → first_field_value 0x49 (before ++ field ∷ []) ≡ e → has_field 0x87 (before ++ field ∷ []) ≡ f
-    → some_fields (known a b c d e f) ≡ Some (seen_of (before ++ field ∷ []))
+    → some_fields (known a b c d e f) ≡ Some (fields_so_far (before ++ field ∷ []))
 now_known before field a b c d e f p q r s t u = ap some_fields (sym (same_known _ _ _ _ _ a b c d e _ f p q r s t u))
 
 -- what is put, at a number that is known
@@ -183,7 +183,7 @@ receipt_of value o b e = ap (λ (p : Option (List ℕ)). cond b (Some (bcd_value
 put_other : (so_far : FieldsSoFar) (number : ℕ) (value : List ℕ) → eqb number 0x27 ≡ false → eqb number 0x04 ≡ false → eqb number 0x0B ≡ false → eqb number 0x87 ≡ false → eqb number 0x49 ≡ false → put_field so_far number value ≡ Some so_far
 put_other so_far number value a b c d f = rw (a, b, c, d, f) refl
 
-pub put_field_of : (before : List Field) (field : Field) → IsWellFormedAfter before field → put_field (seen_of before) field.number field.value ≡ Some (seen_of (before ++ field ∷ []))
+pub put_field_of : (before : List Field) (field : Field) → IsWellFormedAfter before field → put_field (fields_so_far before) field.number field.value ≡ Some (fields_so_far (before ++ field ∷ []))
 put_field_of before field well_formed =
     elim (which field.number) [
       | Result_ e ↦
@@ -194,7 +194,7 @@ put_field_of before field well_formed =
           let receipt = same_first 0x87 before field (at_number field 0x27 0x87 false e refl) in
           let currency = same_first 0x49 before field (at_number field 0x27 0x49 false e refl) in
           let so_far = same_has 0x87 before field (at_number field 0x27 0x87 false e refl) in
-          put_at (seen_of before) field.number 0x27 field.value e ∙ now_known before field _ _ _ _ _ _ result amount trace receipt currency so_far
+          put_at (fields_so_far before) field.number 0x27 field.value e ∙ now_known before field _ _ _ _ _ _ result amount trace receipt currency so_far
       | Amount_ e ↦
           let none = none_before 0x04 before refl (subst (λ (n : ℕ). RepeatsField before n → ⊥) e well_formed.once) in
           let result = same_first 0x27 before field (at_number field 0x04 0x27 false e refl) in
@@ -204,7 +204,7 @@ put_field_of before field well_formed =
           let currency = same_first 0x49 before field (at_number field 0x04 0x49 false e refl) in
           let so_far = same_has 0x87 before field (at_number field 0x04 0x87 false e refl) in
           let digits = bcd_passes field.value (well_formed.digits (inl e)) in
-          put_at (seen_of before) field.number 0x04 field.value e
+          put_at (fields_so_far before) field.number 0x04 field.value e
           ∙ put_in_digits (is_bcd field.value) (known (first_field_value 0x27 before) (Some field.value) (first_field_value 0x0B before) (first_field_value 0x87 before) (first_field_value 0x49 before) (has_field 0x87 before)) digits
           ∙ now_known before field _ _ _ _ _ _ result amount trace receipt currency so_far
       | Trace_ e ↦
@@ -216,7 +216,7 @@ put_field_of before field well_formed =
           let currency = same_first 0x49 before field (at_number field 0x0B 0x49 false e refl) in
           let so_far = same_has 0x87 before field (at_number field 0x0B 0x87 false e refl) in
           let digits = bcd_passes field.value (well_formed.digits (inr e)) in
-          put_at (seen_of before) field.number 0x0B field.value e
+          put_at (fields_so_far before) field.number 0x0B field.value e
           ∙ put_in_digits (is_bcd field.value) (known (first_field_value 0x27 before) (first_field_value 0x04 before) (Some field.value) (first_field_value 0x87 before) (first_field_value 0x49 before) (has_field 0x87 before)) digits
           ∙ now_known before field _ _ _ _ _ _ result amount trace receipt currency so_far
       | Receipt_ e ↦
@@ -228,8 +228,8 @@ put_field_of before field well_formed =
           let currency = same_first 0x49 before field (at_number field 0x87 0x49 false e refl) in
           let so_far = new_has 0x87 before field (at_number field 0x87 0x87 true e refl) in
           let receipts = receipt_of field.value (first_field_value 0x87 before) (is_bcd field.value) none in
-          put_at (seen_of before) field.number 0x87 field.value e
-          ∙ ap (λ (r : Option ℕ). some_fields (record (seen_of before) { receipt = true; fields = record (status_of_fields before 0) { receipt = r } })) receipts
+          put_at (fields_so_far before) field.number 0x87 field.value e
+          ∙ ap (λ (r : Option ℕ). some_fields (record (fields_so_far before) { receipt = true; fields = record (status_of_fields before 0) { receipt = r } })) receipts
           ∙ now_known before field _ _ _ _ _ _ result amount trace receipt currency so_far
       | Currency_ e ↦
           let result = same_first 0x27 before field (at_number field 0x49 0x27 false e refl) in
@@ -238,7 +238,7 @@ put_field_of before field well_formed =
           let receipt = same_first 0x87 before field (at_number field 0x49 0x87 false e refl) in
           let currency = added_first 0x49 before field (at_number field 0x49 0x49 true e refl) ∙ sym (currency_first (first_field_value 0x49 before) field.value) in
           let so_far = same_has 0x87 before field (at_number field 0x49 0x87 false e refl) in
-          put_at (seen_of before) field.number 0x49 field.value e ∙ now_known before field _ _ _ _ _ _ result amount trace receipt currency so_far
+          put_at (fields_so_far before) field.number 0x49 field.value e ∙ now_known before field _ _ _ _ _ _ result amount trace receipt currency so_far
       | Other_ a b c d f ↦
           let result = same_first 0x27 before field a in
           let amount = same_first 0x04 before field b in
@@ -246,7 +246,7 @@ put_field_of before field well_formed =
           let receipt = same_first 0x87 before field d in
           let currency = same_first 0x49 before field f in
           let so_far = same_has 0x87 before field d in
-          put_other (seen_of before) field.number field.value a b c d f ∙ now_known before field _ _ _ _ _ _ result amount trace receipt currency so_far
+          put_other (fields_so_far before) field.number field.value a b c d f ∙ now_known before field _ _ _ _ _ _ result amount trace receipt currency so_far
     ]
 
 -- an amount or a trace number that is not in digits is not put

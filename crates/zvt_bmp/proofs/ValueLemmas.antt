@@ -10,7 +10,7 @@ use Rattle.zvt_bmp.specs.declared.length_form.LengthFault.{LengthFault}
 use Rattle.zvt_bmp.specs.declared.length_form.LengthFault.TheVariants.{Wrong, Truncated}
 use Rattle.zvt_bmp.specs.ValueGrammar.{SpellsFieldLength, BeginsWithFieldValue, IsLengthDigit, HasWrongFieldLength, IsTruncatedFieldValue}
 use Rattle.zvt_bmp.specs.Decode.{decode_llvar, with_hundreds_digit, decode_lllvar, tlv_length_fault, tlv_length_or_fault, decode_field_length, decode_after_field_length, decode_field_value}
-use Rattle.zvt_bmp.proofs.LengthLemmas.{found_is, Digit, Other, kind_of, First, first_of, length_found, length_read, length_wrong, wrong_length, wrong_longer}
+use Rattle.zvt_bmp.proofs.LengthLemmas.{found_is, Digit, Other, digit_or_other, First, first_of, length_found, length_read, length_wrong, wrong_length, wrong_longer}
 
 -- ---- found and read
 
@@ -33,17 +33,17 @@ value_found form bytes value rest (prefix, (length_bytes, is_length, whole), par
 
 value_by : (form : LengthForm) (bytes value rest : List ℕ) (length_there : Result (ℕ × List ℕ) LengthFault) → decode_field_length form bytes ≡ length_there → decode_after_field_length length_there ≡ Ok (value, rest) → BeginsWithFieldValue form bytes value rest
 value_by form bytes value rest (Err fault) is e = absurd cc
-value_by form bytes value rest (Ok (n, body)) is e =
-    let l = length_read form bytes n body is in
-    elim (cases_lt (length body) n) [
-      | inl truncated ↦ let test : ltb (length body) n ≡ true = lt-ltb _ _ truncated in let none = rw test at e in absurd (cc none)
+value_by form bytes value rest (Ok (n, after_length)) is e =
+    let l = length_read form bytes n after_length is in
+    elim (cases_lt (length after_length) n) [
+      | inl truncated ↦ let test : ltb (length after_length) n ≡ true = lt-ltb _ _ truncated in let none = rw test at e in absurd (cc none)
       | inr there ↦
-          let test : ltb (length body) n ≡ false = le-ltb _ _ there in
-          let both = found_value (take n body) value (drop n body) rest (rw test at e) in
-          let size : n ≡ length value = omega (arith, ap length both.0, length-take n body) in (
+          let test : ltb (length after_length) n ≡ false = le-ltb _ _ there in
+          let both = found_value (take n after_length) value (drop n after_length) rest (rw test at e) in
+          let size : n ≡ length value = omega (arith, ap length both.0, length-take n after_length) in (
             l.prefix ++ value,
             (l.prefix, subst (SpellsFieldLength form l.prefix) size l.is_length, refl),
-            l.parts ∙ ap (λ (b : List ℕ). l.prefix ++ b) (sym (take-append-drop n body) ∙ ap (λ (v : List ℕ). v ++ drop n body) both.0 ∙ ap (λ (r : List ℕ). value ++ r) both.1) ∙ sym (append_assoc l.prefix value rest),
+            l.parts ∙ ap (λ (b : List ℕ). l.prefix ++ b) (sym (take-append-drop n after_length) ∙ ap (λ (v : List ℕ). v ++ drop n after_length) both.0 ∙ ap (λ (r : List ℕ). value ++ r) both.1) ∙ sym (append_assoc l.prefix value rest),
           )
     ]
 
@@ -56,10 +56,10 @@ value_read form bytes value rest e = value_by form bytes value rest (decode_fiel
 wrong_by : (form : LengthForm) (bytes : List ℕ) (length_there : Result (ℕ × List ℕ) LengthFault) → decode_field_length form bytes ≡ length_there → decode_after_field_length length_there ≡ Err Wrong → HasWrongFieldLength form bytes
 wrong_by form bytes (Err Wrong) is e = length_wrong form bytes is
 wrong_by form bytes (Err Truncated) is e = absurd cc
-wrong_by form bytes (Ok (n, body)) is e =
-    elim (cases_lt (length body) n) [
-      | inl truncated ↦ let test : ltb (length body) n ≡ true = lt-ltb _ _ truncated in let other = rw test at e in absurd (cc other)
-      | inr there ↦ let test : ltb (length body) n ≡ false = le-ltb _ _ there in let none = rw test at e in absurd (cc none)
+wrong_by form bytes (Ok (n, after_length)) is e =
+    elim (cases_lt (length after_length) n) [
+      | inl truncated ↦ let test : ltb (length after_length) n ≡ true = lt-ltb _ _ truncated in let other = rw test at e in absurd (cc other)
+      | inr there ↦ let test : ltb (length after_length) n ≡ false = le-ltb _ _ there in let none = rw test at e in absurd (cc none)
     ]
 
 pub value_wrong : (form : LengthForm) (bytes : List ℕ) → decode_field_value form bytes ≡ Err Wrong → HasWrongFieldLength form bytes
@@ -86,7 +86,7 @@ truncated_by form bytes more prefix value some is_length whole = (more, value, s
 llvar_truncated : (bytes : List ℕ) → decode_llvar bytes ≡ Err Truncated → IsTruncatedFieldValue Llvar bytes
 llvar_truncated [] e = truncated_by Llvar [] (240 ∷ 240 ∷ []) (240 ∷ 240 ∷ []) [] (λ e. absurd cc) (0, 0, omega arith, omega arith, refl, refl) refl
 llvar_truncated (tens ∷ []) e =
-    elim (kind_of tens) [
+    elim (digit_or_other tens) [
       | Other test not ↦ let wrong = rw test at e in absurd (cc wrong)
       | Digit test is ↦
           let value = zeros (10 * (tens - 240)) in
@@ -95,9 +95,9 @@ llvar_truncated (tens ∷ []) e =
           truncated_by Llvar (tens ∷ []) (240 ∷ value) (tens ∷ 240 ∷ []) value (λ e. absurd cc) (tens - 240, 0, omega arith, omega arith, omega (arith, size), prefix) refl
     ]
 llvar_truncated (tens ∷ units ∷ bytes) e =
-    elim (kind_of tens) [
+    elim (digit_or_other tens) [
       | Other test not ↦ let wrong = rw test at e in absurd (cc wrong)
-      | Digit first is ↦ elim (kind_of units) [ Digit second has ↦ let there = rw (first, second) at e in absurd (cc there) | Other test not ↦ let wrong = rw (first, test) at e in absurd (cc wrong) ]
+      | Digit first is ↦ elim (digit_or_other units) [ Digit second has ↦ let there = rw (first, second) at e in absurd (cc there) | Other test not ↦ let wrong = rw (first, test) at e in absurd (cc wrong) ]
     ]
 
 lllvar_more : (hundreds : ℕ) (bytes : List ℕ) → IsLengthDigit hundreds → decode_llvar bytes ≡ Err Truncated → IsTruncatedFieldValue Lllvar (hundreds ∷ bytes)
@@ -107,7 +107,7 @@ lllvar_more hundreds [] is e =
     let prefix : hundreds ∷ 240 ∷ 240 ∷ [] ≡ (240 + (hundreds - 240)) ∷ (240 + 0) ∷ (240 + 0) ∷ [] = ap (λ (h : ℕ). h ∷ 240 ∷ 240 ∷ []) (omega arith) in
     truncated_by Lllvar (hundreds ∷ []) (240 ∷ 240 ∷ value) (hundreds ∷ 240 ∷ 240 ∷ []) value (λ e. absurd cc) (hundreds - 240, 0, 0, omega arith, omega arith, omega arith, omega (arith, size), prefix) refl
 lllvar_more hundreds (tens ∷ []) is e =
-    elim (kind_of tens) [
+    elim (digit_or_other tens) [
       | Other test not ↦ let wrong = rw test at e in absurd (cc wrong)
       | Digit test has ↦
           let value = zeros (100 * (hundreds - 240) + 10 * (tens - 240)) in
@@ -117,9 +117,9 @@ lllvar_more hundreds (tens ∷ []) is e =
           truncated_by Lllvar (hundreds ∷ tens ∷ []) (240 ∷ value) (hundreds ∷ tens ∷ 240 ∷ []) value (λ e. absurd cc) (hundreds - 240, tens - 240, 0, omega arith, omega arith, omega arith, omega (arith, size), prefix) refl
     ]
 lllvar_more hundreds (tens ∷ units ∷ bytes) is e =
-    elim (kind_of tens) [
+    elim (digit_or_other tens) [
       | Other test not ↦ let wrong = rw test at e in absurd (cc wrong)
-      | Digit first has ↦ elim (kind_of units) [ Digit second also ↦ let there = rw (first, second) at e in absurd (cc there) | Other test not ↦ let wrong = rw (first, test) at e in absurd (cc wrong) ]
+      | Digit first has ↦ elim (digit_or_other units) [ Digit second also ↦ let there = rw (first, second) at e in absurd (cc there) | Other test not ↦ let wrong = rw (first, test) at e in absurd (cc wrong) ]
     ]
 
 lllvar_by : (hundreds : ℕ) (bytes : List ℕ) (tail : Result (ℕ × List ℕ) LengthFault) → IsLengthDigit hundreds → decode_llvar bytes ≡ tail → with_hundreds_digit hundreds tail ≡ Err Truncated → IsTruncatedFieldValue Lllvar (hundreds ∷ bytes)
@@ -129,7 +129,7 @@ lllvar_by hundreds bytes (Err fault) is tail e = lllvar_more hundreds bytes is (
 lllvar_truncated : (bytes : List ℕ) → decode_lllvar bytes ≡ Err Truncated → IsTruncatedFieldValue Lllvar bytes
 lllvar_truncated [] e = truncated_by Lllvar [] (240 ∷ 240 ∷ 240 ∷ []) (240 ∷ 240 ∷ 240 ∷ []) [] (λ e. absurd cc) (0, 0, 0, omega arith, omega arith, omega arith, refl, refl) refl
 lllvar_truncated (hundreds ∷ bytes) e =
-    elim (kind_of hundreds) [
+    elim (digit_or_other hundreds) [
       | Other test not ↦ let wrong = rw test at e in absurd (cc wrong)
       | Digit test is ↦ lllvar_by hundreds bytes (decode_llvar bytes) is refl (rw test at e)
     ]
@@ -167,21 +167,21 @@ length_truncated Llvar bytes e = llvar_truncated bytes e
 length_truncated Lllvar bytes e = lllvar_truncated bytes e
 length_truncated Tlv bytes e = tlv_truncated bytes (decode_tlv_length bytes) refl e
 
-body_truncated : (form : LengthForm) (prefix body : List ℕ) (n : ℕ) → SpellsFieldLength form prefix n → length body < n → IsTruncatedFieldValue form (prefix ++ body)
-body_truncated form prefix body n is_length truncated =
-    let missing = zeros (n - length body) in
-    let count = zeros_are (n - length body) in
-    let size : n ≡ length (body ++ missing) = omega (arith, length-append body missing, count) in
-    truncated_by form (prefix ++ body) missing prefix (body ++ missing) (λ none. omega (arith, ap length none, count)) (subst (SpellsFieldLength form prefix) size is_length) (append_assoc prefix body missing)
+value_truncated_by_length : (form : LengthForm) (prefix after_length : List ℕ) (n : ℕ) → SpellsFieldLength form prefix n → length after_length < n → IsTruncatedFieldValue form (prefix ++ after_length)
+value_truncated_by_length form prefix after_length n is_length truncated =
+    let missing = zeros (n - length after_length) in
+    let count = zeros_are (n - length after_length) in
+    let size : n ≡ length (after_length ++ missing) = omega (arith, length-append after_length missing, count) in
+    truncated_by form (prefix ++ after_length) missing prefix (after_length ++ missing) (λ none. omega (arith, ap length none, count)) (subst (SpellsFieldLength form prefix) size is_length) (append_assoc prefix after_length missing)
 
 truncated_there : (form : LengthForm) (bytes : List ℕ) (length_there : Result (ℕ × List ℕ) LengthFault) → decode_field_length form bytes ≡ length_there → decode_after_field_length length_there ≡ Err Truncated → IsTruncatedFieldValue form bytes
 truncated_there form bytes (Err Wrong) is e = absurd cc
 truncated_there form bytes (Err Truncated) is e = length_truncated form bytes is
-truncated_there form bytes (Ok (n, body)) is e =
-    let l = length_read form bytes n body is in
-    elim (cases_lt (length body) n) [
-      | inl truncated ↦ subst (IsTruncatedFieldValue form) (sym l.parts) (body_truncated form l.prefix body n l.is_length truncated)
-      | inr there ↦ let test : ltb (length body) n ≡ false = le-ltb _ _ there in let none = rw test at e in absurd (cc none)
+truncated_there form bytes (Ok (n, after_length)) is e =
+    let l = length_read form bytes n after_length is in
+    elim (cases_lt (length after_length) n) [
+      | inl truncated ↦ subst (IsTruncatedFieldValue form) (sym l.parts) (value_truncated_by_length form l.prefix after_length n l.is_length truncated)
+      | inr there ↦ let test : ltb (length after_length) n ≡ false = le-ltb _ _ there in let none = rw test at e in absurd (cc none)
     ]
 
 pub value_truncated : (form : LengthForm) (bytes : List ℕ) → decode_field_value form bytes ≡ Err Truncated → IsTruncatedFieldValue form bytes

@@ -23,37 +23,37 @@ nil_of_length (x ∷ xs) e = absurd (omega arith)
 abbrev container : List ℕ → ObjectValue
 container bytes = record { tag = container_tag; value = bytes }
 
-container_found : (body bytes : List ℕ) → SpellsContainer body bytes → decode_container body ≡ Some bytes
-container_found body bytes spells =
-    ap container_value (begins_found body (container bytes) [] (body, spells, sym (append-nil body)))
+container_found : (apdu_data bytes : List ℕ) → SpellsContainer apdu_data bytes → decode_container apdu_data ≡ Some bytes
+container_found apdu_data bytes spells =
+    ap container_value (begins_found apdu_data (container bytes) [] (apdu_data, spells, sym (append-nil apdu_data)))
 
-abbrev kept : List ℕ → Option (List ℕ)
-kept bytes = Some bytes
+abbrev some_of : List ℕ → Option (List ℕ)
+some_of bytes = Some bytes
 
-kept_is : (x y : List ℕ) → kept x ≡ kept y → x ≡ y
-kept_is x y e = cc
+some_of_is : (x y : List ℕ) → some_of x ≡ some_of y → x ≡ y
+some_of_is x y e = cc
 
-container_by : (body bytes : List ℕ) (object : ObjectValue) (rest : List ℕ) (test : Bool) → ((object.tag == container_tag) && (length rest == 0)) ≡ test → cond test (kept object.value) None ≡ kept bytes → BeginsWithTlvObject body object rest → SpellsContainer body bytes
-container_by body bytes object rest false is e begins = absurd cc
-container_by body bytes object rest true is e (prefix, spells, parts) =
+container_by : (apdu_data bytes : List ℕ) (object : ObjectValue) (rest : List ℕ) (test : Bool) → ((object.tag == container_tag) && (length rest == 0)) ≡ test → cond test (some_of object.value) None ≡ some_of bytes → BeginsWithTlvObject apdu_data object rest → SpellsContainer apdu_data bytes
+container_by apdu_data bytes object rest false is e begins = absurd cc
+container_by apdu_data bytes object rest true is e (prefix, spells, parts) =
     let tests = and_parts (eqb object.tag container_tag) (eqb (length rest) 0) is in
     let empty = nil_of_length rest (eqb-true _ _ tests.1) in
-    let whole : body ≡ prefix = parts ∙ ap (λ (r : List ℕ). prefix ++ r) empty ∙ append-nil prefix in
+    let whole : apdu_data ≡ prefix = parts ∙ ap (λ (r : List ℕ). prefix ++ r) empty ∙ append-nil prefix in
     let tag : object.tag ≡ container_tag = eqb-true _ _ tests.0 in
-    let same : object ≡ container bytes = ap (λ (t : ℕ). record { tag = t; value = object.value }) tag ∙ ap container (kept_is object.value bytes e) in
+    let same : object ≡ container bytes = ap (λ (t : ℕ). record { tag = t; value = object.value }) tag ∙ ap container (some_of_is object.value bytes e) in
     subst (λ (b : List ℕ). SpellsTlvObject b (container bytes)) (sym whole) (subst (SpellsTlvObject prefix) same spells)
 
-container_at : (body bytes : List ℕ) (found : Option (ObjectValue × List ℕ)) → decode_tlv_object body ≡ found → container_value found ≡ kept bytes → SpellsContainer body bytes
-container_at body bytes None is e = absurd cc
-container_at body bytes (Some (object, rest)) is e =
-    container_by body bytes object rest _ refl e (found_begins body object rest is)
+container_at : (apdu_data bytes : List ℕ) (found : Option (ObjectValue × List ℕ)) → decode_tlv_object apdu_data ≡ found → container_value found ≡ some_of bytes → SpellsContainer apdu_data bytes
+container_at apdu_data bytes None is e = absurd cc
+container_at apdu_data bytes (Some (object, rest)) is e =
+    container_by apdu_data bytes object rest _ refl e (found_begins apdu_data object rest is)
 
-found_container : (body bytes : List ℕ) → decode_container body ≡ Some bytes → SpellsContainer body bytes
-found_container body bytes e = container_at body bytes (decode_tlv_object body) refl e
+found_container : (apdu_data bytes : List ℕ) → decode_container apdu_data ≡ Some bytes → SpellsContainer apdu_data bytes
+found_container apdu_data bytes e = container_at apdu_data bytes (decode_tlv_object apdu_data) refl e
 
-container_shorter : (body bytes : List ℕ) → SpellsContainer body bytes → length bytes < length body
-container_shorter body bytes spells =
-    omega (arith, value_shrinks body (container bytes) [] (body, spells, sym (append-nil body)))
+container_shorter : (apdu_data bytes : List ℕ) → SpellsContainer apdu_data bytes → length bytes < length apdu_data
+container_shorter apdu_data bytes spells =
+    omega (arith, value_shrinks apdu_data (container bytes) [] (apdu_data, spells, sym (append-nil apdu_data)))
 
 -- ---- what is well-formed inside of an object
 
@@ -181,40 +181,40 @@ stops_size bytes left (before, rest, splits, well_formed, stops) =
 
 -- what the data are, by what is computed of them
 abbrev pub BlockIs : List ℕ → Result (List ℕ) TlvFault → Type 0
-BlockIs body (Ok bytes) = SpellsBlock body bytes
-BlockIs body (Err fault) = IsBlockFault body fault.at
+BlockIs apdu_data (Ok bytes) = SpellsBlock apdu_data bytes
+BlockIs apdu_data (Err fault) = IsBlockFault apdu_data fault.at
 
-block_left : (body bytes : List ℕ) → SpellsContainer body bytes → LeftOf bytes (bytes_left bytes) → BlockIs body (decode_in_container (length body) (kept bytes))
-block_left body bytes is (inl (none, whole)) = rw none (is, whole)
-block_left body bytes is (inr (some, stops)) =
+block_left : (apdu_data bytes : List ℕ) → SpellsContainer apdu_data bytes → LeftOf bytes (bytes_left bytes) → BlockIs apdu_data (decode_in_container (length apdu_data) (some_of bytes))
+block_left apdu_data bytes is (inl (none, whole)) = rw none (is, whole)
+block_left apdu_data bytes is (inr (some, stops)) =
     let test : eqb (bytes_left bytes) 0 ≡ false = ne_eqb _ _ (λ e. omega (arith, some)) in
     let size = stops_size bytes (bytes_left bytes) stops in
-    let offset : (length body - bytes_left bytes) + bytes_left bytes ≡ length body = omega (arith, size.1, container_shorter body bytes is) in
+    let offset : (length apdu_data - bytes_left bytes) + bytes_left bytes ≡ length apdu_data = omega (arith, size.1, container_shorter apdu_data bytes is) in
     rw test (inr (bytes, bytes_left bytes, is, stops, offset))
 
-block_by : (body : List ℕ) (found : Option (List ℕ)) → decode_container body ≡ found → BlockIs body (decode_in_container (length body) found)
-block_by body None e = inl (refl, λ bytes is. let some = container_found body bytes is in cc (some, e))
-block_by body (Some bytes) e = block_left body bytes (found_container body bytes e) (left_is bytes)
+block_by : (apdu_data : List ℕ) (found : Option (List ℕ)) → decode_container apdu_data ≡ found → BlockIs apdu_data (decode_in_container (length apdu_data) found)
+block_by apdu_data None e = inl (refl, λ bytes is. let some = container_found apdu_data bytes is in cc (some, e))
+block_by apdu_data (Some bytes) e = block_left apdu_data bytes (found_container apdu_data bytes e) (left_is bytes)
 
-pub block_is : (body : List ℕ) → BlockIs body (decode_block body)
-block_is body = block_by body (decode_container body) refl
+pub block_is : (apdu_data : List ℕ) → BlockIs apdu_data (decode_block apdu_data)
+block_is apdu_data = block_by apdu_data (decode_container apdu_data) refl
 
-pub only_block : (body bytes : List ℕ) → SpellsBlock body bytes → decode_block body ≡ Ok bytes
-only_block body bytes (is, whole) =
-    ap (decode_in_container (length body)) (container_found body bytes is) ∙ rw (whole_zero bytes whole) refl
+pub only_block : (apdu_data bytes : List ℕ) → SpellsBlock apdu_data bytes → decode_block apdu_data ≡ Ok bytes
+only_block apdu_data bytes (is, whole) =
+    ap (decode_in_container (length apdu_data)) (container_found apdu_data bytes is) ∙ rw (whole_zero bytes whole) refl
 
-none_contained : (body : List ℕ) (found : Option (List ℕ)) → decode_container body ≡ found → ((bytes : List ℕ) → SpellsContainer body bytes → ⊥) → found ≡ None
-none_contained body None e none = refl
-none_contained body (Some bytes) e none = absurd (none bytes (found_container body bytes e))
+none_contained : (apdu_data : List ℕ) (found : Option (List ℕ)) → decode_container apdu_data ≡ found → ((bytes : List ℕ) → SpellsContainer apdu_data bytes → ⊥) → found ≡ None
+none_contained apdu_data None e none = refl
+none_contained apdu_data (Some bytes) e none = absurd (none bytes (found_container apdu_data bytes e))
 
 abbrev fault_at : ℕ → TlvFault
 fault_at offset = record { at = offset }
 
-pub only_block_fault : (body : List ℕ) (fault : TlvFault) → IsBlockFault body fault.at → decode_block body ≡ Err fault
-only_block_fault body fault (inl (is, none)) =
-    ap (decode_in_container (length body)) (none_contained body (decode_container body) refl none) ∙ ap (λ (offset : ℕ). Err (fault_at offset)) (sym is)
-only_block_fault body fault (inr (bytes, left, is, stops, offset)) =
+pub only_block_fault : (apdu_data : List ℕ) (fault : TlvFault) → IsBlockFault apdu_data fault.at → decode_block apdu_data ≡ Err fault
+only_block_fault apdu_data fault (inl (is, none)) =
+    ap (decode_in_container (length apdu_data)) (none_contained apdu_data (decode_container apdu_data) refl none) ∙ ap (λ (offset : ℕ). Err (fault_at offset)) (sym is)
+only_block_fault apdu_data fault (inr (bytes, left, is, stops, offset)) =
     let same = stops_left bytes left stops in
     let size = stops_size bytes left stops in
     let test : eqb left 0 ≡ false = ne_eqb _ _ (λ e. omega (arith, size.0)) in
-    ap (decode_in_container (length body)) (container_found body bytes is) ∙ rw (same, test) (ap (λ (offset : ℕ). Err (fault_at offset)) (omega (arith, offset)))
+    ap (decode_in_container (length apdu_data)) (container_found apdu_data bytes is) ∙ rw (same, test) (ap (λ (offset : ℕ). Err (fault_at offset)) (omega (arith, offset)))

@@ -32,10 +32,10 @@ nothing = nothing_at (decode_tlv_object []) refl
 
 pub finds_object : (old new : TlvReaderValue) (found : Option Object) → ReturnsTlvObject (Ok found) old → LeavesTlvReader old (Ok found) new → ReturnsNextTlvObject old found new
 finds_object old new None empty stays = (ap decode_tlv_object empty ∙ nothing, stays)
-finds_object old new (Some object) same moves = record {
-  found = begins_found old.rest _ new.rest moves.begins;
-  offset = moves.offset;
-  shorter = value_shrinks old.rest _ new.rest moves.begins;
+finds_object old new (Some object) same leaves = record {
+  found = begins_found old.rest _ new.rest leaves.begins;
+  offset = leaves.offset;
+  shorter = value_shrinks old.rest _ new.rest leaves.begins;
 }
 
 -- ---- how many bytes are left

@@ -16,7 +16,7 @@ use Rattle.zvt_msg.specs.MessageGrammar.{IsFirstByte, SpellsPtMessage}
 use Rattle.zvt_msg.specs.MessageCanonical.{canonical_abort_code, canonical_pt_message, HasPtMessageForm, HasPtMessageSizes, pt_message_read_again}
 use Rattle.zvt_msg.specs.CommandGrammar as command
 use Rattle.zvt_msg.specs.CommandCanonical as spelling
-use Rattle.zvt_msg.proofs.CommandLemmas.{written_spells, body_size}
+use Rattle.zvt_msg.proofs.CommandLemmas.{written_spells, data_size}
 
 -- the laws of the crates below on what they write
 abbrev pub ApduAgain : Type 0
@@ -32,7 +32,7 @@ FieldsAgain = (fields : Fields) → HasFieldDigits fields → IfSome fields.curr
 
 pub command_again : ApduAgain → (c : Command) (rest : List ℕ) → command.HasCommandDigits c → command.HasCommandSizes c → BeginsWithApdu (spelling.canonical_command c ++ rest) (spelling.command_apdu c) rest × command.SpellsCommand (spelling.command_apdu c) c
 command_again again c rest digits sizes =
-    ((spelling.canonical_command c, again (spelling.command_apdu c) (body_size c sizes), refl), written_spells c digits sizes)
+    ((spelling.canonical_command c, again (spelling.command_apdu c) (data_size c sizes), refl), written_spells c digits sizes)
 
 -- ---- messages
 
@@ -40,11 +40,11 @@ abbrev ReadAgain : MessageValue → List ℕ → Type 0
 ReadAgain message rest = (apdu : ApduValue) × BeginsWithApdu (canonical_pt_message message ++ rest) apdu rest × SpellsPtMessage apdu (pt_message_read_again message)
 
 abbrev apdu : ℕ → ℕ → List ℕ → ApduValue
-apdu class instr body = record { class = class; instr = instr; body = body }
+apdu class instr apdu_data = record { class = class; instr = instr; body = apdu_data }
 
-begins : ApduAgain → (class instr : ℕ) (body rest : List ℕ) → length (canonical_apdu class instr body) ≤ 512 → BeginsWithApdu (canonical_apdu class instr body ++ rest) (apdu class instr body) rest
-begins again class instr body rest fits =
-    (canonical_apdu class instr body, again (apdu class instr body) (omega (arith, length-append (canonical_apdu_length (length body)) body)), refl)
+begins : ApduAgain → (class instr : ℕ) (apdu_data rest : List ℕ) → length (canonical_apdu class instr apdu_data) ≤ 512 → BeginsWithApdu (canonical_apdu class instr apdu_data ++ rest) (apdu class instr apdu_data) rest
+begins again class instr apdu_data rest fits =
+    (canonical_apdu class instr apdu_data, again (apdu class instr apdu_data) (omega (arith, length-append (canonical_apdu_length (length apdu_data)) apdu_data)), refl)
 
 code_first : (result_code : Option ℕ) → IsFirstByte (canonical_abort_code result_code) result_code
 code_first None = refl
@@ -53,8 +53,8 @@ code_first (Some result_code) = ([], refl)
 object_size : (tag : ℕ) (value : List ℕ) → length value ≤ length (canonical_tlv_object tag value)
 object_size tag value = omega (arith, length-append (canonical_tag tag) (canonical_tlv_length (length value) ++ value), length-append (canonical_tlv_length (length value)) value)
 
-body_within : (class instr : ℕ) (body : List ℕ) → length body ≤ length (canonical_apdu class instr body)
-body_within class instr body = omega (arith, length-append (canonical_apdu_length (length body)) body)
+data_within : (class instr : ℕ) (apdu_data : List ℕ) → length apdu_data ≤ length (canonical_apdu class instr apdu_data)
+data_within class instr apdu_data = omega (arith, length-append (canonical_apdu_length (length apdu_data)) apdu_data)
 
 is_container : IsTag container_tag
 is_container = ((λ e. omega arith), refl)
@@ -69,12 +69,12 @@ message_again again objects fields (MessageValue.Intermediate intermediate_statu
 message_again again objects fields (MessageValue.Line text) rest form sizes fits =
     (apdu 0x06 0xD1 (0x00 ∷ text), begins again 0x06 0xD1 (0x00 ∷ text) rest fits, ((refl, refl), inl (0x00, refl)))
 message_again again objects fields (MessageValue.Block block) rest form sizes fits =
-    let body = canonical_tlv_object container_tag block in
-    let small : length block < 65536 = omega (arith, fits, body_within 0x06 0xD3 body, object_size container_tag block) in
-    (apdu 0x06 0xD3 body, begins again 0x06 0xD3 body rest fits, ((refl, refl), (objects (record { tag = container_tag; value = block }) is_container small, form)))
+    let apdu_data = canonical_tlv_object container_tag block in
+    let small : length block < 65536 = omega (arith, fits, data_within 0x06 0xD3 apdu_data, object_size container_tag block) in
+    (apdu 0x06 0xD3 apdu_data, begins again 0x06 0xD3 apdu_data rest fits, ((refl, refl), (objects (record { tag = container_tag; value = block }) is_container small, form)))
 message_again again objects fields (MessageValue.Status values) rest form sizes fits =
-    let body = canonical_status values in
-    (apdu 0x04 0x0F body, begins again 0x04 0x0F body rest fits, ((refl, refl), subst (SpellsStatusOrFault body) (fields values form sizes) (fields_report body)))
+    let apdu_data = canonical_status values in
+    (apdu 0x04 0x0F apdu_data, begins again 0x04 0x0F apdu_data rest fits, ((refl, refl), subst (SpellsStatusOrFault apdu_data) (fields values form sizes) (fields_report apdu_data)))
 message_again again objects fields MessageValue.Completion rest form sizes fits =
     (apdu 0x06 0x0F [], begins again 0x06 0x0F [] rest fits, (refl, refl))
 message_again again objects fields (MessageValue.Abort result_code) rest form sizes fits =

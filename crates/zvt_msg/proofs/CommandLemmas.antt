@@ -62,9 +62,9 @@ by_test apdu true x y first second = first refl
 by_test apdu false x y first second = second
 
 -- data that begin with a password
-prefix_is : (body password rest : List ℕ) → take 3 body ≡ password → drop 3 body ≡ rest → body ≡ password ++ rest
-prefix_is body password rest first second =
-    sym (take-append-drop 3 body) ∙ ap (λ (f : List ℕ). f ++ drop 3 body) first ∙ ap (λ (r : List ℕ). password ++ r) second
+prefix_is : (apdu_data password rest : List ℕ) → take 3 apdu_data ≡ password → drop 3 apdu_data ≡ rest → apdu_data ≡ password ++ rest
+prefix_is apdu_data password rest first second =
+    sym (take-append-drop 3 apdu_data) ∙ ap (λ (f : List ℕ). f ++ drop 3 apdu_data) first ∙ ap (λ (r : List ℕ). password ++ r) second
 
 register_number : (apdu : ApduValue) → HasClassAndInstruction apdu 0x06 0x00 → (password : Option (List ℕ)) (config : ℕ) (number : List ℕ) (currency : Option ℕ) → decode_password (take 3 apdu.body) ≡ password → drop 3 apdu.body ≡ config ∷ number → decode_bcd_number 2 number ≡ currency → Is apdu (register_with password config currency)
 register_number apdu has None config number currency first rest second = tt
@@ -102,9 +102,9 @@ authorise_rest apdu has bytes (b ∷ number) e r =
     let whole : bytes ≡ take 6 bytes ++ 0x49 ∷ number = sym (take-append-drop 6 bytes) ∙ ap (λ (t : List ℕ). take 6 bytes ++ t) (r ∙ ap (λ (a : ℕ). a ∷ number) (eqb-true _ _ is)) in
     authorise_number apdu has (take 6 bytes) number (decode_bcd_number 6 (take 6 bytes)) (decode_bcd_number 2 number) (e ∙ ap (λ (t : List ℕ). 0x04 ∷ t) whole) refl refl) tt
 
-authorise_body : (apdu : ApduValue) → HasClassAndInstruction apdu 0x06 0x01 → (body : List ℕ) → apdu.body ≡ body → Is apdu (decode_authorise body)
-authorise_body apdu has [] e = tt
-authorise_body apdu has (b ∷ bytes) e =
+authorise_data : (apdu : ApduValue) → HasClassAndInstruction apdu 0x06 0x01 → (apdu_data : List ℕ) → apdu.body ≡ apdu_data → Is apdu (decode_authorise apdu_data)
+authorise_data apdu has [] e = tt
+authorise_data apdu has (b ∷ bytes) e =
     by_test apdu (eqb b 0x04) _ _ (λ is. authorise_rest apdu has bytes (drop 6 bytes) (e ∙ ap (λ (a : ℕ). a ∷ bytes) (eqb-true _ _ is)) refl) tt
 
 enquire_by : (apdu : ApduValue) → HasClassAndInstruction apdu 0x06 0x20 → (password : Option (List ℕ)) → decode_password apdu.body ≡ password → Is apdu (enquire_with password)
@@ -115,9 +115,9 @@ end_of_day_by : (apdu : ApduValue) → HasClassAndInstruction apdu 0x06 0x50 →
 end_of_day_by apdu has None e = tt
 end_of_day_by apdu has (Some password) e = let is = found_password apdu.body password e in (has, is.0, is.1)
 
-stop_by : (apdu : ApduValue) → HasClassAndInstruction apdu 0x06 0xB0 → (body : List ℕ) → apdu.body ≡ body → Is apdu (decode_stop body)
+stop_by : (apdu : ApduValue) → HasClassAndInstruction apdu 0x06 0xB0 → (apdu_data : List ℕ) → apdu.body ≡ apdu_data → Is apdu (decode_stop apdu_data)
 stop_by apdu has [] e = (has, e)
-stop_by apdu has (b ∷ body) e = tt
+stop_by apdu has (b ∷ apdu_data) e = tt
 
 show_lines : (apdu : ApduValue) → HasClassAndInstruction apdu 0x06 0xE0 → (text : List ℕ) (lines : Option (List (ArrayVec ℕ))) → apdu.body ≡ 0xF0 ∷ 0x05 ∷ text → AreFound 8 0xF1 text lines → Is apdu (show_with lines)
 show_lines apdu has text None e found = tt
@@ -127,7 +127,7 @@ lines_are_found : (text : List ℕ) → AreFound 8 0xF1 text (decode_display_lin
 unfolding decode_display_lines
 lines_are_found text = found_lines 8 0xF1 text
 
-show_by : (apdu : ApduValue) → HasClassAndInstruction apdu 0x06 0xE0 → (body : List ℕ) → apdu.body ≡ body → Is apdu (decode_show body)
+show_by : (apdu : ApduValue) → HasClassAndInstruction apdu 0x06 0xE0 → (apdu_data : List ℕ) → apdu.body ≡ apdu_data → Is apdu (decode_show apdu_data)
 show_by apdu has [] e = tt
 show_by apdu has (b ∷ []) e = tt
 show_by apdu has (b ∷ c ∷ text) e =
@@ -141,7 +141,7 @@ command_is apdu =
     by_test apdu (eqb apdu.class 0x06) _ _ (λ class.
     let six = eqb-true apdu.class 0x06 class in
     by_test apdu (eqb apdu.instr 0x00) _ _ (λ i. register_rest apdu (six, eqb-true _ _ i) (drop 3 apdu.body) refl)
-    (by_test apdu (eqb apdu.instr 0x01) _ _ (λ i. authorise_body apdu (six, eqb-true _ _ i) apdu.body refl)
+    (by_test apdu (eqb apdu.instr 0x01) _ _ (λ i. authorise_data apdu (six, eqb-true _ _ i) apdu.body refl)
     (by_test apdu (eqb apdu.instr 0x20) _ _ (λ i. enquire_by apdu (six, eqb-true _ _ i) (decode_password apdu.body) refl)
     (by_test apdu (eqb apdu.instr 0x30) _ _ (λ i. reverse_rest apdu (six, eqb-true _ _ i) (drop 3 apdu.body) refl)
     (by_test apdu (eqb apdu.instr 0x50) _ _ (λ i. end_of_day_by apdu (six, eqb-true _ _ i) (decode_password apdu.body) refl)
@@ -157,8 +157,8 @@ of_instr apdu instr (class, is) = rw (class, is) refl
 after_password : (password rest : List ℕ) → IsPassword password → (take 3 (password ++ rest) ≡ password) × (drop 3 (password ++ rest) ≡ rest)
 after_password password rest is = (take_at password rest 3 is.0, drop_at password rest 3 is.0)
 
-lines_kept : (lines : ArrayVec (ArrayVec ℕ)) (text : List ℕ) (found : Option (List (ArrayVec ℕ))) → found ≡ Some lines.items → show_with found ≡ Some (Show lines)
-lines_kept lines text found e = ap show_with e
+lines_shown : (lines : ArrayVec (ArrayVec ℕ)) (text : List ℕ) (found : Option (List (ArrayVec ℕ))) → found ≡ Some lines.items → show_with found ≡ Some (Show lines)
+lines_shown lines text found e = ap show_with e
 
 pub spelt_found : (apdu : ApduValue) (command : Command) → SpellsCommand apdu command → decode_command apdu ≡ Some command
 unfolding decode_display_lines
@@ -185,7 +185,7 @@ spelt_found apdu (EndOfDay password) (has, is_password, is) =
     of_instr apdu 0x50 has ∙ ap (λ (b : List ℕ). end_of_day_with (decode_password b)) is ∙ ap end_of_day_with (password_found password is_password)
 spelt_found apdu Stop (has, is) = of_instr apdu 0xB0 has ∙ ap decode_stop is
 spelt_found apdu (Show lines) (has, text, fits, spells, is) =
-    of_instr apdu 0xE0 has ∙ ap decode_show is ∙ lines_kept lines text (decode_display_lines text) (lines_found lines.items 8 0xF1 text fits.0 fits.1 spells)
+    of_instr apdu 0xE0 has ∙ ap decode_show is ∙ lines_shown lines text (decode_display_lines text) (lines_found lines.items 8 0xF1 text fits.0 fits.1 spells)
 
 -- ---- the clauses of the call
 
@@ -217,10 +217,10 @@ digits_spell : (count n : ℕ) → n < 100 ^ count → SpellsBcdNumber count (bc
 digits_spell count n small = let again = bcd_value-of count n small in (length-bcd_of count n, again.0, again.1)
 
 abbrev six : ℕ → List ℕ → ApduValue
-six instr body = record { class = 0x06; instr = instr; body = body }
+six instr apdu_data = record { class = 0x06; instr = instr; body = apdu_data }
 
-apdu_is : (apdu : ApduValue) (instr : ℕ) (body : List ℕ) → HasClassAndInstruction apdu 0x06 instr → apdu.body ≡ body → apdu ≡ six instr body
-apdu_is apdu instr body (class, is) same =
+apdu_is : (apdu : ApduValue) (instr : ℕ) (apdu_data : List ℕ) → HasClassAndInstruction apdu 0x06 instr → apdu.body ≡ apdu_data → apdu ≡ six instr apdu_data
+apdu_is apdu instr apdu_data (class, is) same =
     ap (λ (c : ℕ). record { class = c; instr = apdu.instr; body = apdu.body }) class ∙ ap (λ (i : ℕ). six i apdu.body) is ∙ ap (six instr) same
 
 abbrev Written : ApduValue → Command → Type 0
@@ -275,14 +275,14 @@ lines_size [] number sized = omega arith
 lines_size (line ∷ lines) number sized =
     omega (arith, sized.0, lines_size lines (number + 1) sized.1, length-append line.items (canonical_display_lines (number + 1) lines))
 
-pub body_size : (command : Command) → HasCommandSizes command → length (command_data command) ≤ 12000
-body_size (Register password config currency) size =
+pub data_size : (command : Command) → HasCommandSizes command → length (command_data command) ≤ 12000
+data_size (Register password config currency) size =
     omega (arith, size, length-append password (config ∷ bcd_of 2 currency), length-bcd_of 2 currency)
-body_size (Authorise amount currency) size =
+data_size (Authorise amount currency) size =
     omega (arith, length-append (bcd_of 6 amount) (0x49 ∷ bcd_of 2 currency), length-bcd_of 6 amount, length-bcd_of 2 currency)
-body_size (Enquire password) size = omega (arith, size)
-body_size (Reverse password receipt) size =
+data_size (Enquire password) size = omega (arith, size)
+data_size (Reverse password receipt) size =
     omega (arith, size, length-append password (0x87 ∷ bcd_of 2 receipt), length-bcd_of 2 receipt)
-body_size (EndOfDay password) size = omega (arith, size)
-body_size Stop size = omega arith
-body_size (Show lines) fits = omega (arith, fits.0, lines_size lines.items 0xF1 fits.1)
+data_size (EndOfDay password) size = omega (arith, size)
+data_size Stop size = omega arith
+data_size (Show lines) fits = omega (arith, fits.0, lines_size lines.items 0xF1 fits.1)

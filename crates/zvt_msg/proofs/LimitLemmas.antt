@@ -45,8 +45,8 @@ spelled_form apdu MessageValue.Completion is known = tt
 spelled_form apdu (MessageValue.Abort result_code) is known = tt
 spelled_form apdu MessageValue.Other is known = absurd (known refl)
 
-short_apdu : (class instr : ℕ) (body : List ℕ) → length body < 255 → length (canonical_apdu class instr body) ≡ 3 + length body
-short_apdu class instr body below = let test : ltb (length body) 255 ≡ true = lt-ltb _ _ below in rw test (omega arith)
+short_apdu : (class instr : ℕ) (apdu_data : List ℕ) → length apdu_data < 255 → length (canonical_apdu class instr apdu_data) ≡ 3 + length apdu_data
+short_apdu class instr apdu_data below = let test : ltb (length apdu_data) 255 ≡ true = lt-ltb _ _ below in rw test (omega arith)
 
 spelled_status_size : (apdu : ApduValue) (fields : Fields) → SpellsPtMessage apdu (MessageValue.Status fields) → length (canonical_pt_message (MessageValue.Status fields)) ≤ 22
 spelled_status_size apdu fields (is, spells) =

@@ -21,15 +21,15 @@ use Rattle.zvt_msg.proofs.BlockLemmas.{BlockIs, block_is, only_block, only_block
 
 -- ---- the control field
 
-kind_found : (apdu : ApduValue) (control_field : ControlField) → HasControlField apdu control_field → control_field_of apdu.class apdu.instr ≡ Some control_field
-kind_found apdu ControlField.Ack (class, instr) = rw (class, instr) refl
-kind_found apdu ControlField.Nack class = rw class refl
-kind_found apdu ControlField.Intermediate (class, instr) = rw (class, instr) refl
-kind_found apdu ControlField.Line (class, instr) = rw (class, instr) refl
-kind_found apdu ControlField.Block (class, instr) = rw (class, instr) refl
-kind_found apdu ControlField.Status (class, instr) = rw (class, instr) refl
-kind_found apdu ControlField.Completion (class, instr) = rw (class, instr) refl
-kind_found apdu ControlField.Abort (class, instr) = rw (class, instr) refl
+control_field_found : (apdu : ApduValue) (control_field : ControlField) → HasControlField apdu control_field → control_field_of apdu.class apdu.instr ≡ Some control_field
+control_field_found apdu ControlField.Ack (class, instr) = rw (class, instr) refl
+control_field_found apdu ControlField.Nack class = rw class refl
+control_field_found apdu ControlField.Intermediate (class, instr) = rw (class, instr) refl
+control_field_found apdu ControlField.Line (class, instr) = rw (class, instr) refl
+control_field_found apdu ControlField.Block (class, instr) = rw (class, instr) refl
+control_field_found apdu ControlField.Status (class, instr) = rw (class, instr) refl
+control_field_found apdu ControlField.Completion (class, instr) = rw (class, instr) refl
+control_field_found apdu ControlField.Abort (class, instr) = rw (class, instr) refl
 
 -- the APDU has this control field, if one was found
 abbrev IsSome : ApduValue → Option ControlField → Type 0
@@ -53,46 +53,46 @@ found_some apdu =
     (λ _. tt))))
 
 -- the APDU has this control field, or none
-abbrev KindIs : ApduValue → Option ControlField → Type 0
-KindIs apdu None = (control_field : ControlField) → ¬ HasControlField apdu control_field
-KindIs apdu (Some control_field) = HasControlField apdu control_field
+abbrev ControlFieldIs : ApduValue → Option ControlField → Type 0
+ControlFieldIs apdu None = (control_field : ControlField) → ¬ HasControlField apdu control_field
+ControlFieldIs apdu (Some control_field) = HasControlField apdu control_field
 
-kind_by : (apdu : ApduValue) (found : Option ControlField) → control_field_of apdu.class apdu.instr ≡ found → IsSome apdu found → KindIs apdu found
-kind_by apdu None e is = λ control_field of. let some = kind_found apdu control_field of in cc (some, e)
-kind_by apdu (Some control_field) e is = is
+control_field_by : (apdu : ApduValue) (found : Option ControlField) → control_field_of apdu.class apdu.instr ≡ found → IsSome apdu found → ControlFieldIs apdu found
+control_field_by apdu None e is = λ control_field of. let some = control_field_found apdu control_field of in cc (some, e)
+control_field_by apdu (Some control_field) e is = is
 
-kind_is : (apdu : ApduValue) → KindIs apdu (control_field_of apdu.class apdu.instr)
-kind_is apdu = kind_by apdu (control_field_of apdu.class apdu.instr) refl (found_some apdu)
+control_field_is : (apdu : ApduValue) → ControlFieldIs apdu (control_field_of apdu.class apdu.instr)
+control_field_is apdu = control_field_by apdu (control_field_of apdu.class apdu.instr) refl (found_some apdu)
 
-none_found : (apdu : ApduValue) (found : Option ControlField) → ((control_field : ControlField) → ¬ HasControlField apdu control_field) → KindIs apdu found → found ≡ None
+none_found : (apdu : ApduValue) (found : Option ControlField) → ((control_field : ControlField) → ¬ HasControlField apdu control_field) → ControlFieldIs apdu found → found ≡ None
 none_found apdu None none is = refl
 none_found apdu (Some control_field) none is = absurd (none control_field is)
 
 -- ---- what the data carry
 
-first_is : (body : List ℕ) → IsFirstByte body (first_byte_of body)
+first_is : (apdu_data : List ℕ) → IsFirstByte apdu_data (first_byte_of apdu_data)
 first_is [] = refl
 first_is (byte ∷ bytes) = (bytes, refl)
 
-only_first : (body : List ℕ) (first : Option ℕ) → IsFirstByte body first → first_byte_of body ≡ first
-only_first body None empty = ap first_byte_of empty
-only_first body (Some byte) (more, is) = ap first_byte_of is
+only_first : (apdu_data : List ℕ) (first : Option ℕ) → IsFirstByte apdu_data first → first_byte_of apdu_data ≡ first
+only_first apdu_data None empty = ap first_byte_of empty
+only_first apdu_data (Some byte) (more, is) = ap first_byte_of is
 
-code_is : (body : List ℕ) → IsFirstByteOrZero body (unwrap_or (first_byte_of body) 0)
+code_is : (apdu_data : List ℕ) → IsFirstByteOrZero apdu_data (unwrap_or (first_byte_of apdu_data) 0)
 code_is [] = inr (refl, refl)
 code_is (byte ∷ bytes) = inl (bytes, refl)
 
-only_code : (body : List ℕ) (result_code : ℕ) → IsFirstByteOrZero body result_code → unwrap_or (first_byte_of body) 0 ≡ result_code
-only_code body result_code (inl (more, is)) = ap (λ (b : List ℕ). unwrap_or (first_byte_of b) 0) is
-only_code body result_code (inr (empty, is)) = ap (λ (b : List ℕ). unwrap_or (first_byte_of b) 0) empty ∙ sym is
+only_code : (apdu_data : List ℕ) (result_code : ℕ) → IsFirstByteOrZero apdu_data result_code → unwrap_or (first_byte_of apdu_data) 0 ≡ result_code
+only_code apdu_data result_code (inl (more, is)) = ap (λ (b : List ℕ). unwrap_or (first_byte_of b) 0) is
+only_code apdu_data result_code (inr (empty, is)) = ap (λ (b : List ℕ). unwrap_or (first_byte_of b) 0) empty ∙ sym is
 
-text_is : (body : List ℕ) → IsLineText body (after_first_byte body)
+text_is : (apdu_data : List ℕ) → IsLineText apdu_data (after_first_byte apdu_data)
 text_is [] = inr (refl, refl)
 text_is (byte ∷ bytes) = inl (byte, refl)
 
-only_text : (body text : List ℕ) → IsLineText body text → after_first_byte body ≡ text
-only_text body text (inl (attribute, is)) = ap after_first_byte is
-only_text body text (inr (empty, is)) = ap after_first_byte empty ∙ sym is
+only_text : (apdu_data text : List ℕ) → IsLineText apdu_data text → after_first_byte apdu_data ≡ text
+only_text apdu_data text (inl (attribute, is)) = ap after_first_byte is
+only_text apdu_data text (inr (empty, is)) = ap after_first_byte empty ∙ sym is
 
 -- ---- what the APDU spells
 
@@ -104,7 +104,7 @@ reports_block : (apdu : ApduValue) (reported : Result (List ℕ) TlvFault) → H
 reports_block apdu (Ok bytes) is block = (is, block)
 reports_block apdu (Err fault) is block = (is, block)
 
-reports_by : (apdu : ApduValue) (found : Option ControlField) → KindIs apdu found → SpellsPtMessageOrFault apdu (decode_pt_message_by found apdu)
+reports_by : (apdu : ApduValue) (found : Option ControlField) → ControlFieldIs apdu found → SpellsPtMessageOrFault apdu (decode_pt_message_by found apdu)
 reports_by apdu None is = is
 reports_by apdu (Some ControlField.Ack) is = is
 reports_by apdu (Some ControlField.Nack) is = (is, refl)
@@ -117,32 +117,32 @@ reports_by apdu (Some ControlField.Abort) is = (is, first_is apdu.body)
 
 pub reports : (apdu : ApduValue) → SpellsPtMessageOrFault apdu (decode_pt_message apdu)
 unfolding decode_pt_message
-reports apdu = reports_by apdu (control_field_of apdu.class apdu.instr) (kind_is apdu)
+reports apdu = reports_by apdu (control_field_of apdu.class apdu.instr) (control_field_is apdu)
 
 -- ---- and nothing else
 
-of_kind : (apdu : ApduValue) (control_field : ControlField) → HasControlField apdu control_field → decode_pt_message apdu ≡ decode_pt_message_by (Some control_field) apdu
+of_control_field : (apdu : ApduValue) (control_field : ControlField) → HasControlField apdu control_field → decode_pt_message apdu ≡ decode_pt_message_by (Some control_field) apdu
 unfolding decode_pt_message
-of_kind apdu control_field is = ap (λ (found : Option ControlField). decode_pt_message_by found apdu) (kind_found apdu control_field is)
+of_control_field apdu control_field is = ap (λ (found : Option ControlField). decode_pt_message_by found apdu) (control_field_found apdu control_field is)
 
 of_none : (apdu : ApduValue) → ((control_field : ControlField) → ¬ HasControlField apdu control_field) → decode_pt_message apdu ≡ Ok MessageValue.Other
 unfolding decode_pt_message
-of_none apdu none = ap (λ (found : Option ControlField). decode_pt_message_by found apdu) (none_found apdu (control_field_of apdu.class apdu.instr) none (kind_is apdu))
+of_none apdu none = ap (λ (found : Option ControlField). decode_pt_message_by found apdu) (none_found apdu (control_field_of apdu.class apdu.instr) none (control_field_is apdu))
 
 only_says : (apdu : ApduValue) (message : MessageValue) → SpellsPtMessage apdu message → decode_pt_message apdu ≡ Ok message
-only_says apdu MessageValue.Ack is = of_kind apdu ControlField.Ack is
-only_says apdu (MessageValue.Nack error_code) (is, same) = of_kind apdu ControlField.Nack is ∙ ap (λ (c : ℕ). Ok (MessageValue.Nack c)) same
-only_says apdu (MessageValue.Intermediate intermediate_status) (is, first) = of_kind apdu ControlField.Intermediate is ∙ ap (λ (c : ℕ). Ok (MessageValue.Intermediate c)) (only_code apdu.body intermediate_status first)
-only_says apdu (MessageValue.Line text) (is, is_text) = of_kind apdu ControlField.Line is ∙ ap (λ (t : List ℕ). Ok (MessageValue.Line t)) (only_text apdu.body text is_text)
-only_says apdu (MessageValue.Block objects) (is, block) = of_kind apdu ControlField.Block is ∙ ap block_or_fault (only_block apdu.body objects block)
-only_says apdu (MessageValue.Status fields) (is, are) = of_kind apdu ControlField.Status is ∙ ap status_or_fault (only_reported apdu.body (Ok fields) are)
-only_says apdu MessageValue.Completion is = of_kind apdu ControlField.Completion is
-only_says apdu (MessageValue.Abort result_code) (is, first) = of_kind apdu ControlField.Abort is ∙ ap (λ (c : Option ℕ). Ok (MessageValue.Abort c)) (only_first apdu.body result_code first)
+only_says apdu MessageValue.Ack is = of_control_field apdu ControlField.Ack is
+only_says apdu (MessageValue.Nack error_code) (is, same) = of_control_field apdu ControlField.Nack is ∙ ap (λ (c : ℕ). Ok (MessageValue.Nack c)) same
+only_says apdu (MessageValue.Intermediate intermediate_status) (is, first) = of_control_field apdu ControlField.Intermediate is ∙ ap (λ (c : ℕ). Ok (MessageValue.Intermediate c)) (only_code apdu.body intermediate_status first)
+only_says apdu (MessageValue.Line text) (is, is_text) = of_control_field apdu ControlField.Line is ∙ ap (λ (t : List ℕ). Ok (MessageValue.Line t)) (only_text apdu.body text is_text)
+only_says apdu (MessageValue.Block objects) (is, block) = of_control_field apdu ControlField.Block is ∙ ap block_or_fault (only_block apdu.body objects block)
+only_says apdu (MessageValue.Status fields) (is, are) = of_control_field apdu ControlField.Status is ∙ ap status_or_fault (only_reported apdu.body (Ok fields) are)
+only_says apdu MessageValue.Completion is = of_control_field apdu ControlField.Completion is
+only_says apdu (MessageValue.Abort result_code) (is, first) = of_control_field apdu ControlField.Abort is ∙ ap (λ (c : Option ℕ). Ok (MessageValue.Abort c)) (only_first apdu.body result_code first)
 only_says apdu MessageValue.Other none = of_none apdu none
 
 only_fault : (apdu : ApduValue) (fault : PtFault) → HasPtFault apdu fault → decode_pt_message apdu ≡ Err fault
-only_fault apdu (Field fault) (is, first) = of_kind apdu ControlField.Status is ∙ ap status_or_fault (only_reported apdu.body (Err fault) first)
-only_fault apdu (Tlv fault) (is, first) = of_kind apdu ControlField.Block is ∙ ap block_or_fault (only_block_fault apdu.body fault first)
+only_fault apdu (Field fault) (is, first) = of_control_field apdu ControlField.Status is ∙ ap status_or_fault (only_reported apdu.body (Err fault) first)
+only_fault apdu (Tlv fault) (is, first) = of_control_field apdu ControlField.Block is ∙ ap block_or_fault (only_block_fault apdu.body fault first)
 
 pub only_reports : (apdu : ApduValue) (reported : Result MessageValue PtFault) → SpellsPtMessageOrFault apdu reported → decode_pt_message apdu ≡ reported
 only_reports apdu (Ok message) says = only_says apdu message says

@@ -19,29 +19,29 @@ pub(crate) const LINE: u32 = 0x07;
 
 /// The objects of a block, which fill the container that its data are, or the offset in the data of the first that is
 /// malformed. Data that are no container have their fault at 0.
-pub(crate) fn read_block(body: &[u8]) -> Result<&[u8], TlvFault>
-    ensures { ReturnsBlock result (decode_block body.now) }
+pub(crate) fn read_block(apdu_data: &[u8]) -> Result<&[u8], TlvFault>
+    ensures { ReturnsBlock result (decode_block apdu_data.now) }
 {
-    let Some(bytes) = container(body) else {
+    let Some(bytes) = container(apdu_data) else {
         return Err(TlvFault { at: 0 });
     };
     let left = left(bytes);
     if left > 0 {
         return Err(TlvFault {
-            at: body.len() - left,
+            at: apdu_data.len() - left,
         });
     }
     Ok(bytes)
 }
 
 /// The value of the container that the data are.
-fn container(body: &[u8]) -> Option<&[u8]>
-    ensures value { ReturnsContainer result (decode_container body.now) }
-    ensures within { IfSome result (λ bytes. length bytes.now ≤ length body.now) }
+fn container(apdu_data: &[u8]) -> Option<&[u8]>
+    ensures value { ReturnsContainer result (decode_container apdu_data.now) }
+    ensures within { IfSome result (λ bytes. length bytes.now ≤ length apdu_data.now) }
 {
-    let mut tlv = Tlv::over(body);
+    let mut tlv = Tlv::over(apdu_data);
     let object = next_object(&mut tlv)?;
-    if object.tag != CONTAINER || tlv.offset() < body.len() {
+    if object.tag != CONTAINER || tlv.offset() < apdu_data.len() {
         return None;
     }
     Some(object.value)

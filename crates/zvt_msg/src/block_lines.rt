@@ -75,7 +75,7 @@ fn next_line<'a>(objects: &mut Tlv<'a>, lines: &mut Tlv<'a>) -> Option<&'a [u8]>
         if let Some(line) = next_value(LINE, lines) {
             return Some(line);
         }
-        // One text's lines after another's, so that no list of them is kept.
+        // One text's lines after another's, so that no list of them is made.
         *lines = Tlv::over(next_value(TEXT, objects)?);
     }
 }

@@ -43,13 +43,13 @@ fn recognise(apdu: &Apdu<'_>) -> Option<Command>
     }
 }
 
-fn read_register(body: &[u8]) -> Option<Command>
-    ensures { result ≡ decode_register body.now }
+fn read_register(apdu_data: &[u8]) -> Option<Command>
+    ensures { result ≡ decode_register apdu_data.now }
 {
-    if body.len() < 3 {
+    if apdu_data.len() < 3 {
         return None;
     }
-    let (password, rest) = body.split_at(3);
+    let (password, rest) = apdu_data.split_at(3);
     let [config, currency @ ..] = rest else {
         return None;
     };
@@ -60,10 +60,10 @@ fn read_register(body: &[u8]) -> Option<Command>
     })
 }
 
-fn read_authorise(body: &[u8]) -> Option<Command>
-    ensures { result ≡ decode_authorise body.now }
+fn read_authorise(apdu_data: &[u8]) -> Option<Command>
+    ensures { result ≡ decode_authorise apdu_data.now }
 {
-    let [0x04, rest @ ..] = body else {
+    let [0x04, rest @ ..] = apdu_data else {
         return None;
     };
     if rest.len() < 6 {
@@ -79,21 +79,21 @@ fn read_authorise(body: &[u8]) -> Option<Command>
     })
 }
 
-fn read_enquire(body: &[u8]) -> Option<Command>
-    ensures { result ≡ enquire_with (decode_password body.now) }
+fn read_enquire(apdu_data: &[u8]) -> Option<Command>
+    ensures { result ≡ enquire_with (decode_password apdu_data.now) }
 {
     Some(Command::Enquire {
-        password: read_password(body)?,
+        password: read_password(apdu_data)?,
     })
 }
 
-fn read_reverse(body: &[u8]) -> Option<Command>
-    ensures { result ≡ decode_reverse body.now }
+fn read_reverse(apdu_data: &[u8]) -> Option<Command>
+    ensures { result ≡ decode_reverse apdu_data.now }
 {
-    if body.len() < 3 {
+    if apdu_data.len() < 3 {
         return None;
     }
-    let (password, rest) = body.split_at(3);
+    let (password, rest) = apdu_data.split_at(3);
     let [0x87, receipt @ ..] = rest else {
         return None;
     };
@@ -103,27 +103,27 @@ fn read_reverse(body: &[u8]) -> Option<Command>
     })
 }
 
-fn read_end_of_day(body: &[u8]) -> Option<Command>
-    ensures { result ≡ end_of_day_with (decode_password body.now) }
+fn read_end_of_day(apdu_data: &[u8]) -> Option<Command>
+    ensures { result ≡ end_of_day_with (decode_password apdu_data.now) }
 {
     Some(Command::EndOfDay {
-        password: read_password(body)?,
+        password: read_password(apdu_data)?,
     })
 }
 
-fn read_stop(body: &[u8]) -> Option<Command>
-    ensures { result ≡ decode_stop body.now }
+fn read_stop(apdu_data: &[u8]) -> Option<Command>
+    ensures { result ≡ decode_stop apdu_data.now }
 {
-    match body {
+    match apdu_data {
         [] => Some(Command::Stop),
         _ => None,
     }
 }
 
-fn read_show(body: &[u8]) -> Option<Command>
-    ensures { result ≡ decode_show body.now }
+fn read_show(apdu_data: &[u8]) -> Option<Command>
+    ensures { result ≡ decode_show apdu_data.now }
 {
-    match body {
+    match apdu_data {
         [0xF0, 0x05, text @ ..] => Some(Command::Show {
             lines: read_lines(text)?,
         }),

@@ -18,9 +18,9 @@ pub fn write_command(command: &Command, out: &mut ArrayVec<u8, 512>)
     ensures { out.new.items ≡ canonical_command command.now }
 {
     // The length of the data comes before them, so they are written apart first: at most 346 bytes.
-    let mut body = ArrayVec::new();
-    write_body(command, &mut body);
-    write_apdu(0x06, instr(command), body.as_slice(), out);
+    let mut apdu_data = ArrayVec::new();
+    write_data(command, &mut apdu_data);
+    write_apdu(0x06, instr(command), apdu_data.as_slice(), out);
 }
 
 fn instr(command: &Command) -> u8
@@ -37,11 +37,11 @@ fn instr(command: &Command) -> u8
     }
 }
 
-fn write_body(command: &Command, body: &mut ArrayVec<u8, 512>)
-    requires empty { body.old.items ≡ [] }
+fn write_data(command: &Command, apdu_data: &mut ArrayVec<u8, 512>)
+    requires empty { apdu_data.old.items ≡ [] }
     requires digits { HasCommandDigits command.now }
-    ensures body { body.new.items ≡ command_data command.now }
-    ensures bound { array_vec_len body.new ≤ 346 }
+    ensures apdu_data { apdu_data.new.items ≡ command_data command.now }
+    ensures bound { array_vec_len apdu_data.new ≤ 346 }
 {
     match command {
         Command::Register {
@@ -49,25 +49,25 @@ fn write_body(command: &Command, body: &mut ArrayVec<u8, 512>)
             config,
             currency,
         } => {
-            write_bytes(password, body);
-            body.push(*config);
-            write_number(2, u64::from(*currency), body);
+            write_bytes(password, apdu_data);
+            apdu_data.push(*config);
+            write_number(2, u64::from(*currency), apdu_data);
         }
         Command::Authorise { amount, currency } => {
-            write_tagged(0x04, 6, *amount, body);
-            write_tagged(0x49, 2, u64::from(*currency), body);
+            write_tagged(0x04, 6, *amount, apdu_data);
+            write_tagged(0x49, 2, u64::from(*currency), apdu_data);
         }
-        Command::Enquire { password } => write_bytes(password, body),
+        Command::Enquire { password } => write_bytes(password, apdu_data),
         Command::Reverse { password, receipt } => {
-            write_bytes(password, body);
-            write_tagged(0x87, 2, u64::from(*receipt), body);
+            write_bytes(password, apdu_data);
+            write_tagged(0x87, 2, u64::from(*receipt), apdu_data);
         }
-        Command::EndOfDay { password } => write_bytes(password, body),
+        Command::EndOfDay { password } => write_bytes(password, apdu_data),
         Command::Stop => {}
         Command::Show { lines } => {
-            body.push(0xF0);
-            body.push(0x05);
-            write_lines(lines, body);
+            apdu_data.push(0xF0);
+            apdu_data.push(0x05);
+            write_lines(lines, apdu_data);
         }
     }
 }

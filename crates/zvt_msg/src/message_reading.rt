@@ -51,36 +51,36 @@ fn read_message<'a>(apdu: &Apdu<'a>) -> Result<PtMessage<'a>, PtFault>
     }
 }
 
-fn first(body: &[u8]) -> Option<u8>
-    ensures { result ≡ first_byte_of body.now }
+fn first(apdu_data: &[u8]) -> Option<u8>
+    ensures { result ≡ first_byte_of apdu_data.now }
 {
-    body.first().copied()
+    apdu_data.first().copied()
 }
 
-fn after_first_byte(body: &[u8]) -> &[u8]
-    ensures { result.now ≡ after_first_byte body.now }
+fn after_first_byte(apdu_data: &[u8]) -> &[u8]
+    ensures { result.now ≡ after_first_byte apdu_data.now }
 {
-    match body {
+    match apdu_data {
         [] => &[],
         [_, text @ ..] => text,
     }
 }
 
-fn status(body: &[u8]) -> Result<PtMessage<'_>, PtFault>
-    ensures computes { ReturnsPtMessage result (status_or_fault (decode_status body.now)) }
+fn status(apdu_data: &[u8]) -> Result<PtMessage<'_>, PtFault>
+    ensures computes { ReturnsPtMessage result (status_or_fault (decode_status apdu_data.now)) }
     ensures numbers { IfOk result (λ message. NumbersFitFields (message_value message)) }
 {
-    match read_fields(body) {
+    match read_fields(apdu_data) {
         Ok(fields) => Ok(PtMessage::Status(fields)),
         Err(fault) => Err(PtFault::Field(fault)),
     }
 }
 
-fn block(body: &[u8]) -> Result<PtMessage<'_>, PtFault>
-    ensures computes { ReturnsPtMessage result (block_or_fault (decode_block body.now)) }
+fn block(apdu_data: &[u8]) -> Result<PtMessage<'_>, PtFault>
+    ensures computes { ReturnsPtMessage result (block_or_fault (decode_block apdu_data.now)) }
     ensures numbers { IfOk result (λ message. NumbersFitFields (message_value message)) }
 {
-    match read_block(body) {
+    match read_block(apdu_data) {
         Ok(objects) => Ok(PtMessage::Block(objects)),
         Err(fault) => Err(PtFault::Tlv(fault)),
     }

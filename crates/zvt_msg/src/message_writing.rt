@@ -40,19 +40,19 @@ fn write_line(text: &[u8], out: &mut ArrayVec<u8, 512>)
     requires { array_vec_len out.old + length (canonical_pt_message (MessageValue.Line text.now)) ≤ 512 }
     ensures { out.new.items ≡ out.old.items ++ canonical_pt_message (MessageValue.Line text.now) }
 {
-    let mut body: ArrayVec<u8, 512> = ArrayVec::new();
-    body.push(0x00);
-    body.try_extend_from_slice(text).unwrap();
-    write_apdu(0x06, 0xD1, body.as_slice(), out);
+    let mut apdu_data: ArrayVec<u8, 512> = ArrayVec::new();
+    apdu_data.push(0x00);
+    apdu_data.try_extend_from_slice(text).unwrap();
+    write_apdu(0x06, 0xD1, apdu_data.as_slice(), out);
 }
 
 fn write_block(objects: &[u8], out: &mut ArrayVec<u8, 512>)
     requires { array_vec_len out.old + length (canonical_pt_message (MessageValue.Block objects.now)) ≤ 512 }
     ensures { out.new.items ≡ out.old.items ++ canonical_pt_message (MessageValue.Block objects.now) }
 {
-    let mut body = ArrayVec::new();
-    write_object(CONTAINER, objects, &mut body);
-    write_apdu(0x06, 0xD3, body.as_slice(), out);
+    let mut apdu_data = ArrayVec::new();
+    write_object(CONTAINER, objects, &mut apdu_data);
+    write_apdu(0x06, 0xD3, apdu_data.as_slice(), out);
 }
 
 fn write_status(fields: &Fields, out: &mut ArrayVec<u8, 512>)
@@ -60,7 +60,7 @@ fn write_status(fields: &Fields, out: &mut ArrayVec<u8, 512>)
     requires fits { array_vec_len out.old + length (canonical_pt_message (MessageValue.Status fields.now)) ≤ 512 }
     ensures { out.new.items ≡ out.old.items ++ canonical_pt_message (MessageValue.Status fields.now) }
 {
-    let mut body = ArrayVec::new();
-    write_fields(fields, &mut body);
-    write_apdu(0x04, 0x0F, body.as_slice(), out);
+    let mut apdu_data = ArrayVec::new();
+    write_fields(fields, &mut apdu_data);
+    write_apdu(0x04, 0x0F, apdu_data.as_slice(), out);
 }

@@ -36,7 +36,7 @@ fn the_example(rt: HostRuntime) {
 
 #[test]
 fn messages(rt: HostRuntime) {
-    for (class, instr, body, message) in [
+    for (class, instr, data, message) in [
         (0x80, 0x00, b"\xaa\xbb".as_slice(), PtMessage::Ack),
         (0x84, 0x83, b"".as_slice(), PtMessage::Nack(0x83)),
         (0x84, 0x00, b"\x01".as_slice(), PtMessage::Nack(0x00)),
@@ -71,14 +71,18 @@ fn messages(rt: HostRuntime) {
         (0x80, 0x01, b"".as_slice(), PtMessage::Other),
         (0x06, 0x99, b"".as_slice(), PtMessage::Other),
     ] {
-        let apdu = Apdu { class, instr, body };
+        let apdu = Apdu {
+            class,
+            instr,
+            body: data,
+        };
         assert_eq!(rt; read_pt(&apdu), Ok(message), "{apdu:?}");
     }
 }
 
 #[test]
 fn faults(rt: HostRuntime) {
-    for (class, instr, body, fault) in [
+    for (class, instr, data, fault) in [
         (
             0x04,
             0x0F,
@@ -117,7 +121,11 @@ fn faults(rt: HostRuntime) {
             PtFault::Tlv(TlvFault { at: 6 }),
         ),
     ] {
-        let apdu = Apdu { class, instr, body };
+        let apdu = Apdu {
+            class,
+            instr,
+            body: data,
+        };
         assert_eq!(rt; read_pt(&apdu), Err(fault), "{apdu:?}");
     }
 }
@@ -152,24 +160,24 @@ fn lines(rt: HostRuntime) {
 
 #[test]
 fn long_lines(rt: HostRuntime) -> Result<(), Fail> {
-    let mut body = [0x41; 256];
-    body[0] = 0x00;
+    let mut data = [0x41; 256];
+    data[0] = 0x00;
     let line = Apdu {
         class: 0x06,
         instr: 0xD1,
-        body: &body,
+        body: &data,
     };
-    assert_eq!(rt; read_pt(&line)?, PtMessage::Line(&body[1..]));
-    let mut body = [0x41; 260];
-    body[..10].copy_from_slice(b"\x06\x82\x01\x00\x25\x81\xfd\x07\x81\xfa");
+    assert_eq!(rt; read_pt(&line)?, PtMessage::Line(&data[1..]));
+    let mut data = [0x41; 260];
+    data[..10].copy_from_slice(b"\x06\x82\x01\x00\x25\x81\xfd\x07\x81\xfa");
     let block = Apdu {
         class: 0x06,
         instr: 0xD3,
-        body: &body,
+        body: &data,
     };
-    assert_eq!(rt; read_pt(&block)?, PtMessage::Block(&body[4..]));
-    let mut lines = Lines437::over(&body[4..]);
-    assert_eq!(rt; lines.next(), Some(&body[10..]));
+    assert_eq!(rt; read_pt(&block)?, PtMessage::Block(&data[4..]));
+    let mut lines = Lines437::over(&data[4..]);
+    assert_eq!(rt; lines.next(), Some(&data[10..]));
     assert_eq!(rt; lines.next(), None);
     Ok(())
 }
@@ -239,13 +247,13 @@ fn commands(rt: HostRuntime) -> Result<(), Fail> {
             Command::Show { lines: hallo()? },
         ),
     ] {
-        let [class, instr, _, body @ ..] = bytes else {
+        let [class, instr, _, data @ ..] = bytes else {
             return Err(Fail::from("no APDU"));
         };
         let apdu = Apdu {
             class: *class,
             instr: *instr,
-            body,
+            body: data,
         };
         let (read, canonical_pt_message) = read_and_written(&apdu).ok_or("no command")?;
         assert!(rt; read == command);
@@ -308,7 +316,7 @@ fn shortest_long_display(rt: HostRuntime) -> Result<(), Fail> {
 
 #[test]
 fn no_commands(rt: HostRuntime) {
-    for (class, instr, body) in [
+    for (class, instr, data) in [
         (0x04, 0x01, b"".as_slice()),
         (0x06, 0x93, b""),
         (0x06, 0x00, b"\x12\x34\x56\xba\x09\x78\x00"),
@@ -322,7 +330,11 @@ fn no_commands(rt: HostRuntime) {
         (0x06, 0xE0, b"\xf0\x05\xf1\xf0\xf2A"),
         (0x06, 0xE0, b"\xf0\x04"),
     ] {
-        let apdu = Apdu { class, instr, body };
+        let apdu = Apdu {
+            class,
+            instr,
+            body: data,
+        };
         assert!(rt; read_command(&apdu).is_none(), "{apdu:?}");
     }
 }

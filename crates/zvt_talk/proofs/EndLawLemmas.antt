@@ -12,7 +12,7 @@ use Rattle.zvt_talk.specs.Dialogue.{Dialogue, is_display}
 use Rattle.zvt_talk.specs.Came.{Came, Message, StopWished, taken_message, messages, is_ack, is_completion_or_abort, is_asked, is_begun, has_ended, is_stop_sent, is_stop_wished}
 use Rattle.zvt_talk.specs.Talk.{meaning, end_from, end_of, talk_goes_on, is_end, is_open_phase, statuses_of, talk_after}
 use Rattle.zvt_talk.specs.Laws.{IsEndOf}
-use Rattle.zvt_talk.proofs.StepLemmas.{after_message, heard_is, messages_wish}
+use Rattle.zvt_talk.proofs.StepLemmas.{after_message, heard_is, messages_stop_wished}
 use Rattle.zvt_talk.proofs.EndLemmas.{talk_ends}
 
 not_same : (a b : Bool) → not a ≡ not b → a ≡ b
@@ -70,8 +70,8 @@ ended_more dialogue came message at e =
     ∙ talk_ends (talk_after dialogue came) message at open_
     ∙ ap (λ (h : Heard). not (is_end h)) (heard_is dialogue came message open_))
 
-ended_wish : (dialogue_kind : DialogueKind) (came : List Came) → has_ended dialogue_kind (messages (came ++ StopWished ∷ [])) ≡ has_ended dialogue_kind (messages came)
-ended_wish dialogue_kind came = ap (has_ended dialogue_kind) (messages_wish came)
+ended_stop_wished : (dialogue_kind : DialogueKind) (came : List Came) → has_ended dialogue_kind (messages (came ++ StopWished ∷ [])) ≡ has_ended dialogue_kind (messages came)
+ended_stop_wished dialogue_kind came = ap (has_ended dialogue_kind) (messages_stop_wished came)
 
 -- ---- the end
 
@@ -87,7 +87,7 @@ pub ended_from : (dialogue : Dialogue) (before rest : List Came) → has_ended d
     → has_ended dialogue.dialogue_kind (messages (before ++ rest)) ≡ is_some (end_from dialogue before rest)
 ended_from dialogue before [] e = ap (λ (all : List Came). has_ended dialogue.dialogue_kind (messages all)) (append-nil before) ∙ e
 ended_from dialogue before (StopWished ∷ rest) e =
-    regroup dialogue.dialogue_kind before StopWished rest ∙ ended_from dialogue (before ++ StopWished ∷ []) rest (ended_wish dialogue.dialogue_kind before ∙ e)
+    regroup dialogue.dialogue_kind before StopWished rest ∙ ended_from dialogue (before ++ StopWished ∷ []) rest (ended_stop_wished dialogue.dialogue_kind before ∙ e)
 ended_from dialogue before (Message message at ∷ rest) e =
     let more : has_ended dialogue.dialogue_kind (messages (before ++ Message message at ∷ [])) ≡ is_end (meaning dialogue before message) = ended_more dialogue before message at e in
     at_end _ (is_end (meaning dialogue before message)) (meaning dialogue before message) (end_from dialogue (before ++ Message message at ∷ []) rest)
@@ -124,15 +124,15 @@ end_by_message dialogue came message at open_ =
 some_same : (a b : Heard) → Some a ≡ Some b → a ≡ b
 some_same a b e = cc
 
-at_kind : (dialogue_kind : DialogueKind) (now : Bool) (heard end : Heard) (more : Option Heard) → is_end heard ≡ now → (is_end heard ≡ true → IsEndOf dialogue_kind heard) → (more ≡ Some end → IsEndOf dialogue_kind end)
+dialogue_kind_at : (dialogue_kind : DialogueKind) (now : Bool) (heard end : Heard) (more : Option Heard) → is_end heard ≡ now → (is_end heard ≡ true → IsEndOf dialogue_kind heard) → (more ≡ Some end → IsEndOf dialogue_kind end)
     → cond now (Some heard) more ≡ Some end → IsEndOf dialogue_kind end
-at_kind dialogue_kind true heard end more over means later is = subst (IsEndOf dialogue_kind) (some_same heard end is) (means over)
-at_kind dialogue_kind false heard end more over means later is = later is
+dialogue_kind_at dialogue_kind true heard end more over means later is = subst (IsEndOf dialogue_kind) (some_same heard end is) (means over)
+dialogue_kind_at dialogue_kind false heard end more over means later is = later is
 
-pub kind_from : (dialogue : Dialogue) (means : (came : List Came) (message : MessageValue) → is_end (meaning dialogue came message) ≡ true → IsEndOf dialogue.dialogue_kind (meaning dialogue came message))
+pub dialogue_kind_from : (dialogue : Dialogue) (means : (came : List Came) (message : MessageValue) → is_end (meaning dialogue came message) ≡ true → IsEndOf dialogue.dialogue_kind (meaning dialogue came message))
     → (before rest : List Came) (end : Heard) → end_from dialogue before rest ≡ Some end → IsEndOf dialogue.dialogue_kind end
-kind_from dialogue means before [] end is = absurd cc
-kind_from dialogue means before (StopWished ∷ rest) end is = kind_from dialogue means (before ++ StopWished ∷ []) rest end is
-kind_from dialogue means before (Message message at ∷ rest) end is =
-    at_kind dialogue.dialogue_kind (is_end (meaning dialogue before message)) (meaning dialogue before message) end (end_from dialogue (before ++ Message message at ∷ []) rest)
-    refl (means before message) (kind_from dialogue means (before ++ Message message at ∷ []) rest end) is
+dialogue_kind_from dialogue means before [] end is = absurd cc
+dialogue_kind_from dialogue means before (StopWished ∷ rest) end is = dialogue_kind_from dialogue means (before ++ StopWished ∷ []) rest end is
+dialogue_kind_from dialogue means before (Message message at ∷ rest) end is =
+    dialogue_kind_at dialogue.dialogue_kind (is_end (meaning dialogue before message)) (meaning dialogue before message) end (end_from dialogue (before ++ Message message at ∷ []) rest)
+    refl (means before message) (dialogue_kind_from dialogue means (before ++ Message message at ∷ []) rest end) is

@@ -5,4 +5,4 @@ pub mod LimitLemmas
 pub mod StatusLemmas
 pub mod StepLemmas
 pub mod StopLemmas
-pub mod WishLemmas
+pub mod StopWishedLemmas

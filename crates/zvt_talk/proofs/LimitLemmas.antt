@@ -52,20 +52,20 @@ at_least_one status figures full = record { trace = full.first_trace; amount = f
 
 -- ---- what an enquiry reports
 
-reported_kind : (dialogue_kind : DialogueKind) (trace : ℕ) (approved : Option Figures) (result_code : ℕ) → IsEndOf dialogue_kind (heard.Told trace approved result_code) → IsEnquiry dialogue_kind
-reported_kind Registration trace approved result_code is = absurd is
-reported_kind Enquiry trace approved result_code is = tt
-reported_kind Payment trace approved result_code is = absurd is
-reported_kind Reversal trace approved result_code is = absurd is
-reported_kind EndOfDay trace approved result_code is = absurd is
-reported_kind Display trace approved result_code is = absurd is
+only_enquiry_reports : (dialogue_kind : DialogueKind) (trace : ℕ) (approved : Option Figures) (result_code : ℕ) → IsEndOf dialogue_kind (heard.Told trace approved result_code) → IsEnquiry dialogue_kind
+only_enquiry_reports Registration trace approved result_code is = absurd is
+only_enquiry_reports Enquiry trace approved result_code is = tt
+only_enquiry_reports Payment trace approved result_code is = absurd is
+only_enquiry_reports Reversal trace approved result_code is = absurd is
+only_enquiry_reports EndOfDay trace approved result_code is = absurd is
+only_enquiry_reports Display trace approved result_code is = absurd is
 
 -- only an enquiry reports a transaction
 pub reported_by_enquiry : (dialogue : Dialogue) (came : List Came) (message : MessageValue) (trace : ℕ) (approved : Option Figures) (result_code : ℕ)
     → (is_end (meaning dialogue came message) ≡ true → IsEndOf dialogue.dialogue_kind (meaning dialogue came message))
     → meaning dialogue came message ≡ heard.Told trace approved result_code → IsEnquiry dialogue.dialogue_kind
 reported_by_enquiry dialogue came message trace approved result_code means is =
-    reported_kind dialogue.dialogue_kind trace approved result_code (subst (IsEndOf dialogue.dialogue_kind) is (means (ap is_end is)))
+    only_enquiry_reports dialogue.dialogue_kind trace approved result_code (subst (IsEndOf dialogue.dialogue_kind) is (means (ap is_end is)))
 
 -- the figures are those of the last status
 pub reported_figures : (dialogue : Dialogue) (came : List Came) (message : MessageValue) (trace : ℕ) (figures : Figures) (result_code : ℕ)

@@ -1,4 +1,4 @@
--- What a talk keeps after one more message or wish.
+-- What a talk keeps after one more message, or after a stop is wished.
 use Rattle.std.proofs.Common.{◌≡◌, ℕ, ℤ, pos, ◌+ℤ◌, Bool, true, false, not, ◌&&◌, ◌||◌, cond, List, [], ◌∷◌, ◌++◌, Option, Some, None, refl, sym, ap, ◌∙◌, append-nil}
 use Rattle.std.specs.List.{cons_option, list_any, filter_map, last_or}
 use Rattle.std.proofs.lemmas.List.Elements.{filter_map-append}
@@ -13,7 +13,7 @@ use Rattle.zvt_talk.specs.Dialogue.{Dialogue, is_display}
 use Rattle.zvt_talk.specs.Came.{Came, Message, StopWished, taken_message, taken_moment, messages, moments, status_fields_of, has_result, is_taken, is_ack, is_completion_or_abort, is_asked, was_begun, is_begun, is_stop_wished, due, deadline}
 use Rattle.zvt_talk.specs.Table.{meaning_when_asked, meaning_when_begun}
 use Rattle.zvt_talk.specs.Talk.{TalkFacts, meaning, talk_after, phase_of, talk_goes_on, is_open_phase}
-use Rattle.zvt_talk.specs.TalkSteps.{meaning_in_phase, next_phase, next_talk, phase_after_wish, with_status}
+use Rattle.zvt_talk.specs.TalkSteps.{meaning_in_phase, next_phase, next_talk, phase_after_stop_wished, with_status}
 
 -- ---- tests
 
@@ -51,31 +51,31 @@ messages_same came at = filter_map-append taken_message came (Message Other at �
 pub moments_same : (came : List Came) (at : ℤ) → moments (came ++ Message Other at ∷ []) ≡ moments came
 moments_same came at = filter_map-append taken_moment came (Message Other at ∷ []) ∙ append-nil (moments came)
 
-pub messages_wish : (came : List Came) → messages (came ++ StopWished ∷ []) ≡ messages came
-messages_wish came = filter_map-append taken_message came (StopWished ∷ []) ∙ append-nil (messages came)
+pub messages_stop_wished : (came : List Came) → messages (came ++ StopWished ∷ []) ≡ messages came
+messages_stop_wished came = filter_map-append taken_message came (StopWished ∷ []) ∙ append-nil (messages came)
 
-pub moments_wish : (came : List Came) → moments (came ++ StopWished ∷ []) ≡ moments came
-moments_wish came = filter_map-append taken_moment came (StopWished ∷ []) ∙ append-nil (moments came)
+pub moments_stop_wished : (came : List Came) → moments (came ++ StopWished ∷ []) ≡ moments came
+moments_stop_wished came = filter_map-append taken_moment came (StopWished ∷ []) ∙ append-nil (moments came)
 
--- ---- wishes
+-- ---- stops wished
 
-pub wished_message : (came : List Came) (message : MessageValue) (at : ℤ) → is_stop_wished (came ++ Message message at ∷ []) ≡ is_stop_wished came
-wished_message [] message at = and_false (not (is_completion_or_abort message))
-wished_message (StopWished ∷ came) message at = refl
-wished_message (Message first then ∷ came) message at = ap (λ (b : Bool). not (is_completion_or_abort first) && b) (wished_message came message at)
+pub stop_wished_message : (came : List Came) (message : MessageValue) (at : ℤ) → is_stop_wished (came ++ Message message at ∷ []) ≡ is_stop_wished came
+stop_wished_message [] message at = and_false (not (is_completion_or_abort message))
+stop_wished_message (StopWished ∷ came) message at = refl
+stop_wished_message (Message first then ∷ came) message at = ap (λ (b : Bool). not (is_completion_or_abort first) && b) (stop_wished_message came message at)
 
-pub wished_more : (came : List Came) → is_stop_wished (came ++ StopWished ∷ []) ≡ (is_stop_wished came || not (list_any is_completion_or_abort (messages came)))
-wished_more [] = refl
-wished_more (StopWished ∷ came) = refl
-wished_more (Message Ack at ∷ came) = wished_more came
-wished_more (Message (Nack error_code) at ∷ came) = wished_more came
-wished_more (Message (Intermediate intermediate_status) at ∷ came) = wished_more came
-wished_more (Message (Line text) at ∷ came) = wished_more came
-wished_more (Message (Block objects) at ∷ came) = wished_more came
-wished_more (Message (Status fields) at ∷ came) = wished_more came
-wished_more (Message Completion at ∷ came) = refl
-wished_more (Message (Abort result_code) at ∷ came) = refl
-wished_more (Message Other at ∷ came) = wished_more came
+pub stop_wished_more : (came : List Came) → is_stop_wished (came ++ StopWished ∷ []) ≡ (is_stop_wished came || not (list_any is_completion_or_abort (messages came)))
+stop_wished_more [] = refl
+stop_wished_more (StopWished ∷ came) = refl
+stop_wished_more (Message Ack at ∷ came) = stop_wished_more came
+stop_wished_more (Message (Nack error_code) at ∷ came) = stop_wished_more came
+stop_wished_more (Message (Intermediate intermediate_status) at ∷ came) = stop_wished_more came
+stop_wished_more (Message (Line text) at ∷ came) = stop_wished_more came
+stop_wished_more (Message (Block objects) at ∷ came) = stop_wished_more came
+stop_wished_more (Message (Status fields) at ∷ came) = stop_wished_more came
+stop_wished_more (Message Completion at ∷ came) = refl
+stop_wished_more (Message (Abort result_code) at ∷ came) = refl
+stop_wished_more (Message Other at ∷ came) = stop_wished_more came
 
 -- ---- statuses
 
@@ -169,17 +169,17 @@ phase_step : (dialogue_kind : DialogueKind) (taken : List MessageValue) (stop_wi
 phase_step dialogue_kind [] stop_wished message open_ = phase_first dialogue_kind stop_wished message
 phase_step dialogue_kind (first ∷ rest) stop_wished message open_ = phase_later dialogue_kind first rest stop_wished message open_
 
-wish_later : (begun over stop_wished : Bool) (statuses : Statuses)
+stop_wished_later : (begun over stop_wished : Bool) (statuses : Statuses)
     → cond (begun && not over) (Begun (begun && (stop_wished || not over)) statuses) (Ended (begun && (stop_wished || not over)))
-    ≡ phase_after_wish (cond (begun && not over) (Begun (begun && stop_wished) statuses) (Ended (begun && stop_wished)))
-wish_later true true stop_wished statuses = ap Ended (or_false stop_wished)
-wish_later true false stop_wished statuses = ap (λ (b : Bool). Begun b statuses) (or_true stop_wished)
-wish_later false over stop_wished statuses = refl
+    ≡ phase_after_stop_wished (cond (begun && not over) (Begun (begun && stop_wished) statuses) (Ended (begun && stop_wished)))
+stop_wished_later true true stop_wished statuses = ap Ended (or_false stop_wished)
+stop_wished_later true false stop_wished statuses = ap (λ (b : Bool). Begun b statuses) (or_true stop_wished)
+stop_wished_later false over stop_wished statuses = refl
 
-wish_phase : (dialogue_kind : DialogueKind) (taken : List MessageValue) (stop_wished : Bool)
-    → phase_in dialogue_kind taken (stop_wished || not (list_any is_completion_or_abort taken)) ≡ phase_after_wish (phase_in dialogue_kind taken stop_wished)
-wish_phase dialogue_kind [] stop_wished = ap Asked (or_true stop_wished)
-wish_phase dialogue_kind (first ∷ rest) stop_wished = wish_later (is_ack first && not (is_display dialogue_kind)) (list_any is_completion_or_abort (first ∷ rest)) stop_wished (statuses_in (first ∷ rest))
+stop_wished_phase : (dialogue_kind : DialogueKind) (taken : List MessageValue) (stop_wished : Bool)
+    → phase_in dialogue_kind taken (stop_wished || not (list_any is_completion_or_abort taken)) ≡ phase_after_stop_wished (phase_in dialogue_kind taken stop_wished)
+stop_wished_phase dialogue_kind [] stop_wished = ap Asked (or_true stop_wished)
+stop_wished_phase dialogue_kind (first ∷ rest) stop_wished = stop_wished_later (is_ack first && not (is_display dialogue_kind)) (list_any is_completion_or_abort (first ∷ rest)) stop_wished (statuses_in (first ∷ rest))
 
 -- ---- talks
 
@@ -198,7 +198,7 @@ pub phase_more : (dialogue_kind : DialogueKind) (came : List Came) (message : Me
     → phase_of dialogue_kind (came ++ Message message at ∷ []) ≡ next_phase dialogue_kind (phase_of dialogue_kind came) message
 phase_more dialogue_kind came message at is open_ =
     ap (λ (taken : List MessageValue). phase_in dialogue_kind taken (is_stop_wished (came ++ Message message at ∷ []))) (messages_more came message at is)
-    ∙ ap (phase_in dialogue_kind (messages came ++ message ∷ [])) (wished_message came message at)
+    ∙ ap (phase_in dialogue_kind (messages came ++ message ∷ [])) (stop_wished_message came message at)
     ∙ phase_step dialogue_kind (messages came) (is_stop_wished came) message open_
 
 after_taken : (dialogue : Dialogue) (came : List Came) (message : MessageValue) (at : ℤ) → is_taken message ≡ true → talk_goes_on (talk_after dialogue came) ≡ true
@@ -210,7 +210,7 @@ after_other : (dialogue : Dialogue) (came : List Came) (at : ℤ) → talk_after
 after_other dialogue came at =
     same_talk dialogue _ _ _ _ (ap (λ (all : List ℤ). due dialogue (last_or None all)) (moments_same came at))
     (ap (λ (taken : List MessageValue). phase_in dialogue.dialogue_kind taken (is_stop_wished (came ++ Message Other at ∷ []))) (messages_same came at)
-    ∙ ap (phase_in dialogue.dialogue_kind (messages came)) (wished_message came Other at))
+    ∙ ap (phase_in dialogue.dialogue_kind (messages came)) (stop_wished_message came Other at))
 
 -- a message more in the list is what the talk makes of it
 pub after_message : (dialogue : Dialogue) (came : List Came) (message : MessageValue) (at : ℤ) → talk_goes_on (talk_after dialogue came) ≡ true
@@ -225,14 +225,14 @@ after_message dialogue came Completion at open_ = after_taken dialogue came Comp
 after_message dialogue came (Abort result_code) at open_ = after_taken dialogue came (Abort result_code) at refl open_
 after_message dialogue came Other at open_ = after_other dialogue came at
 
--- and so is a wish
-pub after_wish : (dialogue : Dialogue) (came : List Came)
-    → talk_after dialogue (came ++ StopWished ∷ []) ≡ talk_in dialogue (deadline dialogue came) (phase_after_wish (phase_of dialogue.dialogue_kind came))
-after_wish dialogue came =
-    same_talk dialogue _ _ _ _ (ap (λ (all : List ℤ). due dialogue (last_or None all)) (moments_wish came))
-    (ap (λ (taken : List MessageValue). phase_in dialogue.dialogue_kind taken (is_stop_wished (came ++ StopWished ∷ []))) (messages_wish came)
-    ∙ ap (phase_in dialogue.dialogue_kind (messages came)) (wished_more came)
-    ∙ wish_phase dialogue.dialogue_kind (messages came) (is_stop_wished came))
+-- and so is a stop that is wished
+pub after_stop_wished : (dialogue : Dialogue) (came : List Came)
+    → talk_after dialogue (came ++ StopWished ∷ []) ≡ talk_in dialogue (deadline dialogue came) (phase_after_stop_wished (phase_of dialogue.dialogue_kind came))
+after_stop_wished dialogue came =
+    same_talk dialogue _ _ _ _ (ap (λ (all : List ℤ). due dialogue (last_or None all)) (moments_stop_wished came))
+    (ap (λ (taken : List MessageValue). phase_in dialogue.dialogue_kind taken (is_stop_wished (came ++ StopWished ∷ []))) (messages_stop_wished came)
+    ∙ ap (phase_in dialogue.dialogue_kind (messages came)) (stop_wished_more came)
+    ∙ stop_wished_phase dialogue.dialogue_kind (messages came) (is_stop_wished came))
 
 -- ---- what a message means
 

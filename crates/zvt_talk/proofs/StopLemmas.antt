@@ -15,7 +15,7 @@ use Rattle.zvt_talk.specs.Table.{meaning_of_abort, acknowledged, meaning_of_comp
 use Rattle.zvt_talk.specs.Talk.{TalkFacts, meaning, talk_goes_on, is_end, is_open_phase, phase_of, statuses_of, talk_after}
 use Rattle.zvt_talk.specs.TalkSteps.{meaning_in_phase, next_phase, next_talk, was_stop_sent}
 use Rattle.zvt_talk.specs.Laws.{says_stop}
-use Rattle.zvt_talk.proofs.StepLemmas.{after_message, heard_is, messages_wish, phase_more, wished_more}
+use Rattle.zvt_talk.proofs.StepLemmas.{after_message, heard_is, messages_stop_wished, phase_more, stop_wished_more}
 use Rattle.zvt_talk.proofs.EndLemmas.{aborted_ends, completed_ends}
 
 -- ---- an acknowledgement or a refusal once begun
@@ -148,21 +148,21 @@ message_stop dialogue came message at open_ =
     ∙ ap (λ (b : Bool). b && not (was_stop_sent (phase_of dialogue.dialogue_kind came))) (stopped_is dialogue.dialogue_kind (came ++ Message message at ∷ []))
     ∙ ap (λ (b : Bool). is_stop_sent dialogue.dialogue_kind (came ++ Message message at ∷ []) && not b) (stopped_is dialogue.dialogue_kind came)
 
--- ---- a wish
+-- ---- a stop wished
 
-wish_tests : (begun over stop_wished : Bool) → ((begun && not over) && not (begun && stop_wished)) ≡ ((begun && (stop_wished || not over)) && not (begun && stop_wished))
-wish_tests true true true = refl
-wish_tests true true false = refl
-wish_tests true false true = refl
-wish_tests true false false = refl
-wish_tests false over stop_wished = refl
+stop_wished_tests : (begun over stop_wished : Bool) → ((begun && not over) && not (begun && stop_wished)) ≡ ((begun && (stop_wished || not over)) && not (begun && stop_wished))
+stop_wished_tests true true true = refl
+stop_wished_tests true true false = refl
+stop_wished_tests true false true = refl
+stop_wished_tests true false false = refl
+stop_wished_tests false over stop_wished = refl
 
-pub wish_stop : (dialogue_kind : DialogueKind) (came : List Came)
+pub stop_sent_by_stop_wished : (dialogue_kind : DialogueKind) (came : List Came)
     → (is_begun dialogue_kind (messages came) && not (is_stop_sent dialogue_kind came)) ≡ (is_stop_sent dialogue_kind (came ++ StopWished ∷ []) && not (is_stop_sent dialogue_kind came))
-wish_stop dialogue_kind came =
-    wish_tests (was_begun dialogue_kind (messages came)) (list_any is_completion_or_abort (messages came)) (is_stop_wished came)
-    ∙ ap (λ (b : Bool). (was_begun dialogue_kind (messages came) && b) && not (is_stop_sent dialogue_kind came)) (sym (wished_more came))
-    ∙ ap (λ (taken : List MessageValue). (was_begun dialogue_kind taken && is_stop_wished (came ++ StopWished ∷ [])) && not (is_stop_sent dialogue_kind came)) (sym (messages_wish came))
+stop_sent_by_stop_wished dialogue_kind came =
+    stop_wished_tests (was_begun dialogue_kind (messages came)) (list_any is_completion_or_abort (messages came)) (is_stop_wished came)
+    ∙ ap (λ (b : Bool). (was_begun dialogue_kind (messages came) && b) && not (is_stop_sent dialogue_kind came)) (sym (stop_wished_more came))
+    ∙ ap (λ (taken : List MessageValue). (was_begun dialogue_kind taken && is_stop_wished (came ++ StopWished ∷ [])) && not (is_stop_sent dialogue_kind came)) (sym (messages_stop_wished came))
 
 -- ---- what was sent stays sent
 
@@ -181,15 +181,15 @@ begun_with : (dialogue_kind : DialogueKind) (taken more : List MessageValue) →
 begun_with dialogue_kind [] more is = absurd cc
 begun_with dialogue_kind (first ∷ rest) more is = is
 
-wished_with : (came more : List Came) → is_stop_wished came ≡ true → is_stop_wished (came ++ more) ≡ true
-wished_with [] more is = absurd cc
-wished_with (StopWished ∷ came) more is = refl
-wished_with (Message message at ∷ came) more is =
+stop_wished_with : (came more : List Came) → is_stop_wished came ≡ true → is_stop_wished (came ++ more) ≡ true
+stop_wished_with [] more is = absurd cc
+stop_wished_with (StopWished ∷ came) more is = refl
+stop_wished_with (Message message at ∷ came) more is =
     both (not (is_completion_or_abort message)) (is_stop_wished (came ++ more)) (both_left (not (is_completion_or_abort message)) (is_stop_wished came) is)
-    (wished_with came more (both_right (not (is_completion_or_abort message)) (is_stop_wished came) is))
+    (stop_wished_with came more (both_right (not (is_completion_or_abort message)) (is_stop_wished came) is))
 
 pub stopped_with : (dialogue_kind : DialogueKind) (came more : List Came) → is_stop_sent dialogue_kind came ≡ true → is_stop_sent dialogue_kind (came ++ more) ≡ true
 stopped_with dialogue_kind came more is =
     both (was_begun dialogue_kind (messages (came ++ more))) (is_stop_wished (came ++ more))
     (ap (was_begun dialogue_kind) (filter_map-append taken_message came more) ∙ begun_with dialogue_kind (messages came) (messages more) (both_left (was_begun dialogue_kind (messages came)) (is_stop_wished came) is))
-    (wished_with came more (both_right (was_begun dialogue_kind (messages came)) (is_stop_wished came) is))
+    (stop_wished_with came more (both_right (was_begun dialogue_kind (messages came)) (is_stop_wished came) is))

@@ -46,8 +46,8 @@ declined_came = Message Ack (pos 103) ∷ Message (Status (record greatest_statu
 
 -- an acknowledgement begins the payment, with a stop where one is wished; a display is done with it
 pub record ExampleBegins : Type 0 where
-  pub without_wish : meaning payment_dialogue [] Ack ≡ heard.Begun false
-  pub with_wish : meaning payment_dialogue (StopWished ∷ []) Ack ≡ heard.Begun true
+  pub without_stop_wished : meaning payment_dialogue [] Ack ≡ heard.Begun false
+  pub with_stop_wished : meaning payment_dialogue (StopWished ∷ []) Ack ≡ heard.Begun true
   pub display : meaning display_dialogue [] Ack ≡ heard.Done
 
 -- after the acknowledgement the payment goes on with each of these; before it one of them leaves it unclear
@@ -58,7 +58,7 @@ pub record ExampleGoesOn : Type 0 where
   pub status : meaning payment_dialogue acknowledged_came (Status greatest_status) ≡ heard.Seen
   pub too_early : meaning payment_dialogue [] (Intermediate 10) ≡ heard.Unclear
 
--- the deadline is 5 seconds after the command and 180 after each message; what is outside the table and a wish leave it
+-- the deadline is 5 seconds after the command and 180 after each message; what is outside the table and a stop wished leave it
 pub record ExampleDeadlines : Type 0 where
   pub command : deadline payment_dialogue [] ≡ pos 105
   pub message : deadline payment_dialogue acknowledged_came ≡ pos 283
@@ -84,7 +84,7 @@ abbrev pub declined_status_data : List ℕ
 declined_status_data =
     0x27 ∷ 0x05 ∷ 0x04 ∷ 0x99 ∷ 0x99 ∷ 0x99 ∷ 0x99 ∷ 0x99 ∷ 0x99 ∷ 0x0B ∷ 0x00 ∷ 0x00 ∷ 0x07 ∷ 0x87 ∷ 0x99 ∷ 0x99 ∷ []
 
--- the messages of an approved payment were read, and their figures can be kept; those of a declined one were read
+-- the messages of an approved payment were read, and their figures can be kept in a record; those of a declined one were read
 pub record ExampleReadFigures : Type 0 where
   pub status : decode_status greatest_status_data ≡ Ok greatest_status
   pub read : WereRead (messages greatest_came)

@@ -1,4 +1,4 @@
--- What a message means for a dialogue, and what is kept of it, after everything that came.
+-- What a message means for a dialogue, and what is remembered of it, after everything that came.
 use Rattle.std.specs.Prelude.{ℕ, ℤ, Bool, true, false, List, [], ◌∷◌, ◌++◌, Option, None, Some, if◌then◌else◌}
 use Rattle.zvt_msg.specs.Message.{MessageValue}
 use Rattle.zvt_talk.specs.declared.dialogue_kind.DialogueKind.{DialogueKind}

@@ -59,14 +59,14 @@ next_talk talk message now =
     else talk
 
 -- the phase after a stop is wished
-abbrev pub phase_after_wish : Phase → Phase
-phase_after_wish (Asked stop_wished) = Asked true
-phase_after_wish (Begun stop_sent statuses) = Begun true statuses
-phase_after_wish (Ended stop_sent) = Ended stop_sent
+abbrev pub phase_after_stop_wished : Phase → Phase
+phase_after_stop_wished (Asked stop_wished) = Asked true
+phase_after_stop_wished (Begun stop_sent statuses) = Begun true statuses
+phase_after_stop_wished (Ended stop_sent) = Ended stop_sent
 
 -- the talk after a stop is wished
-abbrev pub talk_after_wish : TalkFacts → TalkFacts
-talk_after_wish talk = record talk { phase = phase_after_wish talk.phase }
+abbrev pub talk_after_stop_wished : TalkFacts → TalkFacts
+talk_after_stop_wished talk = record talk { phase = phase_after_stop_wished talk.phase }
 
 -- `06 B0` is to be sent when a stop is wished
 abbrev pub may_send_stop : Phase → Bool

@@ -133,7 +133,7 @@ pub fn law_ends()
     ensures by_message { (dialogue : Dialogue) (came : List Came) (message : MessageValue) (at : ℤ)
         → IsTrue (talk_goes_on (talk_after dialogue came)) → end_of dialogue (came ++ Message message at ∷ [])
         ≡ (if is_end (meaning dialogue came message) then Some (meaning dialogue came message) else None) }
-    ensures kinds { (dialogue : Dialogue) (came : List Came) (end : Heard)
+    ensures dialogue_kinds { (dialogue : Dialogue) (came : List Came) (end : Heard)
         → end_of dialogue came ≡ Some end → IsEndOf dialogue.dialogue_kind end }
 {
     law_meanings();
@@ -187,15 +187,15 @@ pub fn law_read_figures()
 /// A dialogue is begun exactly where its command, which is no display, is acknowledged, and a stop is to be sent with it
 /// exactly where one was wished before.
 pub fn law_begun()
-    ensures without_wish { (dialogue : Dialogue) (came : List Came) (message : MessageValue)
+    ensures without_stop_wished { (dialogue : Dialogue) (came : List Came) (message : MessageValue)
         → (meaning dialogue came message ≡ heard.Begun false) ↔ (AcknowledgesCommand dialogue came message × HasNoStopWished came) }
-    ensures with_wish { (dialogue : Dialogue) (came : List Came) (message : MessageValue)
+    ensures with_stop_wished { (dialogue : Dialogue) (came : List Came) (message : MessageValue)
         → (meaning dialogue came message ≡ heard.Begun true) ↔ (AcknowledgesCommand dialogue came message × HasStopWished came) }
 {
     law_acknowledged();
 }
 
-/// When a dialogue is begun, by the wish that counts. For the prover alone: `law_begun` follows from it.
+/// When a dialogue is begun, by whether a stop was wished. For the prover alone: `law_begun` follows from it.
 fn law_acknowledged()
     ensures { (dialogue : Dialogue) (came : List Came) (message : MessageValue) (stop : Bool)
         → (meaning dialogue came message ≡ heard.Begun stop)
@@ -216,7 +216,7 @@ pub fn law_goes_on()
 {}
 
 /// Until when the terminal may be silent: so many seconds from the command on, and so many from each message on. A message
-/// outside the table, or a wish, puts nothing off.
+/// outside the table, or a stop wished, puts nothing off.
 pub fn law_deadline()
     ensures command { (dialogue : Dialogue) → deadline dialogue [] ≡ dialogue.sent +ℤ pos dialogue.acknowledge_time }
     ensures message { (dialogue : Dialogue) (came : List Came) (message : MessageValue) (at : ℤ) → message ≢ Other

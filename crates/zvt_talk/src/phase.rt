@@ -1,7 +1,7 @@
 //! How far a dialogue is.
 ghost use Rattle.std.specs.Prelude.{◌≡◌};
 ghost use Rattle.zvt_msg.specs.Message.{value_of};
-ghost use Rattle.zvt_talk.specs.TalkSteps.{may_send_stop, next_phase, was_stop_sent, phase_after_wish};
+ghost use Rattle.zvt_talk.specs.TalkSteps.{may_send_stop, next_phase, was_stop_sent, phase_after_stop_wished};
 
 use crate::Heard;
 use crate::dialogue_kind::DialogueKind;
@@ -56,11 +56,11 @@ impl Phase {
     }
 
     /// The phase after a stop is wished.
-    pub(crate) fn after_wish(self) -> Phase
-        ensures { result ≡ phase_after_wish self }
+    pub(crate) fn after_stop_wished(self) -> Phase
+        ensures { result ≡ phase_after_stop_wished self }
     {
         match self {
-            // A terminal takes no other command before it has acknowledged this one, so the wish waits.
+            // A terminal takes no other command before it has acknowledged this one, so the stop waits.
             Phase::Asked { .. } => Phase::Asked { stop_wished: true },
             Phase::Begun { statuses, .. } => Phase::Begun {
                 stop_sent: true,

@@ -1,11 +1,11 @@
-//! A dialogue, by the few facts that are kept of it.
+//! A dialogue, by the few facts that are remembered of it.
 ghost use Rattle.std.specs.Prelude.{◌≡◌, ◌≢◌, not, ◌&&◌, List, [], ◌∷◌, ◌++◌, IsTrue, IfSome};
 ghost use Rattle.gw_base.specs.Moment.{IsMoment};
 ghost use Rattle.zvt_msg.specs.Message.{value_of};
 ghost use Rattle.zvt_talk.specs.Dialogue.{Dialogue, dialogue_of};
 ghost use Rattle.zvt_talk.specs.Came.{Came, Message, StopWished, messages, deadline, is_begun, is_stop_sent};
 ghost use Rattle.zvt_talk.specs.Talk.{meaning, talk_goes_on, is_end, talk_after};
-ghost use Rattle.zvt_talk.specs.TalkSteps.{meaning_for_talk, may_send_stop, next_talk, was_stop_sent, talk_after_wish};
+ghost use Rattle.zvt_talk.specs.TalkSteps.{meaning_for_talk, may_send_stop, next_talk, was_stop_sent, talk_after_stop_wished};
 
 use crate::Heard;
 use crate::dialogue_kind::DialogueKind;
@@ -14,8 +14,8 @@ use crate::table::{meaning_when_asked, meaning_when_begun};
 use std::marker::Model;
 use zvt_msg::{Command, PtMessage};
 
-/// One dialogue: a command that was sent, and the few facts that are kept of what came since. The messages themselves
-/// aren't kept, so that a dialogue takes no memory, however long it lasts; the contracts speak of all that came.
+/// One dialogue: a command that was sent, and the few facts that are remembered of what came since. The messages themselves
+/// aren't, so that a dialogue takes no memory, however long it lasts; the contracts speak of all that came.
 #[derive(Clone, Copy, Debug, PartialEq, Eq)]
 pub struct Talk {
     dialogue_kind: DialogueKind,
@@ -70,7 +70,7 @@ impl Talk {
             → self.new ≡ talk_after dialogue (came ++ Message (value_of message.now) now ∷ []) }
         ensures ends { talk_goes_on self.new ≡ not (is_end result) }
 
-        // The meaning and the talk after it, by the few facts that are kept.
+        // The meaning and the talk after it, by the few facts that are remembered.
         ensures computes { result ≡ meaning_for_talk self.old (value_of message.now) }
         ensures next { self.new ≡ next_talk self.old (value_of message.now) now }
     {
@@ -121,20 +121,20 @@ impl Talk {
         ensures added { (dialogue : Dialogue) (came : List Came) → self.old ≡ talk_after dialogue came
             → self.new ≡ talk_after dialogue (came ++ StopWished ∷ []) }
 
-        // Whether to send it and the talk after it, by the few facts that are kept.
+        // Whether to send it and the talk after it, by the few facts that are remembered.
         ensures computes { result ≡ may_send_stop self.old.phase }
-        ensures next { self.new ≡ talk_after_wish self.old }
+        ensures next { self.new ≡ talk_after_stop_wished self.old }
     {
         let stop = self.phase.may_send_stop();
-        self.wish_stop();
+        self.keep_stop_wished();
         stop
     }
 
     /// Keeps that a stop is wished.
-    fn wish_stop(&mut self)
-        ensures { self.new ≡ talk_after_wish self.old }
+    fn keep_stop_wished(&mut self)
+        ensures { self.new ≡ talk_after_stop_wished self.old }
     {
-        self.phase = self.phase.after_wish();
+        self.phase = self.phase.after_stop_wished();
     }
 
     /// Whether `06 B0` was sent in this dialogue.

@@ -184,10 +184,10 @@ unfolding decode_tlv_object
 found_begins bytes object rest e = at_tag (decode_tag bytes) refl e where
   at_length : (tag : ℕ) (after : List ℕ) (found : Option (ℕ × List ℕ)) → decode_tag bytes ≡ Some (tag, after) → decode_tlv_length after ≡ found → decode_after_tlv_length tag found ≡ Some (object, rest) → BeginsWithTlvObject bytes object rest
   at_length tag after None is_tag is_length e = absurd cc
-  at_length tag after (Some (n, body)) is_tag is_length e =
+  at_length tag after (Some (n, after_length)) is_tag is_length e =
       let t = tag_read bytes tag after is_tag in
-      let l = length_read after n body is_length in
-      let v = value_read tag n body object rest e in
+      let l = length_read after n after_length is_length in
+      let v = value_read tag n after_length object rest e in
       let spells : SpellsTlvObject (t.prefix ++ (l.prefix ++ object.value)) object = record {
         tag_bytes = t.prefix;
         length_bytes = l.prefix;
@@ -287,9 +287,9 @@ none_malformed bytes some e = at_tag (decode_tag bytes) refl e where
   at_length prefix tag [] None is_tag is_length e =
       truncated_after prefix [] (0 ∷ []) (0 ∷ []) [] tag is_tag (λ e. absurd cc) (omega arith, refl) refl
   at_length prefix tag (b ∷ after) None is_tag is_length e = length_missing prefix tag b after is_tag (form_of b) is_length
-  at_length prefix tag after (Some (n, body)) is_tag is_length e =
-      let l = length_read after n body is_length in
-      subst (λ (a : List ℕ). IsMalformedTlvObject (prefix ++ a)) (sym l.parts) (value_missing prefix l.prefix tag n body is_tag l.is_length e)
+  at_length prefix tag after (Some (n, after_length)) is_tag is_length e =
+      let l = length_read after n after_length is_length in
+      subst (λ (a : List ℕ). IsMalformedTlvObject (prefix ++ a)) (sym l.parts) (value_missing prefix l.prefix tag n after_length is_tag l.is_length e)
 
   at_tag : (found : Option (ℕ × List ℕ)) → decode_tag bytes ≡ found → decode_after_tag found ≡ None → IsMalformedTlvObject bytes
   at_tag None is_tag e = tag_missing bytes some is_tag

@@ -132,6 +132,6 @@ fault_is bytes offset = (
 
 pub walk_splits : (objects : List ObjectValue) (old new : TlvReaderValue) → PassesTlvObjects old objects new → BeginsWithTlvObjects old.rest objects new.rest × (new.offset + length new.rest ≡ old.offset + length old.rest)
 walk_splits [] old new same = (ap (λ (p : TlvReaderValue). p.rest) (sym same), ap (λ (p : TlvReaderValue). p.offset + length p.rest) same)
-walk_splits (object ∷ objects) old new (mid, moves, walk) =
+walk_splits (object ∷ objects) old new (mid, leaves, walk) =
     let others = walk_splits objects mid new walk in
-    ((mid.rest, moves.begins, others.0), others.1 ∙ moves.offset)
+    ((mid.rest, leaves.begins, others.0), others.1 ∙ leaves.offset)

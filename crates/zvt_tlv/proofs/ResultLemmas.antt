@@ -76,13 +76,13 @@ abbrev pub reader_at : ℕ → List ℕ → TlvReaderValue
 reader_at offset rest = record { offset = offset; rest = rest }
 
 -- after an object, as many bytes further
-pub moves_on : (old : TlvReaderValue) (object : ObjectValue) (rest : List ℕ) → decode_tlv_object old.rest ≡ Some (object, rest) → length rest ≤ length old.rest
-moves_on old object rest found =
+pub no_longer_rest : (old : TlvReaderValue) (object : ObjectValue) (rest : List ℕ) → decode_tlv_object old.rest ≡ Some (object, rest) → length rest ≤ length old.rest
+no_longer_rest old object rest found =
     let begins = found_begins old.rest object rest found in
     omega (arith, ap length begins.2, length-append begins.0 rest)
 
 pub goes_on : (old : TlvReaderValue) (offset : ℕ) (bytes : List ℕ) (object : ObjectValue) (rest : List ℕ) → reader_at offset bytes ≡ old → decode_tlv_object bytes ≡ Some (object, rest) → PassesTlvObject old (reader_at (offset + (length bytes - length rest)) rest) object
 goes_on old offset bytes object rest view_is found =
-    let shorter = moves_on (reader_at offset bytes) object rest found in
+    let shorter = no_longer_rest (reader_at offset bytes) object rest found in
     subst (λ (o : TlvReaderValue). PassesTlvObject o (reader_at (offset + (length bytes - length rest)) rest) object) view_is
     (record { begins = found_begins bytes object rest found; offset = omega arith })

@@ -56,7 +56,7 @@ impl<'a> Tlv<'a> {
 
         // The result, by the function that decodes what is left, and what is left then.
         ensures computes { ReturnsTlvObject result self.old }
-        ensures moves { LeavesTlvReader self.old result self.new }
+        ensures leaves { LeavesTlvReader self.old result self.new }
     {
         if self.rest.is_empty() {
             return Ok(None);

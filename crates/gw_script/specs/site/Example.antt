@@ -74,7 +74,7 @@ TwiceIsReported = AllByRecursion (λ line. script_of (ended_lines (line ∷ code
 
 -- ---- what is played
 
--- the power fails after two calls: the file of then has the byte wherever one was write_made since the sync, and the script goes on
+-- the power fails after two calls: the file of then has the byte wherever one was written since the sync, and the script goes on
 abbrev pub PowerFailsAfterTwo : Type 0
 PowerFailsAfterTwo = PlaysLines (At (pos 7) ∷ Poll Tick ∷ Power 2 (Junk 165) ∷ Poll (Open 4) ∷ Poll (Open 4) ∷ [])
     (Start (setup_of nothing_given) ∷ Wrote 0 (1 ∷ 2 ∷ 3 ∷ []) ∷ Synced ∷ Polled (pos 7)

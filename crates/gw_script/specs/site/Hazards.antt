@@ -1,5 +1,5 @@
 -- What fail and power lines have armed: which calls fail, and when the power fails.
-use Rattle.std.specs.Prelude.{ℕ, Bool, true, false, not, min, ◌==◌, if◌then◌else◌, List, [], ◌∷◌, Option, Some, None, filter, take}
+use Rattle.std.specs.Prelude.{ℕ, Bool, true, false, not, min, ◌==◌, if◌then◌else◌, List, [], ◌∷◌, ◌++◌, Option, Some, None, filter, take}
 use Rattle.std.specs.List.{list_any}
 use Rattle.gw_site.specs.Image.{junked}
 use Rattle.gw_site.specs.Outside.{Outside, is_connected}
@@ -35,9 +35,9 @@ no_hazard = record { fail_open = false; fail_links = []; fail_tills = []; fail_p
 -- with one more fail line
 abbrev pub armed : Failing → Hazard → Hazard
 armed FailOpen h = record h { fail_open = true }
-armed (FailLink pt) h = record h { fail_links = pt ∷ h.fail_links }
-armed (FailSendTill till most) h = record h { fail_tills = record { number = till; most = most } ∷ h.fail_tills }
-armed (FailSendPt pt most) h = record h { fail_pts = record { number = pt; most = most } ∷ h.fail_pts }
+armed (FailLink pt) h = record h { fail_links = h.fail_links ++ pt ∷ [] }
+armed (FailSendTill till most) h = record h { fail_tills = h.fail_tills ++ record { number = till; most = most } ∷ [] }
+armed (FailSendPt pt most) h = record h { fail_pts = h.fail_pts ++ record { number = pt; most = most } ∷ [] }
 armed FailWrite h = record h { fail_write = true }
 armed FailSync h = record h { fail_sync = true }
 armed FailLength h = record h { fail_length = true }

@@ -1,13 +1,16 @@
 -- The laws of the whole script: of its grammar, and of the logs that play it.
-use Rattle.std.specs.Prelude.{◌≡◌, ◌↔◌, ℕ, not, List, [], ◌∷◌, ◌++◌, Option, is_some, Ok, Err}
-use Rattle.gw_site.specs.Outside.{outside_of}
+use Rattle.std.specs.Prelude.{◌≡◌, ◌↔◌, ℕ, not, min, length, false, List, [], ◌∷◌, ◌++◌, Option, Some, is_some, Ok, Err}
+use Rattle.gw_bytes.specs.Bytes.{IsPrefix}
+use Rattle.gw_site.specs.Outside.{Outside, outside_of}
 use Rattle.gw_site.specs.declared.turn.Turn.{Turn}
+use Rattle.gw_site.specs.declared.turn.Turn.TheVariants.{SentTill, SentPt, Crash}
 use Rattle.gw_script.specs.Decode.{split_lines}
-use Rattle.gw_script.specs.site.Hazards.{sent_of}
-use Rattle.gw_script.specs.site.ScriptLine.{PlayedLine, Script}
+use Rattle.gw_script.specs.site.Calls.{CallFits, IsPlayedTo, PlaysBy, SendPtCall, SendTillCall, SiteCall, SiteStep, place_after}
+use Rattle.gw_script.specs.site.Hazards.{crash_file, sent_of, takes_most}
+use Rattle.gw_script.specs.site.ScriptLine.{ImageKind, PlayedLine, Script}
 use Rattle.gw_script.specs.site.Grammar.{AreLinesOf, HasFirstWrong, SpellsScript}
 use Rattle.gw_script.specs.site.Decode.{script_of}
-use Rattle.gw_script.specs.site.Playing.{DiskCall, Fits, Play, PlaysLines, PlaysTo, Sends, play_after}
+use Rattle.gw_script.specs.site.Playing.{DiskCall, Fits, Play, PlaysLines, PlaysTo, Sends, play_after, restarted}
 
 -- the function that splits a text gives its lines
 abbrev pub SplitsLines : Type 0
@@ -30,3 +33,33 @@ PlaysOn = (lines : List PlayedLine) (log : List Turn) (play : Play) (call : Disk
 -- what a send takes of its bytes fits, and it failed exactly where a fail line names its connection
 abbrev pub SendsTakeTheirs : Type 0
 SendsTakeTheirs = (most : Option ℕ) (bytes : List ℕ) → Sends most (sent_of most bytes) (not (is_some most))
+
+-- the bytes that a failing send has taken: exactly as many as the lesser of all and of the number of its fail line
+pub record IsCutTo (most : ℕ) (bytes sent : List ℕ) : Type 0 where
+  pub prefix : IsPrefix sent bytes
+  pub size : length sent ≡ min most (length bytes)
+
+-- a send that a fail line names fails, and takes exactly the lesser of all its bytes and the line's number
+pub record SendsAreCut : Type 0 where
+  pub tills : (o : Outside) (p : Play) (till most : ℕ) (bytes : List ℕ) (turns : List Turn) → takes_most p.hazard.fail_tills till ≡ Some most → CallFits o p (SendTillCall till bytes) turns
+      → (sent : List ℕ) × IsCutTo most bytes sent × (turns ≡ SentTill till sent false ∷ [])
+  pub pts : (o : Outside) (p : Play) (pt most : ℕ) (bytes : List ℕ) (turns : List Turn) → takes_most p.hazard.fail_pts pt ≡ Some most → CallFits o p (SendPtCall pt bytes) turns
+      → (sent : List ℕ) × IsCutTo most bytes sent × (turns ≡ SentPt pt sent false ∷ [])
+
+-- the log of calls and power failures plays the lines
+abbrev pub CallsPlay : Type 0
+CallsPlay = (lines : List PlayedLine) (steps : List SiteStep) (log : List Turn) → PlaysBy lines steps log → PlaysLines lines log
+
+-- the same calls and power failures have the same log
+abbrev pub OneLogOfCalls : Type 0
+OneLogOfCalls = (lines : List PlayedLine) (steps : List SiteStep) (log other : List Turn) → PlaysBy lines steps log → PlaysBy lines steps other → log ≡ other
+
+-- a call that may be made goes on from the place, with its turns
+abbrev pub CallsGoOn : Type 0
+CallsGoOn = (lines : List PlayedLine) (log : List Turn) (place : Play) (call : SiteCall) (made : List Turn) → IsPlayedTo lines log place → CallFits (outside_of log) place call made
+    → IsPlayedTo lines (log ++ made) (place_after (outside_of log) place call)
+
+-- where the power has failed the script goes on in the next run, with the file that is left
+abbrev pub PowerGoesOn : Type 0
+PowerGoesOn = (lines : List PlayedLine) (log : List Turn) (place : Play) (kind : ImageKind) → IsPlayedTo lines log place → place.off ≡ Some kind
+    → IsPlayedTo lines (log ++ Crash (crash_file kind (outside_of log)) ∷ []) (restarted place)

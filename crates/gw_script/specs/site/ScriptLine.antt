@@ -50,7 +50,7 @@ pub data ImageKind : Type 0 where
   Old : ImageKind
   -- the file with all writes
   New : ImageKind
-  -- the file with all writes, with this byte wherever one was write_made since the last sync
+  -- the file with all writes, with this byte wherever one was written since the last sync
   Junk : ℕ → ImageKind
 
 -- a line that is played

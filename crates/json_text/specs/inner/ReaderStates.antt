@@ -212,13 +212,13 @@ IsPlain c = (32 ≤ c) × (c < 128) × (c ≢ 34) × (c ≢ 92)
 -- the byte leads from one mode to another, whatever is open
 pub record Stays (m : Mode) (c : ℕ) (n : Mode) : Type 0 where
   pub within : IsWithin n
-  pub moves : (R : Rules) (st : List Level) → LeadsTo R (reader_state m) st c (reader_state n) st
+  pub leads : (R : Rules) (st : List Level) → LeadsTo R (reader_state m) st c (reader_state n) st
   pub scans : scan_step (scan_of (reader_state m)) c ≡ scan_of (reader_state n)
 
 -- the byte leads to this state
 pub record StepsOn (p : ReaderState) (st : List Level) (c : ℕ) (t : State) : Type 0 where
   pub within : IsWithin t.mode
-  pub moves : (R : Rules) → 32 ≤ R.limit → LeadsTo R p st c (reader_state t.mode) (levels t.stack.items)
+  pub leads : (R : Rules) → 32 ≤ R.limit → LeadsTo R p st c (reader_state t.mode) (levels t.stack.items)
   pub scans : scan_step (scan_of p) c ≡ scan_of (reader_state t.mode)
 
 -- the text can't end here

@@ -13,7 +13,7 @@ account_value account = record {
   book = account.entries.items;
 }
 
--- these bytes were heard after those that waited: what is kept then, what was sent, and whether the connection was
+-- these bytes were heard after those that waited: what is remembered then, what was sent, and whether the connection was
 -- cut
 pub record HearsAll (old : Account) (waiting bytes : List ℕ) (new : Account) (left out : List ℕ) (closed : Bool) : Type 0 where
   pub account : account_value new ≡ (heard (account_value old) (waiting ++ bytes)).account

@@ -1,14 +1,9 @@
 -- Inner: parts of a written request that may be absent.
 use Rattle.std.specs.Prelude.{ℕ, List, [], ◌++◌, Option, Some, None}
-use Rattle.json_text.specs.Canonical.{canonical, canonical_string}
+use Rattle.json_text.specs.Canonical.{canonical}
 use Rattle.json_text.specs.Tree.{array}
 use Rattle.sale_values.specs.Money.{money_text}
 use Rattle.sale_msg.specs.Canonical.{text_elements}
-
--- the bytes before a text and the text, where there is one
-abbrev pub optional_part : List ℕ → Option (List ℕ) → List ℕ
-optional_part prefix None = []
-optional_part prefix (Some text) = prefix ++ canonical_string text
 
 -- the bytes before texts and the texts, where there are some
 abbrev pub texts_part : List ℕ → Option (List (List ℕ)) → List ℕ

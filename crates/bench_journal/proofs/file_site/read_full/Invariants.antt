@@ -3,4 +3,4 @@ use Rattle.std.proofs.Common.{◌≤◌, length}
 use Rattle.bench_journal.proofs.file_site.read_full.Given as goal
 
 abbrev pub invariant-loop : goal.invariant-loop
-invariant-loop l = l.at ≤ length l.buf
+invariant-loop l = l.filled ≤ length l.buf

@@ -25,7 +25,7 @@ returns-in-Some-clause-value c =
     c.split_at.ensures.back ∙ ap (λ n. drop n c.args.numeral.now) c.whole_len.ensures in
     let fraction : Some c.in-Some.fraction.now ≡ fraction_of (rest_of c.args.numeral.now) =
     c.in-Some.ensures.value ∙ ap fraction_of rest in
-    c.minor_of_parts.ensures ∙ ap (λ w. minor_units_with w (Some c.in-Some.fraction.now)) whole
+    c.units_of_parts.ensures ∙ ap (λ w. minor_units_with w (Some c.in-Some.fraction.now)) whole
     ∙ ap (minor_units_with (whole_of c.args.numeral.now)) fraction
 
 pub returns-in-Some-clause-amount : goal.returns-in-Some-clause-amount

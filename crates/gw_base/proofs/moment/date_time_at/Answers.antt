@@ -4,7 +4,7 @@ use Rattle.std.proofs.lemmas.Int.{to_z-of_z}
 use Rattle.jiff_core.specs.DateTime.{civil_nanos}
 use Rattle.jiff_core.proofs.SignedLemmas.{fits_between, signed_arith}
 use Rattle.gw_base.specs.Moment.{civil_at, moment_of, seconds_of}
-use Rattle.gw_base.proofs.MomentLemmas.{civil_at-is, moment_of_bound, shown_parts}
+use Rattle.gw_base.proofs.MomentLemmas.{civil_at-is, moment_of_bound, date_time_parts}
 use Rattle.gw_base.proofs.moment.date_time_at.Goals as goal
 
 pub returns : goal.returns
@@ -16,4 +16,4 @@ returns c =
     let nanos : c.in-Ok.timestamp.nanosecond ≡ c.to_moment.result *ℤ pos 1_000_000_000 = simp to_z-of_z at c.in-Ok.ensures.value in
     let e : civil_nanos c.to_datetime.result ≡ seconds_of (civil_at (moment_of c.args.now)) *ℤ pos 1_000_000_000 =
     omega (arith, signed_arith, c.to_datetime.ensures, nanos, moment, is.1) in
-    shown_parts (civil_at (moment_of c.args.now)) is.0 c.to_datetime.result e
+    date_time_parts (civil_at (moment_of c.args.now)) is.0 c.to_datetime.result e

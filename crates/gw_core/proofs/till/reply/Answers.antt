@@ -6,7 +6,7 @@ use Rattle.gw_core.specs.ReplyOf.{IsReplyTo}
 use Rattle.gw_core.proofs.ReplyLemmas.{all-limited}
 use Rattle.gw_core.proofs.till.reply.Goals as goal
 
-pub fits-requires : goal.fits-requires
-fits-requires c =
+pub lies_within-requires : goal.lies_within-requires
+lies_within-requires c =
     let is_reply : IsReplyTo c.args.name.now (moment_of c.args.now) c.args.message.now (Some c.in-Ok-Some.reply) = rw c.in-Ok-Some.field-0-is at (simp (to_z-of_z, c.ranges.now) at c.in-Ok-Some.ensures) in
     all-limited c.args.name.now (moment_of c.args.now) c.args.message.now c.in-Ok-Some.reply is_reply

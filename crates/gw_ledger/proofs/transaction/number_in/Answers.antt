@@ -8,10 +8,10 @@ use Rattle.std.proofs.lemmas.Str.{IsUtf8-from_ascii}
 use Rattle.gw_ledger.proofs.transaction.number_in.Goals as goal
 
 pub returns-in-Ok : goal.returns-in-Ok
-returns-in-Ok c = λ number lt e.
+returns-in-Ok c = λ value lt e.
     c.ok.ensures.value
-    ∙ ap result_ok (parse-decimal 32 number c.in-Ok.text.now c.from_str_radix.result lt (omega arith) (c.in-Ok.ensures.cases.0 ∙ e) c.from_str_radix.ensures.value)
+    ∙ ap result_ok (parse-decimal 32 value c.in-Ok.text.now c.from_str_radix.result lt (omega arith) (c.in-Ok.ensures.cases.0 ∙ e) c.from_str_radix.ensures.value)
 
 pub returns-in-Err : goal.returns-in-Err
-returns-in-Err c = λ number lt e.
-    absurd (c.in-Err.ensures.cases.0 (subst IsUtf8 (sym e) (IsUtf8-from_ascii (decimal number) (IsAscii-decimal number (omega arith)))))
+returns-in-Err c = λ value lt e.
+    absurd (c.in-Err.ensures.cases.0 (subst IsUtf8 (sym e) (IsUtf8-from_ascii (decimal value) (IsAscii-decimal value (omega arith)))))

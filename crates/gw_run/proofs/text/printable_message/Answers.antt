@@ -8,4 +8,4 @@ pub returns-then-are_printable : goal.returns-then-are_printable
 returns-then-are_printable c =
     let message = c.in_ok-message.message.now in
     let printable = sym c.if-are_printable.ensures in
-    ap option_copied c.ok.ensures.value ∙ text_of message c.from_utf8.result _ printable c.from_utf8.ensures.cases ∙ printable_from c.args.bytes.now message c.in_ok-message.ensures.message printable
+    ap option_copied c.ok.ensures.value ∙ text_of message c.from_utf8.result _ printable c.from_utf8.ensures.cases ∙ printable_from c.args.bytes.now message c.in_ok-message.ensures.payload printable

@@ -4,4 +4,4 @@ use Rattle.sale_frame.proofs.StreamLemmas.{any_chunks_from}
 use Rattle.sale_frame.proofs.laws.any_chunks.Goals as goal
 
 pub returns : goal.returns
-returns c = λ steps waiting rest messages run decoded. any_chunks_from steps [] waiting rest messages run decoded
+returns c = λ steps waiting rest payloads taken decoded. any_chunks_from steps [] waiting rest payloads taken decoded

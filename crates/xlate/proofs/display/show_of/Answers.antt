@@ -9,4 +9,4 @@ pub returns-in-Some : goal.returns-in-Some
 returns-in-Some c =
     let first : customer_output c.args.outputs.now ≡ Some c.in-Some.output.now =
     ap customer_output (sym c.as_slice.ensures) ∙ sym c.customer_output.ensures ∙ ap option_copied c.in-Some.is in
-    rw first (ap Some (same_lines c.shown_lines.result _ c.shown_lines.ensures))
+    rw first (ap Some (same_lines c.display_lines.result _ c.display_lines.ensures))

@@ -8,8 +8,8 @@ use Rattle.zvt_apdu.proofs.laws.law_any_chunks.Goals as goal
 pub returns : goal.returns
 returns c = record {
   chunks = chunks;
-  exactly = λ steps waiting run ends. record { splits = chunks steps waiting run; ends = ends };
+  exactly = λ steps waiting taken ends. record { splits = chunks steps waiting taken; ends = ends };
   only = λ bytes r s xs ys first second. one_reading xs ys bytes r s first.splits first.ends second.splits second.ends;
-  same = λ steps others waiting left run again same ends stops.
-      one_reading (given steps) (given others) _ waiting left (chunks steps waiting run) ends (subst (λ b. BeginsWithApdus b (given others) left) (sym same) (chunks others left again)) stops;
+  same = λ steps others waiting left taken again same ends stops.
+      one_reading (given steps) (given others) _ waiting left (chunks steps waiting taken) ends (subst (λ b. BeginsWithApdus b (given others) left) (sym same) (chunks others left again)) stops;
 }

@@ -4,7 +4,7 @@ use Rattle.zvt_talk.specs.Example.{greatest_status}
 use Rattle.zvt_talk.proofs.laws.law_examples.Goals as goal
 
 pub returns-clause-begun : goal.returns-clause-begun
-returns-clause-begun c = record { without_wish = refl; with_wish = refl; display = refl }
+returns-clause-begun c = record { without_stop_wished = refl; with_stop_wished = refl; display = refl }
 
 pub returns-clause-goes_on : goal.returns-clause-goes_on
 returns-clause-goes_on c = record { note = refl; line = refl; block = refl; status = refl; too_early = refl }

@@ -15,5 +15,5 @@ returns-in_ok-reply-in-Ok-Some c =
         taken = step.1;
         is_reply = simp (to_z-of_z, c.ranges.now) at c.in_ok-reply-in-Ok-Some.ensures.reply;
       },
-      c.in_ok-reply-in-Ok-Some.ensures.fits,
+      c.in_ok-reply-in-Ok-Some.ensures.within,
     )

@@ -8,8 +8,8 @@ use Rattle.gw_dispatch.specs.declared.engine.Next.TheVariants.{Incomplete, Messa
 use Rattle.gw_dispatch.proofs.EngineLemmas.{serve-waiting, waiting-rest, serve-unframed, serve-silent, serve-sent, takes-less, reads-on-sent, reads-on-gone}
 use Rattle.gw_dispatch.proofs.engine.Replier.serve_next.Goals as goal
 
-pub returns-in-Incomplete-clause-keeps : goal.returns-in-Incomplete-clause-keeps
-returns-in-Incomplete-clause-keeps g c = λ known polls o items met.
+pub returns-in-Incomplete-clause-triple : goal.returns-in-Incomplete-clause-triple
+returns-in-Incomplete-clause-triple g c = λ known polls o items met.
     let next : IsNextOf c.args.self.now.name c.args.now Incomplete c.args.reader.now c.next_message.new.reader = rw c.in-Incomplete.is at c.in_ok-next_message.ensures in
     serve-waiting _ known polls o c.args.till c.args.reader.now items next.0
 
@@ -18,16 +18,16 @@ returns-in-Incomplete-clause-reader g c =
     let next : IsNextOf c.args.self.now.name c.args.now Incomplete c.args.reader.now c.next_message.new.reader = rw c.in-Incomplete.is at c.in_ok-next_message.ensures in
     next.1 ∙ waiting-rest c.args.reader.now next.0
 
-pub returns-in-Unframed-clause-keeps : goal.returns-in-Unframed-clause-keeps
-returns-in-Unframed-clause-keeps g c = λ known polls o items met.
+pub returns-in-Unframed-clause-triple : goal.returns-in-Unframed-clause-triple
+returns-in-Unframed-clause-triple g c = λ known polls o items met.
     let next : IsNextOf c.args.self.now.name c.args.now Unframed c.args.reader.now c.next_message.new.reader = rw c.in-Unframed.is at c.in_ok-next_message.ensures in
-    serve-unframed _ _ known polls o c.args.till c.args.reader.now c.next_message.new.reader items _ c.cut.ensures.gone next c.cut.ensures.keeps
+    serve-unframed _ _ known polls o c.args.till c.args.reader.now c.next_message.new.reader items _ c.cut.ensures.gone next c.cut.ensures.triple
 
 pub returns-in-Unframed-clause-reader : goal.returns-in-Unframed-clause-reader
 returns-in-Unframed-clause-reader g c = reads-on-gone _ c.args.reader.now c.next_message.new.reader c.cut.ensures.gone
 
-pub returns-in-Message-None-clause-keeps : goal.returns-in-Message-None-clause-keeps
-returns-in-Message-None-clause-keeps g c = λ known polls o items met.
+pub returns-in-Message-None-clause-triple : goal.returns-in-Message-None-clause-triple
+returns-in-Message-None-clause-triple g c = λ known polls o items met.
     let next : IsNextOf c.args.self.now.name c.args.now (Message None) c.args.reader.now c.next_message.new.reader =
     simp (to_z-of_z, c.ranges.now) at (rw (c.in-Message-None.is, c.in-Message-None.field-0-is) at c.in_ok-next_message.ensures) in
     serve-silent _ known polls o c.args.till c.args.self.now.name c.args.reader.now c.next_message.new.reader (moment_of c.args.now) items met next.0
@@ -38,12 +38,12 @@ returns-in-Message-None-clause-reader g c =
     simp (to_z-of_z, c.ranges.now) at (rw (c.in-Message-None.is, c.in-Message-None.field-0-is) at c.in_ok-next_message.ensures) in
     takes-less c.args.self.now.name None c.args.reader.now c.next_message.new.reader (moment_of c.args.now) next.0
 
-pub returns-in-Message-Some-clause-keeps : goal.returns-in-Message-Some-clause-keeps
-returns-in-Message-Some-clause-keeps g c = λ known polls o items met.
+pub returns-in-Message-Some-clause-triple : goal.returns-in-Message-Some-clause-triple
+returns-in-Message-Some-clause-triple g c = λ known polls o items met.
     let next : IsNextOf c.args.self.now.name c.args.now (Message (Some c.in-Message-Some.reply)) c.args.reader.now c.next_message.new.reader =
     simp (to_z-of_z, c.ranges.now) at (rw (c.in-Message-Some.is, c.in-Message-Some.field-0-is) at c.in_ok-next_message.ensures) in
     serve-sent _ _ known polls o c.args.till c.args.self.now.name c.args.reader.now c.next_message.new.reader (moment_of c.args.now) items c.in-Message-Some.reply _ c.send_reply.ensures.whole met next.0
-    c.send_reply.ensures.keeps
+    c.send_reply.ensures.triple
 
 pub returns-in-Message-Some-clause-reader : goal.returns-in-Message-Some-clause-reader
 returns-in-Message-Some-clause-reader g c =

@@ -18,32 +18,32 @@ use Rattle.gw_ledger.proofs.tables.Tables.accept.Goals as goal
 pub overflow_add-self : goal.overflow_add-self
 overflow_add-self c =
     let tables = c.self.invariant.0 in
-    let count : c.self.inside.tally.accepted ≡ count_all c.self.inside.records.items is_intent = ap (λ t. t.accepted) tables.tally_is in
-    omega (arith, count, count-le c.self.inside.records.items is_intent, tables.few)
+    let count : c.self.inside.tally.accepted ≡ count_all c.self.inside.records.records is_intent = ap (λ t. t.accepted) tables.tally_is in
+    omega (arith, count, count-le c.self.inside.records.records is_intent, tables.few)
 
 pub overflow_add-self-2 : goal.overflow_add-self-2
 overflow_add-self-2 c =
     let tables = c.self.invariant.0 in
-    let count : c.self.inside.tally.unresolved ≡ open_count_of c.self.inside.records.items = ap (λ t. t.unresolved) tables.tally_is in
-    omega (arith, count, open-le c.self.inside.records.items, tables.few)
+    let count : c.self.inside.tally.unresolved ≡ open_count_of c.self.inside.records.records = ap (λ t. t.unresolved) tables.tally_is in
+    omega (arith, count, open-le c.self.inside.records.records, tables.few)
 
 pub invariant_of-self : goal.invariant_of-self
 invariant_of-self c =
     let tables = c.self.invariant.0 in
     let room = c.self.invariant.1 in
-    let records = c.self.inside.records.items in
+    let records = c.self.inside.records.records in
     let intent = c.args.intent.now in
     let same = ap (λ v. v.records) c.self.view_is in
     let spare = ap (λ v. v.spare) c.self.view_is in
     let enough : 1 ≤ c.self.inside.spare = rw spare c.requires.spare in
-    let slot : c.len-slot.result ≡ length records = c.len-slot.ensures ∙ c.self.inside.records.ok.0 in
+    let slot : c.len-slot.result ≡ length records = c.len-slot.ensures in
     let accounts = ap (λ desks. account_in_row (value_at poi_cmp desks intent.poi)) c.deref.ensures.value in
     let account : c.asked.result.account ≡ account_with (length records) (Intent intent) (account_of records intent.poi) =
     c.asked.ensures.account ∙ rw (slot, c.desk_in-desk.ensures.account, accounts, tables.accounts_are intent.poi) refl in
     let sums : (currency : Currency) → sums_in_row (Some c.asked.result) currency ≡ sums_of records intent.poi currency =
     λ currency. ap (λ s. slice_index_or s (ordinal currency) no_sums) c.asked.ensures.sums ∙ c.desk_in-desk.ensures.sums currency ∙ ap (λ desks. sums_in_row (value_at poi_cmp desks intent.poi) currency) c.deref.ensures.value ∙ tables.sums_are intent.poi currency in
     let few : length records < 1000000 = rw same c.requires.few in (
-      rw (c.push.ensures.elements, c.push-2.ensures.elements) (record {
+      rw (c.add_intent.ensures.records, c.push.ensures.elements) (record {
         folded = beside_push records (Intent intent) tables.folded c.requires.within (rw same c.requires.fits);
         few = omega (arith, length-append {A = Record});
         marks_len = omega (arith, length-append {A = Record}, length-append {A = Mark}, tables.marks_len);
@@ -59,8 +59,11 @@ invariant_of-self c =
         tally_is = tally_after records intent _ tables.tally_is;
       }),
       record {
-        for_records = omega (arith, room.for_records, c.push.ensures.len, c.push.ensures.capacity);
-        for_marks = omega (arith, room.for_marks, c.push-2.ensures.len, c.push-2.ensures.capacity);
+        for_slots = omega (arith, room.for_slots, enough, c.add_intent.ensures.slots);
+        for_intents = omega (arith, room.for_intents, enough, c.add_intent.ensures.intents);
+        for_outcomes = omega (arith, room.for_outcomes, enough, c.add_intent.ensures.outcomes);
+        for_reconciliations = omega (arith, room.for_reconciliations, enough, c.add_intent.ensures.reconciliations);
+        for_marks = omega (arith, room.for_marks, c.push.ensures.len, c.push.ensures.capacity);
         for_lasts = omega (arith, room.for_lasts, c.put.ensures.len, c.put.ensures.capacity);
         for_desks = omega (arith, room.for_desks, c.put-2.ensures.len, c.put-2.ensures.capacity);
         for_closings = omega (arith, room.for_closings);

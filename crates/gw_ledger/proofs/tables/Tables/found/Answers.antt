@@ -21,7 +21,7 @@ none_isnt_some same = cc
 pub unreachable-requires : goal.unreachable-requires
 unreachable-requires c =
     let tables = c.self.invariant.0 in
-    let at = settled_is _ _ (ap (λ records. option_and_then as_settled (slice_get records c.args.slot)) (sym c.deref.ensures.value) ∙ sym c.settled_in.ensures ∙ c.in-Some.is) in
+    let at = settled_is _ _ (sym c.settled_at.ensures ∙ c.in-Some.is) in
     let found = tables.closings_are c.args.slot c.in-Some.settled at in
-    let got = sym c.in-None-get.is ∙ c.get.ensures ∙ ap (λ rows. value_at nat_cmp rows c.args.slot) c.deref-in-Some.ensures.value ∙ found in
+    let got = sym c.in-None-get.is ∙ c.get.ensures ∙ ap (λ rows. value_at nat_cmp rows c.args.slot) c.deref.ensures.value ∙ found in
     none_isnt_some got

@@ -18,12 +18,12 @@ pub invariant_of-self : goal.invariant_of-self
 invariant_of-self c =
     let tables = c.self.invariant.0 in
     let room = c.self.invariant.1 in
-    let records = c.self.inside.records.items in
+    let records = c.self.inside.records.records in
     let settled = c.args.settled.now in
     let same = ap (λ v. v.records) c.self.view_is in
     let spare = ap (λ v. v.spare) c.self.view_is in
     let enough : 1 ≤ c.self.inside.spare = rw spare c.requires.spare in
-    let slot : c.len-slot.result ≡ length records = c.len-slot.ensures ∙ c.self.inside.records.ok.0 in
+    let slot : c.len-slot.result ≡ length records = c.len-slot.ensures in
     let accounts = ap (λ desks. account_in_row (value_at poi_cmp desks settled.poi)) c.deref.ensures.value in
     let account : c.closed.result.account ≡ account_with (length records) (Settled settled) (account_of records settled.poi) =
     c.closed.ensures.account ∙ rw (slot, add-one, c.desk_in-desk.ensures.account, accounts, tables.accounts_are settled.poi) refl in
@@ -32,7 +32,7 @@ invariant_of-self c =
     c.totals_at-totals.ensures ∙ ap (totals_with settled.currency) (c.desk_in-desk.ensures.sums settled.currency
     ∙ ap (λ desks. sums_in_row (value_at poi_cmp desks settled.poi) settled.currency) c.deref.ensures.value ∙ tables.sums_are settled.poi settled.currency) in
     let few : length records < 1000000 = rw same c.requires.few in (
-      rw (c.push.ensures.elements, c.push-2.ensures.elements) (record {
+      rw (c.add_settled.ensures.records, c.push.ensures.elements) (record {
         folded = beside_push records (Settled settled) tables.folded c.requires.within refl;
         few = omega (arith, length-append {A = Record});
         marks_len = omega (arith, length-append {A = Record}, length-append {A = Mark}, tables.marks_len);
@@ -48,8 +48,11 @@ invariant_of-self c =
         tally_is = tally_after records settled _ tables.tally_is;
       }),
       record {
-        for_records = omega (arith, room.for_records, c.push.ensures.len, c.push.ensures.capacity);
-        for_marks = omega (arith, room.for_marks, c.push-2.ensures.len, c.push-2.ensures.capacity);
+        for_slots = omega (arith, room.for_slots, enough, c.add_settled.ensures.slots);
+        for_intents = omega (arith, room.for_intents, enough, c.add_settled.ensures.intents);
+        for_outcomes = omega (arith, room.for_outcomes, enough, c.add_settled.ensures.outcomes);
+        for_reconciliations = omega (arith, room.for_reconciliations, enough, c.add_settled.ensures.reconciliations);
+        for_marks = omega (arith, room.for_marks, c.push.ensures.len, c.push.ensures.capacity);
         for_lasts = omega (arith, room.for_lasts);
         for_desks = omega (arith, room.for_desks, c.put.ensures.len, c.put.ensures.capacity);
         for_closings = omega (arith, room.for_closings, c.put-2.ensures.len, c.put-2.ensures.capacity);

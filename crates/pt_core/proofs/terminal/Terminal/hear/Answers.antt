@@ -1,7 +1,7 @@
 -- After bytes on its connection a terminal keeps what its account and its reader then hold.
 use Rattle.std.proofs.Common.{◌≡◌, Bool, cond, None, Some, drop, sym, ap, ◌∙◌}
 use Rattle.pt_core.specs.Serving.{AccountValue, TerminalValue, next_terminal}
-use Rattle.pt_core.proofs.KeptLemmas.{next_is, same_account}
+use Rattle.pt_core.proofs.NextLemmas.{next_is, same_account}
 use Rattle.pt_core.proofs.terminal.Terminal.hear.Goals as goal
 
 pub returns-in-Ok-clause-next : goal.returns-in-Ok-clause-next

@@ -1,8 +1,9 @@
 -- Proof of the contract of `Out::first_name`.
+use Rattle.std.proofs.Common.{append_assoc}
 use Rattle.sale_reply.specs.inner.CanonicalMembers.{first_name}
-use Rattle.sale_reply.proofs.PartLemmas.{and_then}
+use Rattle.sale_reply.proofs.PartLemmas.{spelled}
 use Rattle.sale_reply.proofs.buffer.Out.first_name.Goals as goal
 
 pub returns : goal.returns
 unfolding first_name
-returns c = and_then c.string.ensures c.raw.ensures
+returns c = spelled c.string_between.ensures (simp append_assoc)

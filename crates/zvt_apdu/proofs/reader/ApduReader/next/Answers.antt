@@ -15,8 +15,8 @@ use Rattle.zvt_apdu.proofs.reader.ApduReader.next.Goals as goal
 abbrev Remaining : List ℕ → ℕ → List ℕ
 Remaining all start = take (length all - start) (drop start all)
 
-is_value : (all held value : List ℕ) (start : ℕ) → held ≡ all → drop start all ≡ value → Remaining held start ≡ value
-is_value all held value start e view_is = rw e (take_rest all start ∙ view_is)
+is_value : (all buffer value : List ℕ) (start : ℕ) → buffer ≡ all → drop start all ≡ value → Remaining buffer start ≡ value
+is_value all buffer value start e view_is = rw e (take_rest all start ∙ view_is)
 
 -- what is left after the APDU that was found is the end of what was read
 tail : (all value prefix rest : List ℕ) (start len : ℕ) → drop start all ≡ value → value ≡ prefix ++ rest → length all ≡ len → start ≤ len → drop (len - length rest) all ≡ rest

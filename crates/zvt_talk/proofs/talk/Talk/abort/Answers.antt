@@ -1,9 +1,9 @@
 -- Proof of the contract of `Talk::abort`.
 use Rattle.std.proofs.Common.{◌∙◌, ap, sym}
-use Rattle.zvt_talk.specs.TalkSteps.{talk_after_wish}
-use Rattle.zvt_talk.proofs.StepLemmas.{after_wish}
+use Rattle.zvt_talk.specs.TalkSteps.{talk_after_stop_wished}
+use Rattle.zvt_talk.proofs.StepLemmas.{after_stop_wished}
 use Rattle.zvt_talk.proofs.talk.Talk.abort.Goals as goal
 
 pub returns-clause-added : goal.returns-clause-added
 returns-clause-added c = λ dialogue came is.
-    c.wish_stop.ensures ∙ ap talk_after_wish is ∙ sym (after_wish dialogue came)
+    c.keep_stop_wished.ensures ∙ ap talk_after_stop_wished is ∙ sym (after_stop_wished dialogue came)

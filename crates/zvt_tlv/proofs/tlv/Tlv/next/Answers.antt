@@ -4,7 +4,7 @@ use Rattle.std.proofs.lemmas.Bool.{eqb-false}
 use Rattle.zvt_tlv.specs.Grammar.{value_of}
 use Rattle.zvt_tlv.specs.Decode.{decode_tlv_object}
 use Rattle.zvt_tlv.specs.Reader.{TlvReaderValue, ReturnsTlvObject}
-use Rattle.zvt_tlv.proofs.ResultLemmas.{whole_clause, fault_clause, fault_at, goes_on, moves_on, reader_at}
+use Rattle.zvt_tlv.proofs.ResultLemmas.{whole_clause, fault_clause, fault_at, goes_on, no_longer_rest, reader_at}
 use Rattle.zvt_tlv.proofs.tlv.Tlv.next.Goals as goal
 
 failed : (old : TlvReaderValue) (offset : ℕ) (rest : List ℕ) → reader_at offset rest ≡ old → length rest ≢ 0 → decode_tlv_object rest ≡ None → ReturnsTlvObject (Err (fault_at offset)) old
@@ -25,11 +25,11 @@ returns-in_default-clause-fault c =
     fault_clause c.args.self.now (Err (fault_at c.self.inside.offset)) result_is
 
 pub overflow_sub-self : goal.overflow_sub-self
-overflow_sub-self c = moves_on (reader_at c.self.inside.offset c.self.inside.rest.now) (value_of c.in-Some.object) c.in-Some.rest.now c.in-Some.ensures
+overflow_sub-self c = no_longer_rest (reader_at c.self.inside.offset c.self.inside.rest.now) (value_of c.in-Some.object) c.in-Some.rest.now c.in-Some.ensures
 
 pub invariant_of-self : goal.invariant_of-self
 invariant_of-self c =
-    let shorter = moves_on (reader_at c.self.inside.offset c.self.inside.rest.now) (value_of c.in-Some.object) c.in-Some.rest.now c.in-Some.ensures in
+    let shorter = no_longer_rest (reader_at c.self.inside.offset c.self.inside.rest.now) (value_of c.in-Some.object) c.in-Some.rest.now c.in-Some.ensures in
     omega (arith, c.self.invariant)
 
 pub returns-clause-whole : goal.returns-clause-whole
@@ -45,5 +45,5 @@ returns-clause-fault c =
 pub returns-clause-computes : goal.returns-clause-computes
 returns-clause-computes c = (c.in-Some.rest.now, ap (λ (p : TlvReaderValue). decode_tlv_object p.rest) (sym c.self.view_is) ∙ c.in-Some.ensures)
 
-pub returns-clause-moves : goal.returns-clause-moves
-returns-clause-moves c = goes_on c.args.self.now c.self.inside.offset c.self.inside.rest.now (value_of c.in-Some.object) c.in-Some.rest.now c.self.view_is c.in-Some.ensures
+pub returns-clause-leaves : goal.returns-clause-leaves
+returns-clause-leaves c = goes_on c.args.self.now c.self.inside.offset c.self.inside.rest.now (value_of c.in-Some.object) c.in-Some.rest.now c.self.view_is c.in-Some.ensures

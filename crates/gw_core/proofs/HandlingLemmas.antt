@@ -1,0 +1,113 @@
+-- What a terminal becomes, and what the core remembers then.
+use Rattle.std.proofs.Common.{◌≡◌, ◌<◌, ◌≤◌, ◌^◌, ℕ, zero, suc, List, [], ◌∷◌, refl, sym, ◌∙◌, ap, subst, arith, Bool, true, false}
+use Rattle.std.specs.Prelude.{pos, set, slice_get, length, get_or, Option, Some, None}
+use Rattle.std.specs.Option.{option_map}
+use Rattle.std.proofs.lemmas.Option.{slice_get_read}
+use Rattle.zvt_msg.specs.Message.{MessageValue, Ack, Nack, Intermediate, Line, Block, Status, Completion, Abort, Other}
+use Rattle.zvt_talk.specs.declared.meaning.Heard.{Heard}
+use Rattle.zvt_talk.specs.declared.phase.Phase.{Phase}
+use Rattle.zvt_talk.specs.declared.phase.Phase.TheVariants.{Asked, Begun, Ended}
+use Rattle.zvt_talk.specs.Came.{is_taken}
+use Rattle.zvt_talk.specs.Talk.{TalkFacts}
+use Rattle.zvt_talk.specs.TalkSteps.{next_talk}
+use Rattle.gw_owes.specs.declared.terminal.Standing.{Standing}
+use Rattle.gw_owes.specs.declared.terminal.Standing.TheVariants.{Unlinked, Registering, Enquiring, Ready, Serving, Aside}
+use Rattle.gw_owes.specs.declared.terminal.Terminal.{Terminal}
+use Rattle.gw_owes.specs.Calls.{OwedCall}
+use Rattle.gw_owes.specs.Core.{Core as CoreValue}
+use Rattle.gw_owes.specs.Row.{Known, Row, owing_nothing}
+use Rattle.gw_owes.specs.Terminals.{with_terminal, terminal_becomes}
+use Rattle.gw_owes.specs.Links.{is_linked, where_linked}
+use Rattle.gw_owes.specs.Handling.{awaited_after, taken_as, meaning_at, taking, consequence, where_taken, handle_message, handled_row}
+use Rattle.gw_owes.specs.Dialogues.{AwaitedIn, IsDialogueOf, HasItsDialogue}
+use Rattle.gw_core.specs.declared.act.Act.{Act}
+use Rattle.gw_core.specs.IsRow.{IsRow, calls_wanted}
+
+-- its dialogue has taken the message that it was handed
+pub taken : (terminal : Terminal) (message handed : MessageValue) (moment : ℕ) (talk : Option TalkFacts) (awaited : ℕ) → handed ≡ taken_as terminal.awaited message
+    → talk ≡ option_map (λ t. next_talk t handed (pos moment)) terminal.talk → awaited ≡ awaited_after message terminal.awaited
+    → ◌≡◌ {A = Terminal} (record { pt = terminal.pt; standing = terminal.standing; talk = talk; awaited = awaited; asker = terminal.asker }) (taking terminal message moment)
+taken terminal message handed moment talk awaited handed_is talk_is awaited_is = rw (talk_is, handed_is, awaited_is) refl
+
+-- ---- few are awaited
+
+no-more : (message : MessageValue) (awaited : ℕ) → awaited_after message awaited ≤ awaited
+no-more Ack awaited = omega arith
+no-more (Nack error_code) awaited = omega arith
+no-more (Intermediate intermediate_status) awaited = omega arith
+no-more (Line text) awaited = omega arith
+no-more (Block objects) awaited = omega arith
+no-more (Status fields) awaited = omega arith
+no-more Completion awaited = omega arith
+no-more (Abort result_code) awaited = omega arith
+no-more Other awaited = omega arith
+
+one-in : (phase : Phase) (awaited : ℕ) → AwaitedIn phase awaited → awaited ≤ 1
+one-in (Asked stop_wished) awaited e = omega arith
+one-in (Begun stop_sent statuses) awaited e = omega arith
+one-in (Ended stop_sent) awaited e = absurd e
+
+one-of : (standing : Standing) (talk : Option TalkFacts) (awaited : ℕ) → IsDialogueOf standing talk awaited → awaited ≤ 1
+one-of (Unlinked due) talk awaited d = let e : awaited ≡ 0 = d.awaited_is in omega arith
+one-of Registering talk awaited d = one-in d.facts.phase awaited d.awaited_is
+one-of Enquiring talk awaited d = one-in d.facts.phase awaited d.awaited_is
+one-of (Ready last) talk awaited d = let e : awaited ≡ 0 = d.awaited_is in omega arith
+one-of (Serving service last) talk awaited d = absurd d
+one-of (Aside before reported) talk awaited d = let e : awaited ≡ 0 = d.awaited_is in omega arith
+
+-- so there is room for one more
+pub few : (terminal after : Terminal) (message : MessageValue) (moment : ℕ) → HasItsDialogue terminal → after ≡ taking terminal message moment → after.awaited < 2 ^ 31
+few terminal after message moment has is =
+    let e : after.awaited ≡ awaited_after message terminal.awaited = ap (λ (t : Terminal). t.awaited) is in
+    let l : awaited_after message terminal.awaited ≤ terminal.awaited = no-more message terminal.awaited in
+    let o : terminal.awaited ≤ 1 = one-of terminal.standing terminal.talk terminal.awaited has in
+    omega arith
+
+-- ---- the row
+
+set-same : (all : List Terminal) (at : ℕ) (one : Terminal) → slice_get all at ≡ Some one → set all at one ≡ all
+set-same [] at one found = refl
+set-same (first ∷ rest) zero one found = ap (λ t. t ∷ rest) (some-same one first (sym found))
+  where
+    some-same : (one other : Terminal) → Some one ≡ Some other → one ≡ other
+    some-same one other same = cc
+set-same (first ∷ rest) (suc at) one found = ap (λ l. first ∷ l) (set-same rest at one found)
+
+-- nothing is owed, and the terminal stays as it is
+pub unchanged : (known : Known) (pt : ℕ) (terminal : Terminal) → slice_get known.core.terminals pt ≡ Some terminal → owing_nothing known ≡ terminal_becomes known pt terminal []
+unchanged known pt terminal found = ap (λ (terminals : List Terminal). record { core = record known.core { terminals = terminals }; calls = []; items = [] }) (sym (set-same known.core.terminals pt terminal found))
+
+pub unlinked-stays : (known : Known) (pt : ℕ) (terminal : Terminal) (row : Row) (linked : Bool) → linked ≡ is_linked terminal.standing → linked ≡ false → slice_get known.core.terminals pt ≡ Some terminal
+    → where_linked (is_linked terminal.standing) known row ≡ terminal_becomes known pt terminal []
+unlinked-stays known pt terminal row linked is not found = ap (λ b. where_linked b known row) (sym is ∙ not) ∙ unchanged known pt terminal found
+
+pub foreign-stays : (known : Known) (pt : ℕ) (terminal : Terminal) (message : MessageValue) (is : Bool) → is ≡ is_taken message → is ≡ false → slice_get known.core.terminals pt ≡ Some terminal
+    → where_linked (is_linked terminal.standing) known (handle_message known pt terminal message) ≡ terminal_becomes known pt terminal []
+foreign-stays known pt terminal message is taken_is not found = by-linked (is_linked terminal.standing)
+  where
+    none : handle_message known pt terminal message ≡ owing_nothing known
+    none = ap (λ b. where_taken b known (consequence known pt (taking terminal message known.moment) (meaning_at terminal message) terminal.standing)) (sym taken_is ∙ not)
+
+    by-linked : (b : Bool) → where_linked b known (handle_message known pt terminal message) ≡ terminal_becomes known pt terminal []
+    by-linked true = none ∙ unchanged known pt terminal found
+    by-linked false = unchanged known pt terminal found
+
+-- what follows from a message that is taken
+pub followed : (known : Known) (pt : ℕ) (terminal after final : Terminal) (message : MessageValue) (meant : Heard) (calls : List OwedCall) → is_linked terminal.standing ≡ true → is_taken message ≡ true
+    → after ≡ taking terminal message known.moment → meant ≡ meaning_at terminal message → consequence known pt after meant after.standing ≡ terminal_becomes known pt final calls
+    → where_linked (is_linked terminal.standing) known (handle_message known pt terminal message) ≡ terminal_becomes known pt final calls
+followed known pt terminal after final message meant calls linked is_so after_is meant_is follows =
+    ap (λ b. where_linked b known (handle_message known pt terminal message)) linked
+    ∙ ap (λ b. where_taken b known (consequence known pt (taking terminal message known.moment) (meaning_at terminal message) terminal.standing)) is_so
+    ∙ ap (λ m. consequence known pt (taking terminal message known.moment) m terminal.standing) (sym meant_is)
+    ∙ ap (λ (t : Terminal). consequence known pt t meant t.standing) (sym after_is)
+    ∙ follows
+
+-- the core's row, by its terminal's
+pub pt-row : (known : Known) (pt : ℕ) (terminal final : Terminal) (message : MessageValue) (wanted : Option Act) → pt < length known.core.terminals → terminal ≡ get_or known.core.terminals pt terminal
+    → (slice_get known.core.terminals pt ≡ Some terminal → where_linked (is_linked terminal.standing) known (handle_message known pt terminal message) ≡ terminal_becomes known pt final (calls_wanted wanted))
+    → IsRow (handled_row known pt message) (with_terminal known.core pt final) wanted
+pt-row known pt terminal final message wanted inside is becomes =
+    let found = slice_get_read known.core.terminals (length known.core.terminals) pt terminal refl inside is in
+    let row_is : handled_row known pt message ≡ terminal_becomes known pt final (calls_wanted wanted) = rw found (becomes found) in
+    subst (λ row. IsRow row (with_terminal known.core pt final) wanted) (sym row_is) (record { core_is = refl; calls_are = refl; items_are = refl })

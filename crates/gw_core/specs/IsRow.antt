@@ -1,0 +1,48 @@
+-- What the core wants done, beside what a row says.
+use Rattle.std.specs.Prelude.{◌≡◌, ℕ, Bool, true, false, List, [], ◌∷◌, flat_map, Option, option_to_list}
+use Rattle.gw_base.specs.declared.setup.Setup.{Setup}
+use Rattle.jrn_record.specs.declared.records.Record.{Record}
+use Rattle.gw_owes.specs.declared.terminal.Standing.{Standing}
+use Rattle.gw_owes.specs.declared.terminal.Standing.TheVariants.{Unlinked, Registering, Enquiring, Ready, Serving, Aside}
+use Rattle.gw_owes.specs.Calls.{Ask, Acknowledge, Refuse, OwedCall, SendPt, CutPt, LinkPt}
+use Rattle.gw_owes.specs.Core.{Core as CoreValue}
+use Rattle.gw_owes.specs.Links.{LinkEvent, LinkIsMade, LinkIsLost}
+use Rattle.gw_owes.specs.Row.{Known, Row}
+use Rattle.gw_core.specs.declared.act.Act.{Act}
+use Rattle.gw_core.specs.declared.act.Act.TheVariants as act
+
+-- the calls that an act is for
+abbrev pub act_calls : Act → List OwedCall
+act_calls (act.SendPt pt command) = SendPt pt (Ask command) ∷ []
+act_calls (act.Ack pt) = SendPt pt Acknowledge ∷ []
+act_calls (act.Refuse pt) = SendPt pt Refuse ∷ []
+act_calls (act.CutPt pt) = CutPt pt ∷ []
+act_calls (act.Link pt) = LinkPt pt ∷ []
+
+-- the calls that the act is for, where there is one
+abbrev pub calls_wanted : Option Act → List OwedCall
+calls_wanted wanted = flat_map act_calls (option_to_list wanted)
+
+-- what a gateway of this setup knows that remembers this, at this moment, and keeps these records
+abbrev pub known_with : Setup → List Record → CoreValue → ℕ → Known
+known_with setup kept core moment = record { setup = setup; core = core; kept = kept; moment = moment }
+
+-- what is remembered has become what the row says, this is wanted of its calls, and nothing further is to be handled for it
+pub record IsRow (row : Row) (core : CoreValue) (wanted : Option Act) : Type 0 where
+  pub core_is : core ≡ row.core
+  pub calls_are : calls_wanted wanted ≡ row.calls
+  pub items_are : row.items ≡ []
+
+-- what became of a link: it is made, or it isn't there
+abbrev pub link_event_of : Bool → LinkEvent
+link_event_of true = LinkIsMade
+link_event_of false = LinkIsLost
+
+-- the terminal serves nothing
+abbrev pub ServesNothing : Standing → Type 0
+ServesNothing (Unlinked due) = Unit {0}
+ServesNothing Registering = Unit {0}
+ServesNothing Enquiring = Unit {0}
+ServesNothing (Ready last) = Unit {0}
+ServesNothing (Serving service last) = ⊥
+ServesNothing (Aside before reported) = Unit {0}

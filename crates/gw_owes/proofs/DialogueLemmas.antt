@@ -1,0 +1,343 @@
+-- Each terminal has the dialogue of its standing.
+use Rattle.std.proofs.Common.{◌≡◌, ◌≢◌, ℕ, zero, suc, ◌+◌, List, [], ◌∷◌, refl, sym, ◌∙◌, ap, subst, arith, Bool, true, false, cond, eqb}
+use Rattle.std.specs.Prelude.{map, set, slice_get, pos, ◌+ℤ◌, nat_le, Option, Some, None, if◌then◌else◌}
+use Rattle.std.specs.Option.{option_map}
+use Rattle.gw_base.specs.declared.figures.Figures.{Figures}
+use Rattle.gw_base.specs.declared.setup.Pt.{Pt}
+use Rattle.zvt_bmp.specs.declared.fields.Fields.{Fields}
+use Rattle.zvt_msg.specs.Message.{MessageValue, Ack, Nack, Intermediate, Line, Block, Status, Completion, Abort, Other}
+use Rattle.zvt_talk.specs.declared.dialogue_kind.DialogueKind.{DialogueKind}
+use Rattle.zvt_talk.specs.declared.dialogue_kind.DialogueKind.TheVariants.{Registration, Enquiry}
+use Rattle.zvt_talk.specs.declared.meaning.Heard.{Heard}
+use Rattle.zvt_talk.specs.declared.meaning.Heard.TheVariants as heard
+use Rattle.zvt_talk.specs.declared.phase.Phase.{Phase}
+use Rattle.zvt_talk.specs.declared.phase.Phase.TheVariants.{Asked, Begun, Ended}
+use Rattle.zvt_talk.specs.declared.statuses.Statuses.{Statuses}
+use Rattle.zvt_talk.specs.Came.{is_taken}
+use Rattle.zvt_talk.specs.Table.{full_figures, declined, enquiry_aborted, enquiry_approved, enquiry_completed, enquiry_result, service_completed, service_result}
+use Rattle.zvt_talk.specs.Talk.{TalkFacts}
+use Rattle.zvt_talk.specs.TalkSteps.{meaning_in_phase, next_phase, next_talk}
+use Rattle.gw_owes.specs.declared.terminal.Standing.{Standing}
+use Rattle.gw_owes.specs.declared.terminal.Standing.TheVariants.{Unlinked, Registering, Enquiring, Ready, Serving, Aside}
+use Rattle.gw_owes.specs.declared.terminal.Terminal.{Terminal}
+use Rattle.gw_owes.specs.Core.{Core, new_terminal}
+use Rattle.gw_owes.specs.Items.{Crowded, Message, Asked as AskedItem, Unframed, Gone, Greet, Handle, NextWaiting, Oversized, LinkLost, Late, Overdue, Due}
+use Rattle.gw_owes.specs.Row.{Known, Row}
+use Rattle.gw_owes.specs.Terminals.{terminal_at, of_terminal, with_terminal, link_made, link_lost, registers, unlinks, unlinked_terminal}
+use Rattle.gw_owes.specs.Links.{LinkIsMade, LinkHasFailed, LinkIsLost}
+use Rattle.gw_owes.specs.Reports.{standing_reported}
+use Rattle.gw_owes.specs.Handling.{awaited_after, taken_as, meaning_for, meaning_at, taking, registering, enquiring, consequence}
+use Rattle.gw_owes.specs.Greeting.{greet_row, oversized_row}
+use Rattle.gw_owes.specs.Deadlines.{late_row, due_row}
+use Rattle.gw_owes.specs.TerminalLaws.{owes_cut}
+use Rattle.gw_owes.specs.Dialogues.{AwaitedIn, RunsDialogue, RunsNone, IsDialogueOf, HasItsDialogue, AllHaveDialogues, OthersHaveDialogues, NewCoreHasDialogues, EachRowKeepsDialogues, EachLinkGivesDialogues}
+use Rattle.gw_owes.proofs.HandlingLemmas.{each-handled}
+use Rattle.gw_owes.proofs.TerminalLemmas.{greeting-changes-nothing, late-same, due-same, oversized-same}
+
+-- ---- what a message means in a registration, and in an enquiry
+
+either : (P : Heard → Type 0) (b : Bool) (x y : Heard) → P x → P y → P (cond b x y)
+either P true x y p q = p
+either P false x y p q = q
+
+-- after what a message means in a registration: it goes on, is done, or is to be cut
+abbrev RegistrationNext : Phase → ℕ → Heard → Type 0
+RegistrationNext phase awaited (heard.Begun stop) = AwaitedIn phase awaited
+RegistrationNext phase awaited (heard.Note intermediate_status) = AwaitedIn phase awaited
+RegistrationNext phase awaited heard.Line = AwaitedIn phase awaited
+RegistrationNext phase awaited heard.Block = AwaitedIn phase awaited
+RegistrationNext phase awaited heard.Seen = AwaitedIn phase awaited
+RegistrationNext phase awaited (heard.Approved figures) = ⊥
+RegistrationNext phase awaited heard.Done = awaited ≡ 0
+RegistrationNext phase awaited (heard.Told reported approved result_code) = ⊥
+RegistrationNext phase awaited (heard.Declined result_code reported) = Unit {0}
+RegistrationNext phase awaited heard.Unclear = Unit {0}
+RegistrationNext phase awaited heard.Stray = AwaitedIn phase awaited
+
+-- the same of an enquiry, which reports and isn't done without
+abbrev EnquiryNext : Phase → ℕ → Heard → Type 0
+EnquiryNext phase awaited (heard.Begun stop) = AwaitedIn phase awaited
+EnquiryNext phase awaited (heard.Note intermediate_status) = AwaitedIn phase awaited
+EnquiryNext phase awaited heard.Line = AwaitedIn phase awaited
+EnquiryNext phase awaited heard.Block = AwaitedIn phase awaited
+EnquiryNext phase awaited heard.Seen = AwaitedIn phase awaited
+EnquiryNext phase awaited (heard.Approved figures) = ⊥
+EnquiryNext phase awaited heard.Done = ⊥
+EnquiryNext phase awaited (heard.Told reported approved result_code) = awaited ≡ 0
+EnquiryNext phase awaited (heard.Declined result_code reported) = Unit {0}
+EnquiryNext phase awaited heard.Unclear = Unit {0}
+EnquiryNext phase awaited heard.Stray = AwaitedIn phase awaited
+
+service-result-next : (phase : Phase) (awaited : ℕ) (statuses : Statuses) (result : Option ℕ) → awaited ≡ 0 → RegistrationNext phase awaited (service_result statuses result)
+service-result-next phase awaited statuses None e = e
+service-result-next phase awaited statuses (Some result_code) e = either (RegistrationNext phase awaited) (eqb result_code 0) heard.Done (declined statuses result_code) e tt
+
+service-next : (phase : Phase) (awaited : ℕ) (statuses : Statuses) (last : Option Fields) → awaited ≡ 0 → RegistrationNext phase awaited (service_completed statuses last)
+service-next phase awaited statuses None e = e
+service-next phase awaited statuses (Some status) e = service-result-next phase awaited statuses status.result e
+
+registration-next : (none : ℕ) (phase : Phase) (message : MessageValue) (awaited : ℕ) → AwaitedIn phase awaited → is_taken message ≡ true
+    → RegistrationNext (next_phase Registration phase (taken_as awaited message)) (awaited_after message awaited) (meaning_in_phase Registration none phase (taken_as awaited message))
+registration-next none (Asked stop_wished) Ack awaited e taken = omega arith
+registration-next none (Asked stop_wished) (Nack error_code) awaited e taken =
+    let handed : ℕ = if nat_le 2 awaited then 0 else error_code in
+    either (RegistrationNext (Ended false) (awaited_after (Nack error_code) awaited)) (eqb handed 0) heard.Unclear (heard.Declined handed None) tt tt
+registration-next none (Asked stop_wished) (Intermediate intermediate_status) awaited e taken = tt
+registration-next none (Asked stop_wished) (Line text) awaited e taken = tt
+registration-next none (Asked stop_wished) (Block objects) awaited e taken = tt
+registration-next none (Asked stop_wished) (Status fields) awaited e taken = tt
+registration-next none (Asked stop_wished) Completion awaited e taken = tt
+registration-next none (Asked stop_wished) (Abort result_code) awaited e taken = tt
+registration-next none (Asked stop_wished) Other awaited e taken = absurd cc
+registration-next none (Begun stop_sent statuses) Ack awaited e taken = omega arith
+registration-next none (Begun stop_sent statuses) (Nack error_code) awaited e taken = omega arith
+registration-next none (Begun stop_sent statuses) (Intermediate intermediate_status) awaited e taken = e
+registration-next none (Begun stop_sent statuses) (Line text) awaited e taken = e
+registration-next none (Begun stop_sent statuses) (Block objects) awaited e taken = e
+registration-next none (Begun stop_sent statuses) (Status fields) awaited e taken = e
+registration-next none (Begun stop_sent statuses) Completion awaited e taken = service-next (Ended stop_sent) awaited statuses statuses.last e
+registration-next none (Begun stop_sent statuses) (Abort None) awaited e taken = tt
+registration-next none (Begun stop_sent statuses) (Abort (Some result_code)) awaited e taken = either (RegistrationNext (Ended stop_sent) awaited) (eqb result_code 0) heard.Unclear (declined statuses result_code) tt tt
+registration-next none (Begun stop_sent statuses) Other awaited e taken = absurd cc
+registration-next none (Ended stop_sent) message awaited e taken = absurd e
+
+approved-next : (phase : Phase) (awaited trace : ℕ) (figures : Option Figures) → awaited ≡ 0 → EnquiryNext phase awaited (enquiry_approved trace figures)
+approved-next phase awaited trace None e = tt
+approved-next phase awaited trace (Some figures) e = e
+
+enquiry-result-next : (phase : Phase) (awaited : ℕ) (status : Fields) (result trace : Option ℕ) → awaited ≡ 0 → EnquiryNext phase awaited (enquiry_result status result trace)
+enquiry-result-next phase awaited status None trace e = tt
+enquiry-result-next phase awaited status (Some result_code) None e = tt
+enquiry-result-next phase awaited status (Some result_code) (Some trace) e =
+    either (EnquiryNext phase awaited) (eqb result_code 0) (enquiry_approved trace (full_figures status)) (heard.Told trace None result_code) (approved-next phase awaited trace (full_figures status) e) e
+
+enquiry-completed-next : (phase : Phase) (awaited : ℕ) (last : Option Fields) → awaited ≡ 0 → EnquiryNext phase awaited (enquiry_completed last)
+enquiry-completed-next phase awaited None e = tt
+enquiry-completed-next phase awaited (Some status) e = enquiry-result-next phase awaited status status.result status.trace e
+
+enquiry-aborted-next : (phase : Phase) (awaited none : ℕ) (last : Option Fields) (result_code : ℕ) → awaited ≡ 0 → EnquiryNext phase awaited (enquiry_aborted none last result_code)
+enquiry-aborted-next phase awaited none None result_code e = either (EnquiryNext phase awaited) (eqb result_code none) (heard.Told 0 None result_code) heard.Unclear e tt
+enquiry-aborted-next phase awaited none (Some status) result_code e = tt
+
+enquiry-next : (none : ℕ) (phase : Phase) (message : MessageValue) (awaited : ℕ) → AwaitedIn phase awaited → is_taken message ≡ true
+    → EnquiryNext (next_phase Enquiry phase (taken_as awaited message)) (awaited_after message awaited) (meaning_in_phase Enquiry none phase (taken_as awaited message))
+enquiry-next none (Asked stop_wished) Ack awaited e taken = omega arith
+enquiry-next none (Asked stop_wished) (Nack error_code) awaited e taken =
+    let handed : ℕ = if nat_le 2 awaited then 0 else error_code in
+    either (EnquiryNext (Ended false) (awaited_after (Nack error_code) awaited)) (eqb handed 0) heard.Unclear (heard.Declined handed None) tt tt
+enquiry-next none (Asked stop_wished) (Intermediate intermediate_status) awaited e taken = tt
+enquiry-next none (Asked stop_wished) (Line text) awaited e taken = tt
+enquiry-next none (Asked stop_wished) (Block objects) awaited e taken = tt
+enquiry-next none (Asked stop_wished) (Status fields) awaited e taken = tt
+enquiry-next none (Asked stop_wished) Completion awaited e taken = tt
+enquiry-next none (Asked stop_wished) (Abort result_code) awaited e taken = tt
+enquiry-next none (Asked stop_wished) Other awaited e taken = absurd cc
+enquiry-next none (Begun stop_sent statuses) Ack awaited e taken = omega arith
+enquiry-next none (Begun stop_sent statuses) (Nack error_code) awaited e taken = omega arith
+enquiry-next none (Begun stop_sent statuses) (Intermediate intermediate_status) awaited e taken = e
+enquiry-next none (Begun stop_sent statuses) (Line text) awaited e taken = e
+enquiry-next none (Begun stop_sent statuses) (Block objects) awaited e taken = e
+enquiry-next none (Begun stop_sent statuses) (Status fields) awaited e taken = e
+enquiry-next none (Begun stop_sent statuses) Completion awaited e taken = enquiry-completed-next (Ended stop_sent) awaited statuses.last e
+enquiry-next none (Begun stop_sent statuses) (Abort None) awaited e taken = tt
+enquiry-next none (Begun stop_sent statuses) (Abort (Some result_code)) awaited e taken =
+    either (EnquiryNext (Ended stop_sent) awaited) (eqb result_code 0) heard.Unclear (enquiry_aborted none statuses.last result_code) tt (enquiry-aborted-next (Ended stop_sent) awaited none statuses.last result_code e)
+enquiry-next none (Begun stop_sent statuses) Other awaited e taken = absurd cc
+enquiry-next none (Ended stop_sent) message awaited e taken = absurd e
+
+-- ---- the dialogue after a message
+
+still-taken : (awaited : ℕ) (message : MessageValue) → is_taken message ≡ true → is_taken (taken_as awaited message) ≡ true
+still-taken awaited Ack taken = refl
+still-taken awaited (Nack error_code) taken = refl
+still-taken awaited (Intermediate intermediate_status) taken = refl
+still-taken awaited (Line text) taken = refl
+still-taken awaited (Block objects) taken = refl
+still-taken awaited (Status fields) taken = refl
+still-taken awaited Completion taken = refl
+still-taken awaited (Abort result_code) taken = refl
+still-taken awaited Other taken = taken
+
+-- the talk after a message that is taken
+next-is : (facts : TalkFacts) (message : MessageValue) (moment : ℕ) → is_taken message ≡ true
+    → (after : TalkFacts) × (next_talk facts message (pos moment) ≡ after) × (after.dialogue_kind ≡ facts.dialogue_kind) × (after.phase ≡ next_phase facts.dialogue_kind facts.phase message)
+next-is facts message moment taken =
+    (record facts { phase = next_phase facts.dialogue_kind facts.phase message; deadline = pos moment +ℤ pos facts.command_time }, rw taken refl, refl, refl)
+
+-- a dialogue that goes on is one of its kind
+goes-on : (dialogue_kind : DialogueKind) (terminal : Terminal) (message : MessageValue) (moment : ℕ) (runs : RunsDialogue dialogue_kind terminal.talk terminal.awaited) → is_taken message ≡ true
+    → AwaitedIn (next_phase dialogue_kind (RunsDialogue.facts runs).phase (taken_as terminal.awaited message)) (awaited_after message terminal.awaited)
+    → RunsDialogue dialogue_kind (taking terminal message moment).talk (taking terminal message moment).awaited
+goes-on dialogue_kind terminal message moment runs taken awaits =
+    let next = next-is runs.facts (taken_as terminal.awaited message) moment (still-taken terminal.awaited message taken) in
+    record {
+      facts = next.0;
+      talk_is = ap (λ (talk : Option TalkFacts). option_map (λ t. next_talk t (taken_as terminal.awaited message) (pos moment)) talk) runs.talk_is ∙ ap (λ (t : TalkFacts). Some t) next.1;
+      kind_is = next.2 ∙ runs.kind_is;
+      awaited_is = subst (λ (phase : Phase). AwaitedIn phase (awaited_after message terminal.awaited)) (ap (λ (k : DialogueKind). next_phase k runs.facts.phase (taken_as terminal.awaited message)) (sym runs.kind_is) ∙ sym next.3) awaits;
+    }
+
+means-in : (dialogue_kind : DialogueKind) (terminal : Terminal) (message : MessageValue) (runs : RunsDialogue dialogue_kind terminal.talk terminal.awaited)
+    → meaning_at terminal message ≡ meaning_in_phase dialogue_kind (RunsDialogue.facts runs).none (RunsDialogue.facts runs).phase (taken_as terminal.awaited message)
+means-in dialogue_kind terminal message runs =
+    ap (λ (talk : Option TalkFacts). meaning_for talk (taken_as terminal.awaited message)) runs.talk_is
+    ∙ ap (λ (k : DialogueKind). meaning_in_phase k runs.facts.none runs.facts.phase (taken_as terminal.awaited message)) runs.kind_is
+
+-- ---- one terminal of a list
+
+some-same : {A : Type 0} (one other : A) → Some one ≡ Some other → one ≡ other
+some-same one other same = cc
+
+-- what holds of every other element, and of the new one, holds of all
+with-new : {A : Type 0} (P : A → Type 0) (all : List A) (at : ℕ) (new : A) → ((number : ℕ) (one : A) → number ≢ at → slice_get all number ≡ Some one → P one) → P new
+    → (number : ℕ) (one : A) → slice_get (set all at new) number ≡ Some one → P one
+with-new P [] at new others holds number one found = absurd cc
+with-new P (first ∷ rest) zero new others holds zero one found = subst P (some-same new one found) holds
+with-new P (first ∷ rest) zero new others holds (suc number) one found = others (suc number) one (λ e. omega arith) found
+with-new P (first ∷ rest) (suc at) new others holds zero one found = others zero one (λ e. omega arith) found
+with-new P (first ∷ rest) (suc at) new others holds (suc number) one found = with-new P rest at new (λ n o apart f. others (suc n) o (λ e. apart (omega arith)) f) holds number one found
+
+all-with : (core : Core) (number : ℕ) (new : Terminal) → OthersHaveDialogues number core → HasItsDialogue new → AllHaveDialogues (with_terminal core number new)
+all-with core number new others has = with-new HasItsDialogue core.terminals number new others has
+
+but-one : (core : Core) (number : ℕ) → AllHaveDialogues core → OthersHaveDialogues number core
+but-one core number all other terminal apart found = all other terminal found
+
+-- ---- the rows
+
+-- what a row without a cut leaves
+abbrev Keeps : Row → Type 0
+Keeps row = owes_cut row.calls ≡ false → AllHaveDialogues row.core
+
+registering-keeps : (known : Known) (number : ℕ) (terminal : Terminal) (phase : Phase) (meant : Heard) → AllHaveDialogues known.core → RegistrationNext phase terminal.awaited meant
+    → (AwaitedIn phase terminal.awaited → HasItsDialogue terminal) → Keeps (registering known number terminal meant)
+registering-keeps known number terminal phase (heard.Begun stop) all next has no_cut = all-with known.core number terminal (but-one known.core number all) (has next)
+registering-keeps known number terminal phase (heard.Note intermediate_status) all next has no_cut = all-with known.core number terminal (but-one known.core number all) (has next)
+registering-keeps known number terminal phase heard.Line all next has no_cut = all-with known.core number terminal (but-one known.core number all) (has next)
+registering-keeps known number terminal phase heard.Block all next has no_cut = all-with known.core number terminal (but-one known.core number all) (has next)
+registering-keeps known number terminal phase heard.Seen all next has no_cut = all-with known.core number terminal (but-one known.core number all) (has next)
+registering-keeps known number terminal phase (heard.Approved figures) all next has no_cut = absurd next
+registering-keeps known number terminal phase heard.Done all next has no_cut =
+    all-with known.core number _ (but-one known.core number all) (record { facts = _; talk_is = refl; kind_is = refl; awaited_is = ap (λ (n : ℕ). n + 1) next })
+registering-keeps known number terminal phase (heard.Told reported approved result_code) all next has no_cut = absurd next
+registering-keeps known number terminal phase (heard.Declined result_code reported) all next has no_cut = absurd cc
+registering-keeps known number terminal phase heard.Unclear all next has no_cut = absurd cc
+registering-keeps known number terminal phase heard.Stray all next has no_cut = all-with known.core number terminal (but-one known.core number all) (has next)
+
+reported-rests : (least reported : ℕ) (talk : Option TalkFacts) (awaited : ℕ) → RunsNone talk awaited → IsDialogueOf (standing_reported least reported) talk awaited
+reported-rests least reported talk awaited none = by-least (nat_le least reported)
+  where
+    by-least : (b : Bool) → IsDialogueOf (if b then Ready reported else Aside least reported) talk awaited
+    by-least true = none
+    by-least false = none
+
+enquiring-keeps : (known : Known) (number : ℕ) (terminal : Terminal) (phase : Phase) (meant : Heard) → AllHaveDialogues known.core → EnquiryNext phase terminal.awaited meant
+    → (AwaitedIn phase terminal.awaited → HasItsDialogue terminal) → Keeps (enquiring known number terminal meant)
+enquiring-keeps known number terminal phase (heard.Begun stop) all next has no_cut = all-with known.core number terminal (but-one known.core number all) (has next)
+enquiring-keeps known number terminal phase (heard.Note intermediate_status) all next has no_cut = all-with known.core number terminal (but-one known.core number all) (has next)
+enquiring-keeps known number terminal phase heard.Line all next has no_cut = all-with known.core number terminal (but-one known.core number all) (has next)
+enquiring-keeps known number terminal phase heard.Block all next has no_cut = all-with known.core number terminal (but-one known.core number all) (has next)
+enquiring-keeps known number terminal phase heard.Seen all next has no_cut = all-with known.core number terminal (but-one known.core number all) (has next)
+enquiring-keeps known number terminal phase (heard.Approved figures) all next has no_cut = absurd next
+enquiring-keeps known number terminal phase heard.Done all next has no_cut = absurd next
+enquiring-keeps known number terminal phase (heard.Told reported approved result_code) all next has no_cut =
+    all-with known.core number _ (but-one known.core number all) (reported-rests 0 reported None terminal.awaited (record { none = refl; awaited_is = next }))
+enquiring-keeps known number terminal phase (heard.Declined result_code reported) all next has no_cut = absurd cc
+enquiring-keeps known number terminal phase heard.Unclear all next has no_cut = absurd cc
+enquiring-keeps known number terminal phase heard.Stray all next has no_cut = all-with known.core number terminal (but-one known.core number all) (has next)
+
+-- a terminal without a dialogue takes a message: an Ack or a Nack of which none is awaited
+rests-on : (terminal : Terminal) (message : MessageValue) (moment : ℕ) → RunsNone terminal.talk terminal.awaited → RunsNone (taking terminal message moment).talk (taking terminal message moment).awaited
+rests-on terminal message moment none = record {
+  none = ap (λ (talk : Option TalkFacts). option_map (λ t. next_talk t (taken_as terminal.awaited message) (pos moment)) talk) none.none;
+  awaited_is = none-after message none.awaited_is;
+}
+  where
+    none-after : (message : MessageValue) → terminal.awaited ≡ 0 → awaited_after message terminal.awaited ≡ 0
+    none-after Ack e = omega arith
+    none-after (Nack error_code) e = omega arith
+    none-after (Intermediate intermediate_status) e = e
+    none-after (Line text) e = e
+    none-after (Block objects) e = e
+    none-after (Status fields) e = e
+    none-after Completion e = e
+    none-after (Abort result_code) e = e
+    none-after Other e = e
+
+consequence-keeps : (known : Known) (number : ℕ) (terminal : Terminal) (message : MessageValue) (standing : Standing) → AllHaveDialogues known.core → is_taken message ≡ true → terminal.standing ≡ standing
+    → IsDialogueOf standing terminal.talk terminal.awaited → Keeps (consequence known number (taking terminal message known.moment) (meaning_at terminal message) standing)
+consequence-keeps known number terminal message (Unlinked due) all taken is has no_cut = all
+consequence-keeps known number terminal message Registering all taken is runs no_cut =
+    registering-keeps known number (taking terminal message known.moment) _ (meaning_at terminal message) all
+    (subst (RegistrationNext (next_phase Registration runs.facts.phase (taken_as terminal.awaited message)) (awaited_after message terminal.awaited)) (sym (means-in Registration terminal message runs))
+    (registration-next runs.facts.none runs.facts.phase message terminal.awaited runs.awaited_is taken))
+    (λ awaits. subst (λ (s : Standing). IsDialogueOf s (taking terminal message known.moment).talk (taking terminal message known.moment).awaited) (sym is) (goes-on Registration terminal message known.moment runs taken awaits))
+    no_cut
+consequence-keeps known number terminal message Enquiring all taken is runs no_cut =
+    enquiring-keeps known number (taking terminal message known.moment) _ (meaning_at terminal message) all
+    (subst (EnquiryNext (next_phase Enquiry runs.facts.phase (taken_as terminal.awaited message)) (awaited_after message terminal.awaited)) (sym (means-in Enquiry terminal message runs))
+    (enquiry-next runs.facts.none runs.facts.phase message terminal.awaited runs.awaited_is taken))
+    (λ awaits. subst (λ (s : Standing). IsDialogueOf s (taking terminal message known.moment).talk (taking terminal message known.moment).awaited) (sym is) (goes-on Enquiry terminal message known.moment runs taken awaits))
+    no_cut
+consequence-keeps known number terminal message (Ready last) all taken is none no_cut =
+    all-with known.core number _ (but-one known.core number all)
+    (subst (λ (s : Standing). IsDialogueOf s (taking terminal message known.moment).talk (taking terminal message known.moment).awaited) (sym is) (rests-on terminal message known.moment none))
+consequence-keeps known number terminal message (Serving service last) all taken is never no_cut = absurd never
+consequence-keeps known number terminal message (Aside before reported) all taken is none no_cut =
+    all-with known.core number _ (but-one known.core number all)
+    (subst (λ (s : Standing). IsDialogueOf s (taking terminal message known.moment).talk (taking terminal message known.moment).awaited) (sym is) (rests-on terminal message known.moment none))
+
+same-keeps : (known : Known) (row : Row) → AllHaveDialogues known.core → row.core ≡ known.core → Keeps row
+same-keeps known row all same no_cut = subst AllHaveDialogues (sym same) all
+
+lost-gives : (known : Known) (number : ℕ) → OthersHaveDialogues number known.core → AllHaveDialogues (link_lost known number).core
+lost-gives known number others = by-found (terminal_at known number) refl
+  where
+    by-found : (found : Option Terminal) → terminal_at known number ≡ found → AllHaveDialogues (of_terminal known (unlinks known number) found).core
+    by-found None is = λ other terminal f. others other terminal (λ e. absurd (missing other terminal e f)) f
+      where
+        missing : (other : ℕ) (terminal : Terminal) → other ≡ number → slice_get known.core.terminals other ≡ Some terminal → ⊥
+        missing other terminal e f = let k : Some terminal ≡ None = sym f ∙ ap (slice_get known.core.terminals) e ∙ is in cc
+    by-found (Some terminal) is = all-with known.core number (unlinked_terminal terminal known.moment) others (record { none = refl; awaited_is = refl })
+
+made-gives : (known : Known) (number : ℕ) → OthersHaveDialogues number known.core → AllHaveDialogues (link_made known number).core
+made-gives known number others = by-found (terminal_at known number) refl
+  where
+    by-found : (found : Option Terminal) → terminal_at known number ≡ found → AllHaveDialogues (of_terminal known (registers known number) found).core
+    by-found None is = λ other terminal f. others other terminal (λ e. absurd (missing other terminal e f)) f
+      where
+        missing : (other : ℕ) (terminal : Terminal) → other ≡ number → slice_get known.core.terminals other ≡ Some terminal → ⊥
+        missing other terminal e f = let k : Some terminal ≡ None = sym f ∙ ap (slice_get known.core.terminals) e ∙ is in cc
+    by-found (Some terminal) is = all-with known.core number _ others (record { facts = _; talk_is = refl; kind_is = refl; awaited_is = refl })
+
+pub links-give : EachLinkGivesDialogues
+links-give known number LinkIsMade others = made-gives known number others
+links-give known number LinkHasFailed others = lost-gives known number others
+links-give known number LinkIsLost others = lost-gives known number others
+
+pub rows-keep : EachRowKeepsDialogues
+rows-keep known (Crowded till) all = λ no_cut. all
+rows-keep known (Message till bytes) all = λ no_cut. all
+rows-keep known (AskedItem till as_read) all = λ no_cut. all
+rows-keep known (Unframed till) all = λ no_cut. all
+rows-keep known (Gone till) all = λ no_cut. all
+rows-keep known (Greet number apdu) all = same-keeps known (greet_row known number apdu) all (greeting-changes-nothing known number apdu)
+rows-keep known (Handle number apdu) all =
+    each-handled Keeps known number apdu (λ no_cut. all)
+    (λ terminal message found linked is taken. consequence-keeps known number terminal message terminal.standing all taken refl (all number terminal found))
+rows-keep known (NextWaiting number) all = λ no_cut. all
+rows-keep known (Oversized number) all = same-keeps known (oversized_row known number) all (oversized-same known number)
+rows-keep known (LinkLost number) all = λ no_cut. lost-gives known number (but-one known.core number all)
+rows-keep known (Late number) all = same-keeps known (late_row known number) all (late-same known number)
+rows-keep known (Overdue key) all = λ no_cut. all
+rows-keep known (Due number) all = same-keeps known (due_row known number) all (due-same known number)
+
+-- ---- as a run begins
+
+pub new-has : NewCoreHasDialogues
+new-has setup number terminal found = in-list setup.terminals number found
+  where
+    in-list : (pts : List Pt) (number : ℕ) → slice_get (map new_terminal pts) number ≡ Some terminal → HasItsDialogue terminal
+    in-list [] number f = absurd cc
+    in-list (pt ∷ pts) zero f = subst HasItsDialogue (some-same (new_terminal pt) terminal f) (record { none = refl; awaited_is = refl })
+    in-list (pt ∷ pts) (suc number) f = in-list pts number f

@@ -1,0 +1,128 @@
+-- The examples of what terminals are owed are computed.
+use Rattle.std.proofs.Common.{refl}
+use Rattle.zvt_apdu.specs.DecodeStream.{decode_apdus, decode_apdus_within}
+use Rattle.zvt_bmp.specs.Decode.{decode_field_value, decode_status_field, decode_status_within, decode_status}
+use Rattle.zvt_msg.specs.MessageDecode.{decode_pt_message}
+use Rattle.gw_owes.specs.TerminalExample.{ExampleBecomesReady, ExampleReportsLast, ExampleRegistrationFails, ExampleEnquiryFails, ExampleLinkFails, ExampleSilence, ExampleStrayMessages, ExampleForeignCommand, ExampleOutside, ExampleLateStop, ExampleComparedReports, ExampleManyTerminals, ExampleDiagnosis, ExampleUnserved}
+
+pub becomes-ready : ExampleBecomesReady
+unfolding decode_apdus decode_apdus_within decode_pt_message
+becomes-ready = record {
+  linked = record { calls_are = refl; standing_is = refl; awaited_is = refl };
+  acknowledged = record { calls_are = refl; standing_is = refl; awaited_is = refl };
+  registered = record { calls_are = refl; standing_is = refl; awaited_is = refl };
+  enquired = record { calls_are = refl; standing_is = refl; awaited_is = refl };
+  ready = record { calls_are = refl; standing_is = refl; awaited_is = refl };
+}
+
+pub reports-last : ExampleReportsLast
+unfolding decode_apdus decode_apdus_within decode_pt_message decode_status decode_status_within decode_status_field decode_field_value
+reports-last = record {
+  apart = record { calls_are = refl; standing_is = refl; awaited_is = refl };
+  together = record { calls_are = refl; standing_is = refl; awaited_is = refl };
+}
+
+pub registration-fails : ExampleRegistrationFails
+unfolding decode_apdus decode_apdus_within decode_pt_message decode_status decode_status_within decode_status_field decode_field_value
+registration-fails = record {
+  declined = record { calls_are = refl; standing_is = refl; awaited_is = refl };
+  not_due = record { calls_are = refl; standing_is = refl; awaited_is = refl };
+  due = record { calls_are = refl; standing_is = refl; awaited_is = refl };
+  refused = record { calls_are = refl; standing_is = refl; awaited_is = refl };
+  by_status = record { calls_are = refl; standing_is = refl; awaited_is = refl };
+  unclear = record { calls_are = refl; standing_is = refl; awaited_is = refl };
+  too_early = record { calls_are = refl; standing_is = refl; awaited_is = refl };
+}
+
+pub enquiry-fails : ExampleEnquiryFails
+unfolding decode_apdus decode_apdus_within decode_pt_message
+enquiry-fails = record {
+  unclear = record { calls_are = refl; standing_is = refl; awaited_is = refl };
+  refused = record { calls_are = refl; standing_is = refl; awaited_is = refl };
+  other_code = record { calls_are = refl; standing_is = refl; awaited_is = refl };
+}
+
+pub link-fails : ExampleLinkFails
+unfolding decode_apdus decode_apdus_within decode_pt_message
+link-fails = record {
+  failed = record { calls_are = refl; standing_is = refl; awaited_is = refl };
+  again = record { calls_are = refl; standing_is = refl; awaited_is = refl };
+  lost = record { calls_are = refl; standing_is = refl; awaited_is = refl };
+}
+
+pub silence : ExampleSilence
+unfolding decode_apdus decode_apdus_within decode_pt_message
+silence = record {
+  asked = record { calls_are = refl; standing_is = refl; awaited_is = refl };
+  asked_late = record { calls_are = refl; standing_is = refl; awaited_is = refl };
+  begun = record { calls_are = refl; standing_is = refl; awaited_is = refl };
+  begun_late = record { calls_are = refl; standing_is = refl; awaited_is = refl };
+  put_off = record { calls_are = refl; standing_is = refl; awaited_is = refl };
+  in_time = record { calls_are = refl; standing_is = refl; awaited_is = refl };
+  without_dialogue = record { calls_are = refl; standing_is = refl; awaited_is = refl };
+}
+
+pub stray-messages : ExampleStrayMessages
+unfolding decode_apdus decode_apdus_within decode_pt_message
+stray-messages = record {
+  acknowledged = record { calls_are = refl; standing_is = refl; awaited_is = refl };
+  ack_alone = record { calls_are = refl; standing_is = refl; awaited_is = refl };
+}
+
+pub foreign-command : ExampleForeignCommand
+unfolding decode_apdus decode_apdus_within decode_pt_message
+foreign-command = record {
+  refused = record { calls_are = refl; standing_is = refl; awaited_is = refl };
+  in_dialogue = record { calls_are = refl; standing_is = refl; awaited_is = refl };
+}
+
+pub outside : ExampleOutside
+unfolding decode_apdus decode_apdus_within decode_pt_message decode_status decode_status_within decode_status_field decode_field_value
+outside = record {
+  status = record { calls_are = refl; standing_is = refl; awaited_is = refl };
+  oversized = record { calls_are = refl; standing_is = refl; awaited_is = refl };
+}
+
+pub late-stop : ExampleLateStop
+unfolding decode_apdus decode_apdus_within decode_pt_message
+late-stop = record {
+  nack = record { calls_are = refl; standing_is = refl; awaited_is = refl };
+  ack_first = record { calls_are = refl; standing_is = refl; awaited_is = refl };
+  nack_later = record { calls_are = refl; standing_is = refl; awaited_is = refl };
+  none_below = record { calls_are = refl; standing_is = refl; awaited_is = refl };
+}
+
+pub compared-reports : ExampleComparedReports
+compared-reports = record {
+  same = refl;
+  above = refl;
+  below = refl;
+}
+
+pub many-terminals : ExampleManyTerminals
+unfolding decode_apdus decode_apdus_within decode_pt_message
+many-terminals = record {
+  all_linked = refl;
+  last_alone = refl;
+  last_is = refl;
+  first_is = refl;
+  before_is = refl;
+}
+
+pub diagnosis : ExampleDiagnosis
+diagnosis = record {
+  new = refl;
+  unlinked = refl;
+  registering = refl;
+  enquiring = refl;
+  ready = refl;
+  serving = refl;
+  aside = refl;
+  unknown = refl;
+}
+
+pub unserved : ExampleUnserved
+unserved = record {
+  configured = refl;
+  unknown = refl;
+}

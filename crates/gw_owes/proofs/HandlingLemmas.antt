@@ -1,0 +1,368 @@
+-- What a message of a terminal leaves and owes, in each of its standings.
+use Rattle.std.proofs.Common.{◌≡◌, ◌≢◌, ◌≤◌, ◌⊎◌, ℕ, ◌+◌, List, [], ◌∷◌, refl, sym, ◌∙◌, ap, subst, arith, inl, inr, Bool, true, false}
+use Rattle.std.proofs.lemmas.Bool.{le-leb}
+use Rattle.std.specs.Prelude.{Option, Some, None, Result, Ok, Err, if◌then◌else◌}
+use Rattle.gw_base.specs.declared.figures.Figures.{Figures}
+use Rattle.zvt_apdu.specs.Grammar.{ApduValue}
+use Rattle.zvt_msg.specs.declared.fault.PtFault.{PtFault}
+use Rattle.zvt_msg.specs.Message.{MessageValue, Ack, Nack, Intermediate, Line, Block, Status, Completion, Abort, Other}
+use Rattle.zvt_msg.specs.MessageDecode.{decode_pt_message}
+use Rattle.zvt_talk.specs.declared.meaning.Heard.{Heard}
+use Rattle.zvt_talk.specs.declared.meaning.Heard.TheVariants as heard
+use Rattle.zvt_talk.specs.declared.phase.Phase.{Phase}
+use Rattle.zvt_talk.specs.declared.phase.Phase.TheVariants.{Asked, Begun, Ended}
+use Rattle.zvt_talk.specs.Came.{is_taken}
+use Rattle.zvt_talk.specs.Laws.{IsAckOrNack}
+use Rattle.zvt_talk.specs.Talk.{TalkFacts}
+use Rattle.zvt_talk.specs.TalkSteps.{meaning_in_phase}
+use Rattle.gw_owes.specs.Calls.{OwedCall, SendPt, CutPt, Ask}
+use Rattle.gw_owes.specs.declared.terminal.Standing.{Standing}
+use Rattle.gw_owes.specs.declared.terminal.Standing.TheVariants.{Unlinked, Registering, Enquiring, Ready, Serving, Aside}
+use Rattle.gw_owes.specs.declared.terminal.Terminal.{Terminal}
+use Rattle.gw_owes.specs.Row.{Known, Row, owing_nothing}
+use Rattle.gw_owes.specs.Terminals.{terminal_at, of_terminal, terminal_becomes}
+use Rattle.gw_owes.specs.Links.{is_linked, where_linked, of_linked}
+use Rattle.gw_owes.specs.Reports.{on_record, report_row, standing_reported}
+use Rattle.gw_owes.specs.Handling.{awaited_after, taken_as, meaning_for, meaning_at, taking, staying, breaking, enquiry_command, enquires, stops, registering, enquiring, serving, consequence, where_taken, handle_message, handle_decoded, handle_row}
+use Rattle.gw_owes.specs.Laws.{ends_in_one, EndsInOne}
+use Rattle.gw_owes.specs.TerminalLaws.{ChangesTerminalAlone, HasNoEffect, TakesOne, EachAckTakesOne, commands_in, Awaits, owes_cut, IsBeforeReady, BreaksDialogue, GoesOnTo}
+use Rattle.gw_owes.proofs.SetLemmas.{new-is-there, alone-same, alone-set}
+
+-- ---- rows of a terminal that is linked
+
+by-linked : (P : Row → Type 0) (known : Known) (row : Row) (linked : Bool) → P (owing_nothing known) → (linked ≡ true → P row) → P (where_linked linked known row)
+by-linked P known row true none some = some refl
+by-linked P known row false none some = none
+
+by-terminal : (P : Row → Type 0) (known : Known) (row : Terminal → Row) (found : Option Terminal) → P (owing_nothing known) → ((terminal : Terminal) → found ≡ Some terminal → P (row terminal)) → P (of_terminal known row found)
+by-terminal P known row None none some = none
+by-terminal P known row (Some terminal) none some = some terminal refl
+
+-- what holds of nothing owed, and of the row of each terminal, holds of the row where there is a terminal
+pub each-terminal : (P : Row → Type 0) (known : Known) (number : ℕ) (row : Terminal → Row) → P (owing_nothing known)
+    → ((terminal : Terminal) → terminal_at known number ≡ Some terminal → P (row terminal)) → P (of_terminal known row (terminal_at known number))
+each-terminal P known number row none some = by-terminal P known row (terminal_at known number) none some
+
+-- what holds of nothing owed, and of the row of each terminal that is linked, holds of the row where it is linked
+pub each-linked : (P : Row → Type 0) (known : Known) (number : ℕ) (row : Terminal → Row) → P (owing_nothing known)
+    → ((terminal : Terminal) → terminal_at known number ≡ Some terminal → is_linked terminal.standing ≡ true → P (row terminal)) → P (of_linked known number row)
+each-linked P known number row none some =
+    each-terminal P known number (λ terminal. where_linked (is_linked terminal.standing) known (row terminal)) none
+    (λ terminal found. by-linked P known (row terminal) (is_linked terminal.standing) none (some terminal found))
+
+-- the row of a terminal that is linked
+pub linked-row : (known : Known) (number : ℕ) (row : Terminal → Row) (terminal : Terminal) → terminal_at known number ≡ Some terminal → is_linked terminal.standing ≡ true → of_linked known number row ≡ row terminal
+linked-row known number row terminal found linked = rw (found, linked) refl
+
+-- ---- what a terminal becomes
+
+-- the terminal becomes another with its settings, which awaits one Ack or Nack more for each command of the calls, and these end in one
+pub record Becomes (known : Known) (number : ℕ) (old : Terminal) (row : Row) : Type 0 where
+  pub new : Terminal
+  pub calls : List OwedCall
+  pub row_is : row ≡ terminal_becomes known number new calls
+  pub settings : new.pt ≡ old.pt
+  pub awaited : new.awaited ≡ old.awaited + commands_in calls
+  pub ends : ends_in_one calls ≡ true
+
+none-more : (awaited : ℕ) → awaited ≡ awaited + 0
+none-more awaited = omega arith
+
+stays : (known : Known) (number : ℕ) (terminal : Terminal) → Becomes known number terminal (staying known number terminal)
+stays known number terminal = record { new = terminal; calls = []; row_is = refl; settings = refl; awaited = none-more terminal.awaited; ends = refl }
+
+breaks : (known : Known) (number : ℕ) (terminal : Terminal) → Becomes known number terminal (breaking known number terminal)
+breaks known number terminal = record { new = terminal; calls = CutPt number ∷ []; row_is = refl; settings = refl; awaited = none-more terminal.awaited; ends = refl }
+
+becomes-enquired : (known : Known) (number : ℕ) (terminal : Terminal) → Becomes known number terminal (enquires known number terminal)
+becomes-enquired known number terminal = record { new = _; calls = SendPt number (Ask (enquiry_command terminal.pt)) ∷ []; row_is = refl; settings = refl; awaited = refl; ends = refl }
+
+becomes-stopped : (known : Known) (number : ℕ) (terminal : Terminal) → Becomes known number terminal (stops known number terminal)
+becomes-stopped known number terminal = record { new = record terminal { awaited = terminal.awaited + 1 }; calls = _; row_is = refl; settings = refl; awaited = refl; ends = refl }
+
+becomes-reported : (known : Known) (number : ℕ) (terminal : Terminal) (reported : ℕ) → Becomes known number terminal (report_row (on_record known.kept terminal.pt.poi) known number terminal reported)
+becomes-reported known number terminal reported =
+    record { new = record terminal { standing = standing_reported 0 reported; talk = None }; calls = []; row_is = refl; settings = refl; awaited = none-more terminal.awaited; ends = refl }
+
+registering-becomes : (known : Known) (number : ℕ) (terminal : Terminal) (meant : Heard) → Becomes known number terminal (registering known number terminal meant)
+registering-becomes known number terminal (heard.Begun stop) = stays known number terminal
+registering-becomes known number terminal (heard.Note intermediate_status) = stays known number terminal
+registering-becomes known number terminal heard.Line = stays known number terminal
+registering-becomes known number terminal heard.Block = stays known number terminal
+registering-becomes known number terminal heard.Seen = stays known number terminal
+registering-becomes known number terminal (heard.Approved figures) = stays known number terminal
+registering-becomes known number terminal heard.Done = becomes-enquired known number terminal
+registering-becomes known number terminal (heard.Told reported approved result_code) = stays known number terminal
+registering-becomes known number terminal (heard.Declined result_code reported) = breaks known number terminal
+registering-becomes known number terminal heard.Unclear = breaks known number terminal
+registering-becomes known number terminal heard.Stray = stays known number terminal
+
+enquiring-becomes : (known : Known) (number : ℕ) (terminal : Terminal) (meant : Heard) → Becomes known number terminal (enquiring known number terminal meant)
+enquiring-becomes known number terminal (heard.Begun stop) = stays known number terminal
+enquiring-becomes known number terminal (heard.Note intermediate_status) = stays known number terminal
+enquiring-becomes known number terminal heard.Line = stays known number terminal
+enquiring-becomes known number terminal heard.Block = stays known number terminal
+enquiring-becomes known number terminal heard.Seen = stays known number terminal
+enquiring-becomes known number terminal (heard.Approved figures) = stays known number terminal
+enquiring-becomes known number terminal heard.Done = stays known number terminal
+enquiring-becomes known number terminal (heard.Told reported approved result_code) = becomes-reported known number terminal reported
+enquiring-becomes known number terminal (heard.Declined result_code reported) = breaks known number terminal
+enquiring-becomes known number terminal heard.Unclear = breaks known number terminal
+enquiring-becomes known number terminal heard.Stray = stays known number terminal
+
+serving-becomes : (known : Known) (number : ℕ) (terminal : Terminal) (meant : Heard) → Becomes known number terminal (serving known number terminal meant)
+serving-becomes known number terminal (heard.Begun true) = becomes-stopped known number terminal
+serving-becomes known number terminal (heard.Begun false) = stays known number terminal
+serving-becomes known number terminal (heard.Note intermediate_status) = stays known number terminal
+serving-becomes known number terminal heard.Line = stays known number terminal
+serving-becomes known number terminal heard.Block = stays known number terminal
+serving-becomes known number terminal heard.Seen = stays known number terminal
+serving-becomes known number terminal (heard.Approved figures) = stays known number terminal
+serving-becomes known number terminal heard.Done = stays known number terminal
+serving-becomes known number terminal (heard.Told reported approved result_code) = stays known number terminal
+serving-becomes known number terminal (heard.Declined result_code reported) = stays known number terminal
+serving-becomes known number terminal heard.Unclear = breaks known number terminal
+serving-becomes known number terminal heard.Stray = stays known number terminal
+
+consequence-becomes : (known : Known) (number : ℕ) (terminal : Terminal) (meant : Heard) (standing : Standing) → is_linked standing ≡ true → Becomes known number terminal (consequence known number terminal meant standing)
+consequence-becomes known number terminal meant (Unlinked due) linked = absurd cc
+consequence-becomes known number terminal meant Registering linked = registering-becomes known number terminal meant
+consequence-becomes known number terminal meant Enquiring linked = enquiring-becomes known number terminal meant
+consequence-becomes known number terminal meant (Ready last) linked = stays known number terminal
+consequence-becomes known number terminal meant (Serving service last) linked = serving-becomes known number terminal meant
+consequence-becomes known number terminal meant (Aside before reported) linked = stays known number terminal
+
+-- ---- why it is cut
+
+-- an unclear end, or a declined registration or enquiry
+abbrev pub Breaks : Heard → Standing → Type 0
+Breaks meant standing = (meant ≡ heard.Unclear) ⊎ ((result_code : ℕ) × (trace : Option ℕ) × (meant ≡ heard.Declined result_code trace) × IsBeforeReady standing)
+
+registering-breaks : (known : Known) (number : ℕ) (terminal : Terminal) (meant : Heard) → owes_cut (registering known number terminal meant).calls ≡ true → Breaks meant Registering
+registering-breaks known number terminal (heard.Begun stop) cuts = absurd cc
+registering-breaks known number terminal (heard.Note intermediate_status) cuts = absurd cc
+registering-breaks known number terminal heard.Line cuts = absurd cc
+registering-breaks known number terminal heard.Block cuts = absurd cc
+registering-breaks known number terminal heard.Seen cuts = absurd cc
+registering-breaks known number terminal (heard.Approved figures) cuts = absurd cc
+registering-breaks known number terminal heard.Done cuts = absurd cc
+registering-breaks known number terminal (heard.Told reported approved result_code) cuts = absurd cc
+registering-breaks known number terminal (heard.Declined result_code reported) cuts = inr (result_code, reported, refl, inl refl)
+registering-breaks known number terminal heard.Unclear cuts = inl refl
+registering-breaks known number terminal heard.Stray cuts = absurd cc
+
+enquiring-breaks : (known : Known) (number : ℕ) (terminal : Terminal) (meant : Heard) → owes_cut (enquiring known number terminal meant).calls ≡ true → Breaks meant Enquiring
+enquiring-breaks known number terminal (heard.Begun stop) cuts = absurd cc
+enquiring-breaks known number terminal (heard.Note intermediate_status) cuts = absurd cc
+enquiring-breaks known number terminal heard.Line cuts = absurd cc
+enquiring-breaks known number terminal heard.Block cuts = absurd cc
+enquiring-breaks known number terminal heard.Seen cuts = absurd cc
+enquiring-breaks known number terminal (heard.Approved figures) cuts = absurd cc
+enquiring-breaks known number terminal heard.Done cuts = absurd cc
+enquiring-breaks known number terminal (heard.Told reported approved result_code) cuts = absurd cc
+enquiring-breaks known number terminal (heard.Declined result_code reported) cuts = inr (result_code, reported, refl, inr refl)
+enquiring-breaks known number terminal heard.Unclear cuts = inl refl
+enquiring-breaks known number terminal heard.Stray cuts = absurd cc
+
+serving-breaks : (known : Known) (number : ℕ) (terminal : Terminal) (meant : Heard) (standing : Standing) → owes_cut (serving known number terminal meant).calls ≡ true → Breaks meant standing
+serving-breaks known number terminal (heard.Begun true) standing cuts = absurd cc
+serving-breaks known number terminal (heard.Begun false) standing cuts = absurd cc
+serving-breaks known number terminal (heard.Note intermediate_status) standing cuts = absurd cc
+serving-breaks known number terminal heard.Line standing cuts = absurd cc
+serving-breaks known number terminal heard.Block standing cuts = absurd cc
+serving-breaks known number terminal heard.Seen standing cuts = absurd cc
+serving-breaks known number terminal (heard.Approved figures) standing cuts = absurd cc
+serving-breaks known number terminal heard.Done standing cuts = absurd cc
+serving-breaks known number terminal (heard.Told reported approved result_code) standing cuts = absurd cc
+serving-breaks known number terminal (heard.Declined result_code reported) standing cuts = absurd cc
+serving-breaks known number terminal heard.Unclear standing cuts = inl refl
+serving-breaks known number terminal heard.Stray standing cuts = absurd cc
+
+consequence-breaks : (known : Known) (number : ℕ) (terminal : Terminal) (meant : Heard) (standing : Standing) → owes_cut (consequence known number terminal meant standing).calls ≡ true → Breaks meant standing
+consequence-breaks known number terminal meant (Unlinked due) cuts = absurd cc
+consequence-breaks known number terminal meant Registering cuts = registering-breaks known number terminal meant cuts
+consequence-breaks known number terminal meant Enquiring cuts = enquiring-breaks known number terminal meant cuts
+consequence-breaks known number terminal meant (Ready last) cuts = absurd cc
+consequence-breaks known number terminal meant (Serving service last) cuts = serving-breaks known number terminal meant (Serving service last) cuts
+consequence-breaks known number terminal meant (Aside before reported) cuts = absurd cc
+
+-- ---- the row
+
+by-taken : (P : Row → Type 0) (known : Known) (row : Row) (taken : Bool) → P (owing_nothing known) → (taken ≡ true → P row) → P (where_taken taken known row)
+by-taken P known row true none some = some refl
+by-taken P known row false none some = none
+
+-- what holds of nothing owed, and of each consequence of a message, holds of the row
+pub each-handled : (P : Row → Type 0) (known : Known) (number : ℕ) (apdu : ApduValue) → P (owing_nothing known)
+    → ((terminal : Terminal) (message : MessageValue) → terminal_at known number ≡ Some terminal → is_linked terminal.standing ≡ true → decode_pt_message apdu ≡ Ok message → is_taken message ≡ true
+    → P (consequence known number (taking terminal message known.moment) (meaning_at terminal message) terminal.standing))
+    → P (handle_row known number apdu)
+each-handled P known number apdu none some = by-decoded (decode_pt_message apdu) refl
+  where
+    by-decoded : (decoded : Result MessageValue PtFault) → decode_pt_message apdu ≡ decoded → P (handle_decoded known number decoded)
+    by-decoded (Ok message) is =
+        each-linked P known number (λ terminal. handle_message known number terminal message) none
+        (λ terminal found linked. by-taken P known _ (is_taken message) none (some terminal message found linked is))
+    by-decoded (Err fault) is = none
+
+becomes-alone : (known : Known) (number : ℕ) (old terminal : Terminal) (row : Row) → terminal_at known number ≡ Some old → terminal.pt ≡ old.pt → Becomes known number terminal row → ChangesTerminalAlone number known.core row.core
+becomes-alone known number old terminal row found same becomes =
+    subst (λ (r : Row). ChangesTerminalAlone number known.core r.core) (sym becomes.row_is) (alone-set number known.core old becomes.new found (becomes.settings ∙ same))
+
+pub handle-alone : (known : Known) (number : ℕ) (apdu : ApduValue) → ChangesTerminalAlone number known.core (handle_row known number apdu).core
+handle-alone known number apdu =
+    each-handled (λ (row : Row). ChangesTerminalAlone number known.core row.core) known number apdu (alone-same number known.core)
+    (λ terminal message found linked is taken. becomes-alone known number terminal (taking terminal message known.moment) _ found refl (consequence-becomes known number _ (meaning_at terminal message) terminal.standing linked))
+
+becomes-ends : (known : Known) (number : ℕ) (terminal : Terminal) (row : Row) → Becomes known number terminal row → EndsInOne row
+becomes-ends known number terminal row becomes = subst EndsInOne (sym becomes.row_is) becomes.ends
+
+pub handle-ends : (known : Known) (number : ℕ) (apdu : ApduValue) → EndsInOne (handle_row known number apdu)
+handle-ends known number apdu =
+    each-handled EndsInOne known number apdu refl
+    (λ terminal message found linked is taken. becomes-ends known number _ _ (consequence-becomes known number (taking terminal message known.moment) (meaning_at terminal message) terminal.standing linked))
+
+pub handle-cuts : (known : Known) (number : ℕ) (apdu : ApduValue) → owes_cut (handle_row known number apdu).calls ≡ true → BreaksDialogue known number apdu
+handle-cuts known number apdu =
+    each-handled (λ (row : Row). owes_cut row.calls ≡ true → BreaksDialogue known number apdu) known number apdu (λ cuts. absurd cc)
+    (λ terminal message found linked is taken cuts. record {
+      terminal = terminal;
+      found = found;
+      message = message;
+      decoded = is;
+      why = consequence-breaks known number (taking terminal message known.moment) (meaning_at terminal message) terminal.standing cuts;
+    })
+
+-- the row of a message that is taken
+pub handled-is : (known : Known) (number : ℕ) (apdu : ApduValue) (terminal : Terminal) (message : MessageValue) → terminal_at known number ≡ Some terminal → is_linked terminal.standing ≡ true → decode_pt_message apdu ≡ Ok message
+    → handle_row known number apdu ≡ handle_message known number terminal message
+handled-is known number apdu terminal message found linked is =
+    ap (handle_decoded known number) is ∙ linked-row known number (λ terminal. handle_message known number terminal message) terminal found linked
+
+-- ---- messages without effect
+
+pub no-effect : (known : Known) (number : ℕ) (apdu : ApduValue) → HasNoEffect known number apdu
+no-effect known number apdu = record {
+  other = λ is. ap (handle_decoded known number) is ∙ each-linked (λ row. row ≡ owing_nothing known) known number (λ terminal. handle_message known number terminal Other) refl (λ terminal found linked. refl);
+  outside = λ fault is. ap (handle_decoded known number) is;
+}
+
+-- ---- what is awaited
+
+no-ack : (message : MessageValue) → message ≢ Ack → ((error_code : ℕ) → message ≢ Nack error_code) → IsAckOrNack message → ⊥
+no-ack message ack nack (inl is) = ack is
+no-ack message ack nack (inr (error_code, is)) = nack error_code is
+
+takes-none : (message : MessageValue) → ((awaited : ℕ) → awaited_after message awaited ≡ awaited) → message ≢ Ack → ((error_code : ℕ) → message ≢ Nack error_code) → TakesOne message
+takes-none message same ack nack = record {
+  one = λ awaited is. absurd (no-ack message ack nack is);
+  none = λ is. absurd (no-ack message ack nack is);
+  other = λ awaited never. same awaited;
+}
+
+pub acks-take-one : EachAckTakesOne
+acks-take-one Ack = record { one = λ awaited is. omega arith; none = λ is. refl; other = λ awaited never. absurd (never (inl refl)) }
+acks-take-one (Nack error_code) = record { one = λ awaited is. omega arith; none = λ is. refl; other = λ awaited never. absurd (never (inr (error_code, refl))) }
+acks-take-one (Intermediate intermediate_status) = takes-none (Intermediate intermediate_status) (λ awaited. refl) (λ e. cc) (λ error_code e. cc)
+acks-take-one (Line text) = takes-none (Line text) (λ awaited. refl) (λ e. cc) (λ error_code e. cc)
+acks-take-one (Block objects) = takes-none (Block objects) (λ awaited. refl) (λ e. cc) (λ error_code e. cc)
+acks-take-one (Status fields) = takes-none (Status fields) (λ awaited. refl) (λ e. cc) (λ error_code e. cc)
+acks-take-one Completion = takes-none Completion (λ awaited. refl) (λ e. cc) (λ error_code e. cc)
+acks-take-one (Abort result_code) = takes-none (Abort result_code) (λ awaited. refl) (λ e. cc) (λ error_code e. cc)
+acks-take-one Other = takes-none Other (λ awaited. refl) (λ e. cc) (λ error_code e. cc)
+
+becomes-awaits : (known : Known) (number : ℕ) (old terminal : Terminal) (row : Row) → terminal_at known number ≡ Some old → Becomes known number terminal row → Awaits number terminal.awaited row
+becomes-awaits known number old terminal row found becomes =
+    subst (λ (r : Row). Awaits number terminal.awaited r) (sym becomes.row_is) (record {
+      terminal = becomes.new;
+      found = new-is-there known.core.terminals number old becomes.new found;
+      count = becomes.awaited;
+    })
+
+not-taken : (message : MessageValue) → is_taken message ≡ false → message ≡ Other
+not-taken Ack not = absurd cc
+not-taken (Nack error_code) not = absurd cc
+not-taken (Intermediate intermediate_status) not = absurd cc
+not-taken (Line text) not = absurd cc
+not-taken (Block objects) not = absurd cc
+not-taken (Status fields) not = absurd cc
+not-taken Completion not = absurd cc
+not-taken (Abort result_code) not = absurd cc
+not-taken Other not = refl
+
+message-counts : (known : Known) (number : ℕ) (terminal : Terminal) (message : MessageValue) → terminal_at known number ≡ Some terminal → is_linked terminal.standing ≡ true
+    → Awaits number (awaited_after message terminal.awaited) (handle_message known number terminal message)
+message-counts known number terminal message found linked = by-is (is_taken message) refl
+  where
+    by-is : (taken : Bool) → is_taken message ≡ taken
+        → Awaits number (awaited_after message terminal.awaited) (where_taken taken known (consequence known number (taking terminal message known.moment) (meaning_at terminal message) terminal.standing))
+    by-is true is = becomes-awaits known number terminal (taking terminal message known.moment) _ found (consequence-becomes known number _ (meaning_at terminal message) terminal.standing linked)
+    by-is false is = record {
+      terminal = terminal;
+      found = found;
+      count = none-more terminal.awaited ∙ ap (λ (m : MessageValue). awaited_after m terminal.awaited + 0) (sym (not-taken message is));
+    }
+
+pub each-message-counts : (known : Known) (number : ℕ) (apdu : ApduValue) (terminal : Terminal) (message : MessageValue) → terminal_at known number ≡ Some terminal → is_linked terminal.standing ≡ true
+    → decode_pt_message apdu ≡ Ok message → Awaits number (awaited_after message terminal.awaited) (handle_row known number apdu)
+each-message-counts known number apdu terminal message found linked is =
+    subst (Awaits number (awaited_after message terminal.awaited)) (sym (handled-is known number apdu terminal message found linked is)) (message-counts known number terminal message found linked)
+
+late-in : (talk : TalkFacts) (stop_wished : Bool) → talk.phase ≡ Asked stop_wished → meaning_in_phase talk.dialogue_kind talk.none talk.phase (Nack 0) ≡ heard.Unclear
+late-in talk stop_wished asked = ap (λ phase. meaning_in_phase talk.dialogue_kind talk.none phase (Nack 0)) asked
+
+pub late-is-unclear : (terminal : Terminal) (talk : TalkFacts) (stop_wished : Bool) (error_code : ℕ) → terminal.talk ≡ Some talk → talk.phase ≡ Asked stop_wished → 2 ≤ terminal.awaited
+    → meaning_at terminal (Nack error_code) ≡ heard.Unclear
+late-is-unclear terminal talk stop_wished error_code runs asked more =
+    ap (λ (t : Option TalkFacts). meaning_for t (taken_as terminal.awaited (Nack error_code))) runs
+    ∙ ap (λ (b : Bool). meaning_for (Some talk) (Nack (if b then 0 else error_code))) (le-leb 2 terminal.awaited more)
+    ∙ late-in talk stop_wished asked
+
+-- ---- nothing is left out
+
+leads-by : (known : Known) (number : ℕ) (standing : Standing) (calls : List OwedCall) (apdu : ApduValue) (terminal : Terminal) (message : MessageValue) → terminal_at known number ≡ Some terminal → is_linked terminal.standing ≡ true
+    → decode_pt_message apdu ≡ Ok message → (taken : Bool) → is_taken message ≡ taken → taken ≡ true
+    → GoesOnTo number standing calls (consequence known number (taking terminal message known.moment) (meaning_at terminal message) terminal.standing)
+    → GoesOnTo number standing calls (handle_row known number apdu)
+leads-by known number standing calls apdu terminal message found linked is taken taken_is is_true leads =
+    subst (GoesOnTo number standing calls)
+    (sym (handled-is known number apdu terminal message found linked is
+    ∙ ap (λ (b : Bool). where_taken b known (consequence known number (taking terminal message known.moment) (meaning_at terminal message) terminal.standing)) (taken_is ∙ is_true)))
+    leads
+
+-- a command of the terminal's own means nothing
+other-stray : (terminal : Terminal) → meaning_at terminal Other ≡ heard.Stray
+other-stray terminal = by-talk terminal.talk
+  where
+    by-talk : (talk : Option TalkFacts) → meaning_for talk Other ≡ heard.Stray
+    by-talk None = refl
+    by-talk (Some talk) = by-phase talk.phase
+      where
+        by-phase : (phase : Phase) → meaning_in_phase talk.dialogue_kind talk.none phase Other ≡ heard.Stray
+        by-phase (Asked stop_wished) = refl
+        by-phase (Begun stop_sent statuses) = refl
+        by-phase (Ended stop_sent) = refl
+
+-- a message that means anything is taken
+means-taken : (terminal : Terminal) (message : MessageValue) (meant : Heard) → meaning_at terminal message ≡ meant → meant ≢ heard.Stray → is_taken message ≡ true
+means-taken terminal message meant means some = by-is (is_taken message) refl
+  where
+    by-is : (taken : Bool) → is_taken message ≡ taken → taken ≡ true
+    by-is true is = refl
+    by-is false is = absurd (some (sym means ∙ ap (meaning_at terminal) (not-taken message is) ∙ other-stray terminal))
+
+pub registered-is-enquired : (known : Known) (number : ℕ) (apdu : ApduValue) (terminal : Terminal) (message : MessageValue) → terminal_at known number ≡ Some terminal → terminal.standing ≡ Registering
+    → decode_pt_message apdu ≡ Ok message → meaning_at terminal message ≡ heard.Done → GoesOnTo number Enquiring (SendPt number (Ask (enquiry_command terminal.pt)) ∷ []) (handle_row known number apdu)
+registered-is-enquired known number apdu terminal message found standing is means =
+    leads-by known number Enquiring _ apdu terminal message found (ap is_linked standing) is (is_taken message) refl (means-taken terminal message heard.Done means (λ e. cc))
+    (rw (standing, means) (record { terminal = _; found = new-is-there known.core.terminals number terminal _ found; standing_is = refl; calls_are = refl }))
+
+pub enquired-is-ready : (known : Known) (number : ℕ) (apdu : ApduValue) (terminal : Terminal) (message : MessageValue) (reported : ℕ) (approved : Option Figures) (result_code : ℕ) → terminal_at known number ≡ Some terminal
+    → terminal.standing ≡ Enquiring → decode_pt_message apdu ≡ Ok message → meaning_at terminal message ≡ heard.Told reported approved result_code
+    → GoesOnTo number (Ready reported) [] (handle_row known number apdu)
+enquired-is-ready known number apdu terminal message reported approved result_code found standing is means =
+    leads-by known number (Ready reported) [] apdu terminal message found (ap is_linked standing) is (is_taken message) refl (means-taken terminal message _ means (λ e. cc))
+    (rw (standing, means) (record { terminal = _; found = new-is-there known.core.terminals number terminal _ found; standing_is = least-is reported; calls_are = refl }))
+  where
+    least-is : (reported : ℕ) → standing_reported 0 reported ≡ Ready reported
+    least-is reported = ap (λ (b : Bool). if b then Ready reported else Aside 0 reported) (le-leb 0 reported (omega arith))

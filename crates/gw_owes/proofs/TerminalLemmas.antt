@@ -1,0 +1,293 @@
+-- What the items of terminals, and their links, leave and owe.
+use Rattle.std.proofs.Common.{◌≡◌, ℕ, ◌+◌, List, [], ◌∷◌, refl, sym, ◌∙◌, ap, subst, Bool, true, false}
+use Rattle.std.specs.Prelude.{Option, Some, None, Result, Ok, Err}
+use Rattle.zvt_apdu.specs.Grammar.{ApduValue}
+use Rattle.zvt_msg.specs.declared.fault.PtFault.{PtFault}
+use Rattle.zvt_msg.specs.Message.{MessageValue, Ack, Nack, Intermediate, Line, Block, Status, Completion, Abort, Other}
+use Rattle.zvt_msg.specs.MessageDecode.{decode_pt_message}
+use Rattle.zvt_talk.specs.Talk.{TalkFacts}
+use Rattle.sale_values.specs.declared.header.Header.{Header}
+use Rattle.sale_values.specs.declared.request.SaleRequest.{SaleRequest}
+use Rattle.sale_values.specs.declared.request.SaleRequest.TheVariants as requests
+use Rattle.gw_owes.specs.Calls.{SendPt, LinkPt, Ask}
+use Rattle.gw_owes.specs.declared.terminal.Standing.TheVariants.{Unlinked, Registering}
+use Rattle.gw_owes.specs.declared.terminal.Terminal.{Terminal}
+use Rattle.gw_owes.specs.Items.{Crowded, Message, Asked, Unframed, Gone, Greet, Handle, NextWaiting, Oversized, LinkLost, Late, Overdue, Due}
+use Rattle.gw_owes.specs.Reply.{ReplyValue}
+use Rattle.gw_owes.specs.Row.{Known, Row, owing, owing_nothing}
+use Rattle.gw_owes.specs.Replies.{reply_to_request}
+use Rattle.gw_owes.specs.Terminals.{terminal_at, of_terminal, registers, registration, unlinks, unlinked_terminal, reply_calls_to, reply_to_lost}
+use Rattle.gw_owes.specs.Links.{of_linked, cutting, LinkIsMade, LinkHasFailed, LinkIsLost, link_row}
+use Rattle.gw_owes.specs.Greeting.{greeting, sending_calls, greet_decoded, greet_row, oversized_row}
+use Rattle.gw_owes.specs.Handling.{handle_decoded, handle_row}
+use Rattle.gw_owes.specs.Deadlines.{where_due, is_late, is_due, late_row, due_row}
+use Rattle.gw_owes.specs.Diagnosis.{named_from}
+use Rattle.gw_owes.specs.Requests.{reply_at}
+use Rattle.gw_owes.specs.Laws.{ends_in_one, EndsInOne}
+use Rattle.gw_owes.specs.TerminalLaws.{EachTerminalRowEndsInOne, EachLinkRowEndsInOne, ChangesTerminalAlone, EachRowChangesItsTerminal, EachLinkChangesItsTerminal, GreetingChangesNothing, UnlinkedIsOwedNothing, AbsentIsOwedNothing, commands_in, Awaits, EachLinkCountsAnew, owes_cut, IsLateAt, EachCutHasCause, NoLinkEventCuts, GoesOnTo, DueIsLinked, LinkedIsRegistered, WithoutTerminalsSameReplies}
+use Rattle.gw_owes.proofs.RowLemmas.{links-end}
+use Rattle.gw_owes.proofs.SetLemmas.{new-is-there, alone-same, alone-set}
+use Rattle.gw_owes.proofs.HandlingLemmas.{each-terminal, each-linked, handle-alone, handle-ends, handle-cuts}
+
+-- ---- the calls
+
+by-due : (P : Row → Type 0) (known : Known) (row : Row) (due : Bool) → P (owing_nothing known) → (due ≡ true → P row) → P (where_due due known row)
+by-due P known row true none some = some refl
+by-due P known row false none some = none
+
+sending-ends : (number : ℕ) (message : MessageValue) → ends_in_one (sending_calls number (greeting message)) ≡ true
+sending-ends number Ack = refl
+sending-ends number (Nack error_code) = refl
+sending-ends number (Intermediate intermediate_status) = refl
+sending-ends number (Line text) = refl
+sending-ends number (Block objects) = refl
+sending-ends number (Status fields) = refl
+sending-ends number Completion = refl
+sending-ends number (Abort result_code) = refl
+sending-ends number Other = refl
+
+greet-decoded-ends : (known : Known) (number : ℕ) (decoded : Result MessageValue PtFault) → EndsInOne (greet_decoded known number decoded)
+greet-decoded-ends known number (Ok message) = each-linked EndsInOne known number (λ terminal. owing known (sending_calls number (greeting message))) refl (λ terminal found linked. sending-ends number message)
+greet-decoded-ends known number (Err fault) = each-linked EndsInOne known number (λ terminal. cutting known number) refl (λ terminal found linked. refl)
+
+late-ends : (known : Known) (number : ℕ) → EndsInOne (late_row known number)
+late-ends known number = each-terminal EndsInOne known number (λ terminal. where_due (is_late known.moment terminal.talk) known (cutting known number)) refl
+    (λ terminal found. by-due EndsInOne known (cutting known number) (is_late known.moment terminal.talk) refl (λ late. refl))
+
+due-ends : (known : Known) (number : ℕ) → EndsInOne (due_row known number)
+due-ends known number = each-terminal EndsInOne known number (λ terminal. where_due (is_due known.moment terminal.standing) known (owing known (LinkPt number ∷ []))) refl
+    (λ terminal found. by-due EndsInOne known (owing known (LinkPt number ∷ [])) (is_due known.moment terminal.standing) refl (λ due. refl))
+
+pub link-rows-end : EachLinkRowEndsInOne
+link-rows-end known number LinkIsMade = let ends = links-end known number in ends.made
+link-rows-end known number LinkHasFailed = let ends = links-end known number in ends.lost
+link-rows-end known number LinkIsLost = let ends = links-end known number in ends.lost
+
+pub terminal-rows-end : EachTerminalRowEndsInOne
+terminal-rows-end known (Crowded till) = refl
+terminal-rows-end known (Message till bytes) = refl
+terminal-rows-end known (Asked till as_read) = refl
+terminal-rows-end known (Unframed till) = refl
+terminal-rows-end known (Gone till) = refl
+terminal-rows-end known (Greet number apdu) = greet-decoded-ends known number (decode_pt_message apdu)
+terminal-rows-end known (Handle number apdu) = handle-ends known number apdu
+terminal-rows-end known (NextWaiting number) = refl
+terminal-rows-end known (Oversized number) = each-linked EndsInOne known number (λ terminal. cutting known number) refl (λ terminal found linked. refl)
+terminal-rows-end known (LinkLost number) = link-rows-end known number LinkIsLost
+terminal-rows-end known (Late number) = late-ends known number
+terminal-rows-end known (Overdue key) = refl
+terminal-rows-end known (Due number) = due-ends known number
+
+-- ---- what stays
+
+greet-decoded-same : (known : Known) (number : ℕ) (decoded : Result MessageValue PtFault) → (greet_decoded known number decoded).core ≡ known.core
+greet-decoded-same known number (Ok message) = each-linked (λ (row : Row). row.core ≡ known.core) known number (λ terminal. owing known (sending_calls number (greeting message))) refl (λ terminal found linked. refl)
+greet-decoded-same known number (Err fault) = each-linked (λ (row : Row). row.core ≡ known.core) known number (λ terminal. cutting known number) refl (λ terminal found linked. refl)
+
+pub greeting-changes-nothing : GreetingChangesNothing
+greeting-changes-nothing known number apdu = greet-decoded-same known number (decode_pt_message apdu)
+
+same-alone : (number : ℕ) (known : Known) (row : Row) → row.core ≡ known.core → ChangesTerminalAlone number known.core row.core
+same-alone number known row same = subst (λ core. ChangesTerminalAlone number known.core core) (sym same) (alone-same number known.core)
+
+pub late-same : (known : Known) (number : ℕ) → (late_row known number).core ≡ known.core
+late-same known number = each-terminal (λ (row : Row). row.core ≡ known.core) known number (λ terminal. where_due (is_late known.moment terminal.talk) known (cutting known number)) refl
+    (λ terminal found. by-due (λ (row : Row). row.core ≡ known.core) known (cutting known number) (is_late known.moment terminal.talk) refl (λ late. refl))
+
+pub due-same : (known : Known) (number : ℕ) → (due_row known number).core ≡ known.core
+due-same known number = each-terminal (λ (row : Row). row.core ≡ known.core) known number (λ terminal. where_due (is_due known.moment terminal.standing) known (owing known (LinkPt number ∷ []))) refl
+    (λ terminal found. by-due (λ (row : Row). row.core ≡ known.core) known (owing known (LinkPt number ∷ [])) (is_due known.moment terminal.standing) refl (λ due. refl))
+
+pub oversized-same : (known : Known) (number : ℕ) → (oversized_row known number).core ≡ known.core
+oversized-same known number = each-linked (λ (row : Row). row.core ≡ known.core) known number (λ terminal. cutting known number) refl (λ terminal found linked. refl)
+
+lost-alone : (known : Known) (number : ℕ) → ChangesTerminalAlone number known.core (of_terminal known (unlinks known number) (terminal_at known number)).core
+lost-alone known number =
+    each-terminal (λ (row : Row). ChangesTerminalAlone number known.core row.core) known number (unlinks known number) (alone-same number known.core)
+    (λ terminal found. alone-set number known.core terminal (unlinked_terminal terminal known.moment) found refl)
+
+pub link-changes-alone : EachLinkChangesItsTerminal
+link-changes-alone known number LinkIsMade =
+    each-terminal (λ (row : Row). ChangesTerminalAlone number known.core row.core) known number (registers known number) (alone-same number known.core)
+    (λ terminal found. alone-set number known.core terminal _ found refl)
+link-changes-alone known number LinkHasFailed = lost-alone known number
+link-changes-alone known number LinkIsLost = lost-alone known number
+
+pub row-changes-alone : EachRowChangesItsTerminal
+row-changes-alone known (Crowded till) number is = absurd cc
+row-changes-alone known (Message till bytes) number is = absurd cc
+row-changes-alone known (Asked till as_read) number is = absurd cc
+row-changes-alone known (Unframed till) number is = absurd cc
+row-changes-alone known (Gone till) number is = absurd cc
+row-changes-alone known (Greet pt apdu) number is = same-alone number known (greet_row known pt apdu) (greeting-changes-nothing known pt apdu)
+row-changes-alone known (Handle pt apdu) number is = let e : pt ≡ number = cc in subst (λ n. ChangesTerminalAlone n known.core (handle_row known pt apdu).core) e (handle-alone known pt apdu)
+row-changes-alone known (NextWaiting pt) number is = alone-same number known.core
+row-changes-alone known (Oversized pt) number is = same-alone number known (oversized_row known pt) (oversized-same known pt)
+row-changes-alone known (LinkLost pt) number is = let e : pt ≡ number = cc in subst (λ n. ChangesTerminalAlone n known.core (link_row known pt LinkIsLost).core) e (lost-alone known pt)
+row-changes-alone known (Late pt) number is = same-alone number known (late_row known pt) (late-same known pt)
+row-changes-alone known (Overdue key) number is = absurd cc
+row-changes-alone known (Due pt) number is = same-alone number known (due_row known pt) (due-same known pt)
+
+-- ---- terminals that aren't linked
+
+unlinked-row : (known : Known) (number : ℕ) (row : Terminal → Row) (terminal : Terminal) (due : Option ℕ) → terminal_at known number ≡ Some terminal → terminal.standing ≡ Unlinked due → of_linked known number row ≡ owing_nothing known
+unlinked-row known number row terminal due found standing = rw (found, standing) refl
+
+pub unlinked-owes-nothing : UnlinkedIsOwedNothing
+unlinked-owes-nothing known number terminal due apdu found standing = record {
+  greeted = greeted (decode_pt_message apdu);
+  handled = handled (decode_pt_message apdu);
+  oversized = unlinked-row known number _ terminal due found standing;
+}
+  where
+    greeted : (decoded : Result MessageValue PtFault) → greet_decoded known number decoded ≡ owing_nothing known
+    greeted (Ok message) = unlinked-row known number _ terminal due found standing
+    greeted (Err fault) = unlinked-row known number _ terminal due found standing
+
+    handled : (decoded : Result MessageValue PtFault) → handle_decoded known number decoded ≡ owing_nothing known
+    handled (Ok message) = unlinked-row known number _ terminal due found standing
+    handled (Err fault) = refl
+
+absent-row : (known : Known) (number : ℕ) (row : Terminal → Row) → terminal_at known number ≡ None → of_linked known number row ≡ owing_nothing known
+absent-row known number row none = rw none refl
+
+pub absent-owes-nothing : AbsentIsOwedNothing
+absent-owes-nothing known number apdu none = record {
+  greeted = greeted (decode_pt_message apdu);
+  handled = handled (decode_pt_message apdu);
+  oversized = absent-row known number _ none;
+}
+  where
+    greeted : (decoded : Result MessageValue PtFault) → greet_decoded known number decoded ≡ owing_nothing known
+    greeted (Ok message) = absent-row known number _ none
+    greeted (Err fault) = absent-row known number _ none
+
+    handled : (decoded : Result MessageValue PtFault) → handle_decoded known number decoded ≡ owing_nothing known
+    handled (Ok message) = absent-row known number _ none
+    handled (Err fault) = refl
+
+-- ---- what is awaited
+
+reply-commands : (asker : Option ℕ) (reply : Option ReplyValue) → commands_in (reply_calls_to asker reply) ≡ 0
+reply-commands None reply = refl
+reply-commands (Some till) None = refl
+reply-commands (Some till) (Some reply) = refl
+
+lost-counts : (known : Known) (number : ℕ) (terminal : Terminal) → terminal_at known number ≡ Some terminal → Awaits number 0 (of_terminal known (unlinks known number) (terminal_at known number))
+lost-counts known number terminal found =
+    subst (λ (o : Option Terminal). Awaits number 0 (of_terminal known (unlinks known number) o)) (sym found) (record {
+      terminal = unlinked_terminal terminal known.moment;
+      found = new-is-there known.core.terminals number terminal _ found;
+      count = sym (ap (λ (n : ℕ). 0 + n) (reply-commands terminal.asker (reply_to_lost terminal.standing)));
+    })
+
+pub link-counts-anew : EachLinkCountsAnew
+link-counts-anew known number LinkIsMade terminal found =
+    subst (λ (o : Option Terminal). Awaits number 0 (of_terminal known (registers known number) o)) (sym found) (record {
+      terminal = _;
+      found = new-is-there known.core.terminals number terminal _ found;
+      count = refl;
+    })
+link-counts-anew known number LinkHasFailed terminal found = lost-counts known number terminal found
+link-counts-anew known number LinkIsLost terminal found = lost-counts known number terminal found
+
+-- ---- cuts
+
+reply-no-cut : (asker : Option ℕ) (reply : Option ReplyValue) → owes_cut (reply_calls_to asker reply) ≡ false
+reply-no-cut None reply = refl
+reply-no-cut (Some till) None = refl
+reply-no-cut (Some till) (Some reply) = refl
+
+lost-no-cut : (known : Known) (number : ℕ) → owes_cut (of_terminal known (unlinks known number) (terminal_at known number)).calls ≡ false
+lost-no-cut known number = each-terminal (λ (row : Row). owes_cut row.calls ≡ false) known number (unlinks known number) refl (λ terminal found. reply-no-cut terminal.asker (reply_to_lost terminal.standing))
+
+pub no-link-event-cuts : NoLinkEventCuts
+no-link-event-cuts known number LinkIsMade = each-terminal (λ (row : Row). owes_cut row.calls ≡ false) known number (registers known number) refl (λ terminal found. refl)
+no-link-event-cuts known number LinkHasFailed = lost-no-cut known number
+no-link-event-cuts known number LinkIsLost = lost-no-cut known number
+
+sending-no-cut : (number : ℕ) (message : MessageValue) → owes_cut (sending_calls number (greeting message)) ≡ false
+sending-no-cut number Ack = refl
+sending-no-cut number (Nack error_code) = refl
+sending-no-cut number (Intermediate intermediate_status) = refl
+sending-no-cut number (Line text) = refl
+sending-no-cut number (Block objects) = refl
+sending-no-cut number (Status fields) = refl
+sending-no-cut number Completion = refl
+sending-no-cut number (Abort result_code) = refl
+sending-no-cut number Other = refl
+
+contradicts : false ≡ true → ⊥
+contradicts e = cc
+
+never : {A : Type 0} (b : Bool) → b ≡ false → b ≡ true → A
+never b is_false is_true = absurd (contradicts (sym is_false ∙ is_true))
+
+greet-cuts : (known : Known) (number : ℕ) (apdu : ApduValue) → owes_cut (greet_row known number apdu).calls ≡ true → (fault : PtFault) × (decode_pt_message apdu ≡ Err fault)
+greet-cuts known number apdu = by-decoded (decode_pt_message apdu) refl
+  where
+    by-decoded : (decoded : Result MessageValue PtFault) → decode_pt_message apdu ≡ decoded → owes_cut (greet_decoded known number decoded).calls ≡ true → (fault : PtFault) × (decode_pt_message apdu ≡ Err fault)
+    by-decoded (Ok message) is cuts =
+        each-linked (λ (row : Row). owes_cut row.calls ≡ true → (fault : PtFault) × (decode_pt_message apdu ≡ Err fault)) known number (λ terminal. owing known (sending_calls number (greeting message))) (λ cuts. absurd cc)
+        (λ terminal found linked cuts. never _ (sending-no-cut number message) cuts) cuts
+    by-decoded (Err fault) is cuts = (fault, is)
+
+is-silent : (known : Known) (number : ℕ) (terminal : Terminal) (talk : Option TalkFacts) → terminal_at known number ≡ Some terminal → terminal.talk ≡ talk → is_late known.moment talk ≡ true → IsLateAt known number
+is-silent known number terminal None found is late = absurd cc
+is-silent known number terminal (Some talk) found is late = record { terminal = terminal; found = found; talk = talk; talk_is = is; late = late }
+
+late-cuts : (known : Known) (number : ℕ) → owes_cut (late_row known number).calls ≡ true → IsLateAt known number
+late-cuts known number =
+    each-terminal (λ (row : Row). owes_cut row.calls ≡ true → IsLateAt known number) known number (λ terminal. where_due (is_late known.moment terminal.talk) known (cutting known number)) (λ cuts. absurd cc)
+    (λ terminal found. by-due (λ (row : Row). owes_cut row.calls ≡ true → IsLateAt known number) known (cutting known number) (is_late known.moment terminal.talk) (λ cuts. absurd cc)
+    (λ late cuts. is-silent known number terminal terminal.talk found refl late))
+
+due-no-cut : (known : Known) (number : ℕ) → owes_cut (due_row known number).calls ≡ false
+due-no-cut known number = each-terminal (λ (row : Row). owes_cut row.calls ≡ false) known number (λ terminal. where_due (is_due known.moment terminal.standing) known (owing known (LinkPt number ∷ []))) refl
+    (λ terminal found. by-due (λ (row : Row). owes_cut row.calls ≡ false) known (owing known (LinkPt number ∷ [])) (is_due known.moment terminal.standing) refl (λ due. refl))
+
+pub cuts-have-cause : EachCutHasCause
+cuts-have-cause known (Crowded till) cuts = absurd cc
+cuts-have-cause known (Message till bytes) cuts = absurd cc
+cuts-have-cause known (Asked till as_read) cuts = absurd cc
+cuts-have-cause known (Unframed till) cuts = absurd cc
+cuts-have-cause known (Gone till) cuts = absurd cc
+cuts-have-cause known (Greet number apdu) cuts = greet-cuts known number apdu cuts
+cuts-have-cause known (Handle number apdu) cuts = handle-cuts known number apdu cuts
+cuts-have-cause known (NextWaiting number) cuts = absurd cc
+cuts-have-cause known (Oversized number) cuts = tt
+cuts-have-cause known (LinkLost number) cuts = never _ (lost-no-cut known number) cuts
+cuts-have-cause known (Late number) cuts = late-cuts known number cuts
+cuts-have-cause known (Overdue key) cuts = absurd cc
+cuts-have-cause known (Due number) cuts = never _ (due-no-cut known number) cuts
+
+-- ---- nothing is left out
+
+pub due-is-linked : DueIsLinked
+due-is-linked known number terminal found due = rw (found, due) refl
+
+pub linked-is-registered : LinkedIsRegistered
+linked-is-registered known number terminal found =
+    subst (λ (o : Option Terminal). GoesOnTo number Registering (SendPt number (Ask (registration terminal.pt)) ∷ []) (of_terminal known (registers known number) o)) (sym found) (record {
+      terminal = _;
+      found = new-is-there known.core.terminals number terminal _ found;
+      standing_is = refl;
+      calls_are = refl;
+    })
+
+-- ---- requests
+
+without : (known : Known) (header : Header) (request : SaleRequest) → reply_at None known header request ≡ reply_to_request known header request
+without known header requests.Login = refl
+without known header requests.Logout = refl
+without known header (requests.Payment ask) = refl
+without known header (requests.Reversal ask) = refl
+without known header (requests.Abort reference) = refl
+without known header (requests.Status reference) = refl
+without known header (requests.Reconciliation period) = refl
+without known header (requests.Display outputs) = refl
+without known header (requests.Print qualifier) = refl
+without known header requests.Diagnosis = refl
+
+pub without-terminals : WithoutTerminalsSameReplies
+without-terminals known header request none = ap (λ (terminals : List Terminal). reply_at (named_from 0 header.poi terminals) known header request) none ∙ without known header request

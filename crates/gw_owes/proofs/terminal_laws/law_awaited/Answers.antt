@@ -1,0 +1,16 @@
+-- Proof of the contract of `law_awaited`.
+use Rattle.gw_owes.proofs.HandlingLemmas.{acks-take-one, each-message-counts, late-is-unclear}
+use Rattle.gw_owes.proofs.TerminalLemmas.{link-counts-anew}
+use Rattle.gw_owes.proofs.terminal_laws.law_awaited.Goals as goal
+
+pub returns-clause-takes : goal.returns-clause-takes
+returns-clause-takes c = acks-take-one
+
+pub returns-clause-counts : goal.returns-clause-counts
+returns-clause-counts c = each-message-counts
+
+pub returns-clause-anew : goal.returns-clause-anew
+returns-clause-anew c = link-counts-anew
+
+pub returns-clause-late : goal.returns-clause-late
+returns-clause-late c = late-is-unclear

@@ -1,0 +1,12 @@
+-- Proof of the contract of `law_dialogues`.
+use Rattle.gw_owes.proofs.DialogueLemmas.{new-has, rows-keep, links-give}
+use Rattle.gw_owes.proofs.terminal_laws.law_dialogues.Goals as goal
+
+pub returns-clause-new : goal.returns-clause-new
+returns-clause-new c = new-has
+
+pub returns-clause-rows : goal.returns-clause-rows
+returns-clause-rows c = rows-keep
+
+pub returns-clause-links : goal.returns-clause-links
+returns-clause-links c = links-give

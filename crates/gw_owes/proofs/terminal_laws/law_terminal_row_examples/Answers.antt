@@ -1,0 +1,45 @@
+-- Proof of the contract of `law_terminal_row_examples`.
+use Rattle.gw_owes.proofs.ExampleLemmas.{becomes-ready, reports-last, registration-fails, enquiry-fails, link-fails, silence, stray-messages, foreign-command, outside, late-stop, compared-reports, many-terminals, diagnosis, unserved}
+use Rattle.gw_owes.proofs.terminal_laws.law_terminal_row_examples.Goals as goal
+
+pub returns-clause-becomes_ready : goal.returns-clause-becomes_ready
+returns-clause-becomes_ready c = becomes-ready
+
+pub returns-clause-reports_last : goal.returns-clause-reports_last
+returns-clause-reports_last c = reports-last
+
+pub returns-clause-registration : goal.returns-clause-registration
+returns-clause-registration c = registration-fails
+
+pub returns-clause-enquiry : goal.returns-clause-enquiry
+returns-clause-enquiry c = enquiry-fails
+
+pub returns-clause-link : goal.returns-clause-link
+returns-clause-link c = link-fails
+
+pub returns-clause-silence : goal.returns-clause-silence
+returns-clause-silence c = silence
+
+pub returns-clause-stray : goal.returns-clause-stray
+returns-clause-stray c = stray-messages
+
+pub returns-clause-foreign : goal.returns-clause-foreign
+returns-clause-foreign c = foreign-command
+
+pub returns-clause-outside : goal.returns-clause-outside
+returns-clause-outside c = outside
+
+pub returns-clause-late_stop : goal.returns-clause-late_stop
+returns-clause-late_stop c = late-stop
+
+pub returns-clause-reports : goal.returns-clause-reports
+returns-clause-reports c = compared-reports
+
+pub returns-clause-many : goal.returns-clause-many
+returns-clause-many c = many-terminals
+
+pub returns-clause-diagnosis : goal.returns-clause-diagnosis
+returns-clause-diagnosis c = diagnosis
+
+pub returns-clause-unserved : goal.returns-clause-unserved
+returns-clause-unserved c = unserved

@@ -1,0 +1,72 @@
+-- Which dialogue runs with a terminal of each standing, and what is awaited in it.
+use Rattle.std.specs.Prelude.{◌≡◌, ◌≢◌, ℕ, false, slice_get, Option, Some, None}
+use Rattle.gw_base.specs.declared.setup.Setup.{Setup}
+use Rattle.zvt_talk.specs.declared.dialogue_kind.DialogueKind.{DialogueKind}
+use Rattle.zvt_talk.specs.declared.dialogue_kind.DialogueKind.TheVariants.{Registration, Enquiry}
+use Rattle.zvt_talk.specs.declared.phase.Phase.{Phase}
+use Rattle.zvt_talk.specs.declared.phase.Phase.TheVariants.{Asked, Begun, Ended}
+use Rattle.zvt_talk.specs.Talk.{TalkFacts}
+use Rattle.gw_owes.specs.declared.terminal.Standing.{Standing}
+use Rattle.gw_owes.specs.declared.terminal.Standing.TheVariants.{Unlinked, Registering, Enquiring, Ready, Serving, Aside}
+use Rattle.gw_owes.specs.declared.terminal.Terminal.{Terminal}
+use Rattle.gw_owes.specs.Core.{Core, new_core}
+use Rattle.gw_owes.specs.Items.{RoundItem}
+use Rattle.gw_owes.specs.Row.{Known}
+use Rattle.gw_owes.specs.Links.{LinkEvent, link_row}
+use Rattle.gw_owes.specs.TerminalLaws.{owes_cut}
+use Rattle.gw_owes.specs.TerminalRows.{terminal_row}
+
+-- ---- one terminal
+
+-- so many Acks and Nacks are awaited in a dialogue that goes on, and no stop was sent on the link: that of its command until it comes
+abbrev pub AwaitedIn : Phase → ℕ → Type 0
+AwaitedIn (Asked stop_wished) awaited = awaited ≡ 1
+AwaitedIn (Begun stop_sent statuses) awaited = awaited ≡ 0
+AwaitedIn (Ended stop_sent) awaited = ⊥
+
+-- a dialogue of this kind runs, and so many Acks and Nacks are awaited
+pub record RunsDialogue (dialogue_kind : DialogueKind) (talk : Option TalkFacts) (awaited : ℕ) : Type 0 where
+  pub facts : TalkFacts
+  pub talk_is : talk ≡ Some facts
+  pub kind_is : facts.dialogue_kind ≡ dialogue_kind
+  pub awaited_is : AwaitedIn facts.phase awaited
+
+-- no dialogue runs, and nothing is awaited
+pub record RunsNone (talk : Option TalkFacts) (awaited : ℕ) : Type 0 where
+  pub none : talk ≡ None
+  pub awaited_is : awaited ≡ 0
+
+-- the dialogue of a standing; nothing is served yet
+abbrev pub IsDialogueOf : Standing → Option TalkFacts → ℕ → Type 0
+IsDialogueOf (Unlinked due) talk awaited = RunsNone talk awaited
+IsDialogueOf Registering talk awaited = RunsDialogue Registration talk awaited
+IsDialogueOf Enquiring talk awaited = RunsDialogue Enquiry talk awaited
+IsDialogueOf (Ready last) talk awaited = RunsNone talk awaited
+IsDialogueOf (Serving service last) talk awaited = ⊥
+IsDialogueOf (Aside before reported) talk awaited = RunsNone talk awaited
+
+-- the terminal has the dialogue of its standing
+abbrev pub HasItsDialogue : Terminal → Type 0
+HasItsDialogue terminal = IsDialogueOf terminal.standing terminal.talk terminal.awaited
+
+-- ---- all terminals
+
+-- so has each terminal
+abbrev pub AllHaveDialogues : Core → Type 0
+AllHaveDialogues core = (number : ℕ) (terminal : Terminal) → slice_get core.terminals number ≡ Some terminal → HasItsDialogue terminal
+
+-- so has each terminal but this one
+abbrev pub OthersHaveDialogues : ℕ → Core → Type 0
+OthersHaveDialogues but core = (number : ℕ) (terminal : Terminal) → number ≢ but → slice_get core.terminals number ≡ Some terminal → HasItsDialogue terminal
+
+-- each has it as a run begins
+abbrev pub NewCoreHasDialogues : Type 0
+NewCoreHasDialogues = (setup : Setup) → AllHaveDialogues (new_core setup)
+
+-- each has it after an item that cuts no connection
+abbrev pub EachRowKeepsDialogues : Type 0
+EachRowKeepsDialogues = (known : Known) (item : RoundItem) → AllHaveDialogues known.core → owes_cut (terminal_row known item).calls ≡ false → AllHaveDialogues (terminal_row known item).core
+
+-- and after an event of a link, whatever dialogue its own terminal had: so a cut, with which its link is lost, leaves each with its own
+abbrev pub EachLinkGivesDialogues : Type 0
+EachLinkGivesDialogues = (known : Known) (number : ℕ) (event : LinkEvent) → OthersHaveDialogues number known.core → AllHaveDialogues (link_row known number event).core

@@ -1,0 +1,377 @@
+-- Closed examples of what terminals are owed: what happens at a terminal, and what is then owed and remembered.
+use Rattle.std.specs.Prelude.{◌≡◌, ℕ, suc, zero, ◌+◌, pos, List, [], ◌∷◌, ◌++◌, map, slice_get, Option, Some, None, codes}
+use Rattle.std.specs.List.{filter_map}
+use Rattle.std.specs.Option.{option_map}
+use Rattle.gw_base.specs.declared.condition.Condition.TheVariants.{UnavailableDevice, UnavailableService}
+use Rattle.gw_base.specs.declared.currency.Currency.TheVariants.{Eur}
+use Rattle.gw_base.specs.declared.setup.Pt.{Pt}
+use Rattle.gw_base.specs.declared.setup.Setup.{Setup}
+use Rattle.sale_values.specs.declared.header.Header.{Header}
+use Rattle.sale_values.specs.declared.names.Class.TheVariants as classes
+use Rattle.sale_values.specs.declared.names.Kind.TheVariants as kinds
+use Rattle.sale_values.specs.declared.request.SaleRequest.TheVariants as requests
+use Rattle.sale_reply.specs.declared.reply.GlobalStatus.{GlobalStatus}
+use Rattle.sale_reply.specs.declared.reply.GlobalStatus.TheVariants as status
+use Rattle.zvt_msg.specs.declared.command.Command.TheVariants as command
+use Rattle.zvt_talk.specs.Dialogue.{dialogue_of}
+use Rattle.zvt_talk.specs.Talk.{talk_after}
+use Rattle.gw_owes.specs.Calls.{OwedCall, SendTill, SendPt, CutTill, CutPt, LinkPt, WriteBody, WriteGate, WriteFirstGate, Sync, sending_bytes}
+use Rattle.gw_owes.specs.Core.{Core, new_core, new_terminal}
+use Rattle.gw_owes.specs.declared.terminal.Service.TheVariants.{Transaction}
+use Rattle.gw_owes.specs.declared.terminal.Standing.{Standing}
+use Rattle.gw_owes.specs.declared.terminal.Standing.TheVariants.{Unlinked, Registering, Enquiring, Ready, Serving, Aside}
+use Rattle.gw_owes.specs.declared.terminal.Terminal.{Terminal}
+use Rattle.gw_owes.specs.Items.{RoundItem}
+use Rattle.gw_owes.specs.Events.{pt_bytes_items, items_due}
+use Rattle.gw_owes.specs.Reply.{Diagnosis}
+use Rattle.gw_owes.specs.Replies.{header_of_reply, failure_reply}
+use Rattle.gw_owes.specs.Reports.{standing_reported}
+use Rattle.gw_owes.specs.Row.{Known, Row, owing_nothing}
+use Rattle.gw_owes.specs.Links.{LinkEvent, LinkIsMade, LinkHasFailed, LinkIsLost, link_row}
+use Rattle.gw_owes.specs.Requests.{request_reply}
+use Rattle.gw_owes.specs.TerminalRows.{terminal_row}
+
+-- ---- what happens
+
+-- what happens at a terminal
+pub data Happening : Type 0 where
+  -- its link is made, couldn't be made, or is lost
+  Links : ℕ → LinkEvent → Happening
+  -- it sends these bytes, all of them whole APDUs
+  Sends : ℕ → List ℕ → Happening
+  -- nothing but that time has passed
+  Passes : Happening
+
+-- what happens at which moment
+pub record At : Type 0 where
+  pub moment : ℕ
+  pub happening : Happening
+
+-- one row, and then what follows from what is remembered after it
+abbrev pub row_then : Row → (Core → Row) → Row
+row_then row more = let after = more row.core in record { core = after.core; calls = row.calls ++ after.calls; items = [] }
+
+-- items, one after the other
+abbrev pub items_row : Known → List RoundItem → Row
+items_row known [] = owing_nothing known
+items_row known (item ∷ items) = row_then (terminal_row known item) (λ core. items_row (record known { core = core }) items)
+
+-- what happens, and then what may be due
+abbrev pub happening_row : Known → Happening → Row
+happening_row known (Links number event) = link_row known number event
+happening_row known (Sends number bytes) = items_row known (pt_bytes_items number [] bytes ++ items_due known.core)
+happening_row known Passes = items_row known (items_due known.core)
+
+-- one thing after the other, where each call succeeds
+abbrev pub happenings_row : Known → List At → Row
+happenings_row known [] = owing_nothing known
+happenings_row known (first ∷ rest) =
+    row_then (happening_row (record known { moment = first.moment }) first.happening) (λ core. happenings_row (record known { core = core }) rest)
+
+-- ---- what is seen of it
+
+-- what a terminal is sent as bytes, and what becomes of its connection
+pub data Call : Type 0 where
+  -- these bytes are sent to the terminal of this number
+  Out : ℕ → List ℕ → Call
+  -- its connection is cut
+  Cuts : ℕ → Call
+  -- it is linked
+  Link : ℕ → Call
+
+-- a call that reaches a terminal
+abbrev pub terminal_call : OwedCall → Option Call
+terminal_call (SendTill till reply) = None
+terminal_call (SendPt number sending) = Some (Out number (sending_bytes sending))
+terminal_call (CutTill till) = None
+terminal_call (CutPt number) = Some (Cuts number)
+terminal_call (LinkPt number) = Some (Link number)
+terminal_call (WriteBody slot the_record) = None
+terminal_call (WriteGate slot the_record) = None
+terminal_call WriteFirstGate = None
+terminal_call Sync = None
+
+-- the calls of a row that reach terminals
+abbrev pub terminal_calls : Row → List Call
+terminal_calls row = filter_map terminal_call row.calls
+
+-- the terminal of this number after a row
+abbrev pub terminal_in : ℕ → Row → Option Terminal
+terminal_in number row = slice_get row.core.terminals number
+
+-- its standing
+abbrev pub standing_in : ℕ → Row → Option Standing
+standing_in number row = option_map (λ (terminal : Terminal). terminal.standing) (terminal_in number row)
+
+-- how many of its Acks and Nacks are awaited
+abbrev pub awaited_in : ℕ → Row → Option ℕ
+awaited_in number row = option_map (λ (terminal : Terminal). terminal.awaited) (terminal_in number row)
+
+-- what was sent and done, and the standing of the first terminal then, with how many of its Acks and Nacks are awaited
+pub record Comes (row : Row) (calls : List Call) (standing : Standing) (awaited : ℕ) : Type 0 where
+  pub calls_are : terminal_calls row ≡ calls
+  pub standing_is : standing_in 0 row ≡ Some standing
+  pub awaited_is : awaited_in 0 row ≡ Some awaited
+
+-- ---- one terminal
+
+-- it has the password 123456, the configuration byte BA and the code 83 for none, 5 seconds for an Ack and 180 between messages
+abbrev pub one_pt : Pt
+one_pt = record { poi = codes "T1"; address = []; password = 0x12 ∷ 0x34 ∷ 0x56 ∷ []; currency = Eur; config = 0xBA; none = 0x83; answer = 5; command = 180 }
+
+-- a gateway with these terminals
+abbrev pub setup_with : List Pt → Setup
+setup_with pts = record { name = codes "GATEWAY"; listen = []; journal = []; line = 0; wait = 60; slots = 1000000; terminals = pts }
+
+-- it begins a run
+abbrev pub new_known : List Pt → Known
+new_known pts = record { setup = setup_with pts; core = new_core (setup_with pts); kept = []; moment = 0 }
+
+-- what comes of what happens at the one terminal
+abbrev pub after_all : List At → Row
+after_all happenings = happenings_row (new_known (one_pt ∷ [])) happenings
+
+-- at this moment the terminal sends these bytes
+abbrev pub sends : ℕ → List ℕ → At
+sends moment bytes = record { moment = moment; happening = Sends 0 bytes }
+
+-- at this moment its link is made, couldn't be made, or is lost
+abbrev pub link_event : ℕ → LinkEvent → At
+link_event moment event = record { moment = moment; happening = Links 0 event }
+
+-- nothing comes until this moment
+abbrev pub passes : ℕ → At
+passes moment = record { moment = moment; happening = Passes }
+
+-- ---- bytes
+
+-- an Ack
+abbrev pub ack : List ℕ
+ack = 0x80 ∷ 0x00 ∷ 0x00 ∷ []
+
+-- a Completion
+abbrev pub completion : List ℕ
+completion = 0x06 ∷ 0x0F ∷ 0x00 ∷ []
+
+-- an Abort with this code
+abbrev pub abort : ℕ → List ℕ
+abort result_code = 0x06 ∷ 0x1E ∷ 0x01 ∷ result_code ∷ []
+
+-- the Status of an approved transaction with trace number 123, receipt number 17 and 10.99
+abbrev pub approved_status : List ℕ
+approved_status =
+    0x04 ∷ 0x0F ∷ 0x10 ∷ 0x27 ∷ 0x00 ∷ 0x04 ∷ 0x00 ∷ 0x00 ∷ 0x00 ∷ 0x00 ∷ 0x10 ∷ 0x99 ∷ 0x0B ∷ 0x00 ∷ 0x01 ∷ 0x23 ∷ 0x87 ∷ 0x00 ∷ 0x17 ∷ []
+
+-- a command of the terminal's own
+abbrev pub foreign : List ℕ
+foreign = 0x06 ∷ 0x99 ∷ 0x00 ∷ []
+
+-- the registration
+abbrev pub registration_sent : List ℕ
+registration_sent = 0x06 ∷ 0x00 ∷ 0x06 ∷ 0x12 ∷ 0x34 ∷ 0x56 ∷ 0xBA ∷ 0x09 ∷ 0x78 ∷ []
+
+-- the enquiry
+abbrev pub enquiry_sent : List ℕ
+enquiry_sent = 0x06 ∷ 0x20 ∷ 0x03 ∷ 0x12 ∷ 0x34 ∷ 0x56 ∷ []
+
+-- a refusal of a foreign command
+abbrev pub refusal_sent : List ℕ
+refusal_sent = 0x84 ∷ 0x83 ∷ 0x00 ∷ []
+
+-- ---- the way to ready
+
+-- the run's first round passes, the link is made, and the registration is acknowledged
+abbrev pub until_acknowledged : List At
+until_acknowledged = passes 0 ∷ link_event 0 LinkIsMade ∷ sends 1 ack ∷ []
+
+-- what is sent until then
+abbrev pub acknowledged_calls : List Call
+acknowledged_calls = Link 0 ∷ Out 0 registration_sent ∷ []
+
+-- the registration is done
+abbrev pub until_registered : List At
+until_registered = until_acknowledged ++ sends 2 completion ∷ []
+
+-- what is sent until then
+abbrev pub registered_calls : List Call
+registered_calls = acknowledged_calls ++ Out 0 ack ∷ Out 0 enquiry_sent ∷ []
+
+-- the enquiry is acknowledged
+abbrev pub until_enquired : List At
+until_enquired = until_registered ++ sends 3 ack ∷ []
+
+-- the terminal has no last transaction
+abbrev pub until_ready : List At
+until_ready = until_enquired ++ sends 4 (abort 0x83) ∷ []
+
+-- what is sent until then
+abbrev pub ready_calls : List Call
+ready_calls = registered_calls ++ Out 0 ack ∷ []
+
+-- the terminal is linked at once, registers, is enquired, and is ready with 0
+pub record ExampleBecomesReady : Type 0 where
+  pub linked : Comes (after_all (passes 0 ∷ link_event 0 LinkIsMade ∷ [])) acknowledged_calls Registering 1
+  pub acknowledged : Comes (after_all until_acknowledged) acknowledged_calls Registering 0
+  pub registered : Comes (after_all until_registered) registered_calls Enquiring 1
+  pub enquired : Comes (after_all until_enquired) registered_calls Enquiring 0
+  pub ready : Comes (after_all until_ready) ready_calls (Ready 0) 0
+
+-- the Status of its last transaction is acknowledged too, and it is ready with that one's trace number; all of it may come at once
+pub record ExampleReportsLast : Type 0 where
+  pub apart : Comes (after_all (until_enquired ++ sends 4 approved_status ∷ sends 5 completion ∷ [])) (ready_calls ++ Out 0 ack ∷ []) (Ready 123) 0
+  pub together : Comes (after_all (until_registered ++ sends 3 (ack ++ approved_status ++ completion) ∷ [])) (ready_calls ++ Out 0 ack ∷ []) (Ready 123) 0
+
+-- ---- registrations and enquiries that fail
+
+-- the registration is declined, which cuts the connection: it is due again five seconds later
+abbrev pub until_declined : List At
+until_declined = until_acknowledged ++ sends 2 (abort 0x6C) ∷ link_event 2 LinkIsLost ∷ []
+
+-- what is sent until then
+abbrev pub declined_calls : List Call
+declined_calls = acknowledged_calls ++ Out 0 ack ∷ Cuts 0 ∷ []
+
+-- so does one that is refused at once, which isn't acknowledged
+abbrev pub until_refused : List At
+until_refused = passes 0 ∷ link_event 0 LinkIsMade ∷ sends 1 (0x84 ∷ 0x83 ∷ 0x00 ∷ []) ∷ link_event 1 LinkIsLost ∷ []
+
+-- a registration that is declined, refused, declined by a status, unclear, or completed before it is acknowledged
+pub record ExampleRegistrationFails : Type 0 where
+  pub declined : Comes (after_all until_declined) declined_calls (Unlinked (Some 7)) 0
+  pub not_due : Comes (after_all (until_declined ++ passes 6 ∷ [])) declined_calls (Unlinked (Some 7)) 0
+  pub due : Comes (after_all (until_declined ++ passes 7 ∷ [])) (declined_calls ++ Link 0 ∷ []) (Unlinked (Some 7)) 0
+  pub refused : Comes (after_all until_refused) (acknowledged_calls ++ Cuts 0 ∷ []) (Unlinked (Some 6)) 0
+  pub by_status : Comes (after_all (until_acknowledged ++ sends 2 (0x04 ∷ 0x0F ∷ 0x02 ∷ 0x27 ∷ 0x05 ∷ []) ∷ sends 3 completion ∷ [])) (acknowledged_calls ++ Out 0 ack ∷ Out 0 ack ∷ Cuts 0 ∷ []) Registering 0
+  pub unclear : Comes (after_all (until_acknowledged ++ sends 2 (0x06 ∷ 0x1E ∷ 0x00 ∷ []) ∷ [])) (acknowledged_calls ++ Out 0 ack ∷ Cuts 0 ∷ []) Registering 0
+  pub too_early : Comes (after_all (passes 0 ∷ link_event 0 LinkIsMade ∷ sends 1 completion ∷ [])) (acknowledged_calls ++ Out 0 ack ∷ Cuts 0 ∷ []) Registering 1
+
+-- an enquiry that is completed without a status is unclear, and one that is refused, or aborted with another code, is cut as well
+pub record ExampleEnquiryFails : Type 0 where
+  pub unclear : Comes (after_all (until_enquired ++ sends 4 completion ∷ [])) (ready_calls ++ Cuts 0 ∷ []) Enquiring 0
+  pub refused : Comes (after_all (until_registered ++ sends 3 (0x84 ∷ 0x83 ∷ 0x00 ∷ []) ∷ [])) (registered_calls ++ Cuts 0 ∷ []) Enquiring 0
+  pub other_code : Comes (after_all (until_enquired ++ sends 4 (abort 0x6C) ∷ [])) (ready_calls ++ Cuts 0 ∷ []) Enquiring 0
+
+-- a link that couldn't be made is due again five seconds later, and so is one that is lost
+pub record ExampleLinkFails : Type 0 where
+  pub failed : Comes (after_all (passes 0 ∷ link_event 0 LinkHasFailed ∷ passes 4 ∷ [])) (Link 0 ∷ []) (Unlinked (Some 5)) 0
+  pub again : Comes (after_all (passes 0 ∷ link_event 0 LinkHasFailed ∷ passes 5 ∷ [])) (Link 0 ∷ Link 0 ∷ []) (Unlinked (Some 5)) 0
+  pub lost : Comes (after_all (until_ready ++ link_event 9 LinkIsLost ∷ passes 14 ∷ [])) (ready_calls ++ Link 0 ∷ []) (Unlinked (Some 14)) 0
+
+-- ---- deadlines
+
+-- A registration is cut after five seconds of silence, and an enquiry 180 after its last message. A message that comes at the deadline is taken first, and where no dialogue runs there is none.
+pub record ExampleSilence : Type 0 where
+  pub asked : Comes (after_all (passes 0 ∷ link_event 0 LinkIsMade ∷ passes 4 ∷ [])) acknowledged_calls Registering 1
+  pub asked_late : Comes (after_all (passes 0 ∷ link_event 0 LinkIsMade ∷ passes 5 ∷ [])) (acknowledged_calls ++ Cuts 0 ∷ []) Registering 1
+  pub begun : Comes (after_all (until_enquired ++ passes 182 ∷ [])) registered_calls Enquiring 0
+  pub begun_late : Comes (after_all (until_enquired ++ passes 183 ∷ [])) (registered_calls ++ Cuts 0 ∷ []) Enquiring 0
+  pub put_off : Comes (after_all (until_enquired ++ sends 183 ack ∷ passes 362 ∷ [])) registered_calls Enquiring 0
+  pub in_time : Comes (after_all (until_enquired ++ sends 183 (abort 0x83) ∷ [])) ready_calls (Ready 0) 0
+  pub without_dialogue : Comes (after_all (until_ready ++ passes 100000 ∷ [])) ready_calls (Ready 0) 0
+
+-- ---- messages without a dialogue, and foreign commands
+
+-- where no dialogue runs a message is acknowledged, and no more; an Ack pays for nothing
+pub record ExampleStrayMessages : Type 0 where
+  pub acknowledged : Comes (after_all (until_ready ++ sends 5 completion ∷ [])) (ready_calls ++ Out 0 ack ∷ []) (Ready 0) 0
+  pub ack_alone : Comes (after_all (until_ready ++ sends 5 ack ∷ [])) ready_calls (Ready 0) 0
+
+-- a command of the terminal's own is refused, whether a dialogue runs or not, and puts no deadline off
+pub record ExampleForeignCommand : Type 0 where
+  pub refused : Comes (after_all (until_ready ++ sends 5 foreign ∷ [])) (ready_calls ++ Out 0 refusal_sent ∷ []) (Ready 0) 0
+  pub in_dialogue : Comes (after_all (until_enquired ++ sends 100 foreign ∷ passes 183 ∷ [])) (registered_calls ++ Out 0 refusal_sent ∷ Cuts 0 ∷ []) Enquiring 0
+
+-- ---- bytes outside the grammar
+
+-- a Status whose fields are truncated cuts the connection, and is not acknowledged; so do bytes that begin an APDU above the limit, after the APDUs before them
+pub record ExampleOutside : Type 0 where
+  pub status : Comes (after_all (until_ready ++ sends 5 (0x04 ∷ 0x0F ∷ 0x01 ∷ 0x27 ∷ []) ∷ [])) (ready_calls ++ Cuts 0 ∷ []) (Ready 0) 0
+  pub oversized : Comes (after_all (until_ready ++ sends 5 (foreign ++ 0x06 ∷ 0xD1 ∷ 0xFF ∷ 0xE1 ∷ 0x2E ∷ []) ∷ [])) (ready_calls ++ Out 0 refusal_sent ∷ Cuts 0 ∷ []) (Ready 0) 0
+
+-- ---- the late Nack of a stop
+
+-- the terminal was asked at this moment for a payment, after a stop whose Ack or Nack is still awaited
+abbrev pub stopped_terminal : ℕ → Terminal
+stopped_terminal moment = record (new_terminal one_pt) {
+  standing = Serving (Transaction 2) 123;
+  talk = option_map (λ dialogue. talk_after dialogue []) (dialogue_of (command.Authorise 1099 978) 0x83 5 180 (pos moment));
+  awaited = 2;
+}
+
+-- what comes of what happens then
+abbrev pub after_stop : List At → Row
+after_stop happenings = happenings_row (record (new_known (one_pt ∷ [])) { core = record (new_core (setup_with (one_pt ∷ []))) { terminals = stopped_terminal 10 ∷ [] } }) happenings
+
+-- A Nack then may be that of the stop: it is unclear, and declines nothing. An Ack begins the payment, and one more is awaited, which has no effect.
+pub record ExampleLateStop : Type 0 where
+  pub nack : Comes (after_stop (sends 11 (0x84 ∷ 0x83 ∷ 0x00 ∷ []) ∷ [])) (Cuts 0 ∷ []) (Serving (Transaction 2) 123) 1
+  pub ack_first : Comes (after_stop (sends 11 ack ∷ [])) [] (Serving (Transaction 2) 123) 1
+  pub nack_later : Comes (after_stop (sends 11 ack ∷ sends 12 (0x84 ∷ 0x83 ∷ 0x00 ∷ []) ∷ [])) [] (Serving (Transaction 2) 123) 0
+  pub none_below : Comes (after_stop (sends 11 ack ∷ sends 12 ack ∷ sends 13 ack ∷ [])) [] (Serving (Transaction 2) 123) 0
+
+-- ---- reports
+
+-- a terminal is ready with a trace number that is not below the least, and is set aside with one that is
+pub record ExampleComparedReports : Type 0 where
+  pub same : standing_reported 123 123 ≡ Ready 123
+  pub above : standing_reported 123 124 ≡ Ready 124
+  pub below : standing_reported 123 50 ≡ Aside 123 50
+
+-- ---- 32 terminals
+
+-- so many terminals, whose POIIDs are single characters from this one on
+abbrev pub pts_from : ℕ → ℕ → List Pt
+pts_from first zero = []
+pts_from first (suc count) = record one_pt { poi = first ∷ [] } ∷ pts_from (first + 1) count
+
+-- their numbers
+abbrev pub numbers_from : ℕ → ℕ → List ℕ
+numbers_from first zero = []
+numbers_from first (suc count) = first ∷ numbers_from (first + 1) count
+
+-- a gateway with 32 terminals begins a run: `A` is the first POIID
+abbrev pub many_known : Known
+many_known = new_known (pts_from 65 32)
+
+-- the last of them is linked, and its registration acknowledged and done
+abbrev pub last_registered : List At
+last_registered = record { moment = 0; happening = Links 31 LinkIsMade } ∷ record { moment = 1; happening = Sends 31 (ack ++ completion) } ∷ []
+
+-- The first round links all 32, in order. What the last one sends is owed to it alone, and leaves the others as they were: they are due to be linked.
+pub record ExampleManyTerminals : Type 0 where
+  pub all_linked : terminal_calls (happenings_row many_known (passes 0 ∷ [])) ≡ map Link (numbers_from 0 32)
+  pub last_alone : terminal_calls (happenings_row many_known last_registered) ≡ Out 31 registration_sent ∷ Out 31 ack ∷ Out 31 enquiry_sent ∷ map Link (numbers_from 0 31)
+  pub last_is : standing_in 31 (happenings_row many_known last_registered) ≡ Some Enquiring
+  pub first_is : terminal_in 0 (happenings_row many_known last_registered) ≡ Some (new_terminal (record one_pt { poi = 65 ∷ [] }))
+  pub before_is : terminal_in 30 (happenings_row many_known last_registered) ≡ Some (new_terminal (record one_pt { poi = 95 ∷ [] }))
+
+-- ---- Diagnosis
+
+-- the header of a request of till `S1` for this POIID
+abbrev pub header_for : List ℕ → List ℕ → Header
+header_for category poi = record { class = classes.Service; category = category; kind = kinds.Request; service = Some (codes "5"); device = None; sale = codes "S1"; poi = poi }
+
+-- a gateway whose one terminal has this standing
+abbrev pub standing_known : Standing → Known
+standing_known standing = record (new_known (one_pt ∷ [])) { core = record (new_core (setup_with (one_pt ∷ []))) { terminals = record (new_terminal one_pt) { standing = standing } ∷ [] } }
+
+-- a Diagnosis gets this status
+abbrev pub HasStatus : Standing → GlobalStatus → Type 0
+HasStatus standing status =
+    request_reply (standing_known standing) (header_for (codes "Diagnosis") (codes "T1")) requests.Diagnosis ≡ Some (Diagnosis (header_of_reply (header_for (codes "Diagnosis") (codes "T1"))) status)
+
+-- a Diagnosis has `OK` for a terminal that is ready, and for no other; one of a POIID that isn't configured fails
+pub record ExampleDiagnosis : Type 0 where
+  pub new : HasStatus (Unlinked None) status.Unreachable
+  pub unlinked : HasStatus (Unlinked (Some 5)) status.Unreachable
+  pub registering : HasStatus Registering status.Unreachable
+  pub enquiring : HasStatus Enquiring status.Unreachable
+  pub ready : HasStatus (Ready 123) status.Ready
+  pub serving : HasStatus (Serving (Transaction 2) 123) status.Busy
+  pub aside : HasStatus (Aside 123 50) status.Maintenance
+  pub unknown : request_reply (standing_known (Ready 123)) (header_for (codes "Diagnosis") (codes "T2")) requests.Diagnosis ≡ Some (failure_reply (header_for (codes "Diagnosis") (codes "T2")) UnavailableDevice)
+
+-- a Logout is refused, for another reason where its POIID is configured than where it isn't
+pub record ExampleUnserved : Type 0 where
+  pub configured : request_reply (standing_known (Ready 123)) (header_for (codes "Logout") (codes "T1")) requests.Logout ≡ Some (failure_reply (header_for (codes "Logout") (codes "T1")) UnavailableService)
+  pub unknown : request_reply (standing_known (Ready 123)) (header_for (codes "Logout") (codes "T2")) requests.Logout ≡ Some (failure_reply (header_for (codes "Logout") (codes "T2")) UnavailableDevice)

@@ -1,0 +1,246 @@
+-- Laws of what the items of terminals, and their links, leave and owe.
+use Rattle.std.specs.Prelude.{◌≡◌, ◌≢◌, ◌⊎◌, ◌≤◌, ℕ, ◌+◌, pos, int_le, Bool, true, false, List, [], ◌∷◌, length, map, slice_get, Option, Some, None, Ok, Err}
+use Rattle.gw_base.specs.declared.figures.Figures.{Figures}
+use Rattle.gw_base.specs.declared.setup.Pt.{Pt}
+use Rattle.sale_values.specs.declared.header.Header.{Header}
+use Rattle.sale_values.specs.declared.request.SaleRequest.{SaleRequest}
+use Rattle.zvt_apdu.specs.Grammar.{ApduValue}
+use Rattle.zvt_msg.specs.declared.fault.PtFault.{PtFault}
+use Rattle.zvt_msg.specs.Message.{MessageValue, Nack, Other}
+use Rattle.zvt_msg.specs.MessageDecode.{decode_pt_message}
+use Rattle.zvt_talk.specs.declared.meaning.Heard.TheVariants as heard
+use Rattle.zvt_talk.specs.declared.phase.Phase.TheVariants.{Asked}
+use Rattle.zvt_talk.specs.Laws.{IsAckOrNack}
+use Rattle.zvt_talk.specs.Talk.{TalkFacts}
+use Rattle.gw_owes.specs.Calls.{Sending, Ask, Acknowledge, Refuse, OwedCall, SendTill, SendPt, CutTill, CutPt, LinkPt, WriteBody, WriteGate, WriteFirstGate, Sync}
+use Rattle.gw_owes.specs.declared.terminal.Standing.{Standing}
+use Rattle.gw_owes.specs.declared.terminal.Standing.TheVariants.{Unlinked, Registering, Enquiring, Ready}
+use Rattle.gw_owes.specs.declared.terminal.Terminal.{Terminal}
+use Rattle.gw_owes.specs.Core.{Core}
+use Rattle.gw_owes.specs.Items.{RoundItem, Crowded, Message, Asked as AskedItem, Unframed, Gone, Greet, Handle, NextWaiting, Oversized, LinkLost, Late, Overdue, Due}
+use Rattle.gw_owes.specs.Row.{Known, Row, owing_nothing}
+use Rattle.gw_owes.specs.Replies.{reply_to_request}
+use Rattle.gw_owes.specs.Terminals.{terminal_at, registration}
+use Rattle.gw_owes.specs.Links.{is_linked, LinkEvent, LinkIsMade, link_row}
+use Rattle.gw_owes.specs.Greeting.{greet_row, oversized_row}
+use Rattle.gw_owes.specs.Handling.{awaited_after, meaning_at, enquiry_command, handle_row}
+use Rattle.gw_owes.specs.Reports.{on_record}
+use Rattle.gw_owes.specs.Deadlines.{is_due, due_row}
+use Rattle.gw_owes.specs.Requests.{request_reply}
+use Rattle.gw_owes.specs.TerminalRows.{terminal_of, terminal_row}
+use Rattle.gw_owes.specs.Laws.{EndsInOne}
+
+-- ---- the calls
+
+-- what a terminal's item owes is calls on the disk, and then one other at most
+abbrev pub EachTerminalRowEndsInOne : Type 0
+EachTerminalRowEndsInOne = (known : Known) (item : RoundItem) → EndsInOne (terminal_row known item)
+
+-- so is what an event of its link owes
+abbrev pub EachLinkRowEndsInOne : Type 0
+EachLinkRowEndsInOne = (known : Known) (number : ℕ) (event : LinkEvent) → EndsInOne (link_row known number event)
+
+-- ---- what stays
+
+-- the settings of the terminals
+abbrev pub settings_of : Core → List Pt
+settings_of core = map (λ (terminal : Terminal). terminal.pt) core.terminals
+
+-- of what is remembered only the terminal of this number may be changed, and not its settings
+pub record ChangesTerminalAlone (number : ℕ) (old new : Core) : Type 0 where
+  pub others : (other : ℕ) → other ≢ number → slice_get new.terminals other ≡ slice_get old.terminals other
+  pub settings : settings_of new ≡ settings_of old
+  pub count : length new.terminals ≡ length old.terminals
+  pub waits : new.waits ≡ old.waits
+  pub logged_out : new.logged_out ≡ old.logged_out
+  pub device_requests : new.device_requests ≡ old.device_requests
+
+-- an item of a terminal changes that terminal alone
+abbrev pub EachRowChangesItsTerminal : Type 0
+EachRowChangesItsTerminal = (known : Known) (item : RoundItem) (number : ℕ) → terminal_of item ≡ Some number → ChangesTerminalAlone number known.core (terminal_row known item).core
+
+-- and so does an event of its link
+abbrev pub EachLinkChangesItsTerminal : Type 0
+EachLinkChangesItsTerminal = (known : Known) (number : ℕ) (event : LinkEvent) → ChangesTerminalAlone number known.core (link_row known number event).core
+
+-- a greeting changes nothing
+abbrev pub GreetingChangesNothing : Type 0
+GreetingChangesNothing = (known : Known) (number : ℕ) (apdu : ApduValue) → (greet_row known number apdu).core ≡ known.core
+
+-- a command of the terminal's own, and an APDU outside the grammar, have no effect once they are greeted
+pub record HasNoEffect (known : Known) (number : ℕ) (apdu : ApduValue) : Type 0 where
+  pub other : decode_pt_message apdu ≡ Ok Other → handle_row known number apdu ≡ owing_nothing known
+  pub outside : (fault : PtFault) → decode_pt_message apdu ≡ Err fault → handle_row known number apdu ≡ owing_nothing known
+
+-- whatever the terminal
+abbrev pub ForeignHasNoEffect : Type 0
+ForeignHasNoEffect = (known : Known) (number : ℕ) (apdu : ApduValue) → HasNoEffect known number apdu
+
+-- ---- terminals that aren't linked
+
+-- nothing is owed for what a terminal sends, and nothing of it changes
+pub record IsOwedNothing (known : Known) (number : ℕ) (apdu : ApduValue) : Type 0 where
+  pub greeted : greet_row known number apdu ≡ owing_nothing known
+  pub handled : handle_row known number apdu ≡ owing_nothing known
+  pub oversized : oversized_row known number ≡ owing_nothing known
+
+-- so it is of one that isn't linked
+abbrev pub UnlinkedIsOwedNothing : Type 0
+UnlinkedIsOwedNothing =
+    (known : Known) (number : ℕ) (terminal : Terminal) (due : Option ℕ) (apdu : ApduValue) → terminal_at known number ≡ Some terminal → terminal.standing ≡ Unlinked due → IsOwedNothing known number apdu
+
+-- and of a number that no terminal has
+abbrev pub AbsentIsOwedNothing : Type 0
+AbsentIsOwedNothing = (known : Known) (number : ℕ) (apdu : ApduValue) → terminal_at known number ≡ None → IsOwedNothing known number apdu
+
+-- ---- what is awaited
+
+-- an Ack or a Nack is one of those that were awaited; where none was, none is after it
+pub record TakesOne (message : MessageValue) : Type 0 where
+  pub one : (awaited : ℕ) → IsAckOrNack message → awaited_after message (awaited + 1) ≡ awaited
+  pub none : IsAckOrNack message → awaited_after message 0 ≡ 0
+  pub other : (awaited : ℕ) → (IsAckOrNack message → ⊥) → awaited_after message awaited ≡ awaited
+
+-- whatever the message
+abbrev pub EachAckTakesOne : Type 0
+EachAckTakesOne = (message : MessageValue) → TakesOne message
+
+-- one for a command
+abbrev pub commands_sent : Sending → ℕ
+commands_sent (Ask command) = 1
+commands_sent Acknowledge = 0
+commands_sent Refuse = 0
+
+-- how many commands are among these calls
+abbrev pub commands_in : List OwedCall → ℕ
+commands_in [] = 0
+commands_in (SendTill till reply ∷ calls) = commands_in calls
+commands_in (SendPt number sending ∷ calls) = commands_sent sending + commands_in calls
+commands_in (CutTill till ∷ calls) = commands_in calls
+commands_in (CutPt number ∷ calls) = commands_in calls
+commands_in (LinkPt number ∷ calls) = commands_in calls
+commands_in (WriteBody slot the_record ∷ calls) = commands_in calls
+commands_in (WriteGate slot the_record ∷ calls) = commands_in calls
+commands_in (WriteFirstGate ∷ calls) = commands_in calls
+commands_in (Sync ∷ calls) = commands_in calls
+
+-- the terminal of this number awaits so many Acks and Nacks after the row, and one more for each command that the row sends it
+pub record Awaits (number awaited : ℕ) (row : Row) : Type 0 where
+  pub terminal : Terminal
+  pub found : slice_get row.core.terminals number ≡ Some terminal
+  pub count : terminal.awaited ≡ awaited + commands_in row.calls
+
+-- each message of a terminal that is linked counts once, and each command that is sent for it
+abbrev pub EachMessageCounts : Type 0
+EachMessageCounts =
+    (known : Known) (number : ℕ) (apdu : ApduValue) (terminal : Terminal) (message : MessageValue) → terminal_at known number ≡ Some terminal → is_linked terminal.standing ≡ true
+    → decode_pt_message apdu ≡ Ok message → Awaits number (awaited_after message terminal.awaited) (handle_row known number apdu)
+
+-- on a new link, and on none, nothing is awaited but what is sent with it
+abbrev pub EachLinkCountsAnew : Type 0
+EachLinkCountsAnew = (known : Known) (number : ℕ) (event : LinkEvent) (terminal : Terminal) → terminal_at known number ≡ Some terminal → Awaits number 0 (link_row known number event)
+
+-- the late Nack of a stop: where more than the last command's Ack or Nack is awaited, a Nack before the command is acknowledged is unclear
+abbrev pub LateNackIsUnclear : Type 0
+LateNackIsUnclear =
+    (terminal : Terminal) (talk : TalkFacts) (stop_wished : Bool) (error_code : ℕ) → terminal.talk ≡ Some talk → talk.phase ≡ Asked stop_wished → 2 ≤ terminal.awaited
+    → meaning_at terminal (Nack error_code) ≡ heard.Unclear
+
+-- ---- cuts
+
+-- a terminal's connection is cut by one of these calls
+abbrev pub owes_cut : List OwedCall → Bool
+owes_cut [] = false
+owes_cut (SendTill till reply ∷ calls) = owes_cut calls
+owes_cut (SendPt number sending ∷ calls) = owes_cut calls
+owes_cut (CutTill till ∷ calls) = owes_cut calls
+owes_cut (CutPt number ∷ calls) = true
+owes_cut (LinkPt number ∷ calls) = owes_cut calls
+owes_cut (WriteBody slot the_record ∷ calls) = owes_cut calls
+owes_cut (WriteGate slot the_record ∷ calls) = owes_cut calls
+owes_cut (WriteFirstGate ∷ calls) = owes_cut calls
+owes_cut (Sync ∷ calls) = owes_cut calls
+
+-- a registration or an enquiry runs
+abbrev pub IsBeforeReady : Standing → Type 0
+IsBeforeReady standing = (standing ≡ Registering) ⊎ (standing ≡ Enquiring)
+
+-- the message leaves its dialogue unclear, or declines a registration or an enquiry
+pub record BreaksDialogue (known : Known) (number : ℕ) (apdu : ApduValue) : Type 0 where
+  pub terminal : Terminal
+  pub found : terminal_at known number ≡ Some terminal
+  pub message : MessageValue
+  pub decoded : decode_pt_message apdu ≡ Ok message
+  pub why : (meaning_at terminal message ≡ heard.Unclear) ⊎ ((result_code : ℕ) × (trace : Option ℕ) × (meaning_at terminal message ≡ heard.Declined result_code trace) × IsBeforeReady terminal.standing)
+
+-- the terminal has a dialogue whose deadline is now or before
+pub record IsLateAt (known : Known) (number : ℕ) : Type 0 where
+  pub terminal : Terminal
+  pub found : terminal_at known number ≡ Some terminal
+  pub talk : TalkFacts
+  pub talk_is : terminal.talk ≡ Some talk
+  pub late : int_le talk.deadline (pos known.moment) ≡ true
+
+-- why an item may cut its terminal's connection: an APDU outside the grammar, an unclear end, a declined registration or enquiry, bytes that begin an APDU above the limit, and a deadline
+abbrev pub MayCut : Known → RoundItem → Type 0
+MayCut known (Crowded till) = ⊥
+MayCut known (Message till bytes) = ⊥
+MayCut known (AskedItem till as_read) = ⊥
+MayCut known (Unframed till) = ⊥
+MayCut known (Gone till) = ⊥
+MayCut known (Greet number apdu) = (fault : PtFault) × (decode_pt_message apdu ≡ Err fault)
+MayCut known (Handle number apdu) = BreaksDialogue known number apdu
+MayCut known (NextWaiting number) = ⊥
+MayCut known (Oversized number) = Unit {0}
+MayCut known (LinkLost number) = ⊥
+MayCut known (Late number) = IsLateAt known number
+MayCut known (Overdue key) = ⊥
+MayCut known (Due number) = ⊥
+
+-- no item cuts a terminal's connection for another reason
+abbrev pub EachCutHasCause : Type 0
+EachCutHasCause = (known : Known) (item : RoundItem) → owes_cut (terminal_row known item).calls ≡ true → MayCut known item
+
+-- nor does an event of its link
+abbrev pub NoLinkEventCuts : Type 0
+NoLinkEventCuts = (known : Known) (number : ℕ) (event : LinkEvent) → owes_cut (link_row known number event).calls ≡ false
+
+-- ---- nothing is left out
+
+-- the row has this terminal in this standing, and owes these calls
+pub record GoesOnTo (number : ℕ) (standing : Standing) (calls : List OwedCall) (row : Row) : Type 0 where
+  pub terminal : Terminal
+  pub found : slice_get row.core.terminals number ≡ Some terminal
+  pub standing_is : terminal.standing ≡ standing
+  pub calls_are : row.calls ≡ calls
+
+-- a terminal that is unlinked and due is linked
+abbrev pub DueIsLinked : Type 0
+DueIsLinked =
+    (known : Known) (number : ℕ) (terminal : Terminal) → terminal_at known number ≡ Some terminal → is_due known.moment terminal.standing ≡ true → (due_row known number).calls ≡ LinkPt number ∷ []
+
+-- one that is linked is registered
+abbrev pub LinkedIsRegistered : Type 0
+LinkedIsRegistered =
+    (known : Known) (number : ℕ) (terminal : Terminal) → terminal_at known number ≡ Some terminal
+    → GoesOnTo number Registering (SendPt number (Ask (registration terminal.pt)) ∷ []) (link_row known number LinkIsMade)
+
+-- one whose registration is done is enquired
+abbrev pub RegisteredIsEnquired : Type 0
+RegisteredIsEnquired =
+    (known : Known) (number : ℕ) (apdu : ApduValue) (terminal : Terminal) (message : MessageValue) → terminal_at known number ≡ Some terminal → terminal.standing ≡ Registering
+    → decode_pt_message apdu ≡ Ok message → meaning_at terminal message ≡ heard.Done → GoesOnTo number Enquiring (SendPt number (Ask (enquiry_command terminal.pt)) ∷ []) (handle_row known number apdu)
+
+-- one whose enquiry reports a trace number is ready with it, where no payment and no reversal of it is open and none has a greater one
+abbrev pub EnquiredIsReady : Type 0
+EnquiredIsReady =
+    (known : Known) (number : ℕ) (apdu : ApduValue) (terminal : Terminal) (message : MessageValue) (reported : ℕ) (approved : Option Figures) (result_code : ℕ) → terminal_at known number ≡ Some terminal
+    → terminal.standing ≡ Enquiring → decode_pt_message apdu ≡ Ok message → meaning_at terminal message ≡ heard.Told reported approved result_code
+    → (on_record known.kept terminal.pt.poi).open_before ≡ None → (on_record known.kept terminal.pt.poi).last ≤ reported
+    → GoesOnTo number (Ready reported) [] (handle_row known number apdu)
+
+-- ---- requests
+
+-- where no terminal is configured each request has the reply that it has without terminals
+abbrev pub WithoutTerminalsSameReplies : Type 0
+WithoutTerminalsSameReplies = (known : Known) (header : Header) (request : SaleRequest) → known.core.terminals ≡ [] → request_reply known header request ≡ reply_to_request known header request

@@ -1,0 +1,40 @@
+-- What each item of a terminal owes.
+use Rattle.std.specs.Prelude.{ℕ, Option, Some, None}
+use Rattle.gw_owes.specs.Items.{RoundItem, Crowded, Message, Asked, Unframed, Gone, Greet, Handle, NextWaiting, Oversized, LinkLost, Late, Overdue, Due}
+use Rattle.gw_owes.specs.Row.{Known, Row, owing_nothing}
+use Rattle.gw_owes.specs.Links.{LinkIsLost, link_row}
+use Rattle.gw_owes.specs.Greeting.{greet_row, oversized_row}
+use Rattle.gw_owes.specs.Handling.{handle_row}
+use Rattle.gw_owes.specs.Deadlines.{late_row, due_row}
+
+-- the terminal that the item is about; a till's item, and that of a request that waits, is about none
+abbrev pub terminal_of : RoundItem → Option ℕ
+terminal_of (Crowded till) = None
+terminal_of (Message till bytes) = None
+terminal_of (Asked till as_read) = None
+terminal_of (Unframed till) = None
+terminal_of (Gone till) = None
+terminal_of (Greet number apdu) = Some number
+terminal_of (Handle number apdu) = Some number
+terminal_of (NextWaiting number) = Some number
+terminal_of (Oversized number) = Some number
+terminal_of (LinkLost number) = Some number
+terminal_of (Late number) = Some number
+terminal_of (Overdue key) = None
+terminal_of (Due number) = Some number
+
+-- What an item of a terminal leaves and owes as it begins; other items owe nothing here. No request waits for a terminal yet, so that none is begun.
+abbrev pub terminal_row : Known → RoundItem → Row
+terminal_row known (Crowded till) = owing_nothing known
+terminal_row known (Message till bytes) = owing_nothing known
+terminal_row known (Asked till as_read) = owing_nothing known
+terminal_row known (Unframed till) = owing_nothing known
+terminal_row known (Gone till) = owing_nothing known
+terminal_row known (Greet number apdu) = greet_row known number apdu
+terminal_row known (Handle number apdu) = handle_row known number apdu
+terminal_row known (NextWaiting number) = owing_nothing known
+terminal_row known (Oversized number) = oversized_row known number
+terminal_row known (LinkLost number) = link_row known number LinkIsLost
+terminal_row known (Late number) = late_row known number
+terminal_row known (Overdue key) = owing_nothing known
+terminal_row known (Due number) = due_row known number

@@ -1,0 +1,336 @@
+-- The turns of calls fit one after the other, and calls determine them.
+use Rattle.std.proofs.Common.{◌≡◌, ℕ, List, [], ◌∷◌, ◌++◌, take, drop, refl, sym, ◌∙◌, ap, subst, inl, inr, true, false, length-take, take-append-drop, append-nil, append_assoc}
+use Rattle.std.specs.Prelude.{◌⊎◌, Bool, nat_le, ◌==◌, ◌-◌, if◌then◌else◌, not, Option, Some, None, is_some}
+use Rattle.gw_base.specs.declared.setup.Setup.{Setup}
+use Rattle.gw_site.specs.Outside.{Outside, outside_after, outside_from, nothing_yet}
+use Rattle.gw_site.specs.declared.turn.Turn.{Turn}
+use Rattle.gw_site.specs.declared.turn.Turn.TheVariants.{Start, OpenFailed, Polled, Linked, LinkFailed, SentTill, SentPt, CutTill, CutPt, Wrote, Synced, DiskFailed, Crash}
+use Rattle.gw_site.proofs.OutsideLemmas.{outside_from-append}
+use Rattle.gw_script.specs.site.ScriptLine.{ImageKind, Failing, Event, Open, Close, FromTill, FromPt, Lose, Tick, PlayedLine, At, Poll, Fail, Power}
+use Rattle.gw_script.specs.site.Hazards.{Armed, Hazard, armed, crash_file, is_failing, is_reached, links_without, sends_without, sent_of, takes_most}
+use Rattle.gw_script.specs.site.Playing.{DiskCall, Write, Sync, Length, Read, Fits, Idle, Leads, Play, after_poll, applies, begins, brings, brought, counted, fails_next, fallen, is_off, met, one_call_less, play_after, powered, restarted}
+use Rattle.gw_script.specs.site.Calls.{SiteCall, OpenCall, PollCall, SendTillCall, SendPtCall, LinkCall, CutTillCall, CutPtCall, LengthCall, ReadCall, WriteCall, SyncCall, CallFits, LeadsBy, SiteStep, Made, PowerBack, place_after, play_from, polled_place, polled_turns, call_turns}
+use Rattle.gw_script.specs.site.Laws.{CallsGoOn, CallsPlay, IsCutTo, OneLogOfCalls, PowerGoesOn, SendsAreCut}
+use Rattle.gw_script.proofs.site.LeadsLemmas.{sends-take-theirs}
+
+-- no event and no failure of the disk is due
+pub record IsQuiet (p : Play) : Type 0 where
+  pub no_event : p.due ≡ []
+  pub no_failure : p.failing ≡ false
+
+-- ---- what counting leaves
+
+less_quiet : (armed : Option Armed) (p : Play) → IsQuiet p → IsQuiet (one_call_less armed p)
+less_quiet None p q = q
+less_quiet (Some armed) p q = by_test (nat_le armed.calls 1)
+  where
+    by_test : (test : Bool) → IsQuiet (if test then is_off armed.kind p else powered (armed.calls - 1) armed.kind p)
+    by_test true = record { no_event = q.no_event; no_failure = q.no_failure }
+    by_test false = record { no_event = q.no_event; no_failure = q.no_failure }
+
+less_due : (armed : Option Armed) (p : Play) → (one_call_less armed p).due ≡ p.due
+less_due None p = refl
+less_due (Some armed) p = by_test (nat_le armed.calls 1)
+  where
+    by_test : (test : Bool) → (if test then is_off armed.kind p else powered (armed.calls - 1) armed.kind p).due ≡ p.due
+    by_test true = refl
+    by_test false = refl
+
+less_failing : (armed : Option Armed) (p : Play) → (one_call_less armed p).failing ≡ p.failing
+less_failing None p = refl
+less_failing (Some armed) p = by_test (nat_le armed.calls 1)
+  where
+    by_test : (test : Bool) → (if test then is_off armed.kind p else powered (armed.calls - 1) armed.kind p).failing ≡ p.failing
+    by_test true = refl
+    by_test false = refl
+
+counted_quiet : (p : Play) → IsQuiet p → IsQuiet (counted p)
+counted_quiet p q = less_quiet p.hazard.power p q
+
+idle_quiet : (p : Play) → Idle p → IsQuiet p
+idle_quiet p idle = record { no_event = idle.no_event; no_failure = idle.no_failure }
+
+-- ---- the turns of one call
+
+-- the turns lead to a place at which nothing is due
+record Goes (o : Outside) (p : Play) (turns : List Turn) (after : Play) : Type 0 where
+  leads : Leads o p turns after
+  quiet : IsQuiet after
+
+none_goes : (o : Outside) (p : Play) (call : DiskCall) → IsQuiet p → Goes o p [] (play_from o call p [])
+none_goes o p call quiet = record { leads = refl; quiet = quiet }
+
+one_goes : (o : Outside) (p : Play) (call : DiskCall) (turn : Turn) → Fits o call p turn → IsQuiet (play_after o call p turn) → Goes o p (turn ∷ []) (play_from o call p (turn ∷ []))
+one_goes o p call turn fits quiet = record { leads = (call, fits, refl); quiet = quiet }
+
+open_goes : (o : Outside) (p : Play) (setup : Setup) (test : Bool) → p.hazard.fail_open ≡ test → Idle p →
+    Goes o p (if test then OpenFailed ∷ [] else Start setup ∷ []) (play_from o Sync p (if test then OpenFailed ∷ [] else Start setup ∷ []))
+open_goes o p setup true e idle = one_goes o p Sync OpenFailed (idle, e) (counted_quiet (record p { hazard = record p.hazard { fail_open = false } }) (record { no_event = idle.no_event; no_failure = idle.no_failure }))
+open_goes o p setup false e idle = one_goes o p Sync (Start setup) (idle, e) (counted_quiet p (idle_quiet p idle))
+
+link_goes : (o : Outside) (p : Play) (pt : ℕ) (test : Bool) → is_failing p.hazard.fail_links pt ≡ test → Idle p →
+    Goes o p (if test then LinkFailed pt ∷ [] else Linked pt ∷ []) (play_from o Sync p (if test then LinkFailed pt ∷ [] else Linked pt ∷ []))
+link_goes o p pt true e idle = one_goes o p Sync (LinkFailed pt) (idle, e) (counted_quiet (record p { hazard = record p.hazard { fail_links = links_without p.hazard.fail_links pt } }) (record { no_event = idle.no_event; no_failure = idle.no_failure }))
+link_goes o p pt false e idle = one_goes o p Sync (Linked pt) (idle, e) (counted_quiet p (idle_quiet p idle))
+
+till_quiet : (p : Play) (till : ℕ) (bytes : List ℕ) (ok : Bool) (o : Outside) → Idle p → IsQuiet (play_after o Sync p (SentTill till bytes ok))
+till_quiet p till bytes true o idle = counted_quiet p (idle_quiet p idle)
+till_quiet p till bytes false o idle = counted_quiet (record p { hazard = record p.hazard { fail_tills = sends_without p.hazard.fail_tills till } }) (record { no_event = idle.no_event; no_failure = idle.no_failure })
+
+pt_quiet : (p : Play) (pt : ℕ) (bytes : List ℕ) (ok : Bool) (o : Outside) → Idle p → IsQuiet (play_after o Sync p (SentPt pt bytes ok))
+pt_quiet p pt bytes true o idle = counted_quiet p (idle_quiet p idle)
+pt_quiet p pt bytes false o idle = counted_quiet (record p { hazard = record p.hazard { fail_pts = sends_without p.hazard.fail_pts pt } }) (record { no_event = idle.no_event; no_failure = idle.no_failure })
+
+length_goes : (o : Outside) (p : Play) (test : Bool) → p.hazard.fail_length ≡ test → Idle p → Goes o p (if test then DiskFailed ∷ [] else []) (play_from o Length p (if test then DiskFailed ∷ [] else []))
+length_goes o p true e idle = one_goes o p Length DiskFailed (idle, e) (record { no_event = idle.no_event; no_failure = idle.no_failure })
+length_goes o p false e idle = none_goes o p Length (idle_quiet p idle)
+
+read_goes : (o : Outside) (p : Play) (test : Bool) → p.hazard.fail_read ≡ test → Idle p → Goes o p (if test then DiskFailed ∷ [] else []) (play_from o Read p (if test then DiskFailed ∷ [] else []))
+read_goes o p true e idle = one_goes o p Read DiskFailed (idle, e) (record { no_event = idle.no_event; no_failure = idle.no_failure })
+read_goes o p false e idle = none_goes o p Read (idle_quiet p idle)
+
+write_goes : (o : Outside) (p : Play) (offset : ℕ) (bytes : List ℕ) (test : Bool) → p.hazard.fail_write ≡ test → Idle p →
+    Goes o p (if test then Wrote offset bytes ∷ DiskFailed ∷ [] else Wrote offset bytes ∷ []) (play_from o Write p (if test then Wrote offset bytes ∷ DiskFailed ∷ [] else Wrote offset bytes ∷ []))
+write_goes o p offset bytes true e idle =
+    let h : Hazard = record p.hazard { fail_write = false } in
+    let due : (play_after o Write p (Wrote offset bytes)).due ≡ [] = less_due h.power (record p { failing = p.hazard.fail_write; hazard = h }) ∙ idle.no_event in
+    let failing : (play_after o Write p (Wrote offset bytes)).failing ≡ true = less_failing h.power (record p { failing = p.hazard.fail_write; hazard = h }) ∙ e in
+    record { leads = (Write, idle, (Write, (due, failing), refl)); quiet = record { no_event = due; no_failure = refl } }
+write_goes o p offset bytes false e idle = one_goes o p Write (Wrote offset bytes) idle (counted_quiet (record p { failing = p.hazard.fail_write; hazard = record p.hazard { fail_write = false } }) (record { no_event = idle.no_event; no_failure = e }))
+
+sync_goes : (o : Outside) (p : Play) (test : Bool) → p.hazard.fail_sync ≡ test → Idle p → Goes o p (if test then DiskFailed ∷ [] else Synced ∷ []) (play_from o Sync p (if test then DiskFailed ∷ [] else Synced ∷ []))
+sync_goes o p true e idle = one_goes o p Sync DiskFailed (idle, e) (counted_quiet (record p { hazard = record p.hazard { fail_sync = false } }) (record { no_event = idle.no_event; no_failure = idle.no_failure }))
+sync_goes o p false e idle = one_goes o p Sync Synced (idle, e) (counted_quiet p (idle_quiet p idle))
+
+-- ---- polls
+
+-- the turn is that of an event: it comes where it is due, and then nothing is due
+abbrev IsEvent : Turn → Type 0
+IsEvent turn = (o : Outside) (p : Play) → p.due ≡ turn ∷ [] → Fits o Sync p turn × (play_after o Sync p turn ≡ brought p)
+
+-- at most one turn, which is that of an event
+abbrev AreEvent : List Turn → Type 0
+AreEvent [] = Unit {0}
+AreEvent (turn ∷ turns) = IsEvent turn × (turns ≡ [])
+
+brings_event : (event : Event) → AreEvent (brings event)
+brings_event (Open till) = (λ o p due. (due, refl), refl)
+brings_event (Close till) = (λ o p due. (due, refl), refl)
+brings_event (FromTill till bytes) = (λ o p due. (due, refl), refl)
+brings_event (FromPt pt bytes) = (λ o p due. (due, refl), refl)
+brings_event (Lose pt) = (λ o p due. (due, refl), refl)
+brings_event Tick = tt
+
+passed_due : (o : Outside) (failing : Failing) (p : Play) → (fails_next o failing p).due ≡ p.due
+passed_due o failing p = by_test (is_reached o failing)
+  where
+    by_test : (test : Bool) → (if test then record p { hazard = armed failing p.hazard } else p).due ≡ p.due
+    by_test true = refl
+    by_test false = refl
+
+passed_failing : (o : Outside) (failing : Failing) (p : Play) → (fails_next o failing p).failing ≡ p.failing
+passed_failing o failing p = by_test (is_reached o failing)
+  where
+    by_test : (test : Bool) → (if test then record p { hazard = armed failing p.hazard } else p).failing ≡ p.failing
+    by_test true = refl
+    by_test false = refl
+
+met_event : (o : Outside) (p : Play) (lines : List PlayedLine) → p.due ≡ [] → AreEvent (met o p lines).due
+met_event o p [] none = (λ o p due. (due, refl), refl)
+met_event o p (At now ∷ lines) none = met_event o (record p { moment = now }) lines none
+met_event o p (Poll event ∷ lines) none = by_test (applies o event) (met_event o p lines none)
+  where
+    by_test : (test : Bool) → AreEvent (met o p lines).due → AreEvent (if test then record p { lines = lines; due = brings event } else met o p lines).due
+    by_test true later = brings_event event
+    by_test false later = later
+met_event o p (Fail failing ∷ lines) none = met_event o (fails_next o failing p) lines (passed_due o failing p ∙ none)
+met_event o p (Power calls kind ∷ lines) none = by_test (calls == 0) (met_event o (powered calls kind p) lines none)
+  where
+    by_test : (test : Bool) → AreEvent (met o (powered calls kind p) lines).due → AreEvent (if test then is_off kind (record p { lines = lines }) else met o (powered calls kind p) lines).due
+    by_test true later = subst AreEvent (sym none) tt
+    by_test false later = later
+
+met_failing : (o : Outside) (p : Play) (lines : List PlayedLine) → (met o p lines).failing ≡ p.failing
+met_failing o p [] = refl
+met_failing o p (At now ∷ lines) = met_failing o (record p { moment = now }) lines
+met_failing o p (Poll event ∷ lines) = by_test (applies o event) (met_failing o p lines)
+  where
+    by_test : (test : Bool) → (met o p lines).failing ≡ p.failing → (if test then record p { lines = lines; due = brings event } else met o p lines).failing ≡ p.failing
+    by_test true later = refl
+    by_test false later = later
+met_failing o p (Fail failing ∷ lines) = met_failing o (fails_next o failing p) lines ∙ passed_failing o failing p
+met_failing o p (Power calls kind ∷ lines) = by_test (calls == 0) (met_failing o (powered calls kind p) lines)
+  where
+    by_test : (test : Bool) → (met o (powered calls kind p) lines).failing ≡ p.failing → (if test then is_off kind (record p { lines = lines }) else met o (powered calls kind p) lines).failing ≡ p.failing
+    by_test true later = refl
+    by_test false later = later
+
+-- the event that is due comes
+due_leads : (o : Outside) (p : Play) (due : List Turn) → p.due ≡ due → AreEvent due → Leads o p due (brought p)
+due_leads o p [] is event = ap (λ d. record p { due = d }) is
+due_leads o p (turn ∷ turns) is event =
+    let only : p.due ≡ turn ∷ [] = is ∙ ap (λ ts. turn ∷ ts) event.1 in
+    let (fits, after) = event.0 o p only in
+    subst (λ ts. Leads o p (turn ∷ ts) (brought p)) (sym event.1) (Sync, fits, after)
+
+poll_goes : (o : Outside) (p : Play) → Idle p → (after_poll o p).off ≡ None → Goes o p (Polled (after_poll o p).moment ∷ (after_poll o p).due) (brought (after_poll o p))
+poll_goes o p idle on =
+    let q = after_poll o p in
+    record {
+      leads = (Sync, (idle, on, refl), due_leads (outside_after o (Polled q.moment)) q q.due refl (met_event o p p.lines idle.no_event));
+      quiet = record { no_event = refl; no_failure = met_failing o p p.lines ∙ idle.no_failure };
+    }
+
+-- ---- calls and power failures
+
+-- the last poll has reached a power failure, which the log doesn't show yet
+record Fell (o : Outside) (p q : Play) : Type 0 where
+  kind : ImageKind
+  idle : Idle q
+  off : (after_poll o q).off ≡ Some kind
+  is : p ≡ after_poll o q
+
+-- the place of the site, and that which the log shows: they are one, but after a poll that has reached a power failure
+abbrev AreAt : Outside → Play → Play → Type 0
+AreAt o p q = ((q ≡ p) × IsQuiet p) ⊎ Fell o p q
+
+leads_append : (o : Outside) (p : Play) (xs ys : List Turn) (q r : Play) → Leads o p xs q → Leads (outside_from o xs) q ys r → Leads o p (xs ++ ys) r
+leads_append o p [] ys q r same rest = subst (λ x. Leads o x ys r) (sym same) rest
+leads_append o p (x ∷ xs) ys q r (call, fits, more) rest = (call, fits, leads_append (outside_after o x) (play_after o call p x) xs ys q r more rest)
+
+-- what these steps have left leads somewhere
+abbrev Again : List SiteStep → Type 0
+Again steps = (o : Outside) (p q : Play) (turns : List Turn) (after : Play) → AreAt o p q → LeadsBy o p steps turns after → (final : Play) × Leads o q turns final
+
+made_then : (steps : List SiteStep) → Again steps → (o : Outside) (p : Play) (made later turns : List Turn) (place after : Play) → Goes o p made place → turns ≡ made ++ later → LeadsBy (outside_from o made) place steps later after →
+    (final : Play) × Leads o p turns final
+made_then steps again o p made later turns place after goes is rest =
+    let (final, leads) = again (outside_from o made) place place later after (inl (refl, goes.quiet)) rest in
+    (final, subst (λ t. Leads o p t final) (sym is) (leads_append o p made later place final goes.leads leads))
+
+poll_then : (steps : List SiteStep) → Again steps → (o : Outside) (p : Play) (later turns : List Turn) (after : Play) → Idle p → (off : Option ImageKind) → (after_poll o p).off ≡ off →
+    turns ≡ polled_turns (after_poll o p) off ++ later → LeadsBy (outside_from o (polled_turns (after_poll o p) off)) (polled_place (after_poll o p) off) steps later after → (final : Play) × Leads o p turns final
+poll_then steps again o p later turns after idle None off is rest = made_then steps again o p (Polled (after_poll o p).moment ∷ (after_poll o p).due) later turns (brought (after_poll o p)) after (poll_goes o p idle off) is rest
+poll_then steps again o p later turns after idle (Some kind) off is rest =
+    let (final, leads) = again o (after_poll o p) p later after (inr (record { kind = kind; idle = idle; off = off; is = refl })) rest in
+    (final, subst (λ t. Leads o p t final) (sym is) leads)
+
+call_then : (steps : List SiteStep) → Again steps → (o : Outside) (p : Play) (call : SiteCall) (later turns : List Turn) (after : Play) → Idle p →
+    turns ≡ call_turns o p call ++ later → LeadsBy (outside_from o (call_turns o p call)) (place_after o p call) steps later after → (final : Play) × Leads o p turns final
+call_then steps again o p (OpenCall setup) later turns after idle is rest = made_then steps again o p _ later turns _ after (open_goes o p setup p.hazard.fail_open refl idle) is rest
+call_then steps again o p PollCall later turns after idle is rest = poll_then steps again o p later turns after idle (after_poll o p).off refl is rest
+call_then steps again o p (SendTillCall till bytes) later turns after idle is rest =
+    let most = takes_most p.hazard.fail_tills till in
+    made_then steps again o p _ later turns _ after (one_goes o p Sync (SentTill till (sent_of most bytes) (not (is_some most))) (idle, sends-take-theirs most bytes) (till_quiet p till (sent_of most bytes) (not (is_some most)) o idle)) is rest
+call_then steps again o p (SendPtCall pt bytes) later turns after idle is rest =
+    let most = takes_most p.hazard.fail_pts pt in
+    made_then steps again o p _ later turns _ after (one_goes o p Sync (SentPt pt (sent_of most bytes) (not (is_some most))) (idle, sends-take-theirs most bytes) (pt_quiet p pt (sent_of most bytes) (not (is_some most)) o idle)) is rest
+call_then steps again o p (LinkCall pt) later turns after idle is rest = made_then steps again o p _ later turns _ after (link_goes o p pt (is_failing p.hazard.fail_links pt) refl idle) is rest
+call_then steps again o p (CutTillCall till) later turns after idle is rest = made_then steps again o p _ later turns _ after (one_goes o p Sync (CutTill till) idle (counted_quiet p (idle_quiet p idle))) is rest
+call_then steps again o p (CutPtCall pt) later turns after idle is rest = made_then steps again o p _ later turns _ after (one_goes o p Sync (CutPt pt) idle (counted_quiet p (idle_quiet p idle))) is rest
+call_then steps again o p LengthCall later turns after idle is rest = made_then steps again o p _ later turns _ after (length_goes o p p.hazard.fail_length refl idle) is rest
+call_then steps again o p (ReadCall offset size) later turns after idle is rest = made_then steps again o p _ later turns _ after (read_goes o p p.hazard.fail_read refl idle) is rest
+call_then steps again o p (WriteCall offset bytes) later turns after idle is rest = made_then steps again o p _ later turns _ after (write_goes o p offset bytes p.hazard.fail_write refl idle) is rest
+call_then steps again o p SyncCall later turns after idle is rest = made_then steps again o p _ later turns _ after (sync_goes o p p.hazard.fail_sync refl idle) is rest
+
+-- the power failure that the log shows is the one that the script has reached
+crash_then : (steps : List SiteStep) → Again steps → (o : Outside) (p q : Play) (kind : ImageKind) (later turns : List Turn) (after : Play) → q.due ≡ [] → q.failing ≡ false → fallen o q.off q ≡ p → p.off ≡ Some kind →
+    turns ≡ Crash (crash_file kind o) ∷ later → LeadsBy (outside_after o (Crash (crash_file kind o))) (restarted p) steps later after → (final : Play) × Leads o q turns final
+crash_then steps again o p q kind later turns after none failing same off is rest =
+    let file = crash_file kind o in
+    let (final, leads) = again (outside_after o (Crash file)) (restarted p) (restarted p) later after (inl (refl, record { no_event = refl; no_failure = refl })) rest in
+    let from : Leads (outside_after o (Crash file)) (restarted (fallen o q.off q)) later final = subst (λ x. Leads (outside_after o (Crash file)) (restarted x) later final) (sym same) leads in
+    (final, subst (λ t. Leads o q t final) (sym is) (Sync, record { kind = kind; no_event = none; no_failure = failing; off = ap (λ (x : Play). x.off) same ∙ off; file_is = refl }, from))
+
+goes_by : (steps : List SiteStep) → Again steps
+goes_by [] o p q turns after at (none, same) = (q, subst (λ t. Leads o q t q) (sym none) refl)
+goes_by (Made call ∷ steps) o p q turns after (inl (same, quiet)) (made, later, (idle, made_is), is, rest) =
+    let (final, leads) = call_then steps (goes_by steps) o p call later turns after idle (is ∙ ap (λ m. m ++ later) made_is) (subst (λ m. LeadsBy (outside_from o m) (place_after o p call) steps later after) made_is rest) in
+    (final, subst (λ x. Leads o x turns final) (sym same) leads)
+goes_by (Made call ∷ steps) o p q turns after (inr fell) (made, later, (idle, made_is), is, rest) = absurd (let e : Some fell.kind ≡ None = sym fell.off ∙ sym (ap (λ (x : Play). x.off) fell.is) ∙ idle.power in cc)
+goes_by (PowerBack ∷ steps) o p q turns after (inl (same, quiet)) (kind, later, off, is, rest) =
+    let stays : fallen o p.off p ≡ p = ap (λ x. fallen o x p) off in
+    let (final, leads) = crash_then steps (goes_by steps) o p p kind later turns after quiet.no_event quiet.no_failure stays off is rest in
+    (final, subst (λ x. Leads o x turns final) (sym same) leads)
+goes_by (PowerBack ∷ steps) o p q turns after (inr fell) (kind, later, off, is, rest) =
+    crash_then steps (goes_by steps) o p q kind later turns after fell.idle.no_event fell.idle.no_failure (ap (λ x. fallen o x q) fell.idle.power ∙ sym fell.is) off is rest
+
+begins_quiet : (lines : List PlayedLine) → IsQuiet (begins lines)
+begins_quiet lines = record { no_event = refl; no_failure = refl }
+
+pub calls-play : CallsPlay
+calls-play lines steps log (after, leads) = goes_by steps nothing_yet (begins lines) (begins lines) log after (inl (refl, begins_quiet lines)) leads
+
+-- ---- one log
+
+some_same : (a b : ImageKind) → Some a ≡ Some b → a ≡ b
+some_same a b e = cc
+
+one_log : (steps : List SiteStep) (o : Outside) (p : Play) (turns other : List Turn) (after end : Play) → LeadsBy o p steps turns after → LeadsBy o p steps other end → turns ≡ other
+one_log [] o p turns other after end h k = h.0 ∙ sym k.0
+one_log (Made call ∷ steps) o p turns other after end (made, later, (idle, made_is), is, rest) (made2, later2, (idle2, made_is2), is2, rest2) =
+    let same : made ≡ made2 = made_is ∙ sym made_is2 in
+    let more = one_log steps (outside_from o made2) (place_after o p call) later later2 after end (subst (λ m. LeadsBy (outside_from o m) (place_after o p call) steps later after) same rest) rest2 in
+    is ∙ ap (λ m. m ++ later) same ∙ ap (λ l. made2 ++ l) more ∙ sym is2
+one_log (PowerBack ∷ steps) o p turns other after end (kind, later, off, is, rest) (kind2, later2, off2, is2, rest2) =
+    let same : kind ≡ kind2 = some_same kind kind2 (sym off ∙ off2) in
+    let more = one_log steps (outside_after o (Crash (crash_file kind2 o))) (restarted p) later later2 after end (subst (λ k. LeadsBy (outside_after o (Crash (crash_file k o))) (restarted p) steps later after) same rest) rest2 in
+    is ∙ ap (λ k. Crash (crash_file k o) ∷ later) same ∙ ap (λ l. Crash (crash_file kind2 o) ∷ l) more ∙ sym is2
+
+pub one-log-of-calls : OneLogOfCalls
+one-log-of-calls lines steps log other (after, h) (end, k) = one_log steps nothing_yet (begins lines) log other after end h k
+
+-- ---- one call more
+
+steps_call : (steps : List SiteStep) (o : Outside) (p : Play) (turns : List Turn) (place : Play) (call : SiteCall) (made : List Turn) → LeadsBy o p steps turns place → CallFits (outside_from o turns) place call made →
+    LeadsBy o p (steps ++ Made call ∷ []) (turns ++ made) (place_after (outside_from o turns) place call)
+steps_call [] o p turns place call made (none, same) fits =
+    let f : CallFits o p call made = subst (λ t. CallFits (outside_from o t) p call made) none (subst (λ x. CallFits (outside_from o turns) x call made) (sym same) fits) in
+    (made, [], f, (ap (λ t. t ++ made) none ∙ sym (append-nil made)), (refl, ap (λ t. place_after (outside_from o t) p call) (sym none) ∙ ap (λ x. place_after (outside_from o turns) x call) same))
+steps_call (Made first ∷ steps) o p turns place call made (begun, later, fits, is, rest) last =
+    let o2 = outside_from o begun in
+    let there : outside_from o turns ≡ outside_from o2 later = ap (outside_from o) is ∙ outside_from-append o begun later in
+    let more = steps_call steps o2 (place_after o p first) later place call made rest (subst (λ x. CallFits x place call made) there last) in
+    (begun, later ++ made, fits, (ap (λ t. t ++ made) is ∙ append_assoc begun later made), subst (λ x. LeadsBy o2 (place_after o p first) (steps ++ Made call ∷ []) (later ++ made) (place_after x place call)) (sym there) more)
+steps_call (PowerBack ∷ steps) o p turns place call made (kind, later, off, is, rest) last =
+    let o2 = outside_after o (Crash (crash_file kind o)) in
+    let there : outside_from o turns ≡ outside_from o2 later = ap (outside_from o) is in
+    let more = steps_call steps o2 (restarted p) later place call made rest (subst (λ x. CallFits x place call made) there last) in
+    (kind, later ++ made, off, ap (λ t. t ++ made) is, subst (λ x. LeadsBy o2 (restarted p) (steps ++ Made call ∷ []) (later ++ made) (place_after x place call)) (sym there) more)
+
+-- the turn of a power failure at this outside
+abbrev crash_at : ImageKind → Outside → Turn
+crash_at kind o = Crash (crash_file kind o)
+
+steps_power : (steps : List SiteStep) (o : Outside) (p : Play) (turns : List Turn) (place : Play) (kind : ImageKind) → LeadsBy o p steps turns place → place.off ≡ Some kind →
+    LeadsBy o p (steps ++ PowerBack ∷ []) (turns ++ crash_at kind (outside_from o turns) ∷ []) (restarted place)
+steps_power [] o p turns place kind (none, same) off =
+    let here : p.off ≡ Some kind = ap (λ (x : Play). x.off) same ∙ off in
+    (kind, [], here, (ap (λ t. t ++ crash_at kind (outside_from o t) ∷ []) none), (refl, ap restarted same))
+steps_power (Made first ∷ steps) o p turns place kind (begun, later, fits, is, rest) off =
+    let o2 = outside_from o begun in
+    let there : outside_from o turns ≡ outside_from o2 later = ap (outside_from o) is ∙ outside_from-append o begun later in
+    let more = steps_power steps o2 (place_after o p first) later place kind rest off in
+    (begun, later ++ crash_at kind (outside_from o2 later) ∷ [], fits, (ap (λ x. turns ++ crash_at kind x ∷ []) there ∙ ap (λ t. t ++ crash_at kind (outside_from o2 later) ∷ []) is ∙ append_assoc begun later (crash_at kind (outside_from o2 later) ∷ [])), more)
+steps_power (PowerBack ∷ steps) o p turns place kind (first, later, begun, is, rest) off =
+    let o2 = outside_after o (crash_at first o) in
+    let there : outside_from o turns ≡ outside_from o2 later = ap (outside_from o) is in
+    let more = steps_power steps o2 (restarted p) later place kind rest off in
+    (first, later ++ crash_at kind (outside_from o2 later) ∷ [], begun, (ap (λ x. turns ++ crash_at kind x ∷ []) there ∙ ap (λ t. t ++ crash_at kind (outside_from o2 later) ∷ []) is), more)
+
+pub calls-go-on : CallsGoOn
+calls-go-on lines log place call made (steps, leads) fits = (steps ++ Made call ∷ [], steps_call steps nothing_yet (begins lines) log place call made leads fits)
+
+pub power-goes-on : PowerGoesOn
+power-goes-on lines log place kind (steps, leads) off = (steps ++ PowerBack ∷ [], steps_power steps nothing_yet (begins lines) log place kind leads off)
+
+-- ---- sends
+
+cut_to : (most : ℕ) (bytes : List ℕ) → IsCutTo most bytes (take most bytes)
+cut_to most bytes = record { prefix = (drop most bytes, sym (take-append-drop most bytes)); size = length-take most bytes }
+
+pub sends-are-cut : SendsAreCut
+sends-are-cut = record {
+  tills = λ o p till most bytes turns named fits. (take most bytes, cut_to most bytes, fits.1 ∙ ap (λ n. SentTill till (sent_of n bytes) (not (is_some n)) ∷ []) named);
+  pts = λ o p pt most bytes turns named fits. (take most bytes, cut_to most bytes, fits.1 ∙ ap (λ n. SentPt pt (sent_of n bytes) (not (is_some n)) ∷ []) named);
+}

@@ -1,0 +1,99 @@
+-- The turns of each call of the gateway, by what is handed to it and by how far the script is played. A log alone shows neither what was to be sent nor a look that succeeds; `Playing` says which turns fit by the log alone.
+use Rattle.std.specs.Prelude.{◌≡◌, ℕ, not, if◌then◌else◌, List, [], ◌∷◌, ◌++◌, Option, Some, None, is_some}
+use Rattle.gw_base.specs.declared.setup.Setup.{Setup}
+use Rattle.gw_site.specs.Outside.{Outside, outside_after, outside_from, nothing_yet}
+use Rattle.gw_site.specs.declared.turn.Turn.{Turn}
+use Rattle.gw_site.specs.declared.turn.Turn.TheVariants.{Start, OpenFailed, Polled, Linked, LinkFailed, SentTill, SentPt, CutTill, CutPt, Wrote, Synced, DiskFailed, Crash}
+use Rattle.gw_script.specs.site.ScriptLine.{ImageKind, PlayedLine}
+use Rattle.gw_script.specs.site.Hazards.{crash_file, is_failing, sent_of, takes_most}
+use Rattle.gw_script.specs.site.Playing.{DiskCall, Write, Sync, Length, Read, Idle, Play, after_poll, begins, brought, play_after, restarted}
+
+-- a call on the site, and what is handed to it
+pub data SiteCall : Type 0 where
+  -- a run is to begin with this setup
+  OpenCall : Setup → SiteCall
+  PollCall : SiteCall
+  -- these bytes are to be sent to this till
+  SendTillCall : ℕ → List ℕ → SiteCall
+  -- these bytes are to be sent to this terminal
+  SendPtCall : ℕ → List ℕ → SiteCall
+  -- this terminal is to be linked
+  LinkCall : ℕ → SiteCall
+  CutTillCall : ℕ → SiteCall
+  CutPtCall : ℕ → SiteCall
+  -- the file's length is asked
+  LengthCall : SiteCall
+  -- so many bytes of the file from an offset on are asked
+  ReadCall : ℕ → ℕ → SiteCall
+  -- these bytes are to be written at an offset
+  WriteCall : ℕ → List ℕ → SiteCall
+  SyncCall : SiteCall
+
+-- the turns of a poll: the moment and the event that it has met, or none where it has reached a power failure
+abbrev pub polled_turns : Play → Option ImageKind → List Turn
+polled_turns met None = Polled met.moment ∷ met.due
+polled_turns met (Some kind) = []
+
+-- the turns of the call: a send takes exactly the lesser of all its bytes and the least number of the fail lines for it, a write that fails has all its bytes, and a look leaves a turn only where it fails
+abbrev pub call_turns : Outside → Play → SiteCall → List Turn
+call_turns o p (OpenCall setup) = if p.hazard.fail_open then OpenFailed ∷ [] else Start setup ∷ []
+call_turns o p PollCall = polled_turns (after_poll o p) (after_poll o p).off
+call_turns o p (SendTillCall till bytes) = SentTill till (sent_of (takes_most p.hazard.fail_tills till) bytes) (not (is_some (takes_most p.hazard.fail_tills till))) ∷ []
+call_turns o p (SendPtCall pt bytes) = SentPt pt (sent_of (takes_most p.hazard.fail_pts pt) bytes) (not (is_some (takes_most p.hazard.fail_pts pt))) ∷ []
+call_turns o p (LinkCall pt) = if is_failing p.hazard.fail_links pt then LinkFailed pt ∷ [] else Linked pt ∷ []
+call_turns o p (CutTillCall till) = CutTill till ∷ []
+call_turns o p (CutPtCall pt) = CutPt pt ∷ []
+call_turns o p LengthCall = if p.hazard.fail_length then DiskFailed ∷ [] else []
+call_turns o p (ReadCall offset size) = if p.hazard.fail_read then DiskFailed ∷ [] else []
+call_turns o p (WriteCall offset bytes) = if p.hazard.fail_write then Wrote offset bytes ∷ DiskFailed ∷ [] else Wrote offset bytes ∷ []
+call_turns o p SyncCall = if p.hazard.fail_sync then DiskFailed ∷ [] else Synced ∷ []
+
+-- how far the script is played after turns of one call; a failure of the disk is that of this call
+abbrev pub play_from : Outside → DiskCall → Play → List Turn → Play
+play_from o call p [] = p
+play_from o call p (turn ∷ turns) = play_from (outside_after o turn) call (play_after o call p turn) turns
+
+-- how far the script is played after a poll that has met this: its event was brought, or the power has failed
+abbrev pub polled_place : Play → Option ImageKind → Play
+polled_place met None = brought met
+polled_place met (Some kind) = met
+
+-- how far the script is played after the call
+abbrev pub place_after : Outside → Play → SiteCall → Play
+place_after o p (OpenCall setup) = play_from o Sync p (call_turns o p (OpenCall setup))
+place_after o p PollCall = polled_place (after_poll o p) (after_poll o p).off
+place_after o p (SendTillCall till bytes) = play_from o Sync p (call_turns o p (SendTillCall till bytes))
+place_after o p (SendPtCall pt bytes) = play_from o Sync p (call_turns o p (SendPtCall pt bytes))
+place_after o p (LinkCall pt) = play_from o Sync p (call_turns o p (LinkCall pt))
+place_after o p (CutTillCall till) = play_from o Sync p (call_turns o p (CutTillCall till))
+place_after o p (CutPtCall pt) = play_from o Sync p (call_turns o p (CutPtCall pt))
+place_after o p LengthCall = play_from o Length p (call_turns o p LengthCall)
+place_after o p (ReadCall offset size) = play_from o Read p (call_turns o p (ReadCall offset size))
+place_after o p (WriteCall offset bytes) = play_from o Write p (call_turns o p (WriteCall offset bytes))
+place_after o p SyncCall = play_from o Sync p (call_turns o p SyncCall)
+
+-- the call may be made here and has these turns: no event is due, and the power is there
+abbrev pub CallFits : Outside → Play → SiteCall → List Turn → Type 0
+CallFits o p call turns = Idle p × (turns ≡ call_turns o p call)
+
+-- what happens to a site
+pub data SiteStep : Type 0 where
+  -- the gateway makes this call
+  Made : SiteCall → SiteStep
+  -- the power, which has failed, is there again
+  PowerBack : SiteStep
+
+-- the calls and power failures lead from one place of the script to another, with these turns
+abbrev pub LeadsBy : Outside → Play → List SiteStep → List Turn → Play → Type 0
+LeadsBy o p [] turns after = (turns ≡ []) × (p ≡ after)
+LeadsBy o p (Made call ∷ steps) turns after = (made : List Turn) × (later : List Turn) × CallFits o p call made × (turns ≡ made ++ later) × LeadsBy (outside_from o made) (place_after o p call) steps later after
+LeadsBy o p (PowerBack ∷ steps) turns after =
+    (kind : ImageKind) × (later : List Turn) × (p.off ≡ Some kind) × (turns ≡ Crash (crash_file kind o) ∷ later) × LeadsBy (outside_after o (Crash (crash_file kind o))) (restarted p) steps later after
+
+-- a site that plays these lines has this log after these calls and power failures
+abbrev pub PlaysBy : List PlayedLine → List SiteStep → List Turn → Type 0
+PlaysBy lines steps log = (after : Play) × LeadsBy nothing_yet (begins lines) steps log after
+
+-- after some calls and power failures the lines are played up to this place, with this log
+abbrev pub IsPlayedTo : List PlayedLine → List Turn → Play → Type 0
+IsPlayedTo lines log place = (steps : List SiteStep) × LeadsBy nothing_yet (begins lines) steps log place

@@ -1,0 +1,6 @@
+-- The lemmas of the reader of scripts.
+pub mod LineLemmas
+pub mod NumberLemmas
+pub mod ScriptLemmas
+pub mod SplitLemmas
+pub mod WordLemmas

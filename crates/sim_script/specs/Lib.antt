@@ -1,0 +1,4 @@
+-- What the reader of scripts returns, in the words of the grammar.
+pub mod Read
+pub mod Values
+pub mod Words

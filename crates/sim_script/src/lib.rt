@@ -1,0 +1,13 @@
+//! Reading the whole script: its setup lines, and the lines that are played.
+#![tactic(auto)]
+
+mod fault;
+mod line;
+mod played_line;
+mod reader;
+mod setup_line;
+mod word;
+
+pub use fault::ScriptFault;
+pub use line::{Chunk, FailingCall, Given, ImageKind, Script, ScriptEvent, ScriptLine};
+pub use reader::read_script;

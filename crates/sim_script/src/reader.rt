@@ -1,0 +1,267 @@
+//! Reading a script.
+ghost use Rattle.std.specs.Prelude.{◌≡◌, ◌<◌, ◌≤◌, ◌↔◌, ◌==◌, ◌∷◌, ◌⊎◌, ℕ, pos, length, position, option_map, option_and_then, Ok, Some, IfOk, IfErr, OnOk, IsErrOf};
+ghost use Rattle.gw_base.specs.Moment.{last_moment};
+ghost use Rattle.gw_script.specs.Decode.{is_blank, script_limit, split_lines};
+ghost use Rattle.gw_script.specs.site.Decode.{entry_of, event_forms, formed, forms, no_lines, number_within, polling, script_of, setting, spelled, with_entry};
+ghost use Rattle.gw_script.specs.site.ScriptLine.{At, Playing, Queue, Setting, Slots, Wait};
+ghost use Rattle.sim_script.specs.Read.{IsTakenIn, IsScriptFault, read_line_value};
+ghost use Rattle.sim_script.specs.Values.{script_event_value, script_line_value, whole_script_value, setting_value};
+
+use crate::fault::ScriptFault;
+use crate::line::{Given, Script, ScriptEvent, ScriptLine, SetupLine};
+use crate::played_line::{failing_of, power_of, pt_bytes, till_bytes, till_said};
+use crate::setup_line::{add_setting, terminal_words};
+use crate::word::{first_word, link_number, name_word, number, number_within};
+use gw_base::LAST_MOMENT;
+use gw_bytes::{FEWEST_SLOTS, LONGEST_SCRIPT, LONGEST_WAIT, MOST_SLOTS, MOST_WAITING};
+use std::alloc::{AllocError, Global};
+use std::str;
+
+/// What one line of the text is.
+#[derive(Drop)]
+pub(crate) enum ReadEntry {
+    /// An empty line or a comment.
+    Blank,
+    Setting(SetupLine),
+    Playing(ScriptLine),
+}
+
+/// A setup line, where there is one.
+fn setting(line: Option<SetupLine>) -> Option<ReadEntry>
+    ensures { option_map read_line_value result ≡ setting (option_map setting_value line) }
+{
+    Some(ReadEntry::Setting(line?))
+}
+
+/// The line of a poll that brings this.
+fn polling(event: Option<ScriptEvent>) -> Option<ReadEntry>
+    ensures { option_map read_line_value result ≡ polling (option_map script_event_value event) }
+{
+    Some(ReadEntry::Playing(ScriptLine::Poll(event?)))
+}
+
+/// A line that is played, where there is one.
+fn playing(line: Option<ScriptLine>) -> Option<ReadEntry>
+    ensures { option_map read_line_value result ≡ option_map Playing (option_map script_line_value line) }
+{
+    Some(ReadEntry::Playing(line?))
+}
+
+/// The moment that `at` and this word give.
+fn moment(word: &str) -> Option<ScriptLine>
+    ensures { option_map script_line_value result ≡ option_map (λ n. At (pos n)) (number_within 0 last_moment word.now) }
+{
+    let n = number_within(0, LAST_MOMENT as u64, word)?;
+    Some(ScriptLine::At(n as i64))
+}
+
+/// The line of a first word of these, by which a poll brings something or something fails, and of what follows its space.
+fn event_formed(alloc: Global, word: &str, rest: &str) -> Result<Option<ReadEntry>, AllocError>
+    ensures { IfOk result (λ entry. option_map read_line_value entry ≡ formed event_forms word.now rest.now) }
+{
+    if word == "open" {
+        Ok(polling(number(rest).map(ScriptEvent::Open)))
+    } else if word == "close" {
+        Ok(polling(number(rest).map(ScriptEvent::Close)))
+    } else if word == "till" {
+        Ok(polling(till_bytes(alloc, rest)?))
+    } else if word == "say" {
+        Ok(polling(till_said(alloc, rest)?))
+    } else if word == "pt" {
+        Ok(polling(pt_bytes(alloc, rest)?))
+    } else if word == "lost" {
+        Ok(polling(link_number(rest).map(ScriptEvent::Lose)))
+    } else if word == "fail" {
+        Ok(playing(failing_of(rest).map(ScriptLine::Fail)))
+    } else if word == "power" {
+        Ok(playing(power_of(alloc, rest)?))
+    } else {
+        Ok(None)
+    }
+}
+
+/// How many requests may wait, by this word.
+fn queue(word: &str) -> Option<SetupLine>
+    ensures { option_map setting_value result ≡ option_map Queue (number_within 0 8 word.now) }
+{
+    let n = number_within(0, u64::from(MOST_WAITING), word)?;
+    Some(SetupLine::Queue(n as u8))
+}
+
+/// How long a request may wait, by this word.
+fn wait(word: &str) -> Option<SetupLine>
+    ensures { option_map setting_value result ≡ option_map Wait (number_within 1 3600 word.now) }
+{
+    let n = number_within(1, u64::from(LONGEST_WAIT), word)?;
+    Some(SetupLine::Wait(n as u32))
+}
+
+/// How many records the journal holds, by this word.
+fn slots(word: &str) -> Option<SetupLine>
+    ensures { option_map setting_value result ≡ option_map Slots (number_within 2 1000000 word.now) }
+{
+    let n = number_within(u64::from(FEWEST_SLOTS), u64::from(MOST_SLOTS), word)?;
+    Some(SetupLine::Slots(n as u32))
+}
+
+/// The line of a first word and of what follows its space.
+fn formed(alloc: Global, word: &str, rest: &str) -> Result<Option<ReadEntry>, AllocError>
+    ensures { IfOk result (λ entry. option_map read_line_value entry ≡ formed forms word.now rest.now) }
+{
+    if word == "name" {
+        Ok(setting(name_word(rest).map(SetupLine::Name)))
+    } else if word == "line" {
+        Ok(setting(queue(rest)))
+    } else if word == "wait" {
+        Ok(setting(wait(rest)))
+    } else if word == "slots" {
+        Ok(setting(slots(rest)))
+    } else if word == "terminal" {
+        Ok(setting(terminal_words(alloc, rest)?))
+    } else if word == "at" {
+        Ok(playing(moment(rest)))
+    } else {
+        event_formed(alloc, word, rest)
+    }
+}
+
+/// Whether a line is empty or a comment.
+fn is_blank(text: &[u8]) -> bool
+    ensures { result ≡ is_blank text.now }
+{
+    match text {
+        [] => true,
+        [first, ..] => *first == b'#',
+    }
+}
+
+/// The line that a text spells.
+fn spelled(alloc: Global, text: &str) -> Result<Option<ReadEntry>, AllocError>
+    ensures { IfOk result (λ entry. option_map read_line_value entry ≡ spelled text.now) }
+{
+    if is_blank(text.as_bytes()) {
+        return Ok(Some(ReadEntry::Blank));
+    }
+    if text == "tick" {
+        return Ok(polling(Some(ScriptEvent::Tick)));
+    }
+    match first_word(text) {
+        Some((word, rest)) => formed(alloc, word, rest),
+        None => Ok(None),
+    }
+}
+
+/// The line that these bytes spell.
+fn entry_of(alloc: Global, text: &[u8]) -> Result<Option<ReadEntry>, AllocError>
+    ensures { IfOk result (λ entry. option_map read_line_value entry ≡ entry_of text.now) }
+{
+    match str::from_utf8(text) {
+        Ok(text) => spelled(alloc, text),
+        Err(_) => Ok(None),
+    }
+}
+
+/// Adds a setup line to the script. False where it may not come there.
+fn add_setup(script: &mut Script, line: SetupLine) -> Result<bool, AllocError>
+    ensures { IfOk result (λ added. IsTakenIn added (with_entry (whole_script_value script.old) (Setting (setting_value line))) (whole_script_value script.new)) }
+{
+    if !script.lines.is_empty() {
+        return Ok(false);
+    }
+    add_setting(&mut script.given, line)
+}
+
+/// Adds a line that is played to the script.
+fn add_line(script: &mut Script, line: ScriptLine) -> Result<(), AllocError>
+    ensures { OnOk result (with_entry (whole_script_value script.old) (Playing (script_line_value line)) ≡ Some (whole_script_value script.new)) }
+{
+    script.lines.push(line)?;
+    Ok(())
+}
+
+/// Adds a line to the script. False where it may not come there.
+fn add_entry(script: &mut Script, entry: ReadEntry) -> Result<bool, AllocError>
+    ensures { IfOk result (λ added. IsTakenIn added (with_entry (whole_script_value script.old) (read_line_value entry)) (whole_script_value script.new)) }
+{
+    match entry {
+        ReadEntry::Blank => Ok(true),
+        ReadEntry::Setting(line) => add_setup(script, line),
+        ReadEntry::Playing(line) => {
+            add_line(script, line)?;
+            Ok(true)
+        }
+    }
+}
+
+/// Adds the line that these bytes spell to the script. False where they spell none that may come there.
+fn add_text(alloc: Global, script: &mut Script, text: &[u8]) -> Result<bool, AllocError>
+    ensures { IfOk result (λ added. IsTakenIn added (option_and_then (with_entry (whole_script_value script.old)) (entry_of text.now)) (whole_script_value script.new)) }
+{
+    match entry_of(alloc, text)? {
+        Some(entry) => add_entry(script, entry),
+        None => Ok(false),
+    }
+}
+
+/// The offset of the first line end.
+fn line_end(bytes: &[u8]) -> Option<usize>
+    ensures { result ≡ position (λ byte. byte == 10) bytes.now }
+{
+    bytes.iter().position(|byte| *byte == b'\n')
+}
+
+/// The first text, and the bytes after its line end.
+fn first_text(bytes: &[u8]) -> (&[u8], &[u8])
+    requires { 0 < length bytes.now }
+    ensures texts { split_lines bytes.now ≡ result.0.now ∷ split_lines result.1.now }
+    ensures shorter { length result.1.now < length bytes.now }
+{
+    match line_end(bytes) {
+        Some(end) => (&bytes[..end], &bytes[end + 1..]),
+        None => (bytes, &[]),
+    }
+}
+
+/// A script before its first line.
+fn no_lines(alloc: Global) -> Script
+    ensures { whole_script_value result ≡ no_lines }
+{
+    Script {
+        given: Given {
+            name: None,
+            queue: None,
+            wait: None,
+            slots: None,
+            terminals: Vec::new(alloc),
+        },
+        lines: Vec::new(alloc),
+    }
+}
+
+/// Reads a script whole, by the grammar of all its lines: the script, or its first line of another form.
+pub fn read_script(alloc: Global, bytes: &[u8]) -> Result<Script, ScriptFault>
+    ensures ok { IfOk result (λ script. script_of bytes.now ≡ Ok (whole_script_value script)) }
+    ensures within { OnOk result (length bytes.now ≤ script_limit) }
+    ensures fault { IfErr result (IsScriptFault bytes.now) }
+
+    // Exactly then, but that memory may be refused before the line is reached.
+    ensures long { IsErrOf result ScriptFault.Long ↔ (script_limit < length bytes.now) }
+    ensures line { (line : ℕ) → IsScriptFault bytes.now (ScriptFault.Line line)
+        → IsErrOf result (ScriptFault.Line line) ⊎ IsErrOf result ScriptFault.Memory }
+{
+    if bytes.len() > LONGEST_SCRIPT {
+        return Err(ScriptFault::Long);
+    }
+    let mut script = no_lines(alloc);
+    let mut rest = bytes;
+    let mut number = 1;
+    while !rest.is_empty() {
+        let (text, after) = first_text(rest);
+        if !add_text(alloc, &mut script, text)? {
+            return Err(ScriptFault::Line { line: number });
+        }
+        rest = after;
+        number += 1;
+    }
+    Ok(script)
+}

@@ -1,0 +1,9 @@
+//! A site in memory that plays a script: its tills and terminals, its disk, calls that fail and power failures.
+#![tactic(auto)]
+
+mod brought;
+mod connections;
+mod disk;
+mod hazard;
+mod place;
+mod sought;

@@ -1,0 +1,150 @@
+//! How far a script is played, and how calls go on from there.
+ghost use Rattle.std.specs.Prelude.{◌≡◌, List, ℕ};
+ghost use Rattle.gw_base.specs.declared.setup.Setup.{Setup};
+ghost use Rattle.gw_script.specs.site.Calls.{CutPtCall, CutTillCall, LengthCall, LinkCall, OpenCall, ReadCall, SendPtCall, SendTillCall, SyncCall, WriteCall};
+ghost use Rattle.gw_script.specs.site.Hazards.{is_failing, takes_most};
+ghost use Rattle.gw_script.specs.site.Playing.{counted, restarted};
+ghost use Rattle.sim_script.specs.declared.line.ScriptLine.{ScriptLine};
+ghost use Rattle.sim_site.specs.Hazards.{sends_value};
+
+use crate::hazard::{Armed, Hazard, drop_links, drop_sends, is_failing, takes_most};
+use sim_script::ImageKind;
+
+/// How far a script is played, between two calls.
+#[derive(Drop)]
+pub(crate) struct Place {
+    /// The index of the first line that is left.
+    pub(crate) at: usize,
+    /// No line that polls was passed yet: fail lines that took effect before the first run are passed over.
+    pub(crate) early: bool,
+    /// The moment of the last `at` line passed.
+    pub(crate) moment: i64,
+    pub(crate) hazard: Hazard,
+    /// The power has failed, and leaves this.
+    pub(crate) off: Option<ImageKind>,
+}
+
+impl Place {
+    ghost use Rattle.sim_site.specs.Places.{Moves, place_value};
+
+    /// A call was made that counts for a power failure.
+    pub(crate) fn count(&mut self)
+        ensures { (lines : List ScriptLine) → place_value lines self.new ≡ counted (place_value lines self.old) }
+    {
+        let Some(armed) = self.hazard.power else {
+            return;
+        };
+        if armed.calls <= 1 {
+            self.hazard.power = None;
+            self.off = Some(armed.kind);
+        } else {
+            self.hazard.power = Some(Armed {
+                calls: armed.calls - 1,
+                kind: armed.kind,
+            });
+        }
+    }
+
+    /// The site is opened. True where this fails.
+    pub(crate) fn open(&mut self) -> bool
+        ensures fails { result ≡ self.old.hazard.open }
+        ensures moves { (setup : Setup) → Moves self.old self.new (OpenCall setup) }
+    {
+        let fails = self.hazard.open;
+        self.hazard.open = false;
+        self.count();
+        fails
+    }
+
+    /// Bytes are sent to a till. How many it takes, where the send fails.
+    pub(crate) fn send_till(&mut self, till: u64) -> Option<u64>
+        ensures most { result ≡ takes_most (sends_value self.old.hazard.tills.items) till }
+        ensures moves { (bytes : List ℕ) → Moves self.old self.new (SendTillCall till bytes) }
+    {
+        let most = takes_most(&self.hazard.tills, till);
+        drop_sends(&mut self.hazard.tills, till);
+        self.count();
+        most
+    }
+
+    /// Bytes are sent to a terminal. How many it takes, where the send fails.
+    pub(crate) fn send_pt(&mut self, pt: u16) -> Option<u64>
+        ensures most { result ≡ takes_most (sends_value self.old.hazard.pts.items) pt }
+        ensures moves { (bytes : List ℕ) → Moves self.old self.new (SendPtCall pt bytes) }
+    {
+        let number = u64::from(pt);
+        let most = takes_most(&self.hazard.pts, number);
+        drop_sends(&mut self.hazard.pts, number);
+        self.count();
+        most
+    }
+
+    /// A terminal is linked. True where this fails.
+    pub(crate) fn link(&mut self, pt: u16) -> bool
+        ensures fails { result ≡ is_failing self.old.hazard.links.items pt }
+        ensures moves { Moves self.old self.new (LinkCall pt) }
+    {
+        let fails = is_failing(&self.hazard.links, pt);
+        drop_links(&mut self.hazard.links, pt);
+        self.count();
+        fails
+    }
+
+    /// A connection is cut.
+    pub(crate) fn cut(&mut self)
+        ensures tills { (till : ℕ) → Moves self.old self.new (CutTillCall till) }
+        ensures pts { (pt : ℕ) → Moves self.old self.new (CutPtCall pt) }
+    {
+        self.count();
+    }
+
+    /// The file's length is asked. True where this fails.
+    pub(crate) fn length(&mut self) -> bool
+        ensures fails { result ≡ self.old.hazard.length }
+        ensures moves { Moves self.old self.new LengthCall }
+    {
+        let fails = self.hazard.length;
+        self.hazard.length = false;
+        fails
+    }
+
+    /// Bytes of the file are asked. True where this fails.
+    pub(crate) fn read(&mut self) -> bool
+        ensures fails { result ≡ self.old.hazard.read }
+        ensures moves { (offset size : ℕ) → Moves self.old self.new (ReadCall offset size) }
+    {
+        let fails = self.hazard.read;
+        self.hazard.read = false;
+        fails
+    }
+
+    /// Bytes are written. True where this fails.
+    pub(crate) fn write(&mut self) -> bool
+        ensures fails { result ≡ self.old.hazard.write }
+        ensures moves { (offset : ℕ) (bytes : List ℕ) → Moves self.old self.new (WriteCall offset bytes) }
+    {
+        let fails = self.hazard.write;
+        self.hazard.write = false;
+        self.count();
+        fails
+    }
+
+    /// The file is synced. True where this fails.
+    pub(crate) fn sync(&mut self) -> bool
+        ensures fails { result ≡ self.old.hazard.sync }
+        ensures moves { Moves self.old self.new SyncCall }
+    {
+        let fails = self.hazard.sync;
+        self.hazard.sync = false;
+        self.count();
+        fails
+    }
+
+    /// The power, which had failed, is there again.
+    pub(crate) fn restart(&mut self)
+        ensures { (lines : List ScriptLine) → place_value lines self.new ≡ restarted (place_value lines self.old) }
+    {
+        self.hazard.forget();
+        self.off = None;
+    }
+}

@@ -1,9 +1,0 @@
--- What the loop of `shown_lines` keeps.
-use Rattle.std.proofs.Common.{◌≡◌, ℕ, map}
-use Rattle.arrayvec.specs.ArrayVec.{ArrayVec}
-use Rattle.xlate.specs.Display.{shown_line}
-use Rattle.xlate.proofs.display.shown_lines.Given as goal
-
--- the lines of the texts so far
-abbrev pub invariant-loop-text : goal.invariant-loop-text
-invariant-loop-text l = map (λ (line : ArrayVec ℕ). line.items) l.lines.items ≡ map (λ text. shown_line text.now) l.yielded
