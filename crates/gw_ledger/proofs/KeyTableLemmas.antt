@@ -12,6 +12,7 @@ use Rattle.gw_base.specs.Key.{key_cmp}
 use Rattle.gw_base.specs.declared.key.Key.{Key}
 use Rattle.jrn_record.specs.declared.records.Record.{Record}
 use Rattle.jrn_record.specs.declared.records.Record.TheVariants.{Intent, Outcome, Settled}
+use Rattle.gw_ledger.specs.Blocks.{IsInserted}
 use Rattle.gw_ledger.specs.Fold.{fits, fits_beside_key, has_new_key}
 use Rattle.gw_ledger.specs.Keys.{intent_key, is_key, key_at, record_key, settled_key, slot_in, slot_of}
 use Rattle.gw_ledger.specs.KeyTable.{AreKeyed, AreKeys, compare_record, key_or_empty, key_rows}
@@ -105,7 +106,7 @@ All-first : {X : Type 0} (P : X → Type 0) (xs : List X) (x : X) → P x → Al
 All-first P xs x here all zero d lt = here
 All-first P xs x here all (suc k) d lt = all k d (omega arith)
 
-All-insert : {X : Type 0} (P : X → Type 0) (xs : List X) (i : ℕ) (x : X) → P x → All P xs → All P (insert xs i x)
+pub All-insert : {X : Type 0} (P : X → Type 0) (xs : List X) (i : ℕ) (x : X) → P x → All P xs → All P (insert xs i x)
 All-insert P xs zero x here all = All-first P xs x here all
 All-insert P [] (suc i) x here all = All-first P [] x here all
 All-insert P (y ∷ xs) (suc i) x here all =
@@ -146,6 +147,12 @@ module _ (records : List Record) (the_record : Record) (slots : List ℕ) (at : 
         ∙ ap (λ old. cond (is_eq (key_cmp q key)) (Some (length records)) old) (keys.values q)
         ∙ sym (slot_push records the_record q ∙ ap (λ mine. cond (is_key q mine) (Some (length records)) (slot_of records q)) own);
   }
+
+-- one more record with a key, whose slot was inserted
+pub keys_inserted : (records : List Record) (the_record : Record) (slots : List ℕ) (key : Key) → record_key the_record ≡ Some key → AreKeys records slots
+    → (slot : ℕ) → slot ≡ length records → (more : List ℕ) → IsInserted records slots key slot more → AreKeys (records ++ the_record ∷ []) more
+keys_inserted records the_record slots key own keys slot last more placed =
+    rw (placed.inserted, last) (keys_push records the_record slots placed.at key own keys placed.gap)
 
 -- ---- a new key
 

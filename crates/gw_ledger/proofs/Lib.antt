@@ -1,6 +1,8 @@
 -- The lemmas of this crate.
+pub mod BlockLemmas
 pub mod BodyLemmas
 pub mod EmptyLemmas
+pub mod ExampleLemmas
 pub mod FitLemmas
 pub mod FoldLemmas
 pub mod FirstBadLemmas

@@ -1,5 +1,5 @@
 -- Closed examples of the fold: what each record leaves, and each reason for which a record may not come next.
-use Rattle.std.specs.Prelude.{◌≡◌, ℕ, true, false, List, [], ◌∷◌, ◌++◌, slice_get, Some, None, refl, codes}
+use Rattle.std.specs.Prelude.{◌≡◌, ℕ, true, false, List, [], ◌∷◌, ◌++◌, Some, None, refl, codes}
 use Rattle.std.specs.Prelude.{pos}
 use Rattle.std.specs.Fmt.{digits}
 use Rattle.gw_base.specs.declared.condition.Condition.TheVariants.{Aborted}
@@ -20,14 +20,14 @@ use Rattle.gw_ledger.specs.declared.totals.Totals.{Totals}
 use Rattle.gw_ledger.specs.Fold.{fits, found_of, last_entry, open_entry}
 use Rattle.gw_ledger.specs.History.{history}
 use Rattle.gw_ledger.specs.Keys.{last_slot, slot_of}
-use Rattle.gw_ledger.specs.Laws.{IsOriginalOf, IsTraceOf}
-use Rattle.gw_ledger.specs.Slots.{ended_at, entry_at, intent_at, is_reversed}
+use Rattle.gw_ledger.specs.Laws.{IsTraceOf}
+use Rattle.gw_ledger.specs.Slots.{ended_at, is_reversed}
 use Rattle.gw_ledger.specs.Sums.{count_of, units_sum_of, open_count_of, tally_of, totals_of}
 use Rattle.gw_ledger.specs.Transaction.{named_of}
 
 -- a payment of till `S` at terminal `poi`
-abbrev payment : List ℕ → List ℕ → ℕ → ℕ → TheIntent
-payment poi service amount before = record {
+abbrev pub day_payment : List ℕ → List ℕ → ℕ → ℕ → TheIntent
+day_payment poi service amount before = record {
   what = Payment;
   sale = codes "S";
   poi = poi;
@@ -42,12 +42,12 @@ payment poi service amount before = record {
 }
 
 -- its record
-abbrev pay : List ℕ → List ℕ → ℕ → ℕ → Record
-pay poi service amount before = Intent (payment poi service amount before)
+abbrev pub pay : List ℕ → List ℕ → ℕ → ℕ → Record
+pay poi service amount before = Intent (day_payment poi service amount before)
 
 -- a reversal of the entry at this slot
-abbrev reversal : List ℕ → List ℕ → ℕ → ℕ → ℕ → TheIntent
-reversal poi service original amount before = record {
+abbrev pub day_reversal : List ℕ → List ℕ → ℕ → ℕ → ℕ → TheIntent
+day_reversal poi service original amount before = record {
   what = Reversal;
   sale = codes "S";
   poi = poi;
@@ -62,12 +62,12 @@ reversal poi service original amount before = record {
 }
 
 -- its record
-abbrev undo : List ℕ → List ℕ → ℕ → ℕ → ℕ → Record
-undo poi service original amount before = Intent (reversal poi service original amount before)
+abbrev pub undo : List ℕ → List ℕ → ℕ → ℕ → ℕ → Record
+undo poi service original amount before = Intent (day_reversal poi service original amount before)
 
 -- an approval of the Intent at this slot
-abbrev approval : ℕ → ℕ → ℕ → TheOutcome
-approval slot trace amount = record {
+abbrev pub day_approval : ℕ → ℕ → ℕ → TheOutcome
+day_approval slot trace amount = record {
   approved = true;
   slot = slot;
   number = trace;
@@ -78,8 +78,8 @@ approval slot trace amount = record {
 }
 
 -- its record
-abbrev approved : ℕ → ℕ → ℕ → Record
-approved slot trace amount = Outcome (approval slot trace amount)
+abbrev pub approved : ℕ → ℕ → ℕ → Record
+approved slot trace amount = Outcome (day_approval slot trace amount)
 
 -- a refusal of the Intent at this slot, which was aborted
 abbrev refusal : ℕ → TheOutcome
@@ -98,7 +98,7 @@ abbrev declined : ℕ → Record
 declined slot = Outcome (refusal slot)
 
 -- a reconciliation of a terminal
-abbrev reconciliation : List ℕ → List ℕ → TheSettled
+abbrev pub reconciliation : List ℕ → List ℕ → TheSettled
 reconciliation poi service = record {
   how = Sale;
   sale = codes "S";
@@ -109,23 +109,23 @@ reconciliation poi service = record {
 }
 
 -- its record
-abbrev settled : List ℕ → List ℕ → Record
+abbrev pub settled : List ℕ → List ℕ → Record
 settled poi service = Settled (reconciliation poi service)
 
 -- the key of till `S` at terminal `A` with this ServiceID
-abbrev key : List ℕ → Key
+abbrev pub key : List ℕ → Key
 key service = record { sale = codes "S"; poi = codes "A"; service = service }
 
 -- 10.99 and 5.00 approved, and the first reversed
-abbrev day : List Record
+abbrev pub day : List Record
 day =
     pay (codes "A") (codes "1") 1099 0 ∷ approved 0 123 1099
     ∷ pay (codes "A") (codes "2") 500 123 ∷ approved 2 124 500
     ∷ undo (codes "A") (codes "3") 0 1099 124 ∷ approved 4 125 1099 ∷ []
 
 -- the day's second payment
-abbrev second : TheEntry
-second = record { slot = 2; intent = payment (codes "A") (codes "2") 500 123; result = Some (approval 2 124 500) }
+abbrev pub second : TheEntry
+second = record { slot = 2; intent = day_payment (codes "A") (codes "2") 500 123; result = Some (day_approval 2 124 500) }
 
 -- the totals of the day are two payments of 15.99 and one reversal of 10.99; those of another terminal are none
 example_totals : (count_of day (codes "A") Eur Payment ≡ 2) × (units_sum_of day (codes "A") Eur Payment ≡ 1599)
@@ -174,20 +174,20 @@ example_closed = (refl, refl, refl, refl)
 
 -- an entry by its key: approved, declined, open, unknown
 example_found : (found_of day (key (codes "2"))
-    ≡ Some (Entry (record { slot = 2; intent = payment (codes "A") (codes "2") 500 123; result = Some (approval 2 124 500) })))
+    ≡ Some (Entry (record { slot = 2; intent = day_payment (codes "A") (codes "2") 500 123; result = Some (day_approval 2 124 500) })))
     × (found_of (day ++ pay (codes "A") (codes "4") 100 125 ∷ declined 6 ∷ []) (key (codes "4"))
-    ≡ Some (Entry (record { slot = 6; intent = payment (codes "A") (codes "4") 100 125; result = Some (refusal 6) })))
+    ≡ Some (Entry (record { slot = 6; intent = day_payment (codes "A") (codes "4") 100 125; result = Some (refusal 6) })))
     × (found_of (day ++ pay (codes "A") (codes "4") 100 125 ∷ []) (key (codes "4"))
-    ≡ Some (Entry (record { slot = 6; intent = payment (codes "A") (codes "4") 100 125; result = None })))
+    ≡ Some (Entry (record { slot = 6; intent = day_payment (codes "A") (codes "4") 100 125; result = None })))
     × (found_of day (key (codes "4")) ≡ None)
 unfolding history
 example_found = (refl, refl, refl, refl)
 
 -- the last entry of a till at a terminal, which a reconciliation leaves
 example_last : (last_entry day (codes "S") (codes "A")
-    ≡ Some (record { slot = 4; intent = reversal (codes "A") (codes "3") 0 1099 124; result = Some (approval 4 125 1099) }))
+    ≡ Some (record { slot = 4; intent = day_reversal (codes "A") (codes "3") 0 1099 124; result = Some (day_approval 4 125 1099) }))
     × (last_entry (day ++ settled (codes "A") (codes "4") ∷ []) (codes "S") (codes "A")
-    ≡ Some (record { slot = 4; intent = reversal (codes "A") (codes "3") 0 1099 124; result = Some (approval 4 125 1099) }))
+    ≡ Some (record { slot = 4; intent = day_reversal (codes "A") (codes "3") 0 1099 124; result = Some (day_approval 4 125 1099) }))
     × (last_entry day (codes "S") (codes "B") ≡ None) × (last_entry day (codes "R") (codes "A") ≡ None)
 unfolding history
 example_last = (refl, refl, refl, refl)
@@ -195,7 +195,7 @@ example_last = (refl, refl, refl, refl)
 -- an open entry is that of its terminal alone, until its Outcome
 example_open : (open_slot (day ++ pay (codes "A") (codes "4") 100 125 ∷ []) (codes "A") ≡ Some 6)
     × (open_entry (day ++ pay (codes "A") (codes "4") 100 125 ∷ []) (codes "A")
-    ≡ Some (record { slot = 6; intent = payment (codes "A") (codes "4") 100 125; result = None }))
+    ≡ Some (record { slot = 6; intent = day_payment (codes "A") (codes "4") 100 125; result = None }))
     × (open_slot (day ++ pay (codes "A") (codes "4") 100 125 ∷ []) (codes "B") ≡ None)
     × (open_slot (day ++ pay (codes "A") (codes "4") 100 125 ∷ declined 6 ∷ []) (codes "A") ≡ None)
     × (open_slot (day ++ pay (codes "A") (codes "4") 100 125 ∷ settled (codes "A") (codes "5") ∷ []) (codes "A") ≡ Some 6)
@@ -245,17 +245,18 @@ example_intents : (fits day (pay (codes "A") (codes "4") 100 125) ≡ true) × (
 unfolding history
 example_intents = (refl, refl, refl, refl, refl, refl)
 
--- a reversal of a reversed payment, of a reversal, of another amount, at another terminal, of a settled payment, of a
--- declined one
+-- a reversal of a reversed payment, of a reversal, of another amount, at another terminal, in another currency, of a settled
+-- payment, of a declined one
 example_reversals : (fits day (undo (codes "A") (codes "4") 2 500 125) ≡ true)
     × (fits day (undo (codes "A") (codes "4") 0 1099 125) ≡ false)
     × (fits day (undo (codes "A") (codes "4") 4 1099 125) ≡ false)
     × (fits day (undo (codes "A") (codes "4") 2 499 125) ≡ false)
     × (fits day (undo (codes "B") (codes "4") 2 500 125) ≡ false)
+    × (fits day (Intent (record (day_reversal (codes "A") (codes "4") 2 500 125) { currency = Chf })) ≡ false)
     × (fits (day ++ settled (codes "A") (codes "4") ∷ []) (undo (codes "A") (codes "5") 2 500 125) ≡ false)
     × (fits (pay (codes "A") (codes "1") 100 0 ∷ declined 0 ∷ []) (undo (codes "A") (codes "2") 0 100 0) ≡ false)
 unfolding history
-example_reversals = (refl, refl, refl, refl, refl, refl, refl)
+example_reversals = (refl, refl, refl, refl, refl, refl, refl, refl)
 
 -- an Outcome without its open Intent, and an approved trace number that isn't above the one before
 example_outcomes : (fits [] (declined 0) ≡ false) × (fits [] (approved 0 123 1099) ≡ false)
@@ -266,37 +267,10 @@ example_outcomes : (fits [] (declined 0) ≡ false) × (fits [] (approved 0 123 
 unfolding history
 example_outcomes = (refl, refl, refl, refl, refl, refl, refl, refl)
 
--- a payment after the day and its approval: nothing is found under its key, nothing is open and its trace number before is the
--- last one; then its entry is open, and the approval's trace number is above that
-example_next : (found_of day (key (codes "4")) ≡ None) × (open_entry day (codes "A") ≡ None) × (last_number_of day (codes "A") ≡ 125)
-    × (fits day (pay (codes "A") (codes "4") 100 125) ≡ true)
-    × (open_entry (day ++ pay (codes "A") (codes "4") 100 125 ∷ []) (codes "A")
-    ≡ Some (record { slot = 6; intent = payment (codes "A") (codes "4") 100 125; result = None }))
-    × (fits (day ++ pay (codes "A") (codes "4") 100 125 ∷ []) (approved 6 126 100) ≡ true)
-unfolding history
-example_next = (refl, refl, refl, refl, refl, refl)
-
--- a reversal of the day's second payment, which is approved, neither reversed nor settled, and of its terminal, currency and
--- amount; and a reconciliation under a key that is unknown
-example_reversal : (found_of day (key (codes "4")) ≡ None) × (open_entry day (codes "A") ≡ None) × (last_number_of day (codes "A") ≡ 125)
-    × (entry_at day 2 ≡ Some second) × IsOriginalOf (reversal (codes "A") (codes "4") 2 500 125) second
-    × (is_reversed day 2 ≡ false) × (is_settled day 2 ≡ false)
-    × (fits day (undo (codes "A") (codes "4") 2 500 125) ≡ true) × (fits day (settled (codes "A") (codes "4")) ≡ true)
-unfolding history
-example_reversal =
-    (refl, refl, refl, refl, record { what = refl; poi = refl; currency = refl; approved = (refl, refl) }, refl, refl, refl, refl)
-
--- the day's second payment has its Outcome at slot 3, and a Settled of its terminal comes after that
-example_settled : (intent_at (day ++ settled (codes "A") (codes "4") ∷ []) 2 ≡ Some second.intent) × (ended_at (day ++ settled (codes "A") (codes "4") ∷ []) 2 ≡ Some 3)
-    × (is_settled (day ++ settled (codes "A") (codes "4") ∷ []) 2 ≡ true)
-    × (slice_get (day ++ settled (codes "A") (codes "4") ∷ []) 6 ≡ Some (settled (codes "A") (codes "4")))
-unfolding history
-example_settled = (refl, refl, refl, refl)
-
--- the text of the day's second payment names it at its terminal, and nothing at another
-example_named : (named_of day (codes "A") (codes "000124-0017-2") ≡ Some second) × (named_of day (codes "B") (codes "000124-0017-2") ≡ None)
+-- the text of the day's second payment names nothing at another terminal
+example_named : named_of day (codes "B") (codes "000124-0017-2") ≡ None
 unfolding history transaction_text digits
-example_named = (refl, refl)
+example_named = refl
 
 -- the last trace number of the day's terminal is that of the newest record, its last Outcome; another terminal has none
 example_last_number : IsTraceOf day (codes "A") 125 × (last_number_of day (codes "A") ≡ 125) × (last_number_of day (codes "B") ≡ 0)

@@ -1,5 +1,6 @@
 //! Laws of the fold of the records.
 ghost use Rattle.gw_ledger.specs.Laws.{CountIsOfOpenSlots, EntriesAreWithin, LastNumberIsGreatest, NamedIsEntry, NewestIsFirst, OpenSlotIsOpen, OthersLeaveTerminal, OutcomeFits, PaymentFits, ReversalFits, SettledFits, SettledIsAfter, TextNamesOne};
+ghost use Rattle.gw_ledger.specs.Premises.{ExampleNamed, ExampleOpen, ExampleOther, ExampleOutcome, ExamplePayment, ExampleReconciliation, ExampleReversal, ExampleSettledAfter, ExampleWithin};
 
 /// One more record is the newest of the history, and where it is one of another terminal it leaves a terminal's open slot
 /// and its last trace number.
@@ -42,4 +43,17 @@ pub fn law_fits()
     ensures reversal { ReversalFits }
     ensures outcome { OutcomeFits }
     ensures settled { SettledFits }
+{}
+
+/// Examples of the laws, which are computed: their premises hold of a day, and of the day with one more payment that is open.
+pub fn law_examples()
+    ensures next { ExampleOther }
+    ensures opened { ExampleOpen }
+    ensures settled_after { ExampleSettledAfter }
+    ensures named { ExampleNamed }
+    ensures within { ExampleWithin }
+    ensures payment { ExamplePayment }
+    ensures reversal { ExampleReversal }
+    ensures outcome { ExampleOutcome }
+    ensures reconciliation { ExampleReconciliation }
 {}

@@ -12,12 +12,11 @@ ghost use Rattle.gw_ledger.specs.Sums.{open_count_of, tally_of, totals_of};
 ghost use Rattle.gw_ledger.specs.Table.{IsTable};
 ghost use Rattle.gw_ledger.specs.Transaction.{named_of};
 
+use crate::blocks::Blocks;
 use crate::entry::{Entry, Found};
 use crate::fault::{BadRecord, LedgerFault};
-use crate::keys;
 use crate::records::{key_of_intent, key_of_settled};
 use crate::sorted::{least_fall, slots_of, sorted_rows, tables_of};
-use crate::table::insert_at;
 use crate::tables::Tables;
 use crate::totals::{Tally, Totals};
 use gw_base::{Bodies, Currency, Ident, Key};
@@ -32,11 +31,11 @@ use std::marker::Model;
 pub struct Ledger {
     tables: Tables,
     /// The slots of the records that have a key, sorted by it.
-    slots: Vec<u32>,
+    slots: Blocks,
 }
 
 impl Model for Ledger {
-    ghost use Rattle.std.specs.Prelude.{◌+◌, ◌≤◌, vec_len, vec_capacity};
+    ghost use Rattle.std.specs.Prelude.{◌≤◌};
     ghost use Rattle.gw_ledger.specs.Fold.{AreFolded, LedgerValue};
 
     ghost Value = { LedgerValue };
@@ -45,8 +44,8 @@ impl Model for Ledger {
 
     ghost view = { λ l. record { records = l.tables.records; spare = l.tables.spare } };
 
-    ghost invariant = { λ l. AreFolded l.tables.records × AreKeys l.tables.records l.slots.items
-        × (vec_len l.slots + l.tables.spare ≤ vec_capacity l.slots) };
+    ghost invariant = { λ l. AreFolded l.tables.records × AreKeys l.tables.records l.slots.slots
+        × (l.tables.spare ≤ l.slots.spare) };
 }
 
 impl Ledger {
@@ -89,7 +88,7 @@ impl Ledger {
         requires rows { AreKeyRows tables.records rows.now }
         ensures { IfOk result (λ ledger. ledger.records ≡ tables.records) }
     {
-        let mut slots = slots_of(alloc, rows)?;
+        let mut slots = Blocks::of(alloc, &slots_of(alloc, rows)?)?;
         tables.law_folded();
         slots.reserve(tables.spare())?;
         Ok(Ledger { tables, slots })
@@ -99,7 +98,7 @@ impl Ledger {
     fn slot_of(&self, key: &Key) -> Option<u32>
         ensures { result ≡ slot_of self.now.records key.now }
     {
-        keys::get(&self.tables, &self.slots, key)
+        self.slots.get(&self.tables, key)
     }
 
     /// Makes room for so many more Intents or Settled, with the Outcome of each.
@@ -124,10 +123,10 @@ impl Ledger {
         ensures records { self.new.records ≡ self.old.records ++ Record.Intent intent.now ∷ [] }
         ensures spare { self.new.spare + 1 ≡ self.old.spare }
     {
-        let at = keys::gap(&self.tables, &self.slots, &key_of_intent(intent));
-        let slot = self.tables.accept(intent);
-        insert_at(&mut self.slots, at, slot);
-        slot
+        let slot = self.tables.count();
+        self.slots
+            .insert(&self.tables, &key_of_intent(intent), slot);
+        self.tables.accept(intent)
     }
 
     /// Adds the Outcome of an open Intent, for which there is room since that was accepted.
@@ -151,11 +150,10 @@ impl Ledger {
         ensures records { self.new.records ≡ self.old.records ++ Record.Settled settled.now ∷ [] }
         ensures spare { self.new.spare + 1 ≡ self.old.spare }
     {
-        let at = keys::gap(&self.tables, &self.slots, &key_of_settled(settled));
         let slot = self.tables.count();
-        let totals = self.tables.settle(settled);
-        insert_at(&mut self.slots, at, slot);
-        totals
+        self.slots
+            .insert(&self.tables, &key_of_settled(settled), slot);
+        self.tables.settle(settled)
     }
 
     /// What has the key: an entry, open or with its Outcome, or a reconciliation.

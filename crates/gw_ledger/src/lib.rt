@@ -2,6 +2,8 @@
 #![tactic(auto)]
 
 mod account;
+mod blocks;
+mod ended;
 mod entry;
 mod fault;
 mod keys;
@@ -16,9 +18,15 @@ mod transaction;
 
 pub use entry::{Closed, Entry, Found};
 pub use fault::{BadRecord, LedgerFault};
-pub use laws::{law_fits, law_last_number, law_named, law_next, law_open, law_settled, law_within};
+pub use laws::{
+    law_examples, law_fits, law_last_number, law_named, law_next, law_open, law_settled, law_within,
+};
 pub use ledger::Ledger;
 pub use totals::{Tally, Totals};
 
+#[cfg(test)]
+mod adding_tests;
+#[cfg(test)]
+mod block_tests;
 #[cfg(test)]
 mod tests;

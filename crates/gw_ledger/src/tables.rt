@@ -14,6 +14,7 @@ ghost use Rattle.gw_ledger.specs.Sums.{open_count_of, tally_of, totals_of};
 ghost use Rattle.gw_ledger.specs.Steps.{changed_at, ended_mark, marks_reversed, marks_with, reversed_mark, tally_with};
 
 use crate::account::{Desk, asked, closed, desk_in, ordinal_of, resolved, totals_at};
+use crate::ended::Ended;
 use crate::entry::{Closed, Entry, Found};
 use crate::records::Records;
 use crate::table;
@@ -29,14 +30,14 @@ use std::marker::Model;
 /// Where the Outcome of a slot's Intent is, and whether that is reversed.
 #[derive(Clone, Copy, Debug)]
 pub struct Mark {
-    pub ended: Option<u32>,
+    pub ended: Ended,
     pub reversed: bool,
 }
 
 impl Mark {
     /// The mark of a new slot.
     const NEW: Mark = Mark {
-        ended: None,
+        ended: Ended::NONE,
         reversed: false,
     };
 }
@@ -194,7 +195,7 @@ impl Tables {
     {
         match self.records.intent_at(outcome.slot) {
             Some(intent) => {
-                self.marks[outcome.slot as usize].ended.is_none()
+                self.marks[outcome.slot as usize].ended.get().is_none()
                     && (!outcome.approved || intent.before < outcome.number)
             }
             None => false,
@@ -330,7 +331,7 @@ impl Tables {
             Some(intent) => Some(Entry {
                 slot,
                 intent,
-                result: self.outcome_of(self.marks[slot as usize].ended),
+                result: self.outcome_of(self.marks[slot as usize].ended.get()),
             }),
             None => None,
         }
@@ -455,7 +456,7 @@ impl Tables {
         let Some(intent) = self.records.intent_at(slot) else {
             return false;
         };
-        match self.marks[slot as usize].ended {
+        match self.marks[slot as usize].ended.get() {
             Some(at) => is_payment(intent.what)
                 && at < desk_in(&self.desks, &intent.poi).account.settled,
             None => false,
@@ -490,6 +491,7 @@ fn is_payment(what: Deal) -> bool
 /// The marks after an Outcome at this slot.
 fn push_outcome(marks: &mut Vec<Mark>, outcome: &Outcome, original: Option<u32>, at: u32)
     requires inside { outcome.now.slot < vec_len marks.old }
+    requires few { at < 1000000 }
     requires room { vec_len marks.old < vec_capacity marks.old }
     ensures len { vec_len marks.new ≡ vec_len marks.old + 1 }
     ensures capacity { vec_capacity marks.old ≤ vec_capacity marks.new }
@@ -502,12 +504,13 @@ fn push_outcome(marks: &mut Vec<Mark>, outcome: &Outcome, original: Option<u32>,
 
 /// Marks the slot as one whose Outcome is at another.
 fn mark_ended(marks: &mut Vec<Mark>, slot: u32, at: u32)
-    requires { slot < vec_len marks.old }
+    requires inside { slot < vec_len marks.old }
+    requires few { at < 1000000 }
     ensures len { vec_len marks.new ≡ vec_len marks.old }
     ensures capacity { vec_capacity marks.new ≡ vec_capacity marks.old }
     ensures marks { marks.new.items ≡ changed_at (ended_mark at) slot marks.old.items }
 {
-    marks[slot as usize].ended = Some(at);
+    marks[slot as usize].ended = Ended::at(at);
 }
 
 /// Marks the original of an approved reversal.

@@ -16,7 +16,7 @@ fn body(parts: &[(usize, &[u8])]) -> [u8; 255] {
 }
 
 /// A payment of till `S` at terminal `A`, in euros: its ServiceID with a byte of length, its amount and the trace number before.
-fn pay<'a>(service: &'a [u8], amount: &'a [u8], before: &'a [u8]) -> [u8; 255] {
+pub fn pay<'a>(service: &'a [u8], amount: &'a [u8], before: &'a [u8]) -> [u8; 255] {
     body(&[
         (0, b"\x01\x01"),
         (2, b"\x01S"),
@@ -52,8 +52,16 @@ fn undo<'a>(
     ])
 }
 
+/// The same record in Swiss francs, but for its amount.
+fn in_francs(body: [u8; 255]) -> [u8; 255] {
+    let mut francs = body;
+    francs[218] = 0x07;
+    francs[219] = 0x56;
+    francs
+}
+
 /// An approval: the slot's last byte, the trace number, the amount.
-fn approved<'a>(slot: &'a [u8], trace: &'a [u8], amount: &'a [u8]) -> [u8; 255] {
+pub fn approved<'a>(slot: &'a [u8], trace: &'a [u8], amount: &'a [u8]) -> [u8; 255] {
     body(&[
         (0, b"\x02\x01"),
         (5, slot),
@@ -69,7 +77,7 @@ fn declined<'a>(slot: &'a [u8]) -> [u8; 255] {
 }
 
 /// A reconciliation by till `S` in euros: its terminal and ServiceID with a byte of length.
-fn settled<'a>(poi: &'a [u8], service: &'a [u8]) -> [u8; 255] {
+pub fn settled<'a>(poi: &'a [u8], service: &'a [u8]) -> [u8; 255] {
     body(&[
         (0, b"\x03\x01"),
         (2, b"\x01S"),
@@ -81,7 +89,7 @@ fn settled<'a>(poi: &'a [u8], service: &'a [u8]) -> [u8; 255] {
 
 const TEN: &[u8] = b"\x00\x00\x00\x00\x10\x99";
 
-const FIVE: &[u8] = b"\x00\x00\x00\x00\x05\x00";
+pub const FIVE: &[u8] = b"\x00\x00\x00\x00\x05\x00";
 
 /// 10.99 and 5.00 are approved, and the first is reversed.
 fn day(alloc: Global) -> Result<Vec<[u8; 255]>, Fail> {
@@ -168,6 +176,8 @@ fn records_that_may_not_follow(rt: HostRuntime) -> Result<(), Fail> {
         undo(b"\x01B", b"\x014", b"\x02", FIVE, b"\x00\x01\x25"),
         // Of another amount.
         undo(b"\x01A", b"\x014", b"\x02", TEN, b"\x00\x01\x25"),
+        // Of a payment in another currency.
+        in_francs(undo(b"\x01A", b"\x014", b"\x02", FIVE, b"\x00\x01\x25")),
         // Of a reversal.
         undo(b"\x01A", b"\x014", b"\x04", TEN, b"\x00\x01\x25"),
         // An Outcome of an entry that has one.
@@ -247,7 +257,7 @@ fn an_outcome_comes_first(rt: HostRuntime) -> Result<(), Fail> {
 }
 
 /// The day, and these records after it.
-fn after_day(alloc: Global, rows: &[[u8; 255]]) -> Result<Ledger, Fail> {
+pub fn after_day(alloc: Global, rows: &[[u8; 255]]) -> Result<Ledger, Fail> {
     let mut bodies = day(alloc)?;
     for row in rows {
         bodies.push(*row)?;

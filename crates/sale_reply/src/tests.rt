@@ -184,23 +184,26 @@ fn outcomes(rt: HostRuntime) -> Result<(), Fail> {
     Ok(())
 }
 
-/// Whether a declined reversal with these numbers is written.
-fn is_decline_written(trace: u32, receipt: u16, out: &mut Out) -> bool {
+/// Whether an approved reversal with these numbers is written.
+fn is_approval_written(trace: u32, receipt: u16, out: &mut Out) -> bool {
     match header(Class::Service, b"Reversal", Kind::Response) {
         Some(header) => {
-            let declined = SaleReply::Told {
+            let approved = SaleReply::Told {
                 header,
-                told: Told::ReversalDeclined {
+                told: Told::ReversalApproved {
                     mark: PoiMark {
                         number: trace,
                         receipt,
                         slot: 0,
                         moment: 0,
                     },
-                    condition: Condition::Refusal,
+                    reversed: Money {
+                        minor: 1099,
+                        currency: Currency::Eur,
+                    },
                 },
             };
-            put(&declined, out)
+            put(&approved, out)
         }
         None => false,
     }
@@ -217,7 +220,7 @@ fn numbers_past_their_digits(rt: HostRuntime) -> Result<(), Fail> {
         (123, 10_017, false),
     ];
     for (trace, receipt, is_written) in rows {
-        assert_eq!(rt; is_decline_written(trace, receipt, &mut out), is_written);
+        assert_eq!(rt; is_approval_written(trace, receipt, &mut out), is_written);
     }
     Ok(())
 }

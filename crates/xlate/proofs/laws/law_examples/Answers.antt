@@ -5,7 +5,8 @@ use Rattle.std.specs.Fmt.{digits}
 use Rattle.gw_base.specs.Transaction.{transaction_text}
 use Rattle.gw_base.proofs.BcdLemmas.{passes_bcd}
 use Rattle.jrn_record.specs.Limits.{IsOutcome}
-use Rattle.xlate.proofs.ExampleLemmas.{example_moment, ident}
+use Rattle.gw_ledger.proofs.ExampleLemmas.{ident}
+use Rattle.xlate.proofs.ExampleLemmas.{example_moment}
 use Rattle.xlate.proofs.laws.law_examples.Goals as goal
 
 pub returns-clause-commands : goal.returns-clause-commands

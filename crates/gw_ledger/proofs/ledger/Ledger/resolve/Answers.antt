@@ -10,6 +10,6 @@ invariant_of-self c =
     let records = c.self.inside.tables.records in
     let outcome = c.args.outcome.now in (
       rw c.resolve.ensures.records (folded_push records (Outcome outcome) c.self.invariant.0 c.requires.within (rw (ap (λ v. v.records) c.self.view_is) c.requires.fits)),
-      rw c.resolve.ensures.records (keys_without records (Outcome outcome) c.self.inside.slots.items refl c.self.invariant.1),
+      rw c.resolve.ensures.records (keys_without records (Outcome outcome) c.self.inside.slots.slots refl c.self.invariant.1),
       omega (arith, c.self.invariant.2, c.resolve.ensures.spare),
     )

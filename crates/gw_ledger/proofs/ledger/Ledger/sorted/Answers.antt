@@ -8,6 +8,6 @@ invariant_of-result c =
     let records = c.args.tables.records in
     let rows = c.args.rows.now in (
       folded_from_rows records rows c.requires.table c.requires.rows.rows_are c.law_folded.ensures,
-      rw (c.in_ok-reserve.ensures.items, c.in_ok-slots.ensures) (keys_from_rows records rows c.requires.table c.requires.rows.rows_are),
+      rw (c.in_ok-reserve.ensures.slots, c.in_ok-slots.ensures, c.deref.ensures.value, c.in_ok-slots_of.ensures) (keys_from_rows records rows c.requires.table c.requires.rows.rows_are),
       omega (arith, c.in_ok-reserve.ensures.ok, c.spare.ensures),
     )

@@ -27,5 +27,6 @@ returns-in-Some c =
     c.index.ensures ∙ get_or_from_slice_get marks slot (mark_of records slot) c.index.result.now (c.self.invariant.0.marks_are slot inside) in
     let same = ap (λ v. v.records) c.self.view_is in
     let result : c.outcome_of.result ≡ option_and_then (outcome_at records) (ended_at records slot) =
-    c.outcome_of.ensures ∙ ap (λ (r : List Record). option_and_then (outcome_at r) c.index.result.now.ended) (sym same) ∙ ap (λ (m : Mark). option_and_then (outcome_at records) m.ended) mark in
+    c.outcome_of.ensures ∙ ap (λ (r : List Record). option_and_then (outcome_at r) c.get.result) (sym same)
+    ∙ ap (λ (ended : Option ℕ). option_and_then (outcome_at records) ended) c.get.ensures ∙ ap (λ (m : Mark). option_and_then (outcome_at records) m.ended) mark in
     entry_is records slot c.in-Some.intent c.outcome_of.result asked result ∙ ap (λ (r : List Record). entry_at r slot) same
