@@ -1,6 +1,6 @@
 -- What a terminal becomes, and what the core remembers then.
 use Rattle.std.proofs.Common.{◌≡◌, ◌<◌, ◌≤◌, ◌^◌, ℕ, zero, suc, List, [], ◌∷◌, refl, sym, ◌∙◌, ap, subst, arith, Bool, true, false}
-use Rattle.std.specs.Prelude.{pos, set, slice_get, length, get_or, Option, Some, None}
+use Rattle.std.specs.Prelude.{pos, set, slice_get, length, get_or, Option, Some}
 use Rattle.std.specs.Option.{option_map}
 use Rattle.std.proofs.lemmas.Option.{slice_get_read}
 use Rattle.zvt_msg.specs.Message.{MessageValue, Ack, Nack, Intermediate, Line, Block, Status, Completion, Abort, Other}
@@ -14,11 +14,10 @@ use Rattle.gw_owes.specs.declared.terminal.Standing.{Standing}
 use Rattle.gw_owes.specs.declared.terminal.Standing.TheVariants.{Unlinked, Registering, Enquiring, Ready, Serving, Aside}
 use Rattle.gw_owes.specs.declared.terminal.Terminal.{Terminal}
 use Rattle.gw_owes.specs.Calls.{OwedCall}
-use Rattle.gw_owes.specs.Core.{Core as CoreValue}
-use Rattle.gw_owes.specs.Row.{Known, Row, owing_nothing}
+use Rattle.gw_owes.specs.Row.{Known, Row, owing_nothing, owing_where}
 use Rattle.gw_owes.specs.Terminals.{with_terminal, terminal_becomes}
-use Rattle.gw_owes.specs.Links.{is_linked, where_linked}
-use Rattle.gw_owes.specs.Handling.{awaited_after, taken_as, meaning_at, taking, consequence, where_taken, handle_message, handled_row}
+use Rattle.gw_owes.specs.Links.{is_linked}
+use Rattle.gw_owes.specs.Handling.{awaited_after, taken_as, meaning_at, taking, consequence, handle_message, handled_row}
 use Rattle.gw_owes.specs.Dialogues.{AwaitedIn, IsDialogueOf, HasItsDialogue}
 use Rattle.gw_core.specs.declared.act.Act.{Act}
 use Rattle.gw_core.specs.IsRow.{IsRow, calls_wanted}
@@ -78,34 +77,34 @@ pub unchanged : (known : Known) (pt : ℕ) (terminal : Terminal) → slice_get k
 unchanged known pt terminal found = ap (λ (terminals : List Terminal). record { core = record known.core { terminals = terminals }; calls = []; items = [] }) (sym (set-same known.core.terminals pt terminal found))
 
 pub unlinked-stays : (known : Known) (pt : ℕ) (terminal : Terminal) (row : Row) (linked : Bool) → linked ≡ is_linked terminal.standing → linked ≡ false → slice_get known.core.terminals pt ≡ Some terminal
-    → where_linked (is_linked terminal.standing) known row ≡ terminal_becomes known pt terminal []
-unlinked-stays known pt terminal row linked is not found = ap (λ b. where_linked b known row) (sym is ∙ not) ∙ unchanged known pt terminal found
+    → owing_where (is_linked terminal.standing) known row ≡ terminal_becomes known pt terminal []
+unlinked-stays known pt terminal row linked is not found = ap (λ b. owing_where b known row) (sym is ∙ not) ∙ unchanged known pt terminal found
 
 pub foreign-stays : (known : Known) (pt : ℕ) (terminal : Terminal) (message : MessageValue) (is : Bool) → is ≡ is_taken message → is ≡ false → slice_get known.core.terminals pt ≡ Some terminal
-    → where_linked (is_linked terminal.standing) known (handle_message known pt terminal message) ≡ terminal_becomes known pt terminal []
+    → owing_where (is_linked terminal.standing) known (handle_message known pt terminal message) ≡ terminal_becomes known pt terminal []
 foreign-stays known pt terminal message is taken_is not found = by-linked (is_linked terminal.standing)
   where
     none : handle_message known pt terminal message ≡ owing_nothing known
-    none = ap (λ b. where_taken b known (consequence known pt (taking terminal message known.moment) (meaning_at terminal message) terminal.standing)) (sym taken_is ∙ not)
+    none = ap (λ b. owing_where b known (consequence known pt (taking terminal message known.moment) (meaning_at terminal message) terminal.standing)) (sym taken_is ∙ not)
 
-    by-linked : (b : Bool) → where_linked b known (handle_message known pt terminal message) ≡ terminal_becomes known pt terminal []
+    by-linked : (b : Bool) → owing_where b known (handle_message known pt terminal message) ≡ terminal_becomes known pt terminal []
     by-linked true = none ∙ unchanged known pt terminal found
     by-linked false = unchanged known pt terminal found
 
 -- what follows from a message that is taken
 pub followed : (known : Known) (pt : ℕ) (terminal after final : Terminal) (message : MessageValue) (meant : Heard) (calls : List OwedCall) → is_linked terminal.standing ≡ true → is_taken message ≡ true
     → after ≡ taking terminal message known.moment → meant ≡ meaning_at terminal message → consequence known pt after meant after.standing ≡ terminal_becomes known pt final calls
-    → where_linked (is_linked terminal.standing) known (handle_message known pt terminal message) ≡ terminal_becomes known pt final calls
+    → owing_where (is_linked terminal.standing) known (handle_message known pt terminal message) ≡ terminal_becomes known pt final calls
 followed known pt terminal after final message meant calls linked is_so after_is meant_is follows =
-    ap (λ b. where_linked b known (handle_message known pt terminal message)) linked
-    ∙ ap (λ b. where_taken b known (consequence known pt (taking terminal message known.moment) (meaning_at terminal message) terminal.standing)) is_so
+    ap (λ b. owing_where b known (handle_message known pt terminal message)) linked
+    ∙ ap (λ b. owing_where b known (consequence known pt (taking terminal message known.moment) (meaning_at terminal message) terminal.standing)) is_so
     ∙ ap (λ m. consequence known pt (taking terminal message known.moment) m terminal.standing) (sym meant_is)
     ∙ ap (λ (t : Terminal). consequence known pt t meant t.standing) (sym after_is)
     ∙ follows
 
 -- the core's row, by its terminal's
 pub pt-row : (known : Known) (pt : ℕ) (terminal final : Terminal) (message : MessageValue) (wanted : Option Act) → pt < length known.core.terminals → terminal ≡ get_or known.core.terminals pt terminal
-    → (slice_get known.core.terminals pt ≡ Some terminal → where_linked (is_linked terminal.standing) known (handle_message known pt terminal message) ≡ terminal_becomes known pt final (calls_wanted wanted))
+    → (slice_get known.core.terminals pt ≡ Some terminal → owing_where (is_linked terminal.standing) known (handle_message known pt terminal message) ≡ terminal_becomes known pt final (calls_wanted wanted))
     → IsRow (handled_row known pt message) (with_terminal known.core pt final) wanted
 pt-row known pt terminal final message wanted inside is becomes =
     let found = slice_get_read known.core.terminals (length known.core.terminals) pt terminal refl inside is in

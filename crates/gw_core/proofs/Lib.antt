@@ -1,4 +1,6 @@
 -- The lemmas of what a till gets for each message, and of what the core wants done.
+pub mod CoreLemmas
 pub mod HandlingLemmas
+pub mod NamedLemmas
 pub mod OutputLemmas
 pub mod ReplyLemmas

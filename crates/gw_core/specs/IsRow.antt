@@ -1,8 +1,11 @@
 -- What the core wants done, beside what a row says.
-use Rattle.std.specs.Prelude.{◌≡◌, ℕ, Bool, true, false, List, [], ◌∷◌, flat_map, Option, option_to_list}
+use Rattle.std.specs.Prelude.{◌≡◌, ℕ, Bool, true, false, List, [], ◌∷◌, flat_map, slice_get, Option, Some, option_to_list}
+use Rattle.gw_base.specs.Setup.{IsPt}
 use Rattle.gw_base.specs.declared.setup.Setup.{Setup}
 use Rattle.jrn_record.specs.declared.records.Record.{Record}
+use Rattle.zvt_msg.specs.CommandGrammar.{HasCommandDigits}
 use Rattle.gw_owes.specs.declared.terminal.Standing.{Standing}
+use Rattle.gw_owes.specs.declared.terminal.Terminal.{Terminal}
 use Rattle.gw_owes.specs.declared.terminal.Standing.TheVariants.{Unlinked, Registering, Enquiring, Ready, Serving, Aside}
 use Rattle.gw_owes.specs.Calls.{Ask, Acknowledge, Refuse, OwedCall, SendPt, CutPt, LinkPt}
 use Rattle.gw_owes.specs.Core.{Core as CoreValue}
@@ -46,3 +49,28 @@ ServesNothing Enquiring = Unit {0}
 ServesNothing (Ready last) = Unit {0}
 ServesNothing (Serving service last) = ⊥
 ServesNothing (Aside before reported) = Unit {0}
+
+-- the terminal that an act is about
+abbrev pub pt_of : Act → ℕ
+pt_of (act.SendPt pt command) = pt
+pt_of (act.Ack pt) = pt
+pt_of (act.Refuse pt) = pt
+pt_of (act.CutPt pt) = pt
+pt_of (act.Link pt) = pt
+
+-- a command that is to be sent can be written
+abbrev pub IsWritable : Act → Type 0
+IsWritable (act.SendPt pt command) = HasCommandDigits command
+IsWritable (act.Ack pt) = Unit {0}
+IsWritable (act.Refuse pt) = Unit {0}
+IsWritable (act.CutPt pt) = Unit {0}
+IsWritable (act.Link pt) = Unit {0}
+
+-- what is wanted is wanted of this terminal, and can be written
+pub record IsWantedAt (pt : ℕ) (wanted : Act) : Type 0 where
+  pub pt_is : pt_of wanted ≡ pt
+  pub writable : IsWritable wanted
+
+-- the settings of each terminal lie within their limits
+abbrev pub HaveSettings : List Terminal → Type 0
+HaveSettings terminals = (number : ℕ) (terminal : Terminal) → slice_get terminals number ≡ Some terminal → IsPt terminal.pt

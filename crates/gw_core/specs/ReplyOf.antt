@@ -7,8 +7,9 @@ use Rattle.sale_reply.specs.Limits.{HasUnlimitedParts, IsWithinLimits}
 use Rattle.sale_reply.specs.Reply.{tree_of}
 use Rattle.gw_owes.specs.Reply.{ReplyValue, reply_value_tree}
 use Rattle.gw_owes.specs.ReadAs.{ReadAs, IsReadAs}
+use Rattle.gw_owes.specs.Core.{Core as CoreValue}
 use Rattle.gw_owes.specs.Row.{Known}
-use Rattle.gw_owes.specs.Replies.{reply_to}
+use Rattle.gw_owes.specs.Requests.{reply_to}
 
 -- the message has the tree of the reply, and no part that may lie outside the limits
 abbrev pub IsSameReply : SaleReply → ReplyValue → Type 0
@@ -21,20 +22,21 @@ AreSameReplies None (Some reply) = ⊥
 AreSameReplies (Some given) None = ⊥
 AreSameReplies (Some given) (Some reply) = IsSameReply given reply
 
--- a gateway of this name knows this at this moment
-pub record IsKnownAt (name : List ℕ) (moment : ℕ) (known : Known) : Type 0 where
+-- a gateway of this name that remembers this knows this at this moment
+pub record IsKnownAt (name : List ℕ) (core : CoreValue) (moment : ℕ) (known : Known) : Type 0 where
   pub name_is : known.setup.name ≡ name
+  pub core_is : known.core ≡ core
   pub moment_is : known.moment ≡ moment
 
--- what is given is the reply to what was read, whatever else a gateway of this name knows at this moment
-abbrev pub IsReplyToRead : List ℕ → ℕ → ReadAs → Option SaleReply → Type 0
-IsReplyToRead name moment as_read given = (known : Known) → IsKnownAt name moment known → AreSameReplies given (reply_to known as_read)
+-- what is given is the reply to what was read, whatever else a gateway of this name that remembers this knows at this moment
+abbrev pub IsReplyToRead : List ℕ → CoreValue → ℕ → ReadAs → Option SaleReply → Type 0
+IsReplyToRead name core moment as_read given = (known : Known) → IsKnownAt name core moment known → AreSameReplies given (reply_to known as_read)
 
 -- the message is read as one thing, and what is given is the reply to that
-pub record IsReplyTo (name : List ℕ) (moment : ℕ) (message : List ℕ) (given : Option SaleReply) : Type 0 where
+pub record IsReplyTo (name : List ℕ) (core : CoreValue) (moment : ℕ) (message : List ℕ) (given : Option SaleReply) : Type 0 where
   pub as_read : ReadAs
   pub read : IsReadAs message as_read
-  pub replied : IsReplyToRead name moment as_read given
+  pub replied : IsReplyToRead name core moment as_read given
 
 -- what is given lies within the limits, so that it may be written
 abbrev pub IsGivenWithinLimits : Option SaleReply → Type 0

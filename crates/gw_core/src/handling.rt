@@ -1,21 +1,24 @@
 //! What a message of a terminal means in each of its standings, and what follows from it.
 ghost use Rattle.std.specs.Prelude.{◌≡◌, ◌≢◌, ◌<◌, ◌^◌, ℕ, pos, true, List, ◌∷◌, [], IfSome, IsTrue, Some, option_map, slice_get};
 ghost use Rattle.gw_base.specs.Moment.{IsMoment, moment_of};
+ghost use Rattle.gw_base.specs.Setup.{IsPt};
 ghost use Rattle.gw_base.specs.declared.setup.Setup.{Setup};
 ghost use Rattle.jrn_record.specs.declared.records.Record.{Record};
+ghost use Rattle.zvt_msg.specs.CommandGrammar.{HasCommandDigits};
 ghost use Rattle.zvt_msg.specs.Message.{value_of};
 ghost use Rattle.zvt_talk.specs.Came.{is_taken};
 ghost use Rattle.zvt_talk.specs.Talk.{talk_goes_on};
 ghost use Rattle.zvt_talk.specs.TalkSteps.{next_talk};
+ghost use Rattle.gw_owes.specs.Row.{owing_where};
 ghost use Rattle.gw_owes.specs.declared.terminal.Standing.{Standing};
 ghost use Rattle.gw_owes.specs.Calls.{SendPt, Ask};
 ghost use Rattle.gw_owes.specs.Core.{Core as CoreValue};
 ghost use Rattle.gw_owes.specs.Terminals.{after_command, terminal_becomes};
 ghost use Rattle.gw_owes.specs.Dialogues.{HasItsDialogue};
-ghost use Rattle.gw_owes.specs.Links.{is_linked, where_linked};
+ghost use Rattle.gw_owes.specs.Links.{is_linked};
 ghost use Rattle.gw_owes.specs.Handling.{awaited_after, consequence, enquiring, enquiry_command, handle_message, meaning_at, meaning_for, registering, serving, taken_as, taking};
 ghost use Rattle.gw_owes.specs.Reports.{standing_reported};
-ghost use Rattle.gw_core.specs.IsRow.{act_calls, calls_wanted, known_with};
+ghost use Rattle.gw_core.specs.IsRow.{IsWantedAt, ServesNothing, act_calls, calls_wanted, known_with};
 
 use crate::act::Act;
 use gw_base::Pt;
@@ -97,6 +100,7 @@ pub(crate) fn ask(
     requires not_stop { command ≢ Command.Stop }
     ensures asked { terminal.new ≡ after_command terminal.old command standing (moment_of now) }
     ensures act { act_calls result ≡ SendPt pt (Ask command) ∷ [] }
+    ensures wanted { HasCommandDigits command → IsWantedAt pt result }
 {
     terminal.talk = Some(Talk::start(
         &command,
@@ -114,9 +118,13 @@ pub(crate) fn ask(
 fn registering(terminal: &mut Terminal, pt: u16, heard: Heard, now: i64) -> Option<Act>
     requires moment { IsMoment now }
     requires few { terminal.old.awaited < 2 ^ 31 }
-    ensures { (setup : Setup) (kept : List Record) (core : CoreValue)
+    requires settings { IsPt terminal.old.pt }
+    ensures row { (setup : Setup) (kept : List Record) (core : CoreValue)
         → registering (known_with setup kept core (moment_of now)) pt terminal.old heard
         ≡ terminal_becomes (known_with setup kept core (moment_of now)) pt terminal.new (calls_wanted result) }
+    ensures wanted { IfSome result (IsWantedAt pt) }
+    ensures settings { terminal.new.pt ≡ terminal.old.pt }
+    ensures unserved { ServesNothing terminal.old.standing → ServesNothing terminal.new.standing }
 {
     match heard {
         Heard::Done => {
@@ -124,8 +132,9 @@ fn registering(terminal: &mut Terminal, pt: u16, heard: Heard, now: i64) -> Opti
             Some(ask(terminal, pt, command, Standing::Enquiring, now))
         }
         Heard::Declined { .. } | Heard::Unclear => Some(Act::CutPt(pt)),
-        Heard::Begun { .. }
-        | Heard::Note(_)
+        // The terminal has only acknowledged it.
+        Heard::Begun { .. } => None,
+        Heard::Note(_)
         | Heard::Line
         | Heard::Block
         | Heard::Seen
@@ -151,9 +160,12 @@ fn standing_reported(least: u32, reported: u32) -> Standing
 
 /// What follows in an enquiry. No record is kept, so that each trace number may be reported.
 fn enquiring(terminal: &mut Terminal, pt: u16, heard: Heard) -> Option<Act>
-    ensures { (setup : Setup) (kept : List Record) (core : CoreValue) (moment : ℕ)
+    ensures row { (setup : Setup) (kept : List Record) (core : CoreValue) (moment : ℕ)
         → enquiring (known_with setup kept core moment) pt terminal.old heard
         ≡ terminal_becomes (known_with setup kept core moment) pt terminal.new (calls_wanted result) }
+    ensures wanted { IfSome result (IsWantedAt pt) }
+    ensures settings { terminal.new.pt ≡ terminal.old.pt }
+    ensures unserved { ServesNothing terminal.old.standing → ServesNothing terminal.new.standing }
 {
     match heard {
         Heard::Told { number, .. } => {
@@ -176,9 +188,12 @@ fn enquiring(terminal: &mut Terminal, pt: u16, heard: Heard) -> Option<Act>
 /// What follows in what is served.
 fn serving(terminal: &mut Terminal, pt: u16, heard: Heard) -> Option<Act>
     requires few { terminal.old.awaited < 2 ^ 31 }
-    ensures { (setup : Setup) (kept : List Record) (core : CoreValue) (moment : ℕ)
+    ensures row { (setup : Setup) (kept : List Record) (core : CoreValue) (moment : ℕ)
         → serving (known_with setup kept core moment) pt terminal.old heard
         ≡ terminal_becomes (known_with setup kept core moment) pt terminal.new (calls_wanted result) }
+    ensures wanted { IfSome result (IsWantedAt pt) }
+    ensures settings { terminal.new.pt ≡ terminal.old.pt }
+    ensures unserved { ServesNothing terminal.old.standing → ServesNothing terminal.new.standing }
 {
     match heard {
         Heard::Begun { stop: true } => {
@@ -204,9 +219,13 @@ fn follow(terminal: &mut Terminal, pt: u16, heard: Heard, now: i64) -> Option<Ac
     requires moment { IsMoment now }
     requires few { terminal.old.awaited < 2 ^ 31 }
     requires linked { is_linked terminal.old.standing ≡ true }
-    ensures { (setup : Setup) (kept : List Record) (core : CoreValue)
+    requires settings { IsPt terminal.old.pt }
+    ensures row { (setup : Setup) (kept : List Record) (core : CoreValue)
         → consequence (known_with setup kept core (moment_of now)) pt terminal.old heard terminal.old.standing
         ≡ terminal_becomes (known_with setup kept core (moment_of now)) pt terminal.new (calls_wanted result) }
+    ensures wanted { IfSome result (IsWantedAt pt) }
+    ensures settings { terminal.new.pt ≡ terminal.old.pt }
+    ensures unserved { ServesNothing terminal.old.standing → ServesNothing terminal.new.standing }
 {
     match terminal.standing {
         Standing::Registering => registering(terminal, pt, heard, now),
@@ -232,10 +251,14 @@ pub(crate) fn handle(
 ) -> Option<Act>
     requires moment { IsMoment now }
     requires dialogue { HasItsDialogue terminal.old }
-    ensures { (setup : Setup) (kept : List Record) (core : CoreValue) → slice_get core.terminals pt ≡ Some terminal.old
-        → where_linked (is_linked terminal.old.standing) (known_with setup kept core (moment_of now))
+    requires settings { IsPt terminal.old.pt }
+    ensures row { (setup : Setup) (kept : List Record) (core : CoreValue) → slice_get core.terminals pt ≡ Some terminal.old
+        → owing_where (is_linked terminal.old.standing) (known_with setup kept core (moment_of now))
         (handle_message (known_with setup kept core (moment_of now)) pt terminal.old (value_of message.now))
         ≡ terminal_becomes (known_with setup kept core (moment_of now)) pt terminal.new (calls_wanted result) }
+    ensures wanted { IfSome result (IsWantedAt pt) }
+    ensures settings { terminal.new.pt ≡ terminal.old.pt }
+    ensures unserved { ServesNothing terminal.new.standing }
 {
     if !is_linked(&terminal.standing) {
         return None;

@@ -10,3 +10,6 @@ mod till;
 pub use act::Act;
 pub use terminals::Core;
 pub use till::reply;
+
+#[cfg(test)]
+mod tests;

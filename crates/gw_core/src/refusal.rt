@@ -3,7 +3,7 @@ ghost use Rattle.std.specs.Prelude.{◌≡◌, ◌≤◌, [], ◌∷◌, length,
 ghost use Rattle.gw_base.specs.Moment.{moment_of};
 ghost use Rattle.gw_owes.specs.Reply.{Display as DisplayValue, Print as PrintValue, Reject};
 ghost use Rattle.gw_core.specs.ReplyOf.{IsSameReply, AreSameReplies};
-ghost use Rattle.gw_owes.specs.Replies.{has_device_class, header_of_reply, failure, format_failure, failure_reply, is_response_required, output_not_shown, display_failure, reply_to_malformed, reject_event, malformed_output};
+ghost use Rattle.gw_owes.specs.Replies.{has_device_class, header_of_reply, failure, format_failure, failure_reply, is_response_required, output_refused, display_refusal, reply_to_malformed, reject_event, malformed_output};
 
 use gw_base::{Condition, Ident, to_moment};
 use sale_reply::{Detail, OutputResults, SaleReply, Shown, Verdict};
@@ -113,33 +113,37 @@ fn output_result(output: &Output, verdict: Verdict) -> Shown
     }
 }
 
-/// The result of each output: no terminal shows one.
-fn none_shown(alloc: Global, outputs: &[Output]) -> Result<Vec<Shown>, AllocError>
-    ensures { IfOk result (λ shown. shown.items ≡ map output_not_shown outputs.now) }
+/// The result of each output of a Display that is refused.
+fn refused_outputs(
+    alloc: Global,
+    condition: Condition,
+    outputs: &[Output],
+) -> Result<Vec<Shown>, AllocError>
+    ensures { IfOk result (λ shown. shown.items ≡ map (output_refused condition) outputs.now) }
 {
     let mut shown = Vec::new(alloc);
     for output in outputs {
-        let verdict = refusal(Condition::UnavailableDevice);
-        shown.push(output_result(output, verdict))?;
+        shown.push(output_result(output, refusal(condition)))?;
     }
     Ok(shown)
 }
 
-/// The reply to a Display, where an output asks for a response.
-pub(crate) fn display_reply(
+/// The reply to a Display that is refused, where an output asks for a response.
+pub(crate) fn refused_display(
     alloc: Global,
+    condition: Condition,
     header: &Header,
     outputs: &[Output],
 ) -> Result<Option<SaleReply<'static>>, AllocError>
     requires { length outputs.now ≤ 16 }
-    ensures { IfOk result (λ given. AreSameReplies given (display_failure header.now outputs.now)) }
+    ensures { IfOk result (λ given. AreSameReplies given (display_refusal condition header.now outputs.now)) }
 {
     if !asks_response(outputs) {
         return Ok(None);
     }
     Ok(Some(SaleReply::Display {
         header: reply_header(header),
-        outputs: OutputResults::new(none_shown(alloc, outputs)?),
+        outputs: OutputResults::new(refused_outputs(alloc, condition, outputs)?),
     }))
 }
 

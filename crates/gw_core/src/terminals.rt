@@ -1,22 +1,27 @@
 //! What the gateway remembers, and what each event of a terminal makes of it.
-ghost use Rattle.std.specs.Prelude.{◌≡◌, ◌<◌, ℕ, length, List, slice_get, IfSome};
+ghost use Rattle.std.specs.Prelude.{◌≡◌, ◌<◌, ◌≤◌, ℕ, length, List, slice_get, IfOk, IfSome, option_map};
+ghost use Rattle.gw_base.specs.Setup.{IsSetup};
 ghost use Rattle.gw_base.specs.Moment.{IsMoment, moment_of};
 ghost use Rattle.gw_base.specs.declared.setup.Setup.{Setup};
 ghost use Rattle.jrn_record.specs.declared.records.Record.{Record};
 ghost use Rattle.zvt_msg.specs.Message.{value_of};
 ghost use Rattle.gw_owes.specs.declared.terminal.Terminal.{Terminal as TheTerminal};
-ghost use Rattle.gw_owes.specs.Terminals.{registration};
-ghost use Rattle.gw_owes.specs.Links.{link_row};
+ghost use Rattle.gw_owes.specs.Core.{new_core, new_terminal};
+ghost use Rattle.gw_owes.specs.Terminals.{asker_but, core_without, registration};
+ghost use Rattle.gw_owes.specs.Diagnosis.{NamedTerminal, named_terminal, status_of_standing};
+ghost use Rattle.gw_owes.specs.Links.{is_linked, link_row};
 ghost use Rattle.gw_owes.specs.Greeting.{greeted_row};
 ghost use Rattle.gw_owes.specs.Handling.{handled_row};
 ghost use Rattle.gw_owes.specs.Deadlines.{due_row, is_due, is_late, late_row};
 ghost use Rattle.gw_owes.specs.Dialogues.{HasItsDialogue};
-ghost use Rattle.gw_core.specs.IsRow.{IsRow, ServesNothing, known_with, link_event_of};
+ghost use Rattle.gw_core.specs.IsRow.{IsRow, IsWantedAt, ServesNothing, known_with, link_event_of};
 
 use crate::act::Act;
 use crate::handling::{ask, handle, is_linked};
-use gw_base::{Pt, to_moment};
+use gw_base::{Ident, Pt, Setup, to_moment};
 use gw_owes::{Standing, Terminal};
+use sale_reply::GlobalStatus;
+use std::alloc::{AllocError, Global};
 use std::marker::Model;
 use zvt_msg::{Command, PtMessage};
 use zvt_talk::Talk;
@@ -28,12 +33,53 @@ pub struct Core {
 }
 
 impl Model for Core {
-    ghost use Rattle.std.specs.Prelude.{[]};
+    ghost use Rattle.std.specs.Prelude.{[], ◌≤◌, length};
     ghost use Rattle.gw_owes.specs.Core.{Core as CoreValue};
 
     ghost Value = { CoreValue };
 
     ghost view = { λ core. record { terminals = core.terminals.items; waits = []; logged_out = []; device_requests = 0 } };
+
+    ghost use Rattle.gw_core.specs.IsRow.{HaveSettings};
+
+    ghost invariant = { λ core. (length core.terminals.items ≤ 32) × HaveSettings core.terminals.items };
+}
+
+/// A terminal as a run begins: it isn't linked, and is due at once.
+fn new_terminal(pt: Pt) -> Terminal
+    ensures { result ≡ new_terminal pt }
+{
+    Terminal {
+        pt,
+        standing: Standing::Unlinked { due: None },
+        talk: None,
+        awaited: 0,
+        asker: None,
+    }
+}
+
+/// The status that a Diagnosis reports of a terminal of this standing.
+fn status_of_standing(standing: &Standing) -> GlobalStatus
+    ensures { result ≡ status_of_standing standing.now }
+{
+    match standing {
+        Standing::Unlinked { .. } | Standing::Registering | Standing::Enquiring => {
+            GlobalStatus::Unreachable
+        }
+        Standing::Ready { .. } => GlobalStatus::Ready,
+        Standing::Serving { .. } => GlobalStatus::Busy,
+        Standing::Aside { .. } => GlobalStatus::Maintenance,
+    }
+}
+
+/// The till that asked, unless it is this one.
+fn asker_but(till: u64, asker: Option<u64>) -> Option<u64>
+    ensures { result ≡ asker_but till asker }
+{
+    match asker {
+        Some(asker) if asker != till => Some(asker),
+        _ => None,
+    }
 }
 
 /// The registration of a terminal.
@@ -69,10 +115,68 @@ fn is_due(standing: &Standing, now: i64) -> bool
 }
 
 impl Core {
+    /// What is remembered as a run with this setup begins.
+    pub fn open(alloc: Global, setup: &Setup) -> Result<Core, AllocError>
+        requires { IsSetup setup.now }
+        ensures { IfOk result (λ core. core ≡ new_core setup.now) }
+    {
+        let mut terminals = Vec::with_capacity(alloc, setup.terminals.as_slice().len())?;
+        for pt in setup.terminals.as_slice() {
+            terminals.push(new_terminal(pt.clone()?))?;
+        }
+        Ok(Core { terminals })
+    }
+
+    /// How many terminals there are; at most 32.
+    pub fn count(&self) -> u16
+        ensures count { result ≡ length self.now.terminals }
+        ensures few { result ≤ 32 }
+    {
+        self.terminals.len() as u16
+    }
+
+    /// The number of the terminal that has this POIID.
+    pub fn named(&self, poi: &Ident<40>) -> Option<u16>
+        ensures { result ≡ option_map (λ (n : NamedTerminal). n.number) (named_terminal self.now poi.now) }
+    {
+        for pt in 0..self.count() {
+            if self.terminals[usize::from(pt)].pt.poi == *poi {
+                return Some(pt);
+            }
+        }
+        None
+    }
+
+    /// The status that a Diagnosis reports of a terminal.
+    pub fn status(&self, pt: u16) -> GlobalStatus
+        requires there { pt < length self.now.terminals }
+        ensures { IfSome (slice_get self.now.terminals pt) (λ (terminal : TheTerminal). result ≡ status_of_standing terminal.standing) }
+    {
+        status_of_standing(&self.terminals[usize::from(pt)].standing)
+    }
+
+    /// Whether the terminal has a connection.
+    pub fn is_linked(&self, pt: u16) -> bool
+        requires there { pt < length self.now.terminals }
+        ensures { IfSome (slice_get self.now.terminals pt) (λ (terminal : TheTerminal). result ≡ is_linked terminal.standing) }
+    {
+        is_linked(&self.terminals[usize::from(pt)].standing)
+    }
+
+    /// A till is gone: replies to it aren't sent later.
+    pub fn forget(&mut self, till: u64)
+        ensures { self.new ≡ core_without self.old till }
+    {
+        for terminal in self.terminals.iter_mut() {
+            terminal.asker = asker_but(till, terminal.asker);
+        }
+    }
+
     /// The acknowledgement or refusal of a message; `None` for an Ack or a Nack, and where the terminal isn't linked.
     pub fn greet(&self, pt: u16, message: &PtMessage<'_>) -> Option<Act>
         requires there { pt < length self.now.terminals }
-        ensures { (setup : Setup) (kept : List Record) (moment : ℕ)
+        ensures wanted { IfSome result (IsWantedAt pt) }
+        ensures row { (setup : Setup) (kept : List Record) (moment : ℕ)
             → IsRow (greeted_row (known_with setup kept self.now moment) pt (value_of message.now)) self.now result }
     {
         if !is_linked(&self.terminals[usize::from(pt)].standing) {
@@ -95,8 +199,10 @@ impl Core {
         requires moment { IsMoment now }
         requires there { pt < length self.old.terminals }
         requires dialogue { IfSome (slice_get self.old.terminals pt) HasItsDialogue }
-        ensures { (setup : Setup) (kept : List Record)
+        ensures row { (setup : Setup) (kept : List Record)
             → IsRow (handled_row (known_with setup kept self.old (moment_of now)) pt (value_of message.now)) self.new result }
+        ensures wanted { IfSome result (IsWantedAt pt) }
+        ensures unserved { IfSome (slice_get self.new.terminals pt) (λ (terminal : TheTerminal). ServesNothing terminal.standing) }
     {
         let terminal = &mut self.terminals[usize::from(pt)];
         handle(terminal, pt, message, now)
@@ -107,8 +213,9 @@ impl Core {
         requires moment { IsMoment now }
         requires there { pt < length self.old.terminals }
         requires unserved { IfSome (slice_get self.old.terminals pt) (λ (terminal : TheTerminal). ServesNothing terminal.standing) }
-        ensures { (setup : Setup) (kept : List Record)
+        ensures row { (setup : Setup) (kept : List Record)
             → IsRow (link_row (known_with setup kept self.old (moment_of now)) pt (link_event_of up)) self.new result }
+        ensures wanted { IfSome result (IsWantedAt pt) }
     {
         let terminal = &mut self.terminals[usize::from(pt)];
         terminal.awaited = 0;
@@ -126,7 +233,8 @@ impl Core {
     /// The cut of a terminal that has been silent for too long.
     pub fn on_silence(&self, pt: u16, now: i64) -> Option<Act>
         requires there { pt < length self.now.terminals }
-        ensures { (setup : Setup) (kept : List Record) → IsRow (late_row (known_with setup kept self.now (moment_of now)) pt) self.now result }
+        ensures wanted { IfSome result (IsWantedAt pt) }
+        ensures row { (setup : Setup) (kept : List Record) → IsRow (late_row (known_with setup kept self.now (moment_of now)) pt) self.now result }
     {
         if is_late(&self.terminals[usize::from(pt)].talk, now) {
             Some(Act::CutPt(pt))
@@ -138,7 +246,8 @@ impl Core {
     /// The link of a terminal that is due.
     pub fn on_due(&self, pt: u16, now: i64) -> Option<Act>
         requires there { pt < length self.now.terminals }
-        ensures { (setup : Setup) (kept : List Record) → IsRow (due_row (known_with setup kept self.now (moment_of now)) pt) self.now result }
+        ensures wanted { IfSome result (IsWantedAt pt) }
+        ensures row { (setup : Setup) (kept : List Record) → IsRow (due_row (known_with setup kept self.now (moment_of now)) pt) self.now result }
     {
         if is_due(&self.terminals[usize::from(pt)].standing, now) {
             Some(Act::Link(pt))

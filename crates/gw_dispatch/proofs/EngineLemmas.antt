@@ -15,9 +15,9 @@ use Rattle.gw_owes.specs.Events.{decoded_items, has_bad_length}
 use Rattle.gw_owes.specs.Items.{RoundItem, Message, Asked, Unframed}
 use Rattle.gw_owes.specs.ReadAs.{ReadAs, IsReadAs}
 use Rattle.gw_owes.specs.Reply.{ReplyValue, reply_value_tree, reply_value_bytes}
-use Rattle.gw_owes.specs.Replies.{reply_to}
-use Rattle.gw_owes.specs.Row.{Known, becoming, owing}
-use Rattle.gw_owes.specs.Rows.{row_of, where_there, asked_row}
+use Rattle.gw_owes.specs.Requests.{reply_to}
+use Rattle.gw_owes.specs.Row.{Known, becoming, owing, owing_where}
+use Rattle.gw_owes.specs.Rows.{row_of, asked_row}
 use Rattle.gw_owes.specs.Terminals.{reply_calls_to}
 use Rattle.gw_owes.proofs.FrameLemmas.{items-waiting, items-unframed, items-payload, reading-payload, reading-waiting, incomplete-waits}
 use Rattle.gw_rules.specs.Scene.{Scene, row_in, row_at}
@@ -28,9 +28,9 @@ use Rattle.gw_rules.specs.Triple.{Extends, Triple, Owing}
 use Rattle.gw_rules.proofs.TripleLemmas.{triple-refl, triple-then, triple-after, triple-before, triple-frame, triple-some, nothing-extends, begin-triple, read-triple}
 use Rattle.gw_core.specs.ReplyOf.{IsKnownAt, AreSameReplies}
 use Rattle.gw_dispatch.specs.NextMessage.{TakesMessage}
-use Rattle.gw_dispatch.specs.Round.{IsIn, InRound, Pending, BeforeTill, AfterTill, ReadsOn, Delivered, OweNothing, with_core, known_without}
-use Rattle.gw_dispatch.specs.declared.engine.Served.{Served}
-use Rattle.gw_dispatch.specs.declared.engine.Served.TheVariants.{More, Incomplete, Gone}
+use Rattle.gw_dispatch.specs.Round.{IsIn, InRound, Pending, BeforeTill, AfterTill, ReadsOn, Delivered, with_core, known_without}
+use Rattle.gw_dispatch.specs.declared.replier.Served.{Served}
+use Rattle.gw_dispatch.specs.declared.replier.Served.TheVariants.{More, Incomplete, Gone}
 use Rattle.gw_dispatch.proofs.SendLemmas.{Cuts}
 use Rattle.std.specs.declared.alloc.AllocError.{AllocError}
 
@@ -121,13 +121,6 @@ pub pass : (s : Observed) (known : Known) (polls : ℕ) (o : Outside) (item : Ro
     Triple s s (InRound known polls o (item ∷ items)) (InRound known polls o items)
 pass s known polls o item items begins = begin-first s known polls o item items known.core [] begins
 
--- items that owe nothing are passed
-pub pass-due : (s : Observed) (known : Known) (polls : ℕ) (o : Outside) (due : List RoundItem) → OweNothing due → Triple s s (InRound known polls o due) (InRound known polls o [])
-pass-due s known polls o [] owe = triple-refl s _
-pass-due s known polls o (item ∷ due) owe = triple-then s s s _ _ _
-    (pass s known polls o item due (record { begins = λ scene e. owe.0.begins scene due; row = owe.0.row o.tills known }))
-    (pass-due s known polls o due owe.1)
-
 -- ---- a till that is gone
 
 pub without-closed : (connections : List Connection) (number : ℕ) → is_connected (without connections number) number ≡ false
@@ -147,7 +140,7 @@ module _ (known : Known) (polls : ℕ) (o : Outside) (till : ℕ) (closed : is_c
       (pass-payloads payloads items)
 
   pass-unframed : (items : List RoundItem) (test : Bool) → Triple s s (InRound known polls o ((if test then Unframed till ∷ [] else []) ++ items)) (InRound known polls o items)
-  pass-unframed items true = pass s known polls o (Unframed till) items (record { begins = λ scene e. refl; row = ap (λ there. where_there there known (owing known (CutTill till ∷ []))) closed })
+  pass-unframed items true = pass s known polls o (Unframed till) items (record { begins = λ scene e. refl; row = ap (λ there. owing_where there known (owing known (CutTill till ∷ []))) closed })
   pass-unframed items false = triple-refl s _
 
   pub pass-all : (reading : DecodedFrames) (items : List RoundItem) → Triple s s (InRound known polls o (decoded_items till reading ++ items)) (InRound known polls o items)
@@ -180,7 +173,7 @@ serve-unframed a b known polls o till bytes left items served gone bad cuts =
     (λ v p. (subst (λ list. InRound known polls o (list ++ items) v) (items-unframed till bytes bad) p.0, p.1))
     (triple-known a (IsHere o till) _ (Pending known polls o (CutTill till ∷ []) items)
     (λ here. begin-first a known polls o (Unframed till) items known.core (CutTill till ∷ [])
-    (record { begins = λ scene e. refl; row = ap (λ there. where_there there known (owing known (CutTill till ∷ []))) here }))))
+    (record { begins = λ scene e. refl; row = ap (λ there. owing_where there known (owing known (CutTill till ∷ []))) here }))))
     (some-scene a b known polls o (CutTill till ∷ []) items (InRound (known_without known till) polls (outside_after o (TillCut till)) items)
     (λ scene. triple-after a b _ _ _ (triple-frame a b _ _ (IsIn known polls o scene) (cuts scene items)) (λ v q. (till_cut scene till, q.0, cut-in known polls o till scene q.1)))))
 
@@ -209,12 +202,12 @@ begin-message s known polls o till old new message items as_read lawful taken re
 
     begin : IsHere o till → Triple s s (InRound known polls o (Asked till as_read ∷ later)) (Pending known polls o (reply_calls_to (Some till) (reply_to known as_read)) later)
     begin here = begin-first s known polls o (Asked till as_read) later known.core (reply_calls_to (Some till) (reply_to known as_read))
-        (record { begins = λ scene e. refl; row = ap (λ there. where_there there known (asked_row known till as_read)) here })
+        (record { begins = λ scene e. refl; row = ap (λ there. owing_where there known (asked_row known till as_read)) here })
 
 -- a message without a reply
-pub serve-silent : (s : Observed) (known : Known) (polls : ℕ) (o : Outside) (till : ℕ) (name old new : List ℕ) (moment : ℕ) (items : List RoundItem) → IsKnownAt name moment known → TakesMessage name moment None old new →
+pub serve-silent : (s : Observed) (known : Known) (polls : ℕ) (o : Outside) (till : ℕ) (name old new : List ℕ) (core : Core) (moment : ℕ) (items : List RoundItem) → IsKnownAt name core moment known → TakesMessage name core moment None old new →
     Triple s s (BeforeTill known polls o till old items) (BeforeTill known polls o till new items)
-serve-silent s known polls o till name old new moment items met t = by_reply (reply_to known t.is_reply.as_read) refl (t.is_reply.replied known met)
+serve-silent s known polls o till name old new core moment items met t = by_reply (reply_to known t.is_reply.as_read) refl (t.is_reply.replied known met)
   where
     by_reply : (owed : Option ReplyValue) → reply_to known t.is_reply.as_read ≡ owed → AreSameReplies None owed → Triple s s (BeforeTill known polls o till old items) (BeforeTill known polls o till new items)
     by_reply None e alike = triple-after s s _ _ _ (begin-message s known polls o till old new t.message items t.is_reply.as_read t.payload t.taken t.is_reply.read)
@@ -222,9 +215,9 @@ serve-silent s known polls o till name old new moment items met t = by_reply (re
     by_reply (Some reply) e alike = absurd alike
 
 -- a message whose reply is owed
-begin-replied : (s : Observed) (known : Known) (polls : ℕ) (o : Outside) (till : ℕ) (name old new : List ℕ) (moment : ℕ) (items : List RoundItem) (given : Option SaleReply) (t : TakesMessage name moment given old new) (owed : ReplyValue) →
+begin-replied : (s : Observed) (known : Known) (polls : ℕ) (o : Outside) (till : ℕ) (name old new : List ℕ) (core : Core) (moment : ℕ) (items : List RoundItem) (given : Option SaleReply) (t : TakesMessage name core moment given old new) (owed : ReplyValue) →
     reply_to known t.is_reply.as_read ≡ Some owed → Triple s s (BeforeTill known polls o till old items) (λ v. Pending known polls o (SendTill till owed ∷ []) (decoded_items till (decode_frames new) ++ items) v × IsHere o till)
-begin-replied s known polls o till name old new moment items given t owed e = triple-after s s _ _ _ (begin-message s known polls o till old new t.message items t.is_reply.as_read t.payload t.taken t.is_reply.read)
+begin-replied s known polls o till name old new core moment items given t owed e = triple-after s s _ _ _ (begin-message s known polls o till old new t.message items t.is_reply.as_read t.payload t.taken t.is_reply.read)
     (λ v q. (subst (λ reply. Pending known polls o (reply_calls_to (Some till) reply) (decoded_items till (decode_frames new) ++ items) v) e q.0, q.1))
 
 -- what sends a reply that is owed
@@ -233,24 +226,24 @@ Sends a b till reply served = (owed : ReplyValue) → tree_of reply ≡ reply_va
     Triple a b (Owing scene (SendTill till owed ∷ []) items) (Delivered served scene till (reply_value_bytes owed) items)
 
 -- a message got its reply
-pub serve-replied : (a b : Observed) (known : Known) (polls : ℕ) (o : Outside) (till : ℕ) (name old new : List ℕ) (moment : ℕ) (items : List RoundItem) (reply : SaleReply) → IsKnownAt name moment known → TakesMessage name moment (Some reply) old new → Sends a b till reply More →
+pub serve-replied : (a b : Observed) (known : Known) (polls : ℕ) (o : Outside) (till : ℕ) (name old new : List ℕ) (core : Core) (moment : ℕ) (items : List RoundItem) (reply : SaleReply) → IsKnownAt name core moment known → TakesMessage name core moment (Some reply) old new → Sends a b till reply More →
     Triple a b (BeforeTill known polls o till old items) (BeforeTill known polls o till new items)
-serve-replied a b known polls o till name old new moment items reply met t sends = by_reply (reply_to known t.is_reply.as_read) refl (t.is_reply.replied known met)
+serve-replied a b known polls o till name old new core moment items reply met t sends = by_reply (reply_to known t.is_reply.as_read) refl (t.is_reply.replied known met)
   where
     later : List RoundItem
     later = decoded_items till (decode_frames new) ++ items
 
     by_reply : (owed : Option ReplyValue) → reply_to known t.is_reply.as_read ≡ owed → AreSameReplies (Some reply) owed → Triple a b (BeforeTill known polls o till old items) (BeforeTill known polls o till new items)
     by_reply None e alike = absurd alike
-    by_reply (Some owed) e alike = triple-then a a b _ _ _ (begin-replied a known polls o till name old new moment items (Some reply) t owed e)
+    by_reply (Some owed) e alike = triple-then a a b _ _ _ (begin-replied a known polls o till name old new core moment items (Some reply) t owed e)
         (triple-frame a b _ _ (IsHere o till) (some-scene a b known polls o (SendTill till owed ∷ []) later (InRound known polls o later) (λ scene.
         triple-after a b _ _ _ (triple-frame a b _ _ (IsIn known polls o scene) (sends owed alike.0 scene later))
         (λ v q. (called scene (SentTill till (reply_value_bytes owed) true), q.0, sent-in known polls o till (reply_value_bytes owed) true scene q.1)))))
 
 -- a reply wasn't taken, and the till was cut
-pub serve-unsent : (a b : Observed) (known : Known) (polls : ℕ) (o : Outside) (till : ℕ) (name old new : List ℕ) (moment : ℕ) (items : List RoundItem) (reply : SaleReply) → IsKnownAt name moment known → TakesMessage name moment (Some reply) old new → Sends a b till reply Gone →
+pub serve-unsent : (a b : Observed) (known : Known) (polls : ℕ) (o : Outside) (till : ℕ) (name old new : List ℕ) (core : Core) (moment : ℕ) (items : List RoundItem) (reply : SaleReply) → IsKnownAt name core moment known → TakesMessage name core moment (Some reply) old new → Sends a b till reply Gone →
     Triple a b (BeforeTill known polls o till old items) (InRound (known_without known till) polls (outside_after o (TillCut till)) items)
-serve-unsent a b known polls o till name old new moment items reply met t sends = by_reply (reply_to known t.is_reply.as_read) refl (t.is_reply.replied known met)
+serve-unsent a b known polls o till name old new core moment items reply met t sends = by_reply (reply_to known t.is_reply.as_read) refl (t.is_reply.replied known met)
   where
     later : List RoundItem
     later = decoded_items till (decode_frames new) ++ items
@@ -259,22 +252,22 @@ serve-unsent a b known polls o till name old new moment items reply met t sends 
     by_reply None e alike = absurd alike
     by_reply (Some owed) e alike =
         triple-then a b b _ _ _
-        (triple-then a a b _ _ _ (triple-after a a _ _ _ (begin-replied a known polls o till name old new moment items (Some reply) t owed e) (λ v q. q.0))
+        (triple-then a a b _ _ _ (triple-after a a _ _ _ (begin-replied a known polls o till name old new core moment items (Some reply) t owed e) (λ v q. q.0))
         (some-scene a b known polls o (SendTill till owed ∷ []) later (InRound (known_without known till) polls (outside_after o (TillCut till)) later) (λ scene.
         triple-after a b _ _ _ (triple-frame a b _ _ (IsIn known polls o scene) (sends owed alike.0 scene later))
         (λ v q. (till_cut (called scene (SentTill till q.0.0 false)) till, q.0.1, cut-in known polls o till (called scene (SentTill till q.0.0 false)) (sent-in known polls o till q.0.0 false scene q.1))))))
         (pass-all (known_without known till) polls (outside_after o (TillCut till)) till (without-closed o.tills till) b (decode_frames new) items)
 
 -- a reply was sent, or the till cut
-pub serve-sent : (a b : Observed) (known : Known) (polls : ℕ) (o : Outside) (till : ℕ) (name old new : List ℕ) (moment : ℕ) (items : List RoundItem) (reply : SaleReply) (served : Served) → served ≢ Incomplete → IsKnownAt name moment known → TakesMessage name moment (Some reply) old new → Sends a b till reply served →
+pub serve-sent : (a b : Observed) (known : Known) (polls : ℕ) (o : Outside) (till : ℕ) (name old new : List ℕ) (core : Core) (moment : ℕ) (items : List RoundItem) (reply : SaleReply) (served : Served) → served ≢ Incomplete → IsKnownAt name core moment known → TakesMessage name core moment (Some reply) old new → Sends a b till reply served →
     Triple a b (BeforeTill known polls o till old items) (AfterTill {E = AllocError} (Ok served) known polls o till new items)
-serve-sent a b known polls o till name old new moment items reply More whole met t sends = serve-replied a b known polls o till name old new moment items reply met t sends
-serve-sent a b known polls o till name old new moment items reply Incomplete whole met t sends = absurd (whole refl)
-serve-sent a b known polls o till name old new moment items reply Gone whole met t sends = serve-unsent a b known polls o till name old new moment items reply met t sends
+serve-sent a b known polls o till name old new core moment items reply More whole met t sends = serve-replied a b known polls o till name old new core moment items reply met t sends
+serve-sent a b known polls o till name old new core moment items reply Incomplete whole met t sends = absurd (whole refl)
+serve-sent a b known polls o till name old new core moment items reply Gone whole met t sends = serve-unsent a b known polls o till name old new core moment items reply met t sends
 
 -- what the reader holds is less then, and ends in the same rest
-pub takes-less : (name : List ℕ) (given : Option SaleReply) (old new : List ℕ) (moment : ℕ) → TakesMessage name moment given old new → (length new < length old) × ((decode_frames new).rest ≡ (decode_frames old).rest)
-takes-less name given old new moment t =
+pub takes-less : (name : List ℕ) (core : Core) (given : Option SaleReply) (old new : List ℕ) (moment : ℕ) → TakesMessage name core moment given old new → (length new < length old) × ((decode_frames new).rest ≡ (decode_frames old).rest)
+takes-less name core given old new moment t =
     let l : length old ≡ length (frame t.message) + length new = ap length t.taken ∙ length-append (frame t.message) new in
     let m : length (frame t.message) ≡ 4 + length t.message = omega arith in
     (omega (arith, t.payload), sym (ap (λ b. (decode_frames b).rest) t.taken ∙ ap (λ (r : DecodedFrames). r.rest) (reading-payload t.message new t.payload)))

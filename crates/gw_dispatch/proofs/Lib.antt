@@ -1,5 +1,12 @@
--- The lemmas of the loop of a run: its rounds, its sends and the tills that it holds.
+-- The lemmas of the loop of a run: its rounds, its sends, the tills and terminals that it holds, and the requests that wait.
+pub mod ApduLemmas
 pub mod EngineLemmas
+pub mod HeardLemmas
+pub mod LinkLemmas
+pub mod PerformLemmas
+pub mod PtsLemmas
 pub mod RoundLemmas
 pub mod SendLemmas
+pub mod StepLemmas
 pub mod TillLemmas
+pub mod WaitLemmas

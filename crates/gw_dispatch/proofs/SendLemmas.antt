@@ -13,8 +13,8 @@ use Rattle.gw_rules.specs.Triple.{Triple, Owing}
 use Rattle.gw_rules.proofs.TripleLemmas.{triple-then, triple-after, triple-some}
 use Rattle.gw_rules.proofs.CallLemmas.{send-till-triple}
 use Rattle.gw_dispatch.specs.Round.{Delivered}
-use Rattle.gw_dispatch.specs.declared.engine.Served.{Served}
-use Rattle.gw_dispatch.specs.declared.engine.Served.TheVariants.{More, Gone}
+use Rattle.gw_dispatch.specs.declared.replier.Served.{Served}
+use Rattle.gw_dispatch.specs.declared.replier.Served.TheVariants.{More, Gone}
 
 pub delivered : (E : Type 0) (a b : Observed) (done : Unit {0}) (till : ℕ) (bytes : List ℕ) (reply : ReplyValue) → bytes ≡ reply_value_bytes reply → Grows a b (SentTillTurns {E = E} till bytes (Ok done)) → (scene : Scene) (items : List RoundItem) →
     Triple a b (Owing scene (SendTill till reply ∷ []) items) (Delivered More scene till (reply_value_bytes reply) items)

@@ -1,5 +1,9 @@
 -- The definitions of the loop of a run: a round, the tills that it holds, and how a run ends.
+pub mod Apdus
+pub mod MidRound
 pub mod NextMessage
 pub mod Round
+pub mod Rounds
 pub mod RunEnd
 pub mod Tills
+pub mod Wanted

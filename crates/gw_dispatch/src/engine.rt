@@ -1,56 +1,24 @@
-//! One run over a site: it is opened, polled, and each message of a till gets its reply.
-ghost use Rattle.std.specs.Prelude.{◌≡◌, ◌≢◌, ◌≤◌, ◌<◌, ◌+◌, ◌++◌, ◌∷◌, [], ℕ, ℤ, List, length, IfOk, Ok};
+//! One run over a site: it is opened and polled, what each event brings is handled, and then what may be due.
+ghost use Rattle.std.specs.Prelude.{◌≡◌, ◌≢◌, ◌≤◌, ◌+◌, [], ℕ, ℤ, length, IfOk, Ok};
 ghost use Rattle.gw_bytes.specs.Bytes.{AreBytes};
 ghost use Rattle.gw_base.specs.Setup.{IsSetup};
-ghost use Rattle.gw_base.specs.Moment.{moment_of};
-ghost use Rattle.gw_base.specs.declared.setup.Setup.{Setup};
+ghost use Rattle.gw_base.specs.Moment.{IsMoment};
+ghost use Rattle.gw_base.specs.declared.setup.Setup.{Setup as TheSetup};
 ghost use Rattle.gw_site.specs.Failures.{Rose};
-ghost use Rattle.gw_site.specs.Outside.{Outside};
 ghost use Rattle.gw_site.specs.Turns.{IsWithinBuf};
-ghost use Rattle.sale_reply.specs.Limits.{IsWithinLimits};
-ghost use Rattle.sale_reply.specs.Reply.{tree_of};
-ghost use Rattle.gw_owes.specs.Calls.{CutTill, SendTill};
-ghost use Rattle.gw_owes.specs.Items.{RoundItem};
-ghost use Rattle.gw_owes.specs.Reply.{ReplyValue, reply_value_tree, reply_value_bytes};
-ghost use Rattle.gw_owes.specs.Row.{Known};
-ghost use Rattle.gw_rules.specs.Scene.{Scene};
-ghost use Rattle.gw_rules.specs.Triple.{Triple, RunTriple, IsRun, Owing, JustBegun};
-ghost use Rattle.gw_rules.specs.View.{till_cut};
-ghost use Rattle.gw_core.specs.ReplyOf.{IsKnownAt};
-ghost use Rattle.gw_dispatch.specs.NextMessage.{IsNextOf};
-ghost use Rattle.gw_dispatch.specs.Round.{BeforeTill, AfterTill, ReadsOn, Delivered, BeforeChunk, BeforeOpen, IsBetweenRounds, IsPolled, AfterEvent, AfterRound};
+ghost use Rattle.gw_owes.specs.Core.{new_core};
+ghost use Rattle.gw_rules.specs.Triple.{Triple, RunTriple, IsRun, JustBegun};
+ghost use Rattle.gw_dispatch.specs.Rounds.{IsReady, BeforeChunk, BeforeOpen, BeforePtBytes, BeforePtEnd, IsBetweenRounds, IsPolled, IsHandled, AfterEvent, AfterRound};
 ghost use Rattle.gw_dispatch.specs.RunEnd.{EndedBy};
 
+use crate::pts::Pts;
+use crate::replier::{Replier, Served};
 use crate::tills::{Till, drop_till, index_of, open_till};
-use gw_base::{Ident, Setup};
+use gw_base::{Setup, to_moment};
 use gw_bytes::{LONGEST_CHUNK, MOST_TILLS};
-use gw_core::reply;
 use gw_site::{Failed, Polled, Site, What};
-use sale_frame::FrameReader;
-use sale_reply::{Out, SaleReply, write_reply};
+use sale_reply::Out;
 use std::alloc::{AllocError, Global};
-
-/// What the first bytes of a reader are.
-#[derive(Drop)]
-enum Next {
-    /// Less than a frame.
-    Incomplete,
-    /// A message, and the reply to it.
-    Message(Option<SaleReply<'static>>),
-    /// Bytes that begin no frame.
-    Unframed,
-}
-
-/// How far a till's bytes were served.
-#[derive(Clone, Copy)]
-enum Served {
-    /// A message was served, and more may be held.
-    More,
-    /// Less than a frame waits.
-    Incomplete,
-    /// The till was cut.
-    Gone,
-}
 
 /// How a round ended.
 #[derive(Clone, Copy)]
@@ -70,142 +38,34 @@ pub enum Ended {
     NoMemory,
 }
 
-/// Cuts a till's connection.
-fn cut<S: Site>(site: &mut S, till: u64) -> Served
-    ensures triple { (scene : Scene) (items : List RoundItem) → Triple (S.observed site.old) (S.observed site.new) (Owing scene (CutTill till ∷ []) items) (Owing (till_cut scene till) [] items) }
-    ensures gone { result ≡ Served.Gone }
-    ensures later { (S.observed site.old).faults ≤ (S.observed site.new).faults }
-{
-    site.cut_till(till);
-    Served::Gone
-}
-
-/// Makes the replies of a run, and sends them.
-#[derive(Drop)]
-struct Replier {
-    alloc: Global,
-    /// The gateway's name.
-    name: Ident<40>,
-    /// One buffer for all replies of the run, so that no reply has to take memory.
-    out: Out,
-}
-
-impl Replier {
-    /// What the first bytes of a reader are, and the reply where they are a message.
-    fn next_message(&self, now: i64, reader: &mut FrameReader) -> Result<Next, AllocError>
-        ensures { IfOk result (λ next. IsNextOf self.now.name now next reader.old reader.new) }
-    {
-        match reader.next() {
-            Err(_) => Ok(Next::Unframed),
-            Ok(None) => Ok(Next::Incomplete),
-            Ok(Some(message)) => Ok(Next::Message(reply(self.alloc, &self.name, now, message)?)),
-        }
-    }
-
-    /// Sends a reply to a till, and cuts its connection where that fails. More may be held where it was sent.
-    fn send_reply<S: Site>(&mut self, site: &mut S, till: u64, reply: &SaleReply<'_>) -> Served
-        requires { IsWithinLimits reply.now }
-        ensures triple { (owed : ReplyValue) → tree_of reply.now ≡ reply_value_tree owed → (scene : Scene) (items : List RoundItem) → Triple (S.observed site.old) (S.observed site.new)
-            (Owing scene (SendTill till owed ∷ []) items)
-            (Delivered result scene till (reply_value_bytes owed) items) }
-        ensures whole { result ≢ Served.Incomplete }
-        ensures name { self.new.name ≡ self.old.name }
-        ensures later { (S.observed site.old).faults ≤ (S.observed site.new).faults }
-    {
-        write_reply(reply, &mut self.out);
-        match site.send_till(till, self.out.as_bytes()) {
-            Ok(()) => Served::More,
-            Err(Failed) => {
-                // The till has lost a reply, and learns of it by the end of its connection.
-                cut(site, till)
-            }
-        }
-    }
-
-    /// Serves what is first in a till's reader.
-    fn serve_next<S: Site>(
-        &mut self,
-        site: &mut S,
-        now: i64,
-        till: u64,
-        reader: &mut FrameReader,
-    ) -> Result<Served, AllocError>
-        ensures triple { (known : Known) (polls : ℕ) (o : Outside) (items : List RoundItem) → IsKnownAt self.old.name (moment_of now) known → Triple (S.observed site.old) (S.observed site.new)
-            (BeforeTill known polls o till reader.old items)
-            (AfterTill result known polls o till reader.new items) }
-        ensures reader { IfOk result (λ served. ReadsOn served reader.old reader.new) }
-        ensures name { self.new.name ≡ self.old.name }
-        ensures later { (S.observed site.old).faults ≤ (S.observed site.new).faults }
-    {
-        match self.next_message(now, reader)? {
-            Next::Incomplete => Ok(Served::Incomplete),
-            Next::Unframed => Ok(cut(site, till)),
-            Next::Message(None) => Ok(Served::More),
-            Next::Message(Some(reply)) => Ok(self.send_reply(site, till, &reply)),
-        }
-    }
-
-    /// Serves a till until less than a frame waits at its reader, or it was cut.
-    fn serve<S: Site>(
-        &mut self,
-        site: &mut S,
-        now: i64,
-        till: u64,
-        reader: &mut FrameReader,
-    ) -> Result<Served, AllocError>
-        ensures triple { (known : Known) (polls : ℕ) (o : Outside) (items : List RoundItem) → IsKnownAt self.old.name (moment_of now) known → Triple (S.observed site.old) (S.observed site.new)
-            (BeforeTill known polls o till reader.old items)
-            (AfterTill result known polls o till reader.new items) }
-        ensures reader { IfOk result (λ served. ReadsOn served reader.old reader.new) }
-        ensures whole { result ≢ Ok Served.More }
-        ensures name { self.new.name ≡ self.old.name }
-        ensures later { (S.observed site.old).faults ≤ (S.observed site.new).faults }
-    {
-        loop {
-            match self.serve_next(site, now, till, reader) {
-                Ok(Served::More) => {}
-                Ok(Served::Incomplete) => return Ok(Served::Incomplete),
-                Ok(Served::Gone) => return Ok(Served::Gone),
-                Err(AllocError) => return Err(AllocError),
-            }
-        }
-    }
-
-    /// Serves a till whose connection has brought these bytes.
-    fn read_chunk<S: Site>(
-        &mut self,
-        site: &mut S,
-        now: i64,
-        till: &mut Till,
-        bytes: &[u8],
-    ) -> Result<Served, AllocError>
-        requires { length bytes.now ≤ 4096 }
-        ensures triple { (known : Known) (polls : ℕ) (o : Outside) (items : List RoundItem) → IsKnownAt self.old.name (moment_of now) known → Triple (S.observed site.old) (S.observed site.new)
-            (BeforeTill known polls o till.old.number (till.old.reader ++ bytes.now) items)
-            (AfterTill result known polls o till.old.number till.new.reader items) }
-        ensures reader { IfOk result (λ served. ReadsOn served (till.old.reader ++ bytes.now) till.new.reader) }
-        ensures whole { result ≢ Ok Served.More }
-        ensures number { till.new.number ≡ till.old.number }
-        ensures name { self.new.name ≡ self.old.name }
-        ensures later { (S.observed site.old).faults ≤ (S.observed site.new).faults }
-    {
-        let number = till.number;
-        match till.reader.feed(self.alloc, bytes) {
-            Ok(()) => self.serve(site, now, number, &mut till.reader),
-            Err(AllocError) => Err(AllocError),
-        }
-    }
-}
-
 /// What the gateway holds in a run.
 #[derive(Drop)]
 struct Dispatch {
     replier: Replier,
     /// The tills that are there.
     tills: Vec<Till>,
+    pts: Pts,
 }
 
 impl Dispatch {
+    /// What is held as a run with this setup begins.
+    fn open(alloc: Global, setup: &Setup) -> Result<Dispatch, AllocError>
+        requires { IsSetup setup.now }
+        ensures name { IfOk result (λ dispatch. dispatch.replier.name ≡ setup.now.name) }
+        ensures tills { IfOk result (λ dispatch. dispatch.tills.items ≡ []) }
+        ensures core { IfOk result (λ dispatch. dispatch.pts.core ≡ new_core setup.now) }
+        ensures ready { IfOk result IsReady }
+    {
+        let out = Out::new(alloc)?;
+        let pts = Pts::open(alloc, setup)?;
+        let name = setup.name;
+        Ok(Dispatch {
+            replier: Replier { alloc, name, out },
+            tills: Vec::new(alloc),
+            pts,
+        })
+    }
+
     /// Handles the bytes that a till's connection has brought.
     fn on_bytes<S: Site>(
         &mut self,
@@ -214,11 +74,13 @@ impl Dispatch {
         number: u64,
         bytes: &[u8],
     ) -> Result<RoundEnd, AllocError>
-        requires { length bytes.now ≤ 4096 }
-        ensures triple { (setup : Setup) (polls : ℕ) → setup.name ≡ self.old.replier.name → Triple (S.observed site.old) (S.observed site.new)
-            (BeforeChunk setup self.old.tills.items polls now number bytes.now)
-            (AfterEvent result setup self.new.tills.items polls) }
+        requires chunk { length bytes.now ≤ 4096 }
+        requires ready { IsReady self.old }
+        ensures triple { (setup : TheSetup) (polls : ℕ) → setup.name ≡ self.old.replier.name → Triple (S.observed site.old) (S.observed site.new)
+            (BeforeChunk setup self.old polls now number bytes.now)
+            (AfterEvent result setup self.new polls now) }
         ensures went { result ≢ Ok RoundEnd.Stopped }
+        ensures ready { IsReady self.new }
         ensures name { self.new.replier.name ≡ self.old.replier.name }
         ensures later { (S.observed site.old).faults ≤ (S.observed site.new).faults }
     {
@@ -228,10 +90,11 @@ impl Dispatch {
         };
         match self
             .replier
-            .read_chunk(site, now, &mut self.tills[index], bytes)
+            .read_chunk(site, &self.pts.core, now, &mut self.tills[index], bytes)
         {
             Ok(Served::Gone) => {
                 drop_till(&mut self.tills, number);
+                self.pts.forget(number);
                 Ok(RoundEnd::Went)
             }
             Ok(Served::Incomplete) => Ok(RoundEnd::Went),
@@ -242,10 +105,12 @@ impl Dispatch {
 
     /// Handles the opening of a till.
     fn on_open<S: Site>(&mut self, site: &mut S, number: u64) -> Result<RoundEnd, AllocError>
-        ensures triple { (setup : Setup) (polls : ℕ) (now : ℤ) → Triple (S.observed site.old) (S.observed site.new)
-            (BeforeOpen setup self.old.tills.items polls now number)
-            (AfterEvent result setup self.new.tills.items polls) }
+        requires ready { IsReady self.old }
+        ensures triple { (setup : TheSetup) (polls : ℕ) (now : ℤ) → Triple (S.observed site.old) (S.observed site.new)
+            (BeforeOpen setup self.old polls now number)
+            (AfterEvent result setup self.new polls now) }
         ensures went { result ≢ Ok RoundEnd.Stopped }
+        ensures ready { IsReady self.new }
         ensures name { self.new.replier.name ≡ self.old.replier.name }
         ensures later { (S.observed site.old).faults ≤ (S.observed site.new).faults }
     {
@@ -255,12 +120,54 @@ impl Dispatch {
         }
         if self.tills.len() >= MOST_TILLS {
             site.cut_till(number);
+            self.pts.forget(number);
             return Ok(RoundEnd::Went);
         }
         match open_till(self.replier.alloc, &mut self.tills, number) {
             Ok(()) => Ok(RoundEnd::Went),
             Err(AllocError) => Err(AllocError),
         }
+    }
+
+    /// Handles the bytes that a terminal's connection has brought. Those of a link that isn't held have no effect.
+    fn on_pt_bytes<S: Site>(&mut self, site: &mut S, now: i64, pt: u16, bytes: &[u8])
+        requires chunk { length bytes.now ≤ 4096 }
+        requires moment { IsMoment now }
+        requires ready { IsReady self.old }
+        ensures triple { (setup : TheSetup) (polls : ℕ) → Triple (S.observed site.old) (S.observed site.new)
+            (BeforePtBytes setup self.old polls now pt bytes.now)
+            (IsHandled setup self.new polls now) }
+        ensures ready { IsReady self.new }
+        ensures name { self.new.replier.name ≡ self.old.replier.name }
+        ensures later { (S.observed site.old).faults ≤ (S.observed site.new).faults }
+    {
+        if pt >= self.pts.core.count() {
+            return;
+        }
+        if !self.pts.core.is_linked(pt) {
+            return;
+        }
+        self.pts.on_bytes(site, pt, bytes, now);
+    }
+
+    /// Handles the end of a terminal's connection. That of a link that isn't held has no effect.
+    fn on_pt_closed<S: Site>(&mut self, site: &mut S, now: i64, pt: u16)
+        requires moment { IsMoment now }
+        requires ready { IsReady self.old }
+        ensures triple { (setup : TheSetup) (polls : ℕ) → Triple (S.observed site.old) (S.observed site.new)
+            (BeforePtEnd setup self.old polls now pt)
+            (IsHandled setup self.new polls now) }
+        ensures ready { IsReady self.new }
+        ensures name { self.new.replier.name ≡ self.old.replier.name }
+        ensures later { (S.observed site.old).faults ≤ (S.observed site.new).faults }
+    {
+        if pt >= self.pts.core.count() {
+            return;
+        }
+        if !self.pts.core.is_linked(pt) {
+            return;
+        }
+        self.pts.on_closed(site, pt, now);
     }
 
     /// Handles what a poll has brought.
@@ -271,11 +178,14 @@ impl Dispatch {
         what: What,
         buf: &[u8; 4096],
     ) -> Result<RoundEnd, AllocError>
-        requires { IsWithinBuf what }
-        ensures triple { (setup : Setup) (polls : ℕ) → setup.name ≡ self.old.replier.name → Triple (S.observed site.old) (S.observed site.new)
-            (IsPolled setup self.old.tills.items polls now what buf.now)
-            (AfterEvent result setup self.new.tills.items (polls + 1)) }
+        requires within { IsWithinBuf what }
+        requires moment { IsMoment now }
+        requires ready { IsReady self.old }
+        ensures triple { (setup : TheSetup) (polls : ℕ) → setup.name ≡ self.old.replier.name → Triple (S.observed site.old) (S.observed site.new)
+            (IsPolled setup self.old polls now what buf.now)
+            (AfterEvent result setup self.new (polls + 1) now) }
         ensures bytes { AreBytes buf.now }
+        ensures ready { IsReady self.new }
         ensures name { self.new.replier.name ≡ self.old.replier.name }
         ensures later { (S.observed site.old).faults ≤ (S.observed site.new).faults }
     {
@@ -285,42 +195,55 @@ impl Dispatch {
             What::TillBytes(number, count) => self.on_bytes(site, now, number, &buf[..count]),
             What::TillClosed(number) => {
                 drop_till(&mut self.tills, number);
+                self.pts.forget(number);
                 Ok(RoundEnd::Went)
             }
-            What::PtBytes(_, _) => Ok(RoundEnd::Went),
-            What::PtClosed(_) => Ok(RoundEnd::Went),
+            What::PtBytes(pt, count) => {
+                self.on_pt_bytes(site, now, pt, &buf[..count]);
+                Ok(RoundEnd::Went)
+            }
+            What::PtClosed(pt) => {
+                self.on_pt_closed(site, now, pt);
+                Ok(RoundEnd::Went)
+            }
             What::Nothing => Ok(RoundEnd::Went),
         }
     }
 
-    /// One poll, and what its event brings. What was heard is read into the buffer.
+    /// One poll, what its event brings, and then what may be due. What was heard is read into the buffer.
     fn round<S: Site>(&mut self, site: &mut S, buf: &mut [u8; 4096]) -> Result<RoundEnd, AllocError>
-        ensures triple { (setup : Setup) (polls : ℕ) → setup.name ≡ self.old.replier.name → Triple (S.observed site.old) (S.observed site.new)
-            (IsBetweenRounds setup self.old.tills.items polls)
-            (AfterRound result setup self.new.tills.items (polls + 1)) }
+        requires ready { IsReady self.old }
+        ensures triple { (setup : TheSetup) (polls : ℕ) → setup.name ≡ self.old.replier.name → Triple (S.observed site.old) (S.observed site.new)
+            (IsBetweenRounds setup self.old polls)
+            (AfterRound result setup self.new (polls + 1)) }
         ensures buf { length buf.new ≡ 4096 }
+        ensures ready { IsReady self.new }
         ensures name { self.new.replier.name ≡ self.old.replier.name }
         ensures later { (S.observed site.old).faults ≤ (S.observed site.new).faults }
     {
         let Polled { now, what } = site.poll(buf);
-        self.on_event(site, now, what, buf)
+        let now = to_moment(now);
+        match self.on_event(site, now, what, buf) {
+            Ok(RoundEnd::Went) => {
+                self.pts.on_due(site, now);
+                Ok(RoundEnd::Went)
+            }
+            Ok(RoundEnd::Stopped) => Ok(RoundEnd::Stopped),
+            Err(AllocError) => Err(AllocError),
+        }
     }
 }
 
-/// The rounds of a run, at most so many.
-fn rounds<S: Site>(alloc: Global, name: Ident<40>, site: &mut S, most: u64) -> Ended
-    ensures triple { (setup : Setup) → setup.name ≡ name → Triple (S.observed site.old) (S.observed site.new) (JustBegun setup) (EndedBy result most) }
+/// The rounds of a run with this setup, at most so many.
+fn rounds<S: Site>(alloc: Global, setup: &Setup, site: &mut S, most: u64) -> Ended
+    requires { IsSetup setup.now }
+    ensures triple { Triple (S.observed site.old) (S.observed site.new) (JustBegun setup.now) (EndedBy result most) }
     ensures opened { result ≢ Ended.NotOpened }
     ensures later { (S.observed site.old).faults ≤ (S.observed site.new).faults }
 {
-    let out = match Out::new(alloc) {
-        Ok(out) => out,
+    let mut dispatch = match Dispatch::open(alloc, setup) {
+        Ok(dispatch) => dispatch,
         Err(AllocError) => return Ended::NoMemory,
-    };
-    let tills = Vec::new(alloc);
-    let mut dispatch = Dispatch {
-        replier: Replier { alloc, name, out },
-        tills,
     };
     // One buffer for all polls of the run, so that it is filled with zeros once.
     let mut buf = [0; LONGEST_CHUNK];
@@ -345,7 +268,7 @@ pub fn run<S: Site>(alloc: Global, setup: &Setup, site: &mut S, most: u64) -> En
     ensures later { (S.observed site.old).faults ≤ (S.observed site.new).faults }
 {
     match site.open(setup) {
-        Ok(()) => rounds(alloc, setup.name, site, most),
+        Ok(()) => rounds(alloc, setup, site, most),
         Err(Failed) => Ended::NotOpened,
     }
 }

@@ -2,6 +2,9 @@
 #![tactic(auto)]
 
 mod engine;
+mod perform;
+mod pts;
+mod replier;
 mod tills;
 
 pub use engine::{Ended, run};

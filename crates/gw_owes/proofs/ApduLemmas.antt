@@ -1,11 +1,11 @@
 -- The items of a terminal's newly heard bytes.
-use Rattle.std.proofs.Common.{◌≡◌, ℕ, List, [], ◌∷◌, ◌++◌, refl, sym, ◌∙◌, ap, subst, inl, inr, true, false, append_assoc}
+use Rattle.std.proofs.Common.{◌≡◌, ℕ, List, [], ◌∷◌, ◌++◌, refl, sym, ◌∙◌, ap, subst, append_assoc}
 use Rattle.std.specs.Prelude.{if◌then◌else◌}
 use Rattle.gw_bytes.specs.Bytes.{AreBytes}
 use Rattle.gw_bytes.proofs.ByteLemmas.{bytes_prefix, bytes_rest}
-use Rattle.zvt_apdu.specs.Grammar.{ApduValue, IsProperApduPrefix, BeginsTooLongApdu}
-use Rattle.zvt_apdu.specs.Decode.{DecodedApdu, decode_apdu}
-use Rattle.zvt_apdu.specs.Stream.{BeginsWithApdus, IsEndOfApdus, SpellsApdus}
+use Rattle.zvt_apdu.specs.Grammar.{ApduValue, BeginsTooLongApdu}
+use Rattle.zvt_apdu.specs.Decode.{decode_apdu}
+use Rattle.zvt_apdu.specs.Stream.{BeginsWithApdus}
 use Rattle.zvt_apdu.specs.DecodeStream.{DecodedApdus, decode_apdus}
 use Rattle.zvt_apdu.proofs.DecodeLemmas.{begins_longer, too_long_prefix, proper_prefix}
 use Rattle.zvt_apdu.proofs.DecodeStreamLemmas.{split_is, split_too_long}

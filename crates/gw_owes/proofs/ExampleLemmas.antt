@@ -3,7 +3,7 @@ use Rattle.std.proofs.Common.{refl}
 use Rattle.zvt_apdu.specs.DecodeStream.{decode_apdus, decode_apdus_within}
 use Rattle.zvt_bmp.specs.Decode.{decode_field_value, decode_status_field, decode_status_within, decode_status}
 use Rattle.zvt_msg.specs.MessageDecode.{decode_pt_message}
-use Rattle.gw_owes.specs.TerminalExample.{ExampleBecomesReady, ExampleReportsLast, ExampleRegistrationFails, ExampleEnquiryFails, ExampleLinkFails, ExampleSilence, ExampleStrayMessages, ExampleForeignCommand, ExampleOutside, ExampleLateStop, ExampleComparedReports, ExampleManyTerminals, ExampleDiagnosis, ExampleUnserved}
+use Rattle.gw_owes.specs.TerminalExample.{ExampleBecomesReady, ExampleReportsLast, ExampleRegistrationFails, ExampleEnquiryFails, ExampleLinkFails, ExampleSilence, ExampleStrayMessages, ExampleForeignCommand, ExampleOutside, ExampleFailedSend, ExampleUnlinked, ExampleAside, ExampleStop, ExampleLateStop, ExampleComparedReports, ExampleManyTerminals, ExampleDiagnosis, ExampleUnserved}
 
 pub becomes-ready : ExampleBecomesReady
 unfolding decode_apdus decode_apdus_within decode_pt_message
@@ -81,6 +81,38 @@ unfolding decode_apdus decode_apdus_within decode_pt_message decode_status decod
 outside = record {
   status = record { calls_are = refl; standing_is = refl; awaited_is = refl };
   oversized = record { calls_are = refl; standing_is = refl; awaited_is = refl };
+  then_good = record { calls_are = refl; standing_is = refl; awaited_is = refl };
+}
+
+pub failed-send : ExampleFailedSend
+unfolding decode_apdus decode_apdus_within decode_pt_message decode_status decode_status_within decode_status_field decode_field_value
+failed-send = record {
+  first = record { calls_are = refl; standing_is = refl; awaited_is = refl };
+  second = record { calls_are = refl; standing_is = refl; awaited_is = refl };
+  command = record { calls_are = refl; standing_is = refl; awaited_is = refl };
+}
+
+pub unlinked : ExampleUnlinked
+unfolding decode_apdus decode_apdus_within decode_pt_message decode_status decode_status_within decode_status_field decode_field_value
+unlinked = record {
+  unlinked = record { calls_are = refl; standing_is = refl; awaited_is = refl };
+  absent = record { calls_are = refl; standing_is = refl; awaited_is = refl };
+}
+
+pub aside : ExampleAside
+unfolding decode_apdus decode_apdus_within decode_pt_message
+aside = record {
+  message = record { calls_are = refl; standing_is = refl; awaited_is = refl };
+  foreign = record { calls_are = refl; standing_is = refl; awaited_is = refl };
+  lost = record { calls_are = refl; standing_is = refl; awaited_is = refl };
+}
+
+pub stop : ExampleStop
+unfolding decode_apdus decode_apdus_within decode_pt_message
+stop = record {
+  sent = record { calls_are = refl; standing_is = refl; awaited_is = refl };
+  refused = record { calls_are = refl; standing_is = refl; awaited_is = refl };
+  late = record { calls_are = refl; standing_is = refl; awaited_is = refl };
 }
 
 pub late-stop : ExampleLateStop

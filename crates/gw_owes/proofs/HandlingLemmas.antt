@@ -16,23 +16,25 @@ use Rattle.zvt_talk.specs.Laws.{IsAckOrNack}
 use Rattle.zvt_talk.specs.Talk.{TalkFacts}
 use Rattle.zvt_talk.specs.TalkSteps.{meaning_in_phase}
 use Rattle.gw_owes.specs.Calls.{OwedCall, SendPt, CutPt, Ask}
+use Rattle.gw_owes.specs.declared.terminal.Service.{Service}
 use Rattle.gw_owes.specs.declared.terminal.Standing.{Standing}
 use Rattle.gw_owes.specs.declared.terminal.Standing.TheVariants.{Unlinked, Registering, Enquiring, Ready, Serving, Aside}
 use Rattle.gw_owes.specs.declared.terminal.Terminal.{Terminal}
-use Rattle.gw_owes.specs.Row.{Known, Row, owing_nothing}
+use Rattle.gw_owes.specs.Row.{Known, Row, owing_nothing, owing_where}
 use Rattle.gw_owes.specs.Terminals.{terminal_at, of_terminal, terminal_becomes}
-use Rattle.gw_owes.specs.Links.{is_linked, where_linked, of_linked}
+use Rattle.gw_owes.specs.Links.{is_linked, of_linked}
 use Rattle.gw_owes.specs.Reports.{on_record, report_row, standing_reported}
-use Rattle.gw_owes.specs.Handling.{awaited_after, taken_as, meaning_for, meaning_at, taking, staying, breaking, enquiry_command, enquires, stops, registering, enquiring, serving, consequence, where_taken, handle_message, handle_decoded, handle_row}
+use Rattle.gw_owes.specs.Handling.{awaited_after, taken_as, meaning_for, meaning_at, taking, staying, breaking, enquiry_command, enquires, stops, registering, enquiring, serving, consequence, handle_message, handle_decoded, handle_row}
 use Rattle.gw_owes.specs.Laws.{ends_in_one, EndsInOne}
-use Rattle.gw_owes.specs.TerminalLaws.{ChangesTerminalAlone, HasNoEffect, TakesOne, EachAckTakesOne, commands_in, Awaits, owes_cut, IsBeforeReady, BreaksDialogue, GoesOnTo}
-use Rattle.gw_owes.proofs.SetLemmas.{new-is-there, alone-same, alone-set}
+use Rattle.gw_owes.specs.TerminalLaws.{ChangesTerminalAlone, HasNoEffect, TakesOne, EachAckTakesOne, commands_in, Awaits, owes_cut, IsBeforeReady, BreaksDialogue, HasDialogueOnlyIn, IsLinkedAt, GoesOnTo}
+use Rattle.gw_owes.proofs.SetLemmas.{new-is-there, same-some, alone-same, alone-set}
 
 -- ---- rows of a terminal that is linked
 
-by-linked : (P : Row → Type 0) (known : Known) (row : Row) (linked : Bool) → P (owing_nothing known) → (linked ≡ true → P row) → P (where_linked linked known row)
-by-linked P known row true none some = some refl
-by-linked P known row false none some = none
+-- what holds of nothing owed, and of a row where it holds, holds of the row where it holds
+pub by-where : (P : Row → Type 0) (known : Known) (row : Row) (holds : Bool) → P (owing_nothing known) → (holds ≡ true → P row) → P (owing_where holds known row)
+by-where P known row true none some = some refl
+by-where P known row false none some = none
 
 by-terminal : (P : Row → Type 0) (known : Known) (row : Terminal → Row) (found : Option Terminal) → P (owing_nothing known) → ((terminal : Terminal) → found ≡ Some terminal → P (row terminal)) → P (of_terminal known row found)
 by-terminal P known row None none some = none
@@ -47,8 +49,8 @@ each-terminal P known number row none some = by-terminal P known row (terminal_a
 pub each-linked : (P : Row → Type 0) (known : Known) (number : ℕ) (row : Terminal → Row) → P (owing_nothing known)
     → ((terminal : Terminal) → terminal_at known number ≡ Some terminal → is_linked terminal.standing ≡ true → P (row terminal)) → P (of_linked known number row)
 each-linked P known number row none some =
-    each-terminal P known number (λ terminal. where_linked (is_linked terminal.standing) known (row terminal)) none
-    (λ terminal found. by-linked P known (row terminal) (is_linked terminal.standing) none (some terminal found))
+    each-terminal P known number (λ terminal. owing_where (is_linked terminal.standing) known (row terminal)) none
+    (λ terminal found. by-where P known (row terminal) (is_linked terminal.standing) none (some terminal found))
 
 -- the row of a terminal that is linked
 pub linked-row : (known : Known) (number : ℕ) (row : Terminal → Row) (terminal : Terminal) → terminal_at known number ≡ Some terminal → is_linked terminal.standing ≡ true → of_linked known number row ≡ row terminal
@@ -186,11 +188,43 @@ consequence-breaks known number terminal meant (Ready last) cuts = absurd cc
 consequence-breaks known number terminal meant (Serving service last) cuts = serving-breaks known number terminal meant (Serving service last) cuts
 consequence-breaks known number terminal meant (Aside before reported) cuts = absurd cc
 
--- ---- the row
+-- ---- what is cut
 
-by-taken : (P : Row → Type 0) (known : Known) (row : Row) (taken : Bool) → P (owing_nothing known) → (taken ≡ true → P row) → P (where_taken taken known row)
-by-taken P known row true none some = some refl
-by-taken P known row false none some = none
+registering-cut : (known : Known) (number : ℕ) (terminal : Terminal) (meant : Heard) (standing : Standing) → Breaks meant standing → (registering known number terminal meant).calls ≡ CutPt number ∷ []
+registering-cut known number terminal meant standing (inl is) = ap (λ m. (registering known number terminal m).calls) is
+registering-cut known number terminal meant standing (inr (result_code, trace, is, before)) = ap (λ m. (registering known number terminal m).calls) is
+
+enquiring-cut : (known : Known) (number : ℕ) (terminal : Terminal) (meant : Heard) (standing : Standing) → Breaks meant standing → (enquiring known number terminal meant).calls ≡ CutPt number ∷ []
+enquiring-cut known number terminal meant standing (inl is) = ap (λ m. (enquiring known number terminal m).calls) is
+enquiring-cut known number terminal meant standing (inr (result_code, trace, is, before)) = ap (λ m. (enquiring known number terminal m).calls) is
+
+not-before : (service : Service) (last : ℕ) → IsBeforeReady (Serving service last) → ⊥
+not-before service last (inl is) = cc
+not-before service last (inr is) = cc
+
+serving-cut : (known : Known) (number : ℕ) (terminal : Terminal) (meant : Heard) (service : Service) (last : ℕ) → Breaks meant (Serving service last) → (serving known number terminal meant).calls ≡ CutPt number ∷ []
+serving-cut known number terminal meant service last (inl is) = ap (λ m. (serving known number terminal m).calls) is
+serving-cut known number terminal meant service last (inr (result_code, trace, is, before)) = absurd (not-before service last before)
+
+-- what leaves a dialogue unclear means something
+not-stray : (meant : Heard) (standing : Standing) → Breaks meant standing → meant ≢ heard.Stray
+not-stray meant standing (inl is) e = cc
+not-stray meant standing (inr (result_code, trace, is, before)) e = cc
+
+-- where no dialogue runs a message means nothing
+means-none : (terminal : Terminal) (message : MessageValue) → terminal.talk ≡ None → meaning_at terminal message ≡ heard.Stray
+means-none terminal message none = ap (λ (talk : Option TalkFacts). meaning_for talk (taken_as terminal.awaited message)) none
+
+consequence-cut : (known : Known) (number : ℕ) (terminal : Terminal) (meant : Heard) (standing : Standing) (talk : Option TalkFacts) → Breaks meant standing → HasDialogueOnlyIn standing talk → (talk ≡ None → meant ≡ heard.Stray)
+    → (consequence known number terminal meant standing).calls ≡ CutPt number ∷ []
+consequence-cut known number terminal meant (Unlinked due) talk breaks only none = absurd (not-stray meant (Unlinked due) breaks (none only))
+consequence-cut known number terminal meant Registering talk breaks only none = registering-cut known number terminal meant Registering breaks
+consequence-cut known number terminal meant Enquiring talk breaks only none = enquiring-cut known number terminal meant Enquiring breaks
+consequence-cut known number terminal meant (Ready last) talk breaks only none = absurd (not-stray meant (Ready last) breaks (none only))
+consequence-cut known number terminal meant (Serving service last) talk breaks only none = serving-cut known number terminal meant service last breaks
+consequence-cut known number terminal meant (Aside before reported) talk breaks only none = absurd (not-stray meant (Aside before reported) breaks (none only))
+
+-- ---- the row
 
 -- what holds of nothing owed, and of each consequence of a message, holds of the row
 pub each-handled : (P : Row → Type 0) (known : Known) (number : ℕ) (apdu : ApduValue) → P (owing_nothing known)
@@ -202,7 +236,7 @@ each-handled P known number apdu none some = by-decoded (decode_pt_message apdu)
     by-decoded : (decoded : Result MessageValue PtFault) → decode_pt_message apdu ≡ decoded → P (handle_decoded known number decoded)
     by-decoded (Ok message) is =
         each-linked P known number (λ terminal. handle_message known number terminal message) none
-        (λ terminal found linked. by-taken P known _ (is_taken message) none (some terminal message found linked is))
+        (λ terminal found linked. by-where P known _ (is_taken message) none (some terminal message found linked is))
     by-decoded (Err fault) is = none
 
 becomes-alone : (known : Known) (number : ℕ) (old terminal : Terminal) (row : Row) → terminal_at known number ≡ Some old → terminal.pt ≡ old.pt → Becomes known number terminal row → ChangesTerminalAlone number known.core row.core
@@ -295,7 +329,7 @@ message-counts : (known : Known) (number : ℕ) (terminal : Terminal) (message :
 message-counts known number terminal message found linked = by-is (is_taken message) refl
   where
     by-is : (taken : Bool) → is_taken message ≡ taken
-        → Awaits number (awaited_after message terminal.awaited) (where_taken taken known (consequence known number (taking terminal message known.moment) (meaning_at terminal message) terminal.standing))
+        → Awaits number (awaited_after message terminal.awaited) (owing_where taken known (consequence known number (taking terminal message known.moment) (meaning_at terminal message) terminal.standing))
     by-is true is = becomes-awaits known number terminal (taking terminal message known.moment) _ found (consequence-becomes known number _ (meaning_at terminal message) terminal.standing linked)
     by-is false is = record {
       terminal = terminal;
@@ -320,16 +354,6 @@ late-is-unclear terminal talk stop_wished error_code runs asked more =
 
 -- ---- nothing is left out
 
-leads-by : (known : Known) (number : ℕ) (standing : Standing) (calls : List OwedCall) (apdu : ApduValue) (terminal : Terminal) (message : MessageValue) → terminal_at known number ≡ Some terminal → is_linked terminal.standing ≡ true
-    → decode_pt_message apdu ≡ Ok message → (taken : Bool) → is_taken message ≡ taken → taken ≡ true
-    → GoesOnTo number standing calls (consequence known number (taking terminal message known.moment) (meaning_at terminal message) terminal.standing)
-    → GoesOnTo number standing calls (handle_row known number apdu)
-leads-by known number standing calls apdu terminal message found linked is taken taken_is is_true leads =
-    subst (GoesOnTo number standing calls)
-    (sym (handled-is known number apdu terminal message found linked is
-    ∙ ap (λ (b : Bool). where_taken b known (consequence known number (taking terminal message known.moment) (meaning_at terminal message) terminal.standing)) (taken_is ∙ is_true)))
-    leads
-
 -- a command of the terminal's own means nothing
 other-stray : (terminal : Terminal) → meaning_at terminal Other ≡ heard.Stray
 other-stray terminal = by-talk terminal.talk
@@ -350,6 +374,32 @@ means-taken terminal message meant means some = by-is (is_taken message) refl
     by-is : (taken : Bool) → is_taken message ≡ taken → taken ≡ true
     by-is true is = refl
     by-is false is = absurd (some (sym means ∙ ap (meaning_at terminal) (not-taken message is) ∙ other-stray terminal))
+
+cut-by : (known : Known) (number : ℕ) (apdu : ApduValue) (terminal : Terminal) (message : MessageValue) → terminal_at known number ≡ Some terminal → is_linked terminal.standing ≡ true
+    → decode_pt_message apdu ≡ Ok message → HasDialogueOnlyIn terminal.standing terminal.talk → Breaks (meaning_at terminal message) terminal.standing → (handle_row known number apdu).calls ≡ CutPt number ∷ []
+cut-by known number apdu terminal message found linked is only breaks =
+    ap (λ (row : Row). row.calls)
+    (handled-is known number apdu terminal message found linked is
+    ∙ ap (λ (b : Bool). owing_where b known (consequence known number (taking terminal message known.moment) (meaning_at terminal message) terminal.standing))
+    (means-taken terminal message (meaning_at terminal message) refl (not-stray (meaning_at terminal message) terminal.standing breaks)))
+    ∙ consequence-cut known number (taking terminal message known.moment) (meaning_at terminal message) terminal.standing terminal.talk breaks only (means-none terminal message)
+
+-- a message that breaks its dialogue cuts the connection
+pub breaks-cut : (known : Known) (number : ℕ) (apdu : ApduValue) → IsLinkedAt known number → BreaksDialogue known number apdu → (handle_row known number apdu).calls ≡ CutPt number ∷ []
+breaks-cut known number apdu there breaks =
+    let same : breaks.terminal ≡ there.terminal = same-some breaks.terminal there.terminal (sym breaks.found ∙ there.found) in
+    cut-by known number apdu breaks.terminal breaks.message breaks.found (ap (λ (t : Terminal). is_linked t.standing) same ∙ there.linked) breaks.decoded
+    (subst (λ (t : Terminal). HasDialogueOnlyIn t.standing t.talk) (sym same) there.dialogue) breaks.why
+
+leads-by : (known : Known) (number : ℕ) (standing : Standing) (calls : List OwedCall) (apdu : ApduValue) (terminal : Terminal) (message : MessageValue) → terminal_at known number ≡ Some terminal → is_linked terminal.standing ≡ true
+    → decode_pt_message apdu ≡ Ok message → (taken : Bool) → is_taken message ≡ taken → taken ≡ true
+    → GoesOnTo number standing calls (consequence known number (taking terminal message known.moment) (meaning_at terminal message) terminal.standing)
+    → GoesOnTo number standing calls (handle_row known number apdu)
+leads-by known number standing calls apdu terminal message found linked is taken taken_is is_true leads =
+    subst (GoesOnTo number standing calls)
+    (sym (handled-is known number apdu terminal message found linked is
+    ∙ ap (λ (b : Bool). owing_where b known (consequence known number (taking terminal message known.moment) (meaning_at terminal message) terminal.standing)) (taken_is ∙ is_true)))
+    leads
 
 pub registered-is-enquired : (known : Known) (number : ℕ) (apdu : ApduValue) (terminal : Terminal) (message : MessageValue) → terminal_at known number ≡ Some terminal → terminal.standing ≡ Registering
     → decode_pt_message apdu ≡ Ok message → meaning_at terminal message ≡ heard.Done → GoesOnTo number Enquiring (SendPt number (Ask (enquiry_command terminal.pt)) ∷ []) (handle_row known number apdu)

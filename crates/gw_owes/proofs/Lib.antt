@@ -5,6 +5,8 @@ pub mod ExampleLemmas
 pub mod FrameLemmas
 pub mod HandlingLemmas
 pub mod ReadLemmas
+pub mod RowEndLemmas
 pub mod RowLemmas
 pub mod SetLemmas
 pub mod TerminalLemmas
+pub mod TranscriptLemmas

@@ -21,7 +21,8 @@ new-is-there [] at old new found = absurd cc
 new-is-there (first ∷ rest) zero old new found = refl
 new-is-there (first ∷ rest) (suc at) old new found = new-is-there rest at old new found
 
-same-some : {A : Type 0} → (one other : A) → Some one ≡ Some other → one ≡ other
+-- what two of one element hold is the same
+pub same-some : {A : Type 0} → (one other : A) → Some one ≡ Some other → one ≡ other
 same-some one other same = cc
 
 -- what is the same of both stays

@@ -1,39 +1,31 @@
 -- What the items of terminals, and their links, leave and owe.
-use Rattle.std.proofs.Common.{◌≡◌, ℕ, ◌+◌, List, [], ◌∷◌, refl, sym, ◌∙◌, ap, subst, Bool, true, false}
+use Rattle.std.proofs.Common.{◌≡◌, ◌≢◌, ℕ, ◌+◌, [], ◌∷◌, refl, sym, ◌∙◌, ap, subst, inl, inr, Bool, true, false}
 use Rattle.std.specs.Prelude.{Option, Some, None, Result, Ok, Err}
 use Rattle.zvt_apdu.specs.Grammar.{ApduValue}
 use Rattle.zvt_msg.specs.declared.fault.PtFault.{PtFault}
 use Rattle.zvt_msg.specs.Message.{MessageValue, Ack, Nack, Intermediate, Line, Block, Status, Completion, Abort, Other}
 use Rattle.zvt_msg.specs.MessageDecode.{decode_pt_message}
+use Rattle.zvt_talk.specs.Laws.{IsAckOrNack}
 use Rattle.zvt_talk.specs.Talk.{TalkFacts}
-use Rattle.sale_values.specs.declared.header.Header.{Header}
-use Rattle.sale_values.specs.declared.request.SaleRequest.{SaleRequest}
-use Rattle.sale_values.specs.declared.request.SaleRequest.TheVariants as requests
-use Rattle.gw_owes.specs.Calls.{SendPt, LinkPt, Ask}
+use Rattle.gw_owes.specs.Calls.{SendPt, CutPt, LinkPt, Ask, Acknowledge, Refuse}
 use Rattle.gw_owes.specs.declared.terminal.Standing.TheVariants.{Unlinked, Registering}
 use Rattle.gw_owes.specs.declared.terminal.Terminal.{Terminal}
-use Rattle.gw_owes.specs.Items.{Crowded, Message, Asked, Unframed, Gone, Greet, Handle, NextWaiting, Oversized, LinkLost, Late, Overdue, Due}
+use Rattle.gw_owes.specs.Items.{RoundItem, Crowded, Message, Asked, Unframed, Gone, Greet, Handle, NextWaiting, Oversized, LinkLost, Late, Overdue, Due}
 use Rattle.gw_owes.specs.Reply.{ReplyValue}
-use Rattle.gw_owes.specs.Row.{Known, Row, owing, owing_nothing}
-use Rattle.gw_owes.specs.Replies.{reply_to_request}
+use Rattle.gw_owes.specs.Row.{Known, Row, owing, owing_nothing, owing_where}
 use Rattle.gw_owes.specs.Terminals.{terminal_at, of_terminal, registers, registration, unlinks, unlinked_terminal, reply_calls_to, reply_to_lost}
-use Rattle.gw_owes.specs.Links.{of_linked, cutting, LinkIsMade, LinkHasFailed, LinkIsLost, link_row}
+use Rattle.gw_owes.specs.Links.{is_linked, of_linked, cutting, LinkEvent, LinkIsMade, LinkHasFailed, LinkIsLost, link_row}
 use Rattle.gw_owes.specs.Greeting.{greeting, sending_calls, greet_decoded, greet_row, oversized_row}
 use Rattle.gw_owes.specs.Handling.{handle_decoded, handle_row}
-use Rattle.gw_owes.specs.Deadlines.{where_due, is_late, is_due, late_row, due_row}
-use Rattle.gw_owes.specs.Diagnosis.{named_from}
-use Rattle.gw_owes.specs.Requests.{reply_at}
+use Rattle.gw_owes.specs.Deadlines.{is_late, is_due, late_row, due_row}
+use Rattle.gw_owes.specs.TerminalRows.{terminal_row}
 use Rattle.gw_owes.specs.Laws.{ends_in_one, EndsInOne}
-use Rattle.gw_owes.specs.TerminalLaws.{EachTerminalRowEndsInOne, EachLinkRowEndsInOne, ChangesTerminalAlone, EachRowChangesItsTerminal, EachLinkChangesItsTerminal, GreetingChangesNothing, UnlinkedIsOwedNothing, AbsentIsOwedNothing, commands_in, Awaits, EachLinkCountsAnew, owes_cut, IsLateAt, EachCutHasCause, NoLinkEventCuts, GoesOnTo, DueIsLinked, LinkedIsRegistered, WithoutTerminalsSameReplies}
+use Rattle.gw_owes.specs.TerminalLaws.{ChangesTerminalAlone, EachRowChangesItsTerminal, EachLinkChangesItsTerminal, GreetingChangesNothing, UnlinkedIsOwedNothing, AbsentIsOwedNothing, commands_in, Awaits, EachLinkCountsAnew, owes_cut, BreaksDialogue, IsLateAt, EachCutHasCause, EachCauseCuts, EachMessageIsGreeted, NoLinkEventCuts, GoesOnTo, DueIsLinked, LinkedIsRegistered}
 use Rattle.gw_owes.proofs.RowLemmas.{links-end}
 use Rattle.gw_owes.proofs.SetLemmas.{new-is-there, alone-same, alone-set}
-use Rattle.gw_owes.proofs.HandlingLemmas.{each-terminal, each-linked, handle-alone, handle-ends, handle-cuts}
+use Rattle.gw_owes.proofs.HandlingLemmas.{breaks-cut, by-where, linked-row, each-terminal, each-linked, handle-alone, handle-ends, handle-cuts}
 
 -- ---- the calls
-
-by-due : (P : Row → Type 0) (known : Known) (row : Row) (due : Bool) → P (owing_nothing known) → (due ≡ true → P row) → P (where_due due known row)
-by-due P known row true none some = some refl
-by-due P known row false none some = none
 
 sending-ends : (number : ℕ) (message : MessageValue) → ends_in_one (sending_calls number (greeting message)) ≡ true
 sending-ends number Ack = refl
@@ -51,19 +43,19 @@ greet-decoded-ends known number (Ok message) = each-linked EndsInOne known numbe
 greet-decoded-ends known number (Err fault) = each-linked EndsInOne known number (λ terminal. cutting known number) refl (λ terminal found linked. refl)
 
 late-ends : (known : Known) (number : ℕ) → EndsInOne (late_row known number)
-late-ends known number = each-terminal EndsInOne known number (λ terminal. where_due (is_late known.moment terminal.talk) known (cutting known number)) refl
-    (λ terminal found. by-due EndsInOne known (cutting known number) (is_late known.moment terminal.talk) refl (λ late. refl))
+late-ends known number = each-terminal EndsInOne known number (λ terminal. owing_where (is_late known.moment terminal.talk) known (cutting known number)) refl
+    (λ terminal found. by-where EndsInOne known (cutting known number) (is_late known.moment terminal.talk) refl (λ late. refl))
 
 due-ends : (known : Known) (number : ℕ) → EndsInOne (due_row known number)
-due-ends known number = each-terminal EndsInOne known number (λ terminal. where_due (is_due known.moment terminal.standing) known (owing known (LinkPt number ∷ []))) refl
-    (λ terminal found. by-due EndsInOne known (owing known (LinkPt number ∷ [])) (is_due known.moment terminal.standing) refl (λ due. refl))
+due-ends known number = each-terminal EndsInOne known number (λ terminal. owing_where (is_due known.moment terminal.standing) known (owing known (LinkPt number ∷ []))) refl
+    (λ terminal found. by-where EndsInOne known (owing known (LinkPt number ∷ [])) (is_due known.moment terminal.standing) refl (λ due. refl))
 
-pub link-rows-end : EachLinkRowEndsInOne
+pub link-rows-end : (known : Known) (number : ℕ) (event : LinkEvent) → EndsInOne (link_row known number event)
 link-rows-end known number LinkIsMade = let ends = links-end known number in ends.made
 link-rows-end known number LinkHasFailed = let ends = links-end known number in ends.lost
 link-rows-end known number LinkIsLost = let ends = links-end known number in ends.lost
 
-pub terminal-rows-end : EachTerminalRowEndsInOne
+pub terminal-rows-end : (known : Known) (item : RoundItem) → EndsInOne (terminal_row known item)
 terminal-rows-end known (Crowded till) = refl
 terminal-rows-end known (Message till bytes) = refl
 terminal-rows-end known (Asked till as_read) = refl
@@ -91,12 +83,12 @@ same-alone : (number : ℕ) (known : Known) (row : Row) → row.core ≡ known.c
 same-alone number known row same = subst (λ core. ChangesTerminalAlone number known.core core) (sym same) (alone-same number known.core)
 
 pub late-same : (known : Known) (number : ℕ) → (late_row known number).core ≡ known.core
-late-same known number = each-terminal (λ (row : Row). row.core ≡ known.core) known number (λ terminal. where_due (is_late known.moment terminal.talk) known (cutting known number)) refl
-    (λ terminal found. by-due (λ (row : Row). row.core ≡ known.core) known (cutting known number) (is_late known.moment terminal.talk) refl (λ late. refl))
+late-same known number = each-terminal (λ (row : Row). row.core ≡ known.core) known number (λ terminal. owing_where (is_late known.moment terminal.talk) known (cutting known number)) refl
+    (λ terminal found. by-where (λ (row : Row). row.core ≡ known.core) known (cutting known number) (is_late known.moment terminal.talk) refl (λ late. refl))
 
 pub due-same : (known : Known) (number : ℕ) → (due_row known number).core ≡ known.core
-due-same known number = each-terminal (λ (row : Row). row.core ≡ known.core) known number (λ terminal. where_due (is_due known.moment terminal.standing) known (owing known (LinkPt number ∷ []))) refl
-    (λ terminal found. by-due (λ (row : Row). row.core ≡ known.core) known (owing known (LinkPt number ∷ [])) (is_due known.moment terminal.standing) refl (λ due. refl))
+due-same known number = each-terminal (λ (row : Row). row.core ≡ known.core) known number (λ terminal. owing_where (is_due known.moment terminal.standing) known (owing known (LinkPt number ∷ []))) refl
+    (λ terminal found. by-where (λ (row : Row). row.core ≡ known.core) known (owing known (LinkPt number ∷ [])) (is_due known.moment terminal.standing) refl (λ due. refl))
 
 pub oversized-same : (known : Known) (number : ℕ) → (oversized_row known number).core ≡ known.core
 oversized-same known number = each-linked (λ (row : Row). row.core ≡ known.core) known number (λ terminal. cutting known number) refl (λ terminal found linked. refl)
@@ -238,13 +230,19 @@ is-silent known number terminal (Some talk) found is late = record { terminal = 
 
 late-cuts : (known : Known) (number : ℕ) → owes_cut (late_row known number).calls ≡ true → IsLateAt known number
 late-cuts known number =
-    each-terminal (λ (row : Row). owes_cut row.calls ≡ true → IsLateAt known number) known number (λ terminal. where_due (is_late known.moment terminal.talk) known (cutting known number)) (λ cuts. absurd cc)
-    (λ terminal found. by-due (λ (row : Row). owes_cut row.calls ≡ true → IsLateAt known number) known (cutting known number) (is_late known.moment terminal.talk) (λ cuts. absurd cc)
+    each-terminal (λ (row : Row). owes_cut row.calls ≡ true → IsLateAt known number) known number (λ terminal. owing_where (is_late known.moment terminal.talk) known (cutting known number)) (λ cuts. absurd cc)
+    (λ terminal found. by-where (λ (row : Row). owes_cut row.calls ≡ true → IsLateAt known number) known (cutting known number) (is_late known.moment terminal.talk) (λ cuts. absurd cc)
     (λ late cuts. is-silent known number terminal terminal.talk found refl late))
 
+late-cut : (known : Known) (number : ℕ) → IsLateAt known number → (late_row known number).calls ≡ CutPt number ∷ []
+late-cut known number late =
+    ap (λ (found : Option Terminal). (of_terminal known (λ terminal. owing_where (is_late known.moment terminal.talk) known (cutting known number)) found).calls) late.found
+    ∙ ap (λ (talk : Option TalkFacts). (owing_where (is_late known.moment talk) known (cutting known number)).calls) late.talk_is
+    ∙ ap (λ (b : Bool). (owing_where b known (cutting known number)).calls) late.late
+
 due-no-cut : (known : Known) (number : ℕ) → owes_cut (due_row known number).calls ≡ false
-due-no-cut known number = each-terminal (λ (row : Row). owes_cut row.calls ≡ false) known number (λ terminal. where_due (is_due known.moment terminal.standing) known (owing known (LinkPt number ∷ []))) refl
-    (λ terminal found. by-due (λ (row : Row). owes_cut row.calls ≡ false) known (owing known (LinkPt number ∷ [])) (is_due known.moment terminal.standing) refl (λ due. refl))
+due-no-cut known number = each-terminal (λ (row : Row). owes_cut row.calls ≡ false) known number (λ terminal. owing_where (is_due known.moment terminal.standing) known (owing known (LinkPt number ∷ []))) refl
+    (λ terminal found. by-where (λ (row : Row). owes_cut row.calls ≡ false) known (owing known (LinkPt number ∷ [])) (is_due known.moment terminal.standing) refl (λ due. refl))
 
 pub cuts-have-cause : EachCutHasCause
 cuts-have-cause known (Crowded till) cuts = absurd cc
@@ -261,6 +259,85 @@ cuts-have-cause known (Late number) cuts = late-cuts known number cuts
 cuts-have-cause known (Overdue key) cuts = absurd cc
 cuts-have-cause known (Due number) cuts = never _ (due-no-cut known number) cuts
 
+-- ---- what is cut
+
+pub causes-cut : EachCauseCuts
+causes-cut known (Crowded till) number is there cause = absurd cause
+causes-cut known (Message till bytes) number is there cause = absurd cause
+causes-cut known (Asked till as_read) number is there cause = absurd cause
+causes-cut known (Unframed till) number is there cause = absurd cause
+causes-cut known (Gone till) number is there cause = absurd cause
+causes-cut known (Greet pt apdu) number is there cause =
+    let e : pt ≡ number = cc in
+    subst (λ n. (greet_row known n apdu).calls ≡ CutPt number ∷ []) (sym e)
+    (ap (λ (decoded : Result MessageValue PtFault). (greet_decoded known number decoded).calls) cause.1 ∙ ap (λ (row : Row). row.calls) (linked-row known number (λ terminal. cutting known number) there.terminal there.found there.linked))
+causes-cut known (Handle pt apdu) number is there cause =
+    let e : pt ≡ number = cc in
+    subst (λ n. (handle_row known n apdu).calls ≡ CutPt number ∷ []) (sym e) (breaks-cut known number apdu there (subst (λ n. BreaksDialogue known n apdu) e cause))
+causes-cut known (NextWaiting pt) number is there cause = absurd cause
+causes-cut known (Oversized pt) number is there cause =
+    let e : pt ≡ number = cc in
+    subst (λ n. (oversized_row known n).calls ≡ CutPt number ∷ []) (sym e) (ap (λ (row : Row). row.calls) (linked-row known number (λ terminal. cutting known number) there.terminal there.found there.linked))
+causes-cut known (LinkLost pt) number is there cause = absurd cause
+causes-cut known (Late pt) number is there cause =
+    let e : pt ≡ number = cc in
+    subst (λ n. (late_row known n).calls ≡ CutPt number ∷ []) (sym e) (late-cut known number (subst (IsLateAt known) e cause))
+causes-cut known (Overdue key) number is there cause = absurd cause
+causes-cut known (Due pt) number is there cause = absurd cause
+
+-- ---- greetings
+
+greeted-is : (known : Known) (number : ℕ) (apdu : ApduValue) (terminal : Terminal) (message : MessageValue) → terminal_at known number ≡ Some terminal → is_linked terminal.standing ≡ true
+    → decode_pt_message apdu ≡ Ok message → (greet_row known number apdu).calls ≡ sending_calls number (greeting message)
+greeted-is known number apdu terminal message found linked is =
+    ap (λ (decoded : Result MessageValue PtFault). (greet_decoded known number decoded).calls) is
+    ∙ ap (λ (row : Row). row.calls) (linked-row known number (λ terminal. owing known (sending_calls number (greeting message))) terminal found linked)
+
+-- what a message is greeted with
+pub record GetsGreeting (message : MessageValue) : Type 0 where
+  pub none : IsAckOrNack message → greeting message ≡ None
+  pub foreign : message ≡ Other → greeting message ≡ Some Refuse
+  pub other : (IsAckOrNack message → ⊥) → message ≢ Other → greeting message ≡ Some Acknowledge
+
+no-ack : (message : MessageValue) → greeting message ≡ Some Acknowledge → IsAckOrNack message → ⊥
+no-ack message acknowledged (inl is) = let e : greeting Ack ≡ Some Acknowledge = subst (λ m. greeting m ≡ Some Acknowledge) is acknowledged in cc
+no-ack message acknowledged (inr (error_code, is)) = let e : greeting (Nack error_code) ≡ Some Acknowledge = subst (λ m. greeting m ≡ Some Acknowledge) is acknowledged in cc
+
+no-other : (message : MessageValue) → greeting message ≡ Some Acknowledge → message ≡ Other → ⊥
+no-other message acknowledged is = let e : greeting Other ≡ Some Acknowledge = subst (λ m. greeting m ≡ Some Acknowledge) is acknowledged in cc
+
+acknowledges : (message : MessageValue) → greeting message ≡ Some Acknowledge → GetsGreeting message
+acknowledges message acknowledged = record {
+  none = λ is. absurd (no-ack message acknowledged is);
+  foreign = λ is. absurd (no-other message acknowledged is);
+  other = λ not_ack not_other. acknowledged;
+}
+
+refused-ack : IsAckOrNack Other → ⊥
+refused-ack (inl is) = cc
+refused-ack (inr (error_code, is)) = cc
+
+gets-greeting : (message : MessageValue) → GetsGreeting message
+gets-greeting Ack = record { none = λ is. refl; foreign = λ is. absurd cc; other = λ not_ack not_other. absurd (not_ack (inl refl)) }
+gets-greeting (Nack error_code) = record { none = λ is. refl; foreign = λ is. absurd cc; other = λ not_ack not_other. absurd (not_ack (inr (error_code, refl))) }
+gets-greeting (Intermediate intermediate_status) = acknowledges (Intermediate intermediate_status) refl
+gets-greeting (Line text) = acknowledges (Line text) refl
+gets-greeting (Block objects) = acknowledges (Block objects) refl
+gets-greeting (Status fields) = acknowledges (Status fields) refl
+gets-greeting Completion = acknowledges Completion refl
+gets-greeting (Abort result_code) = acknowledges (Abort result_code) refl
+gets-greeting Other = record { none = λ is. absurd (refused-ack is); foreign = λ is. refl; other = λ not_ack not_other. absurd (not_other refl) }
+
+pub each-is-greeted : EachMessageIsGreeted
+each-is-greeted known number apdu terminal message found linked is =
+    let calls = greeted-is known number apdu terminal message found linked is in
+    let gets = gets-greeting message in
+    record {
+      none = λ ack. calls ∙ ap (sending_calls number) (gets.none ack);
+      foreign = λ foreign. calls ∙ ap (sending_calls number) (gets.foreign foreign);
+      other = λ not_ack not_other. calls ∙ ap (sending_calls number) (gets.other not_ack not_other);
+    }
+
 -- ---- nothing is left out
 
 pub due-is-linked : DueIsLinked
@@ -274,20 +351,3 @@ linked-is-registered known number terminal found =
       standing_is = refl;
       calls_are = refl;
     })
-
--- ---- requests
-
-without : (known : Known) (header : Header) (request : SaleRequest) → reply_at None known header request ≡ reply_to_request known header request
-without known header requests.Login = refl
-without known header requests.Logout = refl
-without known header (requests.Payment ask) = refl
-without known header (requests.Reversal ask) = refl
-without known header (requests.Abort reference) = refl
-without known header (requests.Status reference) = refl
-without known header (requests.Reconciliation period) = refl
-without known header (requests.Display outputs) = refl
-without known header (requests.Print qualifier) = refl
-without known header requests.Diagnosis = refl
-
-pub without-terminals : WithoutTerminalsSameReplies
-without-terminals known header request none = ap (λ (terminals : List Terminal). reply_at (named_from 0 header.poi terminals) known header request) none ∙ without known header request

@@ -4,14 +4,9 @@ use Rattle.zvt_talk.specs.Talk.{TalkFacts}
 use Rattle.gw_owes.specs.Calls.{LinkPt}
 use Rattle.gw_owes.specs.declared.terminal.Standing.{Standing}
 use Rattle.gw_owes.specs.declared.terminal.Standing.TheVariants.{Unlinked, Registering, Enquiring, Ready, Serving, Aside}
-use Rattle.gw_owes.specs.Row.{Known, Row, owing, owing_nothing}
+use Rattle.gw_owes.specs.Row.{Known, Row, owing, owing_where}
 use Rattle.gw_owes.specs.Terminals.{terminal_at, of_terminal}
 use Rattle.gw_owes.specs.Links.{cutting}
-
--- a row of what is due; what isn't owes nothing
-abbrev pub where_due : Bool → Known → Row → Row
-where_due true known row = row
-where_due false known row = owing_nothing known
 
 -- ---- silence
 
@@ -22,7 +17,7 @@ is_late moment (Some talk) = int_le talk.deadline (pos moment)
 
 -- what a terminal's silence owes: the cut, where its dialogue has a deadline that has come
 abbrev pub late_row : Known → ℕ → Row
-late_row known number = of_terminal known (λ terminal. where_due (is_late known.moment terminal.talk) known (cutting known number)) (terminal_at known number)
+late_row known number = of_terminal known (λ terminal. owing_where (is_late known.moment terminal.talk) known (cutting known number)) (terminal_at known number)
 
 -- ---- links
 
@@ -42,4 +37,4 @@ is_due moment (Aside before reported) = false
 
 -- what a terminal owes that may be due to be linked: the link, where it is
 abbrev pub due_row : Known → ℕ → Row
-due_row known number = of_terminal known (λ terminal. where_due (is_due known.moment terminal.standing) known (owing known (LinkPt number ∷ []))) (terminal_at known number)
+due_row known number = of_terminal known (λ terminal. owing_where (is_due known.moment terminal.standing) known (owing known (LinkPt number ∷ []))) (terminal_at known number)

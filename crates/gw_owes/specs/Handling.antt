@@ -1,5 +1,5 @@
 -- What a message of a terminal means in each of its standings, and what follows from it. It was acknowledged before.
-use Rattle.std.specs.Prelude.{ℕ, ◌+◌, ◌-◌, pos, nat_le, Bool, true, false, if◌then◌else◌, [], ◌∷◌, Option, Some, None, Result, Ok, Err}
+use Rattle.std.specs.Prelude.{ℕ, ◌+◌, ◌-◌, pos, nat_le, true, false, if◌then◌else◌, [], ◌∷◌, Option, Some, None, Result, Ok, Err}
 use Rattle.std.specs.Option.{option_map}
 use Rattle.gw_base.specs.declared.setup.Pt.{Pt}
 use Rattle.zvt_apdu.specs.Grammar.{ApduValue}
@@ -17,7 +17,7 @@ use Rattle.gw_owes.specs.Calls.{Ask, SendPt, CutPt}
 use Rattle.gw_owes.specs.declared.terminal.Standing.{Standing}
 use Rattle.gw_owes.specs.declared.terminal.Standing.TheVariants.{Unlinked, Registering, Enquiring, Ready, Serving, Aside}
 use Rattle.gw_owes.specs.declared.terminal.Terminal.{Terminal}
-use Rattle.gw_owes.specs.Row.{Known, Row, owing_nothing}
+use Rattle.gw_owes.specs.Row.{Known, Row, owing_nothing, owing_where}
 use Rattle.gw_owes.specs.Terminals.{terminal_becomes, after_command}
 use Rattle.gw_owes.specs.Links.{of_linked}
 use Rattle.gw_owes.specs.Reports.{on_record, report_row}
@@ -143,15 +143,10 @@ consequence known number terminal meant (Aside before reported) = staying known 
 
 -- ---- the row
 
--- a message that is taken; a command of the terminal's own was refused, and has no other effect
-abbrev pub where_taken : Bool → Known → Row → Row
-where_taken true known row = row
-where_taken false known row = owing_nothing known
-
 -- what a message that was acknowledged leaves and owes
 abbrev pub handle_message : Known → ℕ → Terminal → MessageValue → Row
 handle_message known number terminal message =
-    where_taken (is_taken message) known (consequence known number (taking terminal message known.moment) (meaning_at terminal message) terminal.standing)
+    owing_where (is_taken message) known (consequence known number (taking terminal message known.moment) (meaning_at terminal message) terminal.standing)
 
 -- the same of the terminal of this number, where it is linked
 abbrev pub handled_row : Known → ℕ → MessageValue → Row

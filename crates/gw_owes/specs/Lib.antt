@@ -21,3 +21,5 @@ pub mod TerminalExample
 pub mod TerminalLaws
 pub mod TerminalRows
 pub mod Terminals
+pub mod Transcript
+pub mod TranscriptExample

@@ -4,7 +4,7 @@ use Rattle.gw_owes.specs.Calls.{CutPt}
 use Rattle.gw_owes.specs.declared.terminal.Standing.{Standing}
 use Rattle.gw_owes.specs.declared.terminal.Standing.TheVariants.{Unlinked, Registering, Enquiring, Ready, Serving, Aside}
 use Rattle.gw_owes.specs.declared.terminal.Terminal.{Terminal}
-use Rattle.gw_owes.specs.Row.{Known, Row, owing, owing_nothing}
+use Rattle.gw_owes.specs.Row.{Known, Row, owing, owing_where}
 use Rattle.gw_owes.specs.Terminals.{terminal_at, of_terminal, link_made, link_lost}
 
 -- ---- terminals that are linked
@@ -18,14 +18,9 @@ is_linked (Ready last) = true
 is_linked (Serving service last) = true
 is_linked (Aside before reported) = true
 
--- a row of a terminal that is linked; one that isn't is owed nothing
-abbrev pub where_linked : Bool → Known → Row → Row
-where_linked true known row = row
-where_linked false known row = owing_nothing known
-
 -- what is owed of the terminal of this number, where there is one and it is linked
 abbrev pub of_linked : Known → ℕ → (Terminal → Row) → Row
-of_linked known number row = of_terminal known (λ terminal. where_linked (is_linked terminal.standing) known (row terminal)) (terminal_at known number)
+of_linked known number row = of_terminal known (λ terminal. owing_where (is_linked terminal.standing) known (row terminal)) (terminal_at known number)
 
 -- the terminal's connection is cut; with the cut its link is lost
 abbrev pub cutting : Known → ℕ → Row

@@ -1,23 +1,19 @@
--- The reply to each message of a till: one table, with a row for each kind of message.
+-- The replies that refuse: a Failure, a Reject, and what a body or a message of another form gets.
 use Rattle.std.specs.Prelude.{ℕ, pos, Bool, bytes_eq, if◌then◌else◌, List, [], ◌∷◌, map, Option, Some, None, codes}
 use Rattle.std.specs.List.{list_any}
 use Rattle.gw_base.specs.declared.condition.Condition.{Condition}
-use Rattle.gw_base.specs.declared.condition.Condition.TheVariants.{MessageFormat, NotFound, UnavailableDevice, UnavailableService}
+use Rattle.gw_base.specs.declared.condition.Condition.TheVariants.{MessageFormat, UnavailableService}
 use Rattle.sale_values.specs.declared.fault.SaleFault.{SaleFault}
 use Rattle.sale_values.specs.declared.fault.SaleFault.TheVariants.{NoHeader, Missing, Wrong, Unserved}
 use Rattle.sale_values.specs.declared.header.Header.{Header}
 use Rattle.sale_values.specs.declared.names.Class.TheVariants as classes
 use Rattle.sale_values.specs.declared.names.Kind.TheVariants as kinds
 use Rattle.sale_values.specs.declared.request.Output.{Output}
-use Rattle.sale_values.specs.declared.request.SaleRequest.{SaleRequest}
-use Rattle.sale_values.specs.declared.request.SaleRequest.TheVariants as requests
 use Rattle.sale_reply.specs.declared.reply.Detail.{Detail}
 use Rattle.sale_reply.specs.declared.reply.Detail.TheVariants as details
 use Rattle.sale_reply.specs.declared.reply.Shown.{Shown}
 use Rattle.sale_reply.specs.declared.reply.Verdict.{Verdict}
 use Rattle.gw_owes.specs.Reply.{ReplyValue, Plain, Display, Print, Reject}
-use Rattle.gw_owes.specs.ReadAs.{ReadAs, Request, Silent, NoMessage, NoJson}
-use Rattle.gw_owes.specs.Row.{Known}
 
 -- ---- headers and results
 
@@ -49,17 +45,17 @@ format_failure path = record { condition = Some MessageFormat; path = Some path 
 abbrev pub failure_reply : Header → Condition → ReplyValue
 failure_reply header condition = Plain (header_of_reply header) (failure condition)
 
--- an output that no terminal shows
-abbrev pub output_not_shown : Output → Shown
-output_not_shown output = record { device = output.device; qualify = output.qualify; verdict = failure UnavailableDevice }
+-- the result of an output for which a Display is refused
+abbrev pub output_refused : Condition → Output → Shown
+output_refused condition output = record { device = output.device; qualify = output.qualify; verdict = failure condition }
 
 -- some output asks for a response
 abbrev pub is_response_required : List Output → Bool
 is_response_required outputs = list_any (λ (output : Output). output.required) outputs
 
--- the reply to a Display that no terminal shows; none where no output asks for a response
-abbrev pub display_failure : Header → List Output → Option ReplyValue
-display_failure header outputs = if is_response_required outputs then Some (Display (header_of_reply header) (map output_not_shown outputs)) else None
+-- the reply to a Display that is refused, which each of its outputs has as its result; none where no output asks for a response
+abbrev pub display_refusal : Condition → Header → List Output → Option ReplyValue
+display_refusal condition header outputs = if is_response_required outputs then Some (Display (header_of_reply header) (map (output_refused condition) outputs)) else None
 
 -- the result of a Display with a member of another form at this path: one output stands for all
 abbrev pub malformed_output : List ℕ → Shown
@@ -85,25 +81,3 @@ reply_to_fault name moment (NoHeader path) = reject_event name moment (details.H
 reply_to_fault name moment (Missing header path) = reply_to_malformed moment header path
 reply_to_fault name moment (Wrong header path) = reply_to_malformed moment header path
 reply_to_fault name moment (Unserved header) = failure_reply header UnavailableService
-
--- ---- the table
-
--- the reply to a request, while no terminal is served and no record is kept
-abbrev pub reply_to_request : Known → Header → SaleRequest → Option ReplyValue
-reply_to_request known header requests.Login = Some (failure_reply header UnavailableDevice)
-reply_to_request known header requests.Logout = Some (failure_reply header UnavailableDevice)
-reply_to_request known header (requests.Payment ask) = Some (failure_reply header UnavailableDevice)
-reply_to_request known header (requests.Reversal ask) = Some (failure_reply header UnavailableDevice)
-reply_to_request known header (requests.Abort reference) = Some (Reject header.sale header.poi (pos known.moment) details.Abort)
-reply_to_request known header (requests.Status reference) = Some (failure_reply header NotFound)
-reply_to_request known header (requests.Reconciliation period) = Some (failure_reply header UnavailableDevice)
-reply_to_request known header (requests.Display outputs) = display_failure header outputs
-reply_to_request known header (requests.Print qualifier) = Some (Print (header_of_reply header) qualifier (failure UnavailableDevice))
-reply_to_request known header requests.Diagnosis = Some (failure_reply header UnavailableDevice)
-
--- the reply to a till's message, by what it is read as; none where there is none
-abbrev pub reply_to : Known → ReadAs → Option ReplyValue
-reply_to known (Request header request) = reply_to_request known header request
-reply_to known Silent = None
-reply_to known (NoMessage fault) = Some (reply_to_fault known.setup.name known.moment fault)
-reply_to known (NoJson fault) = Some (reject_event known.setup.name known.moment (details.Json fault))

@@ -1,5 +1,5 @@
 -- What a row goes by, and what it says.
-use Rattle.std.specs.Prelude.{ℕ, List, []}
+use Rattle.std.specs.Prelude.{ℕ, Bool, true, false, List, []}
 use Rattle.gw_base.specs.declared.setup.Setup.{Setup}
 use Rattle.jrn_record.specs.declared.records.Record.{Record}
 use Rattle.gw_owes.specs.Calls.{OwedCall}
@@ -30,3 +30,8 @@ owing_nothing known = owing known []
 -- this is remembered, and these calls are owed
 abbrev pub becoming : Core → List OwedCall → Row
 becoming core calls = record { core = core; calls = calls; items = [] }
+
+-- this row where it holds, and else nothing
+abbrev pub owing_where : Bool → Known → Row → Row
+owing_where true known row = row
+owing_where false known row = owing_nothing known

@@ -13,6 +13,7 @@ use Rattle.sale_values.specs.declared.request.SaleRequest.TheVariants as request
 use Rattle.sale_reply.specs.declared.reply.GlobalStatus.{GlobalStatus}
 use Rattle.sale_reply.specs.declared.reply.GlobalStatus.TheVariants as status
 use Rattle.zvt_msg.specs.declared.command.Command.TheVariants as command
+use Rattle.zvt_talk.specs.Came.{StopWished}
 use Rattle.zvt_talk.specs.Dialogue.{dialogue_of}
 use Rattle.zvt_talk.specs.Talk.{talk_after}
 use Rattle.gw_owes.specs.Calls.{OwedCall, SendTill, SendPt, CutTill, CutPt, LinkPt, WriteBody, WriteGate, WriteFirstGate, Sync, sending_bytes}
@@ -39,6 +40,8 @@ pub data Happening : Type 0 where
   Links : ℕ → LinkEvent → Happening
   -- it sends these bytes, all of them whole APDUs
   Sends : ℕ → List ℕ → Happening
+  -- the same, and what the item of this number sends it, counted from 0, fails
+  SendsAndFails : ℕ → List ℕ → ℕ → Happening
   -- nothing but that time has passed
   Passes : Happening
 
@@ -51,18 +54,48 @@ pub record At : Type 0 where
 abbrev pub row_then : Row → (Core → Row) → Row
 row_then row more = let after = more row.core in record { core = after.core; calls = row.calls ++ after.calls; items = [] }
 
+-- a row and its calls, each of which succeeds: with a cut the link is lost
+abbrev pub with_losses : Known → Row → List OwedCall → Row
+with_losses known row [] = row
+with_losses known row (SendTill till reply ∷ calls) = with_losses known row calls
+with_losses known row (SendPt number sending ∷ calls) = with_losses known row calls
+with_losses known row (CutTill till ∷ calls) = with_losses known row calls
+with_losses known row (CutPt number ∷ calls) = with_losses known (row_then row (λ core. link_row (record known { core = core }) number LinkIsLost)) calls
+with_losses known row (LinkPt number ∷ calls) = with_losses known row calls
+with_losses known row (WriteBody slot the_record ∷ calls) = with_losses known row calls
+with_losses known row (WriteGate slot the_record ∷ calls) = with_losses known row calls
+with_losses known row (WriteFirstGate ∷ calls) = with_losses known row calls
+with_losses known row (Sync ∷ calls) = with_losses known row calls
+
+-- what an item leaves and owes, with what follows from its cut
+abbrev pub item_row : Known → RoundItem → Row
+item_row known item = let row = terminal_row known item in with_losses known row row.calls
+
+-- the same of an item whose send to this terminal fails: the connection is cut
+abbrev pub failed_row : Known → ℕ → RoundItem → Row
+failed_row known number item =
+    let row = terminal_row known item in
+    with_losses known (record row { calls = row.calls ++ CutPt number ∷ [] }) (CutPt number ∷ [])
+
 -- items, one after the other
 abbrev pub items_row : Known → List RoundItem → Row
 items_row known [] = owing_nothing known
-items_row known (item ∷ items) = row_then (terminal_row known item) (λ core. items_row (record known { core = core }) items)
+items_row known (item ∷ items) = row_then (item_row known item) (λ core. items_row (record known { core = core }) items)
+
+-- the same, where the send to this terminal of the item of this number fails
+abbrev pub items_failing : Known → ℕ → ℕ → List RoundItem → Row
+items_failing known number at [] = owing_nothing known
+items_failing known number zero (item ∷ items) = row_then (failed_row known number item) (λ core. items_row (record known { core = core }) items)
+items_failing known number (suc at) (item ∷ items) = row_then (item_row known item) (λ core. items_failing (record known { core = core }) number at items)
 
 -- what happens, and then what may be due
 abbrev pub happening_row : Known → Happening → Row
 happening_row known (Links number event) = link_row known number event
 happening_row known (Sends number bytes) = items_row known (pt_bytes_items number [] bytes ++ items_due known.core)
+happening_row known (SendsAndFails number bytes at) = items_failing known number at (pt_bytes_items number [] bytes ++ items_due known.core)
 happening_row known Passes = items_row known (items_due known.core)
 
--- one thing after the other, where each call succeeds
+-- one thing after the other
 abbrev pub happenings_row : Known → List At → Row
 happenings_row known [] = owing_nothing known
 happenings_row known (first ∷ rest) =
@@ -134,6 +167,10 @@ after_all happenings = happenings_row (new_known (one_pt ∷ [])) happenings
 -- at this moment the terminal sends these bytes
 abbrev pub sends : ℕ → List ℕ → At
 sends moment bytes = record { moment = moment; happening = Sends 0 bytes }
+
+-- the same, and what the item of this number sends it fails
+abbrev pub sends_and_fails : ℕ → List ℕ → ℕ → At
+sends_and_fails moment bytes at = record { moment = moment; happening = SendsAndFails 0 bytes at }
 
 -- at this moment its link is made, couldn't be made, or is lost
 abbrev pub link_event : ℕ → LinkEvent → At
@@ -225,7 +262,7 @@ pub record ExampleReportsLast : Type 0 where
 
 -- the registration is declined, which cuts the connection: it is due again five seconds later
 abbrev pub until_declined : List At
-until_declined = until_acknowledged ++ sends 2 (abort 0x6C) ∷ link_event 2 LinkIsLost ∷ []
+until_declined = until_acknowledged ++ sends 2 (abort 0x6C) ∷ []
 
 -- what is sent until then
 abbrev pub declined_calls : List Call
@@ -233,7 +270,7 @@ declined_calls = acknowledged_calls ++ Out 0 ack ∷ Cuts 0 ∷ []
 
 -- so does one that is refused at once, which isn't acknowledged
 abbrev pub until_refused : List At
-until_refused = passes 0 ∷ link_event 0 LinkIsMade ∷ sends 1 (0x84 ∷ 0x83 ∷ 0x00 ∷ []) ∷ link_event 1 LinkIsLost ∷ []
+until_refused = passes 0 ∷ link_event 0 LinkIsMade ∷ sends 1 (0x84 ∷ 0x83 ∷ 0x00 ∷ []) ∷ []
 
 -- a registration that is declined, refused, declined by a status, unclear, or completed before it is acknowledged
 pub record ExampleRegistrationFails : Type 0 where
@@ -241,15 +278,15 @@ pub record ExampleRegistrationFails : Type 0 where
   pub not_due : Comes (after_all (until_declined ++ passes 6 ∷ [])) declined_calls (Unlinked (Some 7)) 0
   pub due : Comes (after_all (until_declined ++ passes 7 ∷ [])) (declined_calls ++ Link 0 ∷ []) (Unlinked (Some 7)) 0
   pub refused : Comes (after_all until_refused) (acknowledged_calls ++ Cuts 0 ∷ []) (Unlinked (Some 6)) 0
-  pub by_status : Comes (after_all (until_acknowledged ++ sends 2 (0x04 ∷ 0x0F ∷ 0x02 ∷ 0x27 ∷ 0x05 ∷ []) ∷ sends 3 completion ∷ [])) (acknowledged_calls ++ Out 0 ack ∷ Out 0 ack ∷ Cuts 0 ∷ []) Registering 0
-  pub unclear : Comes (after_all (until_acknowledged ++ sends 2 (0x06 ∷ 0x1E ∷ 0x00 ∷ []) ∷ [])) (acknowledged_calls ++ Out 0 ack ∷ Cuts 0 ∷ []) Registering 0
-  pub too_early : Comes (after_all (passes 0 ∷ link_event 0 LinkIsMade ∷ sends 1 completion ∷ [])) (acknowledged_calls ++ Out 0 ack ∷ Cuts 0 ∷ []) Registering 1
+  pub by_status : Comes (after_all (until_acknowledged ++ sends 2 (0x04 ∷ 0x0F ∷ 0x02 ∷ 0x27 ∷ 0x05 ∷ []) ∷ sends 3 completion ∷ [])) (acknowledged_calls ++ Out 0 ack ∷ Out 0 ack ∷ Cuts 0 ∷ []) (Unlinked (Some 8)) 0
+  pub unclear : Comes (after_all (until_acknowledged ++ sends 2 (0x06 ∷ 0x1E ∷ 0x00 ∷ []) ∷ [])) (acknowledged_calls ++ Out 0 ack ∷ Cuts 0 ∷ []) (Unlinked (Some 7)) 0
+  pub too_early : Comes (after_all (passes 0 ∷ link_event 0 LinkIsMade ∷ sends 1 completion ∷ [])) (acknowledged_calls ++ Out 0 ack ∷ Cuts 0 ∷ []) (Unlinked (Some 6)) 0
 
 -- an enquiry that is completed without a status is unclear, and one that is refused, or aborted with another code, is cut as well
 pub record ExampleEnquiryFails : Type 0 where
-  pub unclear : Comes (after_all (until_enquired ++ sends 4 completion ∷ [])) (ready_calls ++ Cuts 0 ∷ []) Enquiring 0
-  pub refused : Comes (after_all (until_registered ++ sends 3 (0x84 ∷ 0x83 ∷ 0x00 ∷ []) ∷ [])) (registered_calls ++ Cuts 0 ∷ []) Enquiring 0
-  pub other_code : Comes (after_all (until_enquired ++ sends 4 (abort 0x6C) ∷ [])) (ready_calls ++ Cuts 0 ∷ []) Enquiring 0
+  pub unclear : Comes (after_all (until_enquired ++ sends 4 completion ∷ [])) (ready_calls ++ Cuts 0 ∷ []) (Unlinked (Some 9)) 0
+  pub refused : Comes (after_all (until_registered ++ sends 3 (0x84 ∷ 0x83 ∷ 0x00 ∷ []) ∷ [])) (registered_calls ++ Cuts 0 ∷ []) (Unlinked (Some 8)) 0
+  pub other_code : Comes (after_all (until_enquired ++ sends 4 (abort 0x6C) ∷ [])) (ready_calls ++ Cuts 0 ∷ []) (Unlinked (Some 9)) 0
 
 -- a link that couldn't be made is due again five seconds later, and so is one that is lost
 pub record ExampleLinkFails : Type 0 where
@@ -262,9 +299,9 @@ pub record ExampleLinkFails : Type 0 where
 -- A registration is cut after five seconds of silence, and an enquiry 180 after its last message. A message that comes at the deadline is taken first, and where no dialogue runs there is none.
 pub record ExampleSilence : Type 0 where
   pub asked : Comes (after_all (passes 0 ∷ link_event 0 LinkIsMade ∷ passes 4 ∷ [])) acknowledged_calls Registering 1
-  pub asked_late : Comes (after_all (passes 0 ∷ link_event 0 LinkIsMade ∷ passes 5 ∷ [])) (acknowledged_calls ++ Cuts 0 ∷ []) Registering 1
+  pub asked_late : Comes (after_all (passes 0 ∷ link_event 0 LinkIsMade ∷ passes 5 ∷ [])) (acknowledged_calls ++ Cuts 0 ∷ []) (Unlinked (Some 10)) 0
   pub begun : Comes (after_all (until_enquired ++ passes 182 ∷ [])) registered_calls Enquiring 0
-  pub begun_late : Comes (after_all (until_enquired ++ passes 183 ∷ [])) (registered_calls ++ Cuts 0 ∷ []) Enquiring 0
+  pub begun_late : Comes (after_all (until_enquired ++ passes 183 ∷ [])) (registered_calls ++ Cuts 0 ∷ []) (Unlinked (Some 188)) 0
   pub put_off : Comes (after_all (until_enquired ++ sends 183 ack ∷ passes 362 ∷ [])) registered_calls Enquiring 0
   pub in_time : Comes (after_all (until_enquired ++ sends 183 (abort 0x83) ∷ [])) ready_calls (Ready 0) 0
   pub without_dialogue : Comes (after_all (until_ready ++ passes 100000 ∷ [])) ready_calls (Ready 0) 0
@@ -279,14 +316,70 @@ pub record ExampleStrayMessages : Type 0 where
 -- a command of the terminal's own is refused, whether a dialogue runs or not, and puts no deadline off
 pub record ExampleForeignCommand : Type 0 where
   pub refused : Comes (after_all (until_ready ++ sends 5 foreign ∷ [])) (ready_calls ++ Out 0 refusal_sent ∷ []) (Ready 0) 0
-  pub in_dialogue : Comes (after_all (until_enquired ++ sends 100 foreign ∷ passes 183 ∷ [])) (registered_calls ++ Out 0 refusal_sent ∷ Cuts 0 ∷ []) Enquiring 0
+  pub in_dialogue : Comes (after_all (until_enquired ++ sends 100 foreign ∷ passes 183 ∷ [])) (registered_calls ++ Out 0 refusal_sent ∷ Cuts 0 ∷ []) (Unlinked (Some 188)) 0
 
 -- ---- bytes outside the grammar
 
--- a Status whose fields are truncated cuts the connection, and is not acknowledged; so do bytes that begin an APDU above the limit, after the APDUs before them
+-- a Status whose fields are truncated
+abbrev pub outside_status : List ℕ
+outside_status = 0x04 ∷ 0x0F ∷ 0x01 ∷ 0x27 ∷ []
+
+-- a Status whose fields are truncated cuts the connection, and is not acknowledged; so do bytes that begin an APDU above the limit, after the APDUs before them. An APDU after the cut owes nothing, also where it comes with the other.
 pub record ExampleOutside : Type 0 where
-  pub status : Comes (after_all (until_ready ++ sends 5 (0x04 ∷ 0x0F ∷ 0x01 ∷ 0x27 ∷ []) ∷ [])) (ready_calls ++ Cuts 0 ∷ []) (Ready 0) 0
-  pub oversized : Comes (after_all (until_ready ++ sends 5 (foreign ++ 0x06 ∷ 0xD1 ∷ 0xFF ∷ 0xE1 ∷ 0x2E ∷ []) ∷ [])) (ready_calls ++ Out 0 refusal_sent ∷ Cuts 0 ∷ []) (Ready 0) 0
+  pub status : Comes (after_all (until_ready ++ sends 5 outside_status ∷ [])) (ready_calls ++ Cuts 0 ∷ []) (Unlinked (Some 10)) 0
+  pub oversized : Comes (after_all (until_ready ++ sends 5 (foreign ++ 0x06 ∷ 0xD1 ∷ 0xFF ∷ 0xE1 ∷ 0x2E ∷ []) ∷ [])) (ready_calls ++ Out 0 refusal_sent ∷ Cuts 0 ∷ []) (Unlinked (Some 10)) 0
+  pub then_good : Comes (after_all (until_enquired ++ sends 5 (outside_status ++ abort 0x83) ∷ [])) (registered_calls ++ Cuts 0 ∷ []) (Unlinked (Some 10)) 0
+
+-- ---- sends that fail
+
+-- Where an acknowledgement fails the connection is cut: the message has no effect, and the messages that came with it neither. What came before has had its effect.
+pub record ExampleFailedSend : Type 0 where
+  pub first : Comes (after_all (until_enquired ++ sends_and_fails 4 (approved_status ++ completion) 0 ∷ [])) (ready_calls ++ Cuts 0 ∷ []) (Unlinked (Some 9)) 0
+  pub second : Comes (after_all (until_enquired ++ sends_and_fails 4 (approved_status ++ completion) 3 ∷ [])) (ready_calls ++ Out 0 ack ∷ Cuts 0 ∷ []) (Unlinked (Some 9)) 0
+  pub command : Comes (after_all (until_acknowledged ++ sends_and_fails 2 completion 1 ∷ [])) (registered_calls ++ Cuts 0 ∷ []) (Unlinked (Some 7)) 0
+
+-- ---- terminals that aren't linked, and numbers that no terminal has
+
+-- nothing is owed for what comes from them
+pub record ExampleUnlinked : Type 0 where
+  pub unlinked : Comes (after_all (passes 0 ∷ link_event 0 LinkHasFailed ∷ sends 1 (foreign ++ completion) ∷ [])) (Link 0 ∷ []) (Unlinked (Some 5)) 0
+  pub absent : Comes (after_all (until_ready ++ record { moment = 5; happening = Sends 7 (foreign ++ outside_status) } ∷ [])) ready_calls (Ready 0) 0
+
+-- ---- terminals that are set aside
+
+-- a gateway whose one terminal reported a smaller trace number than before
+abbrev pub after_aside : List At → Row
+after_aside happenings = happenings_row (record (new_known (one_pt ∷ [])) { core = record (new_core (setup_with (one_pt ∷ []))) { terminals = record (new_terminal one_pt) { standing = Aside 123 50 } ∷ [] } }) happenings
+
+-- it is greeted as any other, and stays aside; it is linked anew after its link is lost
+pub record ExampleAside : Type 0 where
+  pub message : Comes (after_aside (sends 5 completion ∷ [])) (Out 0 ack ∷ []) (Aside 123 50) 0
+  pub foreign : Comes (after_aside (sends 5 foreign ∷ [])) (Out 0 refusal_sent ∷ []) (Aside 123 50) 0
+  pub lost : Comes (after_aside (link_event 5 LinkIsLost ∷ passes 10 ∷ [])) (Link 0 ∷ []) (Unlinked (Some 10)) 0
+
+-- ---- stops
+
+-- a payment was asked of the terminal at this moment, and a stop is wished before it is acknowledged
+abbrev pub stopping_terminal : ℕ → Terminal
+stopping_terminal moment = record (new_terminal one_pt) {
+  standing = Serving (Transaction 2) 123;
+  talk = option_map (λ dialogue. talk_after dialogue (StopWished ∷ [])) (dialogue_of (command.Authorise 1099 978) 0x83 5 180 (pos moment));
+  awaited = 1;
+}
+
+-- what comes of what happens then
+abbrev pub after_wish : List At → Row
+after_wish happenings = happenings_row (record (new_known (one_pt ∷ [])) { core = record (new_core (setup_with (one_pt ∷ []))) { terminals = stopping_terminal 10 ∷ [] } }) happenings
+
+-- the stop
+abbrev pub stop_sent : List ℕ
+stop_sent = 0x06 ∷ 0xB0 ∷ 0x00 ∷ []
+
+-- The stop is sent once the payment is acknowledged, and is acknowledged or refused in its turn; the payment goes on until its deadline.
+pub record ExampleStop : Type 0 where
+  pub sent : Comes (after_wish (sends 11 ack ∷ [])) (Out 0 stop_sent ∷ []) (Serving (Transaction 2) 123) 1
+  pub refused : Comes (after_wish (sends 11 ack ∷ sends 12 (0x84 ∷ 0x83 ∷ 0x00 ∷ []) ∷ [])) (Out 0 stop_sent ∷ []) (Serving (Transaction 2) 123) 0
+  pub late : Comes (after_wish (sends 11 ack ∷ passes 191 ∷ [])) (Out 0 stop_sent ∷ Cuts 0 ∷ []) (Unlinked (Some 196)) 0
 
 -- ---- the late Nack of a stop
 
@@ -304,7 +397,7 @@ after_stop happenings = happenings_row (record (new_known (one_pt ∷ [])) { cor
 
 -- A Nack then may be that of the stop: it is unclear, and declines nothing. An Ack begins the payment, and one more is awaited, which has no effect.
 pub record ExampleLateStop : Type 0 where
-  pub nack : Comes (after_stop (sends 11 (0x84 ∷ 0x83 ∷ 0x00 ∷ []) ∷ [])) (Cuts 0 ∷ []) (Serving (Transaction 2) 123) 1
+  pub nack : Comes (after_stop (sends 11 (0x84 ∷ 0x83 ∷ 0x00 ∷ []) ∷ [])) (Cuts 0 ∷ []) (Unlinked (Some 16)) 0
   pub ack_first : Comes (after_stop (sends 11 ack ∷ [])) [] (Serving (Transaction 2) 123) 1
   pub nack_later : Comes (after_stop (sends 11 ack ∷ sends 12 (0x84 ∷ 0x83 ∷ 0x00 ∷ []) ∷ [])) [] (Serving (Transaction 2) 123) 0
   pub none_below : Comes (after_stop (sends 11 ack ∷ sends 12 ack ∷ sends 13 ack ∷ [])) [] (Serving (Transaction 2) 123) 0

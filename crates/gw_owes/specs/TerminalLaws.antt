@@ -2,8 +2,6 @@
 use Rattle.std.specs.Prelude.{◌≡◌, ◌≢◌, ◌⊎◌, ◌≤◌, ℕ, ◌+◌, pos, int_le, Bool, true, false, List, [], ◌∷◌, length, map, slice_get, Option, Some, None, Ok, Err}
 use Rattle.gw_base.specs.declared.figures.Figures.{Figures}
 use Rattle.gw_base.specs.declared.setup.Pt.{Pt}
-use Rattle.sale_values.specs.declared.header.Header.{Header}
-use Rattle.sale_values.specs.declared.request.SaleRequest.{SaleRequest}
 use Rattle.zvt_apdu.specs.Grammar.{ApduValue}
 use Rattle.zvt_msg.specs.declared.fault.PtFault.{PtFault}
 use Rattle.zvt_msg.specs.Message.{MessageValue, Nack, Other}
@@ -12,33 +10,20 @@ use Rattle.zvt_talk.specs.declared.meaning.Heard.TheVariants as heard
 use Rattle.zvt_talk.specs.declared.phase.Phase.TheVariants.{Asked}
 use Rattle.zvt_talk.specs.Laws.{IsAckOrNack}
 use Rattle.zvt_talk.specs.Talk.{TalkFacts}
-use Rattle.gw_owes.specs.Calls.{Sending, Ask, Acknowledge, Refuse, OwedCall, SendTill, SendPt, CutTill, CutPt, LinkPt, WriteBody, WriteGate, WriteFirstGate, Sync}
+use Rattle.gw_owes.specs.Calls.{Sending, Ask, Acknowledge, Refuse, OwedCall, SendTill, SendPt, CutTill, CutPt, LinkPt, WriteBody, WriteGate, WriteFirstGate, Sync, sending_bytes}
 use Rattle.gw_owes.specs.declared.terminal.Standing.{Standing}
-use Rattle.gw_owes.specs.declared.terminal.Standing.TheVariants.{Unlinked, Registering, Enquiring, Ready}
+use Rattle.gw_owes.specs.declared.terminal.Standing.TheVariants.{Unlinked, Registering, Enquiring, Ready, Serving, Aside}
 use Rattle.gw_owes.specs.declared.terminal.Terminal.{Terminal}
 use Rattle.gw_owes.specs.Core.{Core}
 use Rattle.gw_owes.specs.Items.{RoundItem, Crowded, Message, Asked as AskedItem, Unframed, Gone, Greet, Handle, NextWaiting, Oversized, LinkLost, Late, Overdue, Due}
 use Rattle.gw_owes.specs.Row.{Known, Row, owing_nothing}
-use Rattle.gw_owes.specs.Replies.{reply_to_request}
 use Rattle.gw_owes.specs.Terminals.{terminal_at, registration}
 use Rattle.gw_owes.specs.Links.{is_linked, LinkEvent, LinkIsMade, link_row}
 use Rattle.gw_owes.specs.Greeting.{greet_row, oversized_row}
 use Rattle.gw_owes.specs.Handling.{awaited_after, meaning_at, enquiry_command, handle_row}
 use Rattle.gw_owes.specs.Reports.{on_record}
 use Rattle.gw_owes.specs.Deadlines.{is_due, due_row}
-use Rattle.gw_owes.specs.Requests.{request_reply}
 use Rattle.gw_owes.specs.TerminalRows.{terminal_of, terminal_row}
-use Rattle.gw_owes.specs.Laws.{EndsInOne}
-
--- ---- the calls
-
--- what a terminal's item owes is calls on the disk, and then one other at most
-abbrev pub EachTerminalRowEndsInOne : Type 0
-EachTerminalRowEndsInOne = (known : Known) (item : RoundItem) → EndsInOne (terminal_row known item)
-
--- so is what an event of its link owes
-abbrev pub EachLinkRowEndsInOne : Type 0
-EachLinkRowEndsInOne = (known : Known) (number : ℕ) (event : LinkEvent) → EndsInOne (link_row known number event)
 
 -- ---- what stays
 
@@ -201,9 +186,55 @@ MayCut known (Due number) = ⊥
 abbrev pub EachCutHasCause : Type 0
 EachCutHasCause = (known : Known) (item : RoundItem) → owes_cut (terminal_row known item).calls ≡ true → MayCut known item
 
--- nor does an event of its link
+-- ---- what is cut
+
+-- no dialogue runs but in a standing that has one
+abbrev pub HasDialogueOnlyIn : Standing → Option TalkFacts → Type 0
+HasDialogueOnlyIn (Unlinked due) talk = talk ≡ None
+HasDialogueOnlyIn Registering talk = Unit {0}
+HasDialogueOnlyIn Enquiring talk = Unit {0}
+HasDialogueOnlyIn (Ready last) talk = talk ≡ None
+HasDialogueOnlyIn (Serving service last) talk = Unit {0}
+HasDialogueOnlyIn (Aside before reported) talk = talk ≡ None
+
+-- the terminal of this number is linked, and no dialogue runs with it but in a standing that has one
+pub record IsLinkedAt (known : Known) (number : ℕ) : Type 0 where
+  pub terminal : Terminal
+  pub found : terminal_at known number ≡ Some terminal
+  pub linked : is_linked terminal.standing ≡ true
+  pub dialogue : HasDialogueOnlyIn terminal.standing terminal.talk
+
+-- the terminal of a number is cut for each of these reasons, and nothing else is owed
+abbrev pub EachCauseCuts : Type 0
+EachCauseCuts = (known : Known) (item : RoundItem) (number : ℕ) → terminal_of item ≡ Some number → IsLinkedAt known number → MayCut known item → (terminal_row known item).calls ≡ CutPt number ∷ []
+
+-- ---- events of links
+
+-- an event of its link cuts no connection
 abbrev pub NoLinkEventCuts : Type 0
 NoLinkEventCuts = (known : Known) (number : ℕ) (event : LinkEvent) → owes_cut (link_row known number event).calls ≡ false
+
+-- ---- greetings
+
+-- what a message of a terminal that is linked gets first
+pub record IsGreeted (known : Known) (number : ℕ) (apdu : ApduValue) (message : MessageValue) : Type 0 where
+  -- an Ack or a Nack nothing
+  pub none : IsAckOrNack message → (greet_row known number apdu).calls ≡ []
+  -- a command of the terminal's own a refusal
+  pub foreign : message ≡ Other → (greet_row known number apdu).calls ≡ SendPt number Refuse ∷ []
+  -- and each other an acknowledgement
+  pub other : (IsAckOrNack message → ⊥) → message ≢ Other → (greet_row known number apdu).calls ≡ SendPt number Acknowledge ∷ []
+
+-- so each message of each terminal that is linked
+abbrev pub EachMessageIsGreeted : Type 0
+EachMessageIsGreeted =
+    (known : Known) (number : ℕ) (apdu : ApduValue) (terminal : Terminal) (message : MessageValue) → terminal_at known number ≡ Some terminal → is_linked terminal.standing ≡ true
+    → decode_pt_message apdu ≡ Ok message → IsGreeted known number apdu message
+
+-- the acknowledgement is an Ack, and the refusal a Nack with the code 83
+pub record GreetingsAreSpelled : Type 0 where
+  pub acknowledge : sending_bytes Acknowledge ≡ 0x80 ∷ 0x00 ∷ 0x00 ∷ []
+  pub refuse : sending_bytes Refuse ≡ 0x84 ∷ 0x83 ∷ 0x00 ∷ []
 
 -- ---- nothing is left out
 
@@ -238,9 +269,3 @@ EnquiredIsReady =
     → terminal.standing ≡ Enquiring → decode_pt_message apdu ≡ Ok message → meaning_at terminal message ≡ heard.Told reported approved result_code
     → (on_record known.kept terminal.pt.poi).open_before ≡ None → (on_record known.kept terminal.pt.poi).last ≤ reported
     → GoesOnTo number (Ready reported) [] (handle_row known number apdu)
-
--- ---- requests
-
--- where no terminal is configured each request has the reply that it has without terminals
-abbrev pub WithoutTerminalsSameReplies : Type 0
-WithoutTerminalsSameReplies = (known : Known) (header : Header) (request : SaleRequest) → known.core.terminals ≡ [] → request_reply known header request ≡ reply_to_request known header request

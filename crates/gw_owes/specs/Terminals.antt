@@ -1,5 +1,5 @@
 -- What a terminal's connection means for what is remembered of it: a link that is made or lost, and a till that is gone.
-use Rattle.std.specs.Prelude.{ℕ, ◌+◌, ◌==◌, set, pos, Bool, true, false, not, if◌then◌else◌, List, [], ◌∷◌, map, filter, slice_get, Option, Some, None}
+use Rattle.std.specs.Prelude.{ℕ, ◌+◌, ◌==◌, set, pos, not, if◌then◌else◌, List, [], ◌∷◌, map, filter, slice_get, Option, Some, None}
 use Rattle.std.specs.Option.{option_map}
 use Rattle.gw_base.specs.Currency.{currency_number}
 use Rattle.gw_base.specs.declared.condition.Condition.TheVariants.{UnavailableDevice}
@@ -17,7 +17,7 @@ use Rattle.gw_owes.specs.declared.terminal.Standing.TheVariants.{Unlinked, Regis
 use Rattle.gw_owes.specs.declared.terminal.Terminal.{Terminal}
 use Rattle.gw_owes.specs.Core.{Wait, Core}
 use Rattle.gw_owes.specs.Row.{Known, Row, owing_nothing, becoming}
-use Rattle.gw_owes.specs.Replies.{failure_reply, display_failure}
+use Rattle.gw_owes.specs.Replies.{failure_reply, display_refusal}
 
 -- ---- terminals by their numbers
 
@@ -76,7 +76,7 @@ reply_calls_to (Some till) (Some reply) = SendTill till reply ∷ []
 abbrev pub reply_to_unfinished : Service → Option ReplyValue
 reply_to_unfinished (Transaction slot) = None
 reply_to_unfinished (EndOfDay header period) = Some (failure_reply header UnavailableDevice)
-reply_to_unfinished (Display header outputs) = display_failure header outputs
+reply_to_unfinished (Display header outputs) = display_refusal UnavailableDevice header outputs
 
 -- the reply that the loss of a link owes, by the terminal's standing
 abbrev pub reply_to_lost : Standing → Option ReplyValue

@@ -9,8 +9,8 @@ mod terminal_laws;
 
 pub use terminal::{Service, Standing, Terminal};
 pub use terminal_laws::{
-    law_awaited, law_dialogues, law_terminal_alone, law_terminal_cuts, law_terminal_row_examples,
-    law_terminal_rows, law_unlinked, law_way_to_ready, law_without_terminals,
+    law_awaited, law_dialogues, law_greetings, law_terminal_alone, law_terminal_cuts,
+    law_terminal_row_examples, law_transcript, law_unlinked, law_way_to_ready,
 };
 
 /// A till's bytes are read one way.

@@ -1,14 +1,9 @@
 //! Laws of what the items of terminals and their links leave and owe. Each function does nothing: its contract is the law.
 ghost use Rattle.gw_owes.specs.Dialogues.{EachLinkGivesDialogues, EachRowKeepsDialogues, NewCoreHasDialogues};
-ghost use Rattle.gw_owes.specs.TerminalExample.{ExampleBecomesReady, ExampleComparedReports, ExampleDiagnosis, ExampleEnquiryFails, ExampleForeignCommand, ExampleLateStop, ExampleLinkFails, ExampleManyTerminals, ExampleOutside, ExampleRegistrationFails, ExampleReportsLast, ExampleSilence, ExampleStrayMessages, ExampleUnserved};
-ghost use Rattle.gw_owes.specs.TerminalLaws.{AbsentIsOwedNothing, DueIsLinked, EachAckTakesOne, EachCutHasCause, EachLinkChangesItsTerminal, EachLinkCountsAnew, EachLinkRowEndsInOne, EachMessageCounts, EachRowChangesItsTerminal, EachTerminalRowEndsInOne, EnquiredIsReady, ForeignHasNoEffect, GreetingChangesNothing, LateNackIsUnclear, LinkedIsRegistered, NoLinkEventCuts, RegisteredIsEnquired, UnlinkedIsOwedNothing, WithoutTerminalsSameReplies};
-
-/// What an item of a terminal owes is calls on the disk and then one other call at most, and so is what an event of its link
-/// owes: after a send that fails nothing is left.
-pub fn law_terminal_rows()
-    ensures rows { EachTerminalRowEndsInOne }
-    ensures links { EachLinkRowEndsInOne }
-{}
+ghost use Rattle.gw_owes.specs.TerminalExample.{ExampleAside, ExampleBecomesReady, ExampleComparedReports, ExampleDiagnosis, ExampleEnquiryFails, ExampleFailedSend, ExampleForeignCommand, ExampleLateStop, ExampleLinkFails, ExampleManyTerminals, ExampleOutside, ExampleRegistrationFails, ExampleReportsLast, ExampleSilence, ExampleStop, ExampleStrayMessages, ExampleUnlinked, ExampleUnserved};
+ghost use Rattle.gw_owes.specs.TerminalLaws.{AbsentIsOwedNothing, DueIsLinked, EachAckTakesOne, EachCauseCuts, EachCutHasCause, EachLinkChangesItsTerminal, EachLinkCountsAnew, EachMessageCounts, EachMessageIsGreeted, EachRowChangesItsTerminal, EnquiredIsReady, ForeignHasNoEffect, GreetingChangesNothing, GreetingsAreSpelled, LateNackIsUnclear, LinkedIsRegistered, NoLinkEventCuts, RegisteredIsEnquired, UnlinkedIsOwedNothing};
+ghost use Rattle.gw_owes.specs.Transcript.{EachLinkBeginsTranscript, EachRowFollowsTranscript, EachRunFollowsTranscript, NewCoreFollowsTranscript};
+ghost use Rattle.gw_owes.specs.TranscriptExample.{ExampleTranscript};
 
 /// An item of a terminal, and an event of its link, changes nothing that is remembered but this terminal, and never its
 /// settings. A greeting changes nothing at all; an APDU outside the grammar, and a command of the terminal's own, have no effect
@@ -37,10 +32,19 @@ pub fn law_awaited()
 {}
 
 /// A terminal's connection is cut only for an APDU outside the grammar, bytes that begin one above the limit, an unclear end, a
-/// declined registration or enquiry, and a deadline. Beside these there is the cut after a send that fails, which no item owes.
+/// declined registration or enquiry, and a deadline; and where it is linked it is cut for each of these, and nothing else is
+/// owed then. Beside these there is the cut after a send that fails, which no item owes.
 pub fn law_terminal_cuts()
     ensures items { EachCutHasCause }
+    ensures causes { EachCauseCuts }
     ensures links { NoLinkEventCuts }
+{}
+
+/// A terminal that is linked is sent nothing for an Ack or a Nack, `84 83 00` for a command of its own, and `80 00 00` for each
+/// other message.
+pub fn law_greetings()
+    ensures each { EachMessageIsGreeted }
+    ensures spelled { GreetingsAreSpelled }
 {}
 
 /// A terminal that is due is linked, then registered, then enquired, and then ready with what it reports.
@@ -60,15 +64,26 @@ pub fn law_dialogues()
     ensures links { EachLinkGivesDialogues }
 {}
 
-/// Where no terminal is configured each request has the reply that it has without terminals.
-pub fn law_without_terminals()
-    ensures replies { WithoutTerminalsSameReplies }
-{}
+/// What is remembered of a terminal is a few facts, which each item moves on. They are what the transcript of its link says, the
+/// flat list of all that was sent and taken on it: the dialogue that runs, how many Acks and Nacks are awaited, and the standing.
+/// So it is as a run begins, after each item of the terminal that cuts no connection, and after each event of its link; and so
+/// along each run, with the cuts in it.
+pub fn law_transcript()
+    ensures new { NewCoreFollowsTranscript }
+    ensures rows { EachRowFollowsTranscript }
+    ensures links { EachLinkBeginsTranscript }
+    ensures runs { EachRunFollowsTranscript }
+    ensures example { ExampleTranscript }
+{
+    zvt_talk::law_talk_steps();
+    zvt_talk::law_ends();
+}
 
 /// Examples, which are computed: a terminal that becomes ready, with and without a last transaction; registrations and
 /// enquiries that fail, and links; silence, and a message at the deadline; messages where no dialogue runs, and a
-/// command of the terminal's own; bytes outside the grammar; the late Nack of a stop; reports beside the records; 32
-/// terminals; and what a Diagnosis, and a request that isn't served, get.
+/// command of the terminal's own; bytes outside the grammar; sends that fail; terminals that aren't linked, or are set aside;
+/// stops, and the late Nack of a stop; reports beside the records; 32 terminals; and what a Diagnosis, and a request that
+/// isn't served, get.
 pub fn law_terminal_row_examples()
     ensures becomes_ready { ExampleBecomesReady }
     ensures reports_last { ExampleReportsLast }
@@ -79,6 +94,10 @@ pub fn law_terminal_row_examples()
     ensures stray { ExampleStrayMessages }
     ensures foreign { ExampleForeignCommand }
     ensures outside { ExampleOutside }
+    ensures failed_send { ExampleFailedSend }
+    ensures unlinked { ExampleUnlinked }
+    ensures aside { ExampleAside }
+    ensures stop { ExampleStop }
     ensures late_stop { ExampleLateStop }
     ensures reports { ExampleComparedReports }
     ensures many { ExampleManyTerminals }

@@ -1,24 +1,24 @@
 -- What each call of a site keeps.
-use Rattle.std.proofs.Common.{◌≡◌, ℕ, true, List, [], ◌∷◌, length, take, refl, sym, ◌∙◌, ap, subst, arith}
+use Rattle.std.proofs.Common.{◌≡◌, ℕ, true, List, [], ◌∷◌, length, take, refl, sym, ◌∙◌, ap, subst, arith, append-nil}
 use Rattle.std.proofs.lemmas.List.{length-take, take-append-drop}
 use Rattle.std.specs.Prelude.{drop, Result, Ok, Err}
 use Rattle.gw_bytes.specs.Bytes.{AreBytes}
 use Rattle.gw_bytes.proofs.ByteLemmas.{bytes_prefix}
 use Rattle.gw_site.specs.Observed.{Observed, Grows, IfObserved}
 use Rattle.gw_site.specs.Outside.{outside_of}
-use Rattle.gw_site.specs.Turns.{SentTillTurns, IsTurn, PolledTurns, event_turns, IsPromised, IsWithinBuf, IsCount}
+use Rattle.gw_site.specs.Turns.{SentTillTurns, SentPtTurns, LinkTurns, IsTurn, PolledTurns, event_turns, IsPromised, IsWithinBuf, IsCount}
 use Rattle.gw_site.specs.declared.site.Polled.{Polled as PollResult}
 use Rattle.gw_site.specs.declared.site.What.{What}
 use Rattle.gw_site.specs.declared.site.What.TheVariants.{TillOpened, TillBytes, TillClosed, PtBytes, PtClosed, Nothing, Stopped as StopEvent}
 use Rattle.gw_site.specs.declared.turn.Turn.{Turn}
-use Rattle.gw_site.specs.declared.turn.Turn.TheVariants.{Polled, CutTill}
-use Rattle.gw_owes.specs.Calls.{SendTill, CutTill as OwedCutTill}
+use Rattle.gw_site.specs.declared.turn.Turn.TheVariants.{Polled, CutTill, CutPt}
+use Rattle.gw_owes.specs.Calls.{Sending, sending_bytes, SendTill, SendPt, LinkPt, CutTill as OwedCutTill, CutPt as OwedCutPt}
 use Rattle.gw_owes.specs.Items.{RoundItem}
 use Rattle.gw_owes.specs.Reply.{ReplyValue, reply_value_bytes}
 use Rattle.gw_rules.specs.Lawful.{IsCourse, IsChunk}
 use Rattle.gw_rules.specs.Scene.{Scene}
 use Rattle.gw_rules.specs.Stage.{is_running}
-use Rattle.gw_rules.specs.Triple.{Triple, Owing, Sent, AtEvent}
+use Rattle.gw_rules.specs.Triple.{Triple, Owing, Sent, SentToPt, CutOfPt, LinkTried, AtEvent}
 use Rattle.gw_site.specs.Sorts.{IsQuiet}
 use Rattle.gw_rules.specs.View.{View, view_from, till_cut}
 use Rattle.gw_rules.proofs.CourseLemmas.{makes, stands-outside}
@@ -32,6 +32,18 @@ module _ (scene : Scene) (items : List RoundItem) (old new : Observed) where
       Triple old new (Owing scene (SendTill till reply ∷ []) items) (Sent r scene till (reply_value_bytes reply) items)
   send-till-triple till reply (Ok u) grows = call-triple old new _ _ _ grows (λ before v e stands p. record { each = λ turns t. rw (p, t) (((reply, refl, refl), tt), (refl, tt), refl) })
   send-till-triple till reply (Err f) grows = call-triple old new _ _ _ grows (λ before v e stands p. record { each = λ turns t. rw (p, t.2) (((reply, refl, t.1), tt), (refl, tt), (t.0, refl)) })
+
+  pub cut-pt-triple : (pt : ℕ) → Grows old new (IsTurn (CutPt pt)) → Triple old new (Owing scene (OwedCutPt pt ∷ []) items) (CutOfPt scene pt items)
+  cut-pt-triple pt grows = call-triple old new _ _ _ grows (λ before v e stands p. record { each = λ turns t. rw (p, t) ((refl, tt), (refl, tt), rw append-nil refl) })
+
+  pub send-pt-triple : {E : Type 0} (pt : ℕ) (sending : Sending) (r : Result (Unit {0}) E) → Grows old new (SentPtTurns pt (sending_bytes sending) r) →
+      Triple old new (Owing scene (SendPt pt sending ∷ []) items) (SentToPt r scene pt (sending_bytes sending) items)
+  send-pt-triple pt sending (Ok u) grows = call-triple old new _ _ _ grows (λ before v e stands p. record { each = λ turns t. rw (p, t) (((sending, refl, refl), tt), (refl, tt), refl) })
+  send-pt-triple pt sending (Err f) grows = call-triple old new _ _ _ grows (λ before v e stands p. record { each = λ turns t. rw (p, t.2) (((sending, refl, t.1), tt), (refl, tt), (t.0, refl)) })
+
+  pub link-pt-triple : {E : Type 0} (pt : ℕ) (r : Result (Unit {0}) E) → Grows old new (LinkTurns pt r) → Triple old new (Owing scene (LinkPt pt ∷ []) items) (LinkTried r scene pt items)
+  link-pt-triple pt (Ok u) grows = call-triple old new _ _ _ grows (λ before v e stands p. record { each = λ turns t. rw (p, t) ((refl, tt), (refl, tt), rw append-nil refl) })
+  link-pt-triple pt (Err f) grows = call-triple old new _ _ _ grows (λ before v e stands p. record { each = λ turns t. rw (p, t) ((refl, tt), (refl, tt), rw append-nil refl) })
 
 taken-chunk : (count : ℕ) (buf : List ℕ) → length buf ≡ 4096 → AreBytes buf → IsCount count → IsChunk (take count buf)
 taken-chunk count buf long small c = record {

@@ -92,7 +92,7 @@ after-outside v Synced = refl
 after-outside v DiskFailed = refl
 after-outside v (Crash file) = refl
 
-outside_from-moves : (v : View) (moves : List Move) → (view_from v moves).scene.outside ≡ outside_from v.scene.outside (turns_of moves)
+pub outside_from-moves : (v : View) (moves : List Move) → (view_from v moves).scene.outside ≡ outside_from v.scene.outside (turns_of moves)
 outside_from-moves v [] = refl
 outside_from-moves v (Begin ∷ moves) = outside_from-moves (after v Begin) moves ∙ ap (λ o. outside_from o (turns_of moves)) (begin-outside v.scene v.items)
 outside_from-moves v (Read as_read ∷ moves) = outside_from-moves (after v (Read as_read)) moves

@@ -14,8 +14,8 @@ use Rattle.gw_owes.specs.Calls.{OwedCall, SendTill, SendPt, LinkPt, Sync, write_
 use Rattle.gw_owes.specs.Events.{till_bytes_items}
 use Rattle.gw_owes.specs.Items.{RoundItem, Crowded, Message, Asked, Unframed, Gone, Greet, Handle, NextWaiting, Oversized, LinkLost, Late, Overdue, Due}
 use Rattle.gw_owes.specs.ReadAs.{ReadAs}
-use Rattle.gw_owes.specs.Row.{owing}
-use Rattle.gw_owes.specs.Rows.{row_of, where_there}
+use Rattle.gw_owes.specs.Row.{owing, owing_where}
+use Rattle.gw_owes.specs.Rows.{row_of}
 use Rattle.gw_owes.proofs.FrameLemmas.{till-bytes-give}
 use Rattle.gw_rules.specs.Laws.{IsCutIn, BadFrameCuts}
 use Rattle.gw_rules.specs.Lawful.{first_call, first_message, Begins, IsRead, AllowedTurn, IsCourse, turns_of}
@@ -32,7 +32,7 @@ use Rattle.gw_rules.proofs.StageLemmas.{no-true, handling-not-polled}
 abbrev pub IsAmong : RoundItem → List RoundItem → Type 0
 IsAmong item items = (first : List RoundItem) × (rest : List RoundItem) × (items ≡ first ++ item ∷ rest)
 
-has-after : (item : RoundItem) (more items : List RoundItem) → IsAmong item items → IsAmong item (more ++ items)
+pub has-after : (item : RoundItem) (more items : List RoundItem) → IsAmong item items → IsAmong item (more ++ items)
 has-after item more items (first, rest, e) = (more ++ first, rest, ap (λ l. more ++ l) e ∙ sym (append_assoc more first (item ∷ rest)))
 
 pub has-before : (item : RoundItem) (items more : List RoundItem) → IsAmong item items → IsAmong item (items ++ more)
@@ -73,10 +73,10 @@ pub record Waits (till : ℕ) (v : View) : Type 0 where
 abbrev pub Holds : ℕ → View → Type 0
 Holds till v = Waits till v ⊎ (is_dead v.scene.stage ≡ true)
 
-dead-poll : {A : Type 0} (stage : Stage) → is_dead stage ≡ true → stage ≡ AtPoll → A
+pub dead-poll : {A : Type 0} (stage : Stage) → is_dead stage ≡ true → stage ≡ AtPoll → A
 dead-poll stage d e = no-true (sym (ap is_dead e) ∙ d)
 
-dead-round : {A : Type 0} (stage : Stage) → is_dead stage ≡ true → is_round stage ≡ true → A
+pub dead-round : {A : Type 0} (stage : Stage) → is_dead stage ≡ true → is_round stage ≡ true → A
 dead-round Resting d e = no-true d
 dead-round (Opening refused) d e = no-true d
 dead-round (Looking refused) d e = no-true d
@@ -85,7 +85,7 @@ dead-round Handling d e = no-true d
 dead-round Over d e = no-true e
 dead-round Broken d e = no-true e
 
-dead-running : {A : Type 0} (stage : Stage) → is_dead stage ≡ true → is_running stage ≡ true → A
+pub dead-running : {A : Type 0} (stage : Stage) → is_dead stage ≡ true → is_running stage ≡ true → A
 dead-running Resting d e = no-true d
 dead-running (Opening refused) d e = no-true d
 dead-running (Looking refused) d e = no-true d
@@ -94,7 +94,7 @@ dead-running Handling d e = no-true d
 dead-running Over d e = no-true e
 dead-running Broken d e = no-true e
 
-dead-busy : (stage : Stage) → is_dead stage ≡ true → is_dead (busy stage) ≡ true
+pub dead-busy : (stage : Stage) → is_dead stage ≡ true → is_dead (busy stage) ≡ true
 dead-busy Resting d = d
 dead-busy (Opening refused) d = d
 dead-busy (Looking refused) d = d
@@ -103,7 +103,7 @@ dead-busy Handling d = d
 dead-busy Over d = d
 dead-busy Broken d = d
 
-dead-wrote : (stage : Stage) → is_dead stage ≡ true → is_dead (stage_wrote stage) ≡ true
+pub dead-wrote : (stage : Stage) → is_dead stage ≡ true → is_dead (stage_wrote stage) ≡ true
 dead-wrote Resting d = d
 dead-wrote (Opening refused) d = d
 dead-wrote (Looking refused) d = no-true d
@@ -112,7 +112,7 @@ dead-wrote Handling d = d
 dead-wrote Over d = d
 dead-wrote Broken d = d
 
-dead-synced : (stage : Stage) → is_dead stage ≡ true → is_dead (stage_synced stage) ≡ true
+pub dead-synced : (stage : Stage) → is_dead stage ≡ true → is_dead (stage_synced stage) ≡ true
 dead-synced Resting d = d
 dead-synced (Opening refused) d = no-true d
 dead-synced (Looking refused) d = d
@@ -202,28 +202,29 @@ waits-turn till v Synced w ok e = other-turn till v Synced Sync [] w ok (λ n. c
 waits-turn till v DiskFailed w ok e = inr (inr refl)
 waits-turn till v (Crash file) w ok e = no-true e
 
-dead-turn : (till : ℕ) (v : View) (turn : Turn) → is_dead v.scene.stage ≡ true → AllowedTurn v turn → is_sort_of_round (sort_of turn) ≡ true → Holds till (after_turn v turn)
-dead-turn till v (Start setup) d ok e = no-true e
-dead-turn till v OpenFailed d ok e = no-true e
-dead-turn till v (Polled now) d ok e = no-true e
-dead-turn till v (Opened other) d ok e = dead-poll v.scene.stage d ok.0
-dead-turn till v (HeardTill other bytes) d ok e = dead-poll v.scene.stage d ok.0.polled
-dead-turn till v (Closed other) d ok e = dead-poll v.scene.stage d ok.polled
-dead-turn till v (HeardPt pt bytes) d ok e = dead-poll v.scene.stage d ok.0.polled
-dead-turn till v (Lost pt) d ok e = dead-poll v.scene.stage d ok.polled
-dead-turn till v Stopped d ok e = inr refl
-dead-turn till v (Linked pt) d ok e = inr (dead-busy v.scene.stage d)
-dead-turn till v (LinkFailed pt) d ok e = inr (dead-busy v.scene.stage d)
-dead-turn till v (SentTill other bytes true) d ok e = inr (dead-busy v.scene.stage d)
-dead-turn till v (SentTill other bytes false) d ok e = inr (dead-busy v.scene.stage d)
-dead-turn till v (SentPt pt bytes true) d ok e = inr (dead-busy v.scene.stage d)
-dead-turn till v (SentPt pt bytes false) d ok e = inr (dead-busy v.scene.stage d)
-dead-turn till v (CutTill other) d ok e = inr (dead-busy v.scene.stage d)
-dead-turn till v (CutPt pt) d ok e = inr (dead-busy v.scene.stage d)
-dead-turn till v (Wrote offset bytes) d ok e = inr (dead-wrote v.scene.stage d)
-dead-turn till v Synced d ok e = inr (dead-synced v.scene.stage d)
-dead-turn till v DiskFailed d ok e = inr refl
-dead-turn till v (Crash file) d ok e = no-true e
+-- a run that has ended stays so in its round
+pub dead-turn : (v : View) (turn : Turn) → is_dead v.scene.stage ≡ true → AllowedTurn v turn → is_sort_of_round (sort_of turn) ≡ true → is_dead (after_turn v turn).scene.stage ≡ true
+dead-turn v (Start setup) d ok e = no-true e
+dead-turn v OpenFailed d ok e = no-true e
+dead-turn v (Polled now) d ok e = no-true e
+dead-turn v (Opened other) d ok e = dead-poll v.scene.stage d ok.0
+dead-turn v (HeardTill other bytes) d ok e = dead-poll v.scene.stage d ok.0.polled
+dead-turn v (Closed other) d ok e = dead-poll v.scene.stage d ok.polled
+dead-turn v (HeardPt pt bytes) d ok e = dead-poll v.scene.stage d ok.0.polled
+dead-turn v (Lost pt) d ok e = dead-poll v.scene.stage d ok.polled
+dead-turn v Stopped d ok e = refl
+dead-turn v (Linked pt) d ok e = dead-busy v.scene.stage d
+dead-turn v (LinkFailed pt) d ok e = dead-busy v.scene.stage d
+dead-turn v (SentTill other bytes true) d ok e = dead-busy v.scene.stage d
+dead-turn v (SentTill other bytes false) d ok e = dead-busy v.scene.stage d
+dead-turn v (SentPt pt bytes true) d ok e = dead-busy v.scene.stage d
+dead-turn v (SentPt pt bytes false) d ok e = dead-busy v.scene.stage d
+dead-turn v (CutTill other) d ok e = dead-busy v.scene.stage d
+dead-turn v (CutPt pt) d ok e = dead-busy v.scene.stage d
+dead-turn v (Wrote offset bytes) d ok e = dead-wrote v.scene.stage d
+dead-turn v Synced d ok e = dead-synced v.scene.stage d
+dead-turn v DiskFailed d ok e = refl
+dead-turn v (Crash file) d ok e = no-true e
 
 -- ---- an item that begins
 
@@ -235,7 +236,7 @@ cut-item-owes : (scene : Scene) (till : ℕ) (item : RoundItem) → HasSome scen
 cut-item-owes scene till item (setup, is) there (inl unframed) =
     ap (λ i. (row_at scene i).calls) unframed
     ∙ ap (λ (s : Option Setup). (row_in scene (λ known. row_of scene.outside.tills known (Unframed till)) s).calls) is
-    ∙ ap (λ b. (where_there b (known_in scene setup) (owing (known_in scene setup) (OwedCutTill till ∷ []))).calls) there
+    ∙ ap (λ b. (owing_where b (known_in scene setup) (owing (known_in scene setup) (OwedCutTill till ∷ []))).calls) there
 cut-item-owes scene till item (setup, is) there (inr crowded) =
     ap (λ i. (row_at scene i).calls) crowded
     ∙ ap (λ (s : Option Setup). (row_in scene (λ known. row_of scene.outside.tills known (Crowded till)) s).calls) is
@@ -298,7 +299,7 @@ holds-read till v as_read (inl w) r = by_owed w.owed
 
 -- ---- along the course
 
-none-among : {A : Type 0} (item : RoundItem) (items : List RoundItem) → IsAmong item items → items ≡ [] → A
+pub none-among : {A : Type 0} (item : RoundItem) (items : List RoundItem) → IsAmong item items → items ≡ [] → A
 none-among item items ([], rest, e) none = absurd (let n : [] ≡ item ∷ rest = sym none ∙ e in cc)
 none-among item items (x ∷ first, rest, e) none = absurd (let n : [] ≡ x ∷ (first ++ item ∷ rest) = sym none ∙ e in cc)
 
@@ -312,7 +313,7 @@ holds-polled {A} till v now (inl w) ok = by_owed w.owed
 
 holds-turn : (till : ℕ) (v : View) (turn : Turn) → Holds till v → AllowedTurn v turn → is_sort_of_round (sort_of turn) ≡ true → After till v turn
 holds-turn till v turn (inl w) ok e = waits-turn till v turn w ok e
-holds-turn till v turn (inr dead) ok e = inr (dead-turn till v turn dead ok e)
+holds-turn till v turn (inr dead) ok e = inr (inr (dead-turn v turn dead ok e))
 
 cut-later : (till : ℕ) (turn : Turn) (turns : List Turn) → IsCutIn till turns → IsCutIn till (turn ∷ turns)
 cut-later till turn turns (first, rest, e) = (turn ∷ first, rest, ap (λ l. turn ∷ l) e)
@@ -335,7 +336,7 @@ cut-before-poll till now rest v (Make turn ∷ moves) (other ∷ inside) h c e a
     by_after more heads (inl cut) = ([], inside, ap (λ t. t ∷ inside) (sym heads ∙ cut))
     by_after more heads (inr holds) = cut-later till other inside (more holds)
 
-connected-hears : (connections : List Connection) (number : ℕ) (bytes : List ℕ) → is_connected (hears connections number bytes) number ≡ is_connected connections number
+pub connected-hears : (connections : List Connection) (number : ℕ) (bytes : List ℕ) → is_connected (hears connections number bytes) number ≡ is_connected connections number
 connected-hears [] number bytes = refl
 connected-hears (connection ∷ connections) number bytes = by_test (connection.number == number) refl (connected-hears connections number bytes)
   where

@@ -7,6 +7,7 @@ use Rattle.gw_site.specs.declared.turn.Turn.{Turn}
 use Rattle.gw_site.specs.declared.turn.Turn.TheVariants.{Start, OpenFailed, Polled, Opened, HeardTill, Closed, HeardPt, Lost, Stopped, Linked, LinkFailed, SentTill, SentPt, CutTill, CutPt, Wrote, Synced, DiskFailed, Crash}
 use Rattle.sale_frame.specs.Grammar.{Frames}
 use Rattle.gw_owes.specs.Events.{till_bytes_items, pt_bytes_items}
+use Rattle.zvt_apdu.specs.Stream.{SpellsApdus}
 use Rattle.gw_owes.proofs.ApduLemmas.{pt-bytes-give}
 use Rattle.gw_owes.proofs.FrameLemmas.{till-bytes-give}
 use Rattle.gw_rules.specs.Laws.{HeardAreBytes, EachHeardIsBytes, TillBytesBring, PtBytesBring}
@@ -110,11 +111,13 @@ till-bytes-bring log v till chunk before all rest left s ok old new =
     }
 
 pub pt-bytes-bring : PtBytesBring
-pt-bytes-bring v pt chunk before all rest left heard_small ok old new =
+pt-bytes-bring log v pt chunk before all rest left s ok old new =
+    let e : outside_of log ≡ v.scene.outside = sym (stands-outside log v s) in
     let heard : List ℕ = heard_on v.scene.outside.links pt in
+    let small : AreBytes (heard ++ chunk) = bytes-append heard chunk (heard-bytes v.scene.outside.links pt (stands-bytes log v s).links) ok.1.bytes in
     record {
       items = pt_bytes_items pt heard chunk;
-      are = pt-bytes-give pt heard chunk before all rest left (bytes-append heard chunk heard_small ok.1.bytes) old new;
+      are = pt-bytes-give pt heard chunk before all rest left small (subst (λ (o : Outside). SpellsApdus (heard_on o.links pt) before rest) e old) (subst (λ (o : Outside). SpellsApdus (heard_on o.links pt ++ chunk) all left) e new);
       calls_are = refl;
       items_are = refl;
     }

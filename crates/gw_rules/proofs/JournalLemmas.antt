@@ -2,10 +2,9 @@
 use Rattle.std.proofs.Common.{◌≡◌, ℕ, Bool, true, false, List, [], ◌∷◌, ◌++◌, length, refl, sym, ◌∙◌, ap, subst, append_assoc, append-nil, length-append, ◌+◌, inl, inr}
 use Rattle.std.proofs.lemmas.Bool.{and_parts, leb-true, ltb-true}
 use Rattle.std.proofs.lemmas.List.{length-map, map-append}
-use Rattle.std.specs.Prelude.{◌⊎◌, not, nat_le, if◌then◌else◌, map, Option, Some, None, option_to_list}
-use Rattle.gw_base.specs.declared.setup.Setup.{Setup}
+use Rattle.std.specs.Prelude.{◌⊎◌, not, nat_le, if◌then◌else◌, map, Some, None, option_to_list}
 use Rattle.gw_site.specs.Image.{Image}
-use Rattle.gw_site.specs.Outside.{Connection, is_connected, outside_after, outside_from, outside_of}
+use Rattle.gw_site.specs.Outside.{outside_after, outside_from, outside_of}
 use Rattle.gw_site.specs.declared.turn.Turn.{Turn}
 use Rattle.gw_site.specs.declared.turn.Turn.TheVariants.{Start, OpenFailed, Polled, Opened, HeardTill, Closed, HeardPt, Lost, Stopped, Linked, LinkFailed, SentTill, SentPt, CutTill, CutPt, Wrote, Synced, DiskFailed, Crash}
 use Rattle.gw_site.proofs.ImageLemmas.{stable_image}
@@ -23,74 +22,15 @@ use Rattle.jrn_log.proofs.AppendLemmas.{append_rests}
 use Rattle.jrn_log.proofs.DecodeLemmas.{decoded_are_slots}
 use Rattle.jrn_log.proofs.ForeignLemmas.{append_closed, append_leaves, opening_closed, opening_leaves, beginning_leaves, crash_leaves, file_can, others_leave}
 use Rattle.jrn_log.proofs.JournalLogLemmas.{opening_rests}
-use Rattle.gw_owes.specs.declared.terminal.Terminal.{Terminal}
 use Rattle.gw_owes.specs.Calls.{OwedCall, SendTill, SendPt, LinkPt, WriteBody, WriteGate, WriteFirstGate, Sync, keep_calls, write_turn, CutTill as OwedCutTill, CutPt as OwedCutPt}
-use Rattle.gw_owes.specs.Items.{RoundItem, Crowded, Message, Asked, Unframed, Gone, Greet, Handle, NextWaiting, Oversized, LinkLost, Late, Overdue, Due}
-use Rattle.gw_owes.specs.Reply.{ReplyValue}
-use Rattle.gw_owes.specs.Replies.{reply_to}
-use Rattle.gw_owes.specs.Row.{Known, Row, owing}
-use Rattle.gw_owes.specs.Rows.{where_there, asked_row, row_of}
-use Rattle.gw_owes.specs.Terminals.{terminal_at, of_terminal, registers, link_made, reply_calls_to, reply_to_lost, unlinks, link_lost}
 use Rattle.gw_rules.specs.JournalFiles.{HasJournalFiles, EachHasJournalFiles, is_on_disk, spare_disk, opening_calls, OpeningLeavesJournalFiles, IsOpened, OpeningHasJournal, HasJournal, KeepingLeavesJournals, IsKept, KeepingHasJournal, journal_log, open_view, opened_moves, OpenedHasJournal, journal_view, kept_moves, KeptFileIsJournal}
 use Rattle.gw_rules.specs.Lawful.{first_call, AllowedTurn, IsCourse, turns_of}
 use Rattle.gw_rules.specs.RowExample.{example_record}
-use Rattle.gw_rules.specs.Scene.{Scene, records_of, row_in, link_made_at, link_lost_at}
-use Rattle.gw_rules.specs.View.{View, Move, Begin, Read, Make, begin, later, after, after_turn, view_from, at_first}
+use Rattle.gw_rules.specs.Scene.{records_of, link_made_at, link_lost_at}
+use Rattle.gw_rules.specs.View.{View, Move, Begin, Read, Make, later, after, after_turn, view_from, at_first}
 use Rattle.gw_rules.proofs.CourseLemmas.{after-outside, begin-outside}
+use Rattle.gw_rules.proofs.SpareLemmas.{begin-spares, made-at-spares, lost-at-spares}
 use Rattle.gw_rules.proofs.StageLemmas.{no-true}
-
--- ---- no row owes a call on the disk yet
-
-abbrev Spares : Row → Type 0
-Spares row = spare_disk row.calls ≡ true
-
-reply-spares : (asker : Option ℕ) (reply : Option ReplyValue) → spare_disk (reply_calls_to asker reply) ≡ true
-reply-spares None reply = refl
-reply-spares (Some till) None = refl
-reply-spares (Some till) (Some reply) = refl
-
-where-spares : (there : Bool) (known : Known) (row : Row) → Spares row → Spares (where_there there known row)
-where-spares true known row h = h
-where-spares false known row h = refl
-
-of-terminal-spares : (known : Known) (row : Terminal → Row) (terminal : Option Terminal) → ((terminal : Terminal) → Spares (row terminal)) → Spares (of_terminal known row terminal)
-of-terminal-spares known row None each = refl
-of-terminal-spares known row (Some terminal) each = each terminal
-
-lost-spares : (known : Known) (number : ℕ) → Spares (link_lost known number)
-lost-spares known number = of-terminal-spares known (unlinks known number) (terminal_at known number) (λ terminal. reply-spares terminal.asker (reply_to_lost terminal.standing))
-
-made-spares : (known : Known) (number : ℕ) → Spares (link_made known number)
-made-spares known number = of-terminal-spares known (registers known number) (terminal_at known number) (λ terminal. refl)
-
-rows-spare : (tills : List Connection) (known : Known) (item : RoundItem) → Spares (row_of tills known item)
-rows-spare tills known (Crowded till) = refl
-rows-spare tills known (Message till bytes) = refl
-rows-spare tills known (Asked till as_read) = where-spares (is_connected tills till) known (asked_row known till as_read) (reply-spares (Some till) (reply_to known as_read))
-rows-spare tills known (Unframed till) = where-spares (is_connected tills till) known (owing known (OwedCutTill till ∷ [])) refl
-rows-spare tills known (Gone till) = refl
-rows-spare tills known (Greet number apdu) = refl
-rows-spare tills known (Handle number apdu) = refl
-rows-spare tills known (NextWaiting number) = refl
-rows-spare tills known (Oversized number) = refl
-rows-spare tills known (LinkLost number) = lost-spares known number
-rows-spare tills known (Late number) = refl
-rows-spare tills known (Overdue key) = refl
-rows-spare tills known (Due number) = refl
-
-in-spares : (scene : Scene) (row : Known → Row) (setup : Option Setup) → ((known : Known) → Spares (row known)) → Spares (row_in scene row setup)
-in-spares scene row None each = refl
-in-spares scene row (Some setup) each = each _
-
-begin-spares : (scene : Scene) (items : List RoundItem) → spare_disk (begin scene items).calls ≡ true
-begin-spares scene [] = refl
-begin-spares scene (item ∷ items) = in-spares scene (λ known. row_of scene.outside.tills known item) scene.setup (λ known. rows-spare scene.outside.tills known item)
-
-made-at-spares : (scene : Scene) (pt : ℕ) → Spares (link_made_at scene pt)
-made-at-spares scene pt = in-spares scene (λ known. link_made known pt) scene.setup (λ known. made-spares known pt)
-
-lost-at-spares : (scene : Scene) (pt : ℕ) → Spares (link_lost_at scene pt)
-lost-at-spares scene pt = in-spares scene (λ known. link_lost known pt) scene.setup (λ known. lost-spares known pt)
 
 -- ---- calls
 

@@ -10,7 +10,8 @@ use Rattle.gw_owes.specs.Laws.{owes_none, ends_in_one, EndsInOne}
 use Rattle.gw_owes.specs.Row.{Known, Row}
 use Rattle.gw_owes.specs.Rows.{row_of}
 use Rattle.gw_owes.specs.Terminals.{link_made, link_lost}
-use Rattle.gw_owes.proofs.RowLemmas.{rows-end, links-end}
+use Rattle.gw_owes.proofs.RowEndLemmas.{rows-end}
+use Rattle.gw_owes.proofs.RowLemmas.{links-end}
 use Rattle.gw_rules.specs.Laws.{CallsEndInOne}
 use Rattle.gw_rules.specs.Lawful.{first_call, AllowedTurn, IsCourse}
 use Rattle.gw_rules.specs.Scene.{Scene, row_in, row_at, link_made_at, link_lost_at}
@@ -55,7 +56,7 @@ none-empty [] e = refl
 none-empty (call ∷ calls) e = no-true e
 
 -- a call that is no call on the disk is the last
-call-last : (calls : List OwedCall) (call : OwedCall) → ((more : List OwedCall) → ends_in_one (call ∷ more) ≡ owes_none more) → first_call calls ≡ Some call → ends_in_one calls ≡ true → later calls ≡ []
+pub call-last : (calls : List OwedCall) (call : OwedCall) → ((more : List OwedCall) → ends_in_one (call ∷ more) ≡ owes_none more) → first_call calls ≡ Some call → ends_in_one calls ≡ true → later calls ≡ []
 call-last [] call is f e = absurd (let n : None ≡ Some call = f in cc)
 call-last (first ∷ calls) call is f e =
     let same : first ≡ call = (let n : Some first ≡ Some call = f in cc) in
@@ -64,7 +65,7 @@ call-last (first ∷ calls) call is f e =
 row-then : (calls more : List OwedCall) → more ≡ [] → ends_in_one calls ≡ true → ends_in_one (calls ++ more) ≡ true
 row-then calls more none e = subst (λ l. ends_in_one (calls ++ l) ≡ true) (sym none) (ap ends_in_one (append-nil calls) ∙ e)
 
-turn-ends : (v : View) (turn : Turn) → ends_in_one v.calls ≡ true → AllowedTurn v turn → ends_in_one (after_turn v turn).calls ≡ true
+pub turn-ends : (v : View) (turn : Turn) → ends_in_one v.calls ≡ true → AllowedTurn v turn → ends_in_one (after_turn v turn).calls ≡ true
 turn-ends v (Start setup) e ok = refl
 turn-ends v OpenFailed e ok = refl
 turn-ends v (Polled now) e ok = refl
@@ -87,7 +88,7 @@ turn-ends v Synced e ok = later-ends v.calls e
 turn-ends v DiskFailed e ok = refl
 turn-ends v (Crash file) e ok = refl
 
-begin-ends : (scene : Scene) (items : List RoundItem) → ends_in_one (begin scene items).calls ≡ true
+pub begin-ends : (scene : Scene) (items : List RoundItem) → ends_in_one (begin scene items).calls ≡ true
 begin-ends scene [] = refl
 begin-ends scene (item ∷ items) = at-ends scene item
 

@@ -1,4 +1,4 @@
--- The examples of turns that no row owes yet.
+-- The examples of a terminal that is linked, and of turns that no row owes yet.
 use Rattle.std.proofs.Common.{◌≡◌, List, [], ◌∷◌, ◌++◌, refl, arith, inl, inr}
 use Rattle.std.proofs.lemmas.Bool.{leb-true, ltb-true}
 use Rattle.std.proofs.lemmas.List.Elements.{All-from_recursion}
@@ -8,7 +8,7 @@ use Rattle.gw_base.specs.Setup.{IsPt, IsSetup}
 use Rattle.gw_bytes.specs.Bytes.{AreBytes}
 use Rattle.gw_site.specs.Image.{Image}
 use Rattle.gw_site.specs.declared.turn.Turn.{Turn}
-use Rattle.gw_site.specs.declared.turn.Turn.TheVariants.{Start, Polled, Opened, HeardTill, HeardPt, Lost, CutTill, Wrote, Synced, DiskFailed, Crash, Stopped}
+use Rattle.gw_site.specs.declared.turn.Turn.TheVariants.{Start, Polled, Opened, HeardTill, HeardPt, Lost, LinkFailed, CutTill, Wrote, Synced, DiskFailed, Crash, Stopped}
 use Rattle.gw_site.proofs.ImageLemmas.{file_image, stable_image}
 use Rattle.jrn_record.specs.Grammar.{record_body}
 use Rattle.sale_frame.specs.Grammar.{BeginsWithBadLength}
@@ -16,7 +16,7 @@ use Rattle.zvt_apdu.specs.DecodeStream.{decode_apdus, decode_apdus_within}
 use Rattle.gw_owes.specs.Calls.{Ask, WriteBody, WriteGate}
 use Rattle.gw_owes.specs.Terminals.{registration}
 use Rattle.gw_rules.specs.Lawful.{IsCourse, IsChunk}
-use Rattle.gw_rules.specs.RowExample.{example_pt, terminal_setup, unserved_log, unframed_log, link_view, keep_view, linked_moves, both_bytes, gate_moves, example_record, UnservedIsLawful, UnframedIsLawful, PollBeforeUnframedCut, RowItemsComeFirst, LinkRegisters, LinkIsDueAgain, FailedSendCutsLink, LostIsDue, LostEndOfDayReplies, LostTransactionKeepsAsker, BothAreItems, SendingsAreSpelled, GoneTillIsForgotten, WaitsByDeadline, GateIsInFlight, SyncKeeps, StartLeavesFlight, FailedSyncCrashes, ClosedGateDrops, OpenGateKeeps}
+use Rattle.gw_rules.specs.RowExample.{example_pt, terminal_setup, unlinked_log, unframed_log, link_view, keep_view, linked_moves, both_bytes, gate_moves, example_record, UnlinkedIsLawful, UnframedIsLawful, PollBeforeUnframedCut, RowItemsComeFirst, LinkRegisters, LinkIsDueAgain, FailedSendCutsLink, LostIsDue, LostEndOfDayReplies, LostTransactionKeepsAsker, BothAreItems, SendingsAreSpelled, GoneTillIsForgotten, WaitsByDeadline, GateIsInFlight, SyncKeeps, StartLeavesFlight, FailedSyncCrashes, ClosedGateDrops, OpenGateKeeps}
 use Rattle.gw_rules.specs.View.{Move, Begin, Make, view_from, at_first}
 use Rattle.gw_rules.proofs.CourseLemmas.{course-append}
 use Rattle.gw_rules.proofs.CutLemmas.{bad-frame-cuts}
@@ -35,7 +35,7 @@ pt-formed = record {
   command = (omega arith, omega arith);
 }
 
-formed : IsSetup terminal_setup
+pub formed : IsSetup terminal_setup
 formed = record {
   name = setup-formed.name;
   line = setup-formed.line;
@@ -46,15 +46,15 @@ formed = record {
   distinct = (All-from_recursion _ [] tt, tt);
 }
 
-pub unserved-lawful : UnservedIsLawful
-unserved-lawful = lawful-along unserved_log
-    (Make (Start terminal_setup) ∷ Make (Polled (pos 0)) ∷ Begin ∷ Begin ∷ Make (Polled (pos 1)) ∷ Make Stopped ∷ []) refl (
+pub unlinked-lawful : UnlinkedIsLawful
+unlinked-lawful = lawful-along unlinked_log
+    (Make (Start terminal_setup) ∷ Make (Polled (pos 0)) ∷ Begin ∷ Begin ∷ Make (LinkFailed 0) ∷ Make (Polled (pos 1)) ∷ Make Stopped ∷ []) refl (
       (refl, formed),
       (
         record { running = refl; calls = refl; items = refl },
         (
           record { idle = record { round = refl; calls = refl }; first = refl },
-          (record { idle = record { round = refl; calls = refl }; first = refl }, (record { running = refl; calls = refl; items = refl }, (refl, tt))),
+          (record { idle = record { round = refl; calls = refl }; first = refl }, (refl, (record { running = refl; calls = refl; items = refl }, (refl, tt)))),
         ),
       ),
     )
@@ -62,9 +62,9 @@ unserved-lawful = lawful-along unserved_log
 unframed-chunk : IsChunk (0 ∷ 0 ∷ 0 ∷ 0 ∷ [])
 unframed-chunk = record { count = (omega arith, omega arith); bytes = bytes-tested (0 ∷ 0 ∷ 0 ∷ 0 ∷ []) refl }
 
--- what may be due passes after the till has opened
+-- after the till has opened the terminal's link is tried
 abbrev unframed_moves : List Move
-unframed_moves = Make (Start terminal_setup) ∷ Make (Polled (pos 0)) ∷ Make (Opened 1) ∷ Begin ∷ Begin ∷ Make (Polled (pos 0)) ∷ Make (HeardTill 1 (0 ∷ 0 ∷ 0 ∷ 0 ∷ [])) ∷ []
+unframed_moves = Make (Start terminal_setup) ∷ Make (Polled (pos 0)) ∷ Make (Opened 1) ∷ Begin ∷ Begin ∷ Make (LinkFailed 0) ∷ Make (Polled (pos 0)) ∷ Make (HeardTill 1 (0 ∷ 0 ∷ 0 ∷ 0 ∷ [])) ∷ []
 
 unframed-course : IsCourse at_first unframed_moves
 unframed-course = (
@@ -75,7 +75,7 @@ unframed-course = (
       (refl, leb-true 0 1 refl),
       (
         record { idle = record { round = refl; calls = refl }; first = refl },
-        (record { idle = record { round = refl; calls = refl }; first = refl }, (record { running = refl; calls = refl; items = refl }, ((record { polled = refl; connected_is = refl }, unframed-chunk), tt))),
+        (record { idle = record { round = refl; calls = refl }; first = refl }, (refl, (record { running = refl; calls = refl; items = refl }, ((record { polled = refl; connected_is = refl }, unframed-chunk), tt)))),
       ),
     ),
   ),
@@ -107,7 +107,7 @@ pub poll-before-unframed-cut : PollBeforeUnframedCut
 poll-before-unframed-cut = record {
   before = lawful-along unframed_log unframed_moves refl unframed-course;
   with_turn = λ lawful.
-      let cut = bad-frame-cuts (Start terminal_setup ∷ Polled (pos 0) ∷ Opened 1 ∷ Polled (pos 0) ∷ []) [] [] 1 (0 ∷ 0 ∷ 0 ∷ 0 ∷ []) (pos 0) [] (0 ∷ 0 ∷ 0 ∷ 0 ∷ []) lawful tt
+      let cut = bad-frame-cuts (Start terminal_setup ∷ Polled (pos 0) ∷ Opened 1 ∷ LinkFailed 0 ∷ Polled (pos 0) ∷ []) [] [] 1 (0 ∷ 0 ∷ 0 ∷ 0 ∷ []) (pos 0) [] (0 ∷ 0 ∷ 0 ∷ 0 ∷ []) lawful tt
       (record { whole = refl; each = tt; ended = inr zeros-are-bad }) zeros-are-bad in
       none cut.0 cut.1 cut.2;
 }

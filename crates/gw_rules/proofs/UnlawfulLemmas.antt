@@ -25,14 +25,14 @@ use Rattle.gw_rules.proofs.TextLemmas.{request-read, setup-formed}
 -- ---- which move comes next
 
 -- the rest of a course whose first turn is made now
-split-make : (v : View) (first turn : Turn) (moves : List Move) (turns : List Turn) → first ∷ turns_of moves ≡ turn ∷ turns → AllowedTurn v first → IsCourse (after_turn v first) moves → AllowedTurn v turn × Along (after_turn v turn) turns
+pub split-make : (v : View) (first turn : Turn) (moves : List Move) (turns : List Turn) → first ∷ turns_of moves ≡ turn ∷ turns → AllowedTurn v first → IsCourse (after_turn v first) moves → AllowedTurn v turn × Along (after_turn v turn) turns
 split-make v first turn moves turns e ok course =
     let heads : first ≡ turn = cc in
     let tails : turns_of moves ≡ turns = cc in
     (subst (AllowedTurn v) heads ok, record { moves = moves; turns_are = tails; lawful = subst (λ t. IsCourse (after_turn v t) moves) heads course })
 
 -- where no item waits, the next turn is made
-take-next : (v : View) (turn : Turn) (turns : List Turn) → v.items ≡ [] → Along v (turn ∷ turns) → AllowedTurn v turn × Along (after_turn v turn) turns
+pub take-next : (v : View) (turn : Turn) (turns : List Turn) → v.items ≡ [] → Along v (turn ∷ turns) → AllowedTurn v turn × Along (after_turn v turn) turns
 take-next v turn turns none x = by_moves x.moves x.turns_are x.lawful
   where
     by_moves : (moves : List Move) → turns_of moves ≡ turn ∷ turns → IsCourse v moves → AllowedTurn v turn × Along (after_turn v turn) turns
@@ -42,7 +42,7 @@ take-next v turn turns none x = by_moves x.moves x.turns_are x.lawful
     by_moves (Make first ∷ moves) e h = split-make v first turn moves turns e h.0 h.1
 
 -- where a call is owed, the next turn is made
-take-owed : (v : View) (call : OwedCall) (turn : Turn) (turns : List Turn) → first_call v.calls ≡ Some call → Along v (turn ∷ turns) → AllowedTurn v turn × Along (after_turn v turn) turns
+pub take-owed : (v : View) (call : OwedCall) (turn : Turn) (turns : List Turn) → first_call v.calls ≡ Some call → Along v (turn ∷ turns) → AllowedTurn v turn × Along (after_turn v turn) turns
 take-owed v call turn turns next x = by_moves x.moves x.turns_are x.lawful
   where
     by_moves : (moves : List Move) → turns_of moves ≡ turn ∷ turns → IsCourse v moves → AllowedTurn v turn × Along (after_turn v turn) turns

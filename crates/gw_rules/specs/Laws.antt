@@ -80,11 +80,11 @@ TillBytesBring =
     → Frames (heard_on (outside_of log).tills till) before rest → Frames (heard_on (outside_of log).tills till ++ chunk) all left
     → BringsItems (after_turn v (HeardTill till chunk)) (BringsFrames till before all rest left)
 
--- What a terminal's bytes bring is said by the APDUs of all that was heard of it before, and of all with them. It goes by views, since no lawful log links a terminal yet.
+-- what a terminal's bytes bring after a lawful log is said by the APDUs of all that was heard of it before, and of all with them
 abbrev pub PtBytesBring : Type 0
 PtBytesBring =
-    (v : View) (pt : ℕ) (chunk : List ℕ) (before all : List ApduValue) (rest left : List ℕ) → AreBytes (heard_on v.scene.outside.links pt) → AllowedTurn v (HeardPt pt chunk)
-    → SpellsApdus (heard_on v.scene.outside.links pt) before rest → SpellsApdus (heard_on v.scene.outside.links pt ++ chunk) all left
+    (log : List Turn) (v : View) (pt : ℕ) (chunk : List ℕ) (before all : List ApduValue) (rest left : List ℕ) → Stands log v → AllowedTurn v (HeardPt pt chunk)
+    → SpellsApdus (heard_on (outside_of log).links pt) before rest → SpellsApdus (heard_on (outside_of log).links pt ++ chunk) all left
     → BringsItems (after_turn v (HeardPt pt chunk)) (BringsApdus pt before all rest left)
 
 -- ---- cuts of tills

@@ -4,9 +4,11 @@ pub mod JournalFiles
 pub mod Lawful
 pub mod Laws
 pub mod Lean
+pub mod LinkLaws
 pub mod Opening
 pub mod RowExample
 pub mod Scene
 pub mod Stage
+pub mod TerminalLogExample
 pub mod Triple
 pub mod View

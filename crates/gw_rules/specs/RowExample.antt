@@ -1,4 +1,4 @@
--- Example courses along turns that no row owes yet: a terminal that is linked, and a record that is kept. They begin where the calls are owed. Beside them, examples of what a terminal is sent and who waits for it.
+-- Example courses of a terminal that is linked, from where its link is owed, and along turns that no row owes yet, from where they would be owed. Beside them, examples of what a terminal is sent and who waits for it.
 use Rattle.std.specs.Prelude.{◌≡◌, ℕ, pos, false, true, List, [], ◌∷◌, ◌++◌, slice_get, Option, Some, None, codes}
 use Rattle.std.specs.Option.{option_map}
 use Rattle.gw_base.specs.declared.condition.Condition.TheVariants.{UnavailableDevice}
@@ -39,17 +39,17 @@ example_pt = record { poi = codes "T1"; address = []; password = 0x12 ∷ 0x34 �
 abbrev pub terminal_setup : Setup
 terminal_setup = record example_setup { terminals = example_pt ∷ [] }
 
--- while no terminal is served, one poll follows the other
-abbrev pub unserved_log : List Turn
-unserved_log = Start terminal_setup ∷ Polled (pos 0) ∷ Polled (pos 1) ∷ Stopped ∷ []
+-- its link can't be made: it isn't tried again before five seconds have passed, and one poll follows the other
+abbrev pub unlinked_log : List Turn
+unlinked_log = Start terminal_setup ∷ Polled (pos 0) ∷ LinkFailed 0 ∷ Polled (pos 1) ∷ Stopped ∷ []
 
 -- it is lawful
-abbrev pub UnservedIsLawful : Type 0
-UnservedIsLawful = IsLawful unserved_log
+abbrev pub UnlinkedIsLawful : Type 0
+UnlinkedIsLawful = IsLawful unlinked_log
 
--- a till opens and sends bytes that begin no frame, with a terminal there
+-- a till opens and sends bytes that begin no frame, with a terminal there whose link can't be made
 abbrev pub unframed_log : List Turn
-unframed_log = Start terminal_setup ∷ Polled (pos 0) ∷ Opened 1 ∷ Polled (pos 0) ∷ HeardTill 1 (0 ∷ 0 ∷ 0 ∷ 0 ∷ []) ∷ []
+unframed_log = Start terminal_setup ∷ Polled (pos 0) ∷ Opened 1 ∷ LinkFailed 0 ∷ Polled (pos 0) ∷ HeardTill 1 (0 ∷ 0 ∷ 0 ∷ 0 ∷ []) ∷ []
 
 -- the till is cut, and then what may be due passes
 abbrev pub UnframedIsLawful : Type 0
@@ -59,17 +59,13 @@ UnframedIsLawful = IsLawful (unframed_log ++ CutTill 1 ∷ Polled (pos 0) ∷ St
 abbrev pub PollBeforeUnframedCut : Type 0
 PollBeforeUnframedCut = IsUnlawfulAfter unframed_log (Polled (pos 0))
 
--- the first poll was made, and what may be due has passed
-abbrev pub idle_view : View
-idle_view = view_from at_first (Make (Start terminal_setup) ∷ Make (Polled (pos 0)) ∷ Begin ∷ Begin ∷ [])
+-- the first poll was made, and the terminal's link is owed
+abbrev pub link_view : View
+link_view = view_from at_first (Make (Start terminal_setup) ∷ Make (Polled (pos 0)) ∷ Begin ∷ Begin ∷ [])
 
 -- an item begins that owes this row: the row's items come before those that were to come
 abbrev pub RowItemsComeFirst : Type 0
-RowItemsComeFirst = (begun idle_view.scene (record { core = idle_view.scene.core; calls = LinkPt 0 ∷ []; items = NextWaiting 0 ∷ Late 0 ∷ [] }) (Due 0 ∷ [])).items ≡ NextWaiting 0 ∷ Late 0 ∷ Due 0 ∷ []
-
--- the terminal's link is owed there
-abbrev pub link_view : View
-link_view = record idle_view { calls = LinkPt 0 ∷ [] }
+RowItemsComeFirst = (begun link_view.scene (record { core = link_view.scene.core; calls = LinkPt 0 ∷ []; items = NextWaiting 0 ∷ Late 0 ∷ [] }) (Due 0 ∷ [])).items ≡ NextWaiting 0 ∷ Late 0 ∷ Due 0 ∷ []
 
 -- the terminal
 abbrev pub first_terminal : View → Option Terminal
@@ -122,8 +118,8 @@ LostIsDue = LeadsToStanding link_view (linked_moves ++ Make (Polled (pos 2)) ∷
 
 -- the terminal serves this for a till, and the cut of its connection is owed
 abbrev pub serving_view : Service → View
-serving_view service = record idle_view {
-  scene = record idle_view.scene { core = record idle_view.scene.core { terminals = record (new_terminal example_pt) { standing = Serving service 0; asker = Some 7 } ∷ [] } };
+serving_view service = record link_view {
+  scene = record link_view.scene { core = record link_view.scene.core { terminals = record (new_terminal example_pt) { standing = Serving service 0; asker = Some 7 } ∷ [] } };
   calls = OwedCutPt 0 ∷ [];
 }
 
@@ -205,7 +201,7 @@ example_record = Intent (record {
 
 -- it is to be kept in the first slot
 abbrev pub keep_view : View
-keep_view = record idle_view { calls = keep_calls 0 example_record }
+keep_view = record link_view { calls = keep_calls 0 example_record }
 
 -- its body and its gate are written
 abbrev pub gate_moves : List Move

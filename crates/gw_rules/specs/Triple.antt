@@ -3,14 +3,15 @@ use Rattle.std.specs.Prelude.{◌≡◌, ◌⊎◌, ℕ, ℤ, map, Result, Ok, E
 use Rattle.gw_base.specs.declared.setup.Setup.{Setup}
 use Rattle.gw_site.specs.Observed.{Observed}
 use Rattle.gw_site.specs.declared.turn.Turn.{Turn}
-use Rattle.gw_site.specs.declared.turn.Turn.TheVariants.{Start, OpenFailed, Polled, SentTill, Crash}
+use Rattle.gw_site.specs.declared.turn.Turn.TheVariants.{Start, OpenFailed, Polled, Linked, LinkFailed, SentTill, SentPt, CutPt, Crash}
 use Rattle.gw_site.specs.Turns.{event_turns, IsPromised}
 use Rattle.gw_site.specs.declared.site.What.{What}
-use Rattle.gw_owes.specs.Calls.{OwedCall, CutTill}
+use Rattle.gw_owes.specs.Calls.{OwedCall, CutTill, CutPt as OwedCutPt}
 use Rattle.gw_owes.specs.Core.{new_core}
 use Rattle.gw_owes.specs.Items.{RoundItem}
+use Rattle.gw_owes.specs.Row.{Row}
 use Rattle.gw_rules.specs.Lawful.{IsCourse, turns_of, Stands, IsClear}
-use Rattle.gw_rules.specs.Scene.{Scene}
+use Rattle.gw_rules.specs.Scene.{Scene, link_made_at, link_lost_at}
 use Rattle.gw_rules.specs.Stage.{Opening}
 use Rattle.gw_site.specs.Sorts.{IsQuiet}
 use Rattle.gw_rules.specs.View.{View, Move, Make, view_from, called}
@@ -39,6 +40,24 @@ Owing scene calls items v = v ≡ record { scene = scene; calls = calls; items =
 abbrev pub Sent : {E : Type 0} → Result (Unit {0}) E → Scene → ℕ → List ℕ → List RoundItem → View → Type 0
 Sent (Ok done) scene till bytes items v = Owing (called scene (SentTill till bytes true)) [] items v
 Sent (Err failed) scene till bytes items v = (taken : List ℕ) × Owing (called scene (SentTill till taken false)) (CutTill till ∷ []) items v
+
+-- Inner: after what is owed last was sent to a terminal: nothing is owed before these items, or where the send failed and took these bytes, the cut of the connection
+abbrev pub SentToPt : {E : Type 0} → Result (Unit {0}) E → Scene → ℕ → List ℕ → List RoundItem → View → Type 0
+SentToPt (Ok done) scene pt bytes items v = Owing (called scene (SentPt pt bytes true)) [] items v
+SentToPt (Err failed) scene pt bytes items v = (taken : List ℕ) × Owing (called scene (SentPt pt taken false)) (OwedCutPt pt ∷ []) items v
+
+-- Inner: in this scene what this row says is remembered and owed, before these items
+abbrev pub OwingRow : Scene → Row → List RoundItem → View → Type 0
+OwingRow scene row items v = Owing (record scene { core = row.core }) row.calls (row.items ++ items) v
+
+-- Inner: after a terminal's connection was cut: what the loss of its link leaves and owes, before these items
+abbrev pub CutOfPt : Scene → ℕ → List RoundItem → View → Type 0
+CutOfPt scene pt items v = OwingRow (called scene (CutPt pt)) (link_lost_at scene pt) items v
+
+-- Inner: after the connection of a terminal was tried: what the link that is made leaves and owes, or where it isn't made what a loss does, before these items
+abbrev pub LinkTried : {E : Type 0} → Result (Unit {0}) E → Scene → ℕ → List RoundItem → View → Type 0
+LinkTried (Ok done) scene pt items v = OwingRow (called scene (Linked pt)) (link_made_at scene pt) items v
+LinkTried (Err failed) scene pt items v = OwingRow (called scene (LinkFailed pt)) (link_lost_at scene pt) items v
 
 -- Inner: the view after a poll and its event
 abbrev pub event_view : Scene → ℤ → What → List ℕ → View

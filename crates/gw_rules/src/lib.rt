@@ -3,7 +3,9 @@
 
 ghost use Rattle.gw_rules.specs.Example.{BadFrameIsLawful, CrashLeavesNoOther, CrashedIsLawful, CrowdedIsLawful, DiskFailureEnds, FailedSendIsLawful, GateEndsLooking, LooksMayFail, NoRunWhereNotOpened, NothingToLookAt, NothingToLookAtLater, PollBeforeCut, PollBeforeReply, PollEndsLooking, PollWhileCrowded, RefusedIsNotPolled, RestartedIsLawful, SilentIsLawful, StatusIsLawful, UnaskedReply};
 ghost use Rattle.gw_rules.specs.JournalFiles.{EachHasJournalFiles, KeepingHasJournal, KeepingLeavesJournals, KeptFileIsJournal, OpenedHasJournal, OpeningHasJournal, OpeningLeavesJournalFiles};
-ghost use Rattle.gw_rules.specs.RowExample.{BothAreItems, ClosedGateDrops, FailedSendCutsLink, FailedSyncCrashes, GateIsInFlight, GoneTillIsForgotten, LinkIsDueAgain, LinkRegisters, LostEndOfDayReplies, LostIsDue, LostTransactionKeepsAsker, OpenGateKeeps, PollBeforeUnframedCut, RowItemsComeFirst, SendingsAreSpelled, StartLeavesFlight, SyncKeeps, UnframedIsLawful, UnservedIsLawful, WaitsByDeadline};
+ghost use Rattle.gw_rules.specs.RowExample.{BothAreItems, ClosedGateDrops, FailedSendCutsLink, FailedSyncCrashes, GateIsInFlight, GoneTillIsForgotten, LinkIsDueAgain, LinkRegisters, LostEndOfDayReplies, LostIsDue, LostTransactionKeepsAsker, OpenGateKeeps, PollBeforeUnframedCut, RowItemsComeFirst, SendingsAreSpelled, StartLeavesFlight, SyncKeeps, UnframedIsLawful, UnlinkedIsLawful, WaitsByDeadline};
+ghost use Rattle.gw_rules.specs.LinkLaws.{DueIsTried, EachUsesLinks, EnquiryFollowsRegistration, LinkedRegisters, OutsideCuts, SilentEnquiryIsCut, SilentRegistrationIsCut, TriedOnceRested, UnfinishedRegistrationIsCut};
+ghost use Rattle.gw_rules.specs.TerminalLogExample.{DeclinedIsLawful, DoneIsEnquired, DoneThenSilentIsCut, DueAgainIsLawful, EnquiryAfterCut, EnquiryBeforeRegistration, LinkTooEarly, PollBeforeEnquiry, PollBeforeLink, PollBeforeSilentCut, ReadyIsLawful, SilentEnquiryIsLawful, SilentRegistrationIsLawful, UnacknowledgedIsLawful, UnfinishedIsCut};
 ghost use Rattle.gw_rules.specs.Laws.{BadFrameCuts, CallsEndInOne, CrowdedCuts, EachHasOneLeanCourse, EachHeardIsBytes, PrefixIsLawful, PtBytesBring, RestartIsLawful, SetupIsWithinLimits, TillBytesBring};
 
 /// Along each lawful log there is exactly one course in which nothing begins unless a turn of its run follows.
@@ -48,6 +50,43 @@ pub fn law_bad_frame_cuts()
 /// In a lawful log, after a till opens while 64 others are there, it is cut before the next poll.
 pub fn law_crowded_cuts()
     ensures cuts { CrowdedCuts }
+{}
+
+/// In a lawful log a terminal is sent something, or cut, only while it is linked, and linked only while it isn't. The next turn
+/// after the one that links it sends it its registration, by the run's setup, unless the run ends there.
+pub fn law_links()
+    ensures used { EachUsesLinks }
+    ensures registers { LinkedRegisters }
+{}
+
+/// In a lawful log, after bytes of a terminal that say an APDU outside the grammar, or begin one above the limit, it is cut before
+/// the next poll.
+pub fn law_outside_cuts()
+    ensures cuts { OutsideCuts }
+{}
+
+/// In a lawful log, a terminal of the run's setup that isn't linked as a poll comes is linked before the next one, or can't be,
+/// where five seconds have passed since its link last ended or couldn't be made in the run. Before that it isn't tried.
+pub fn law_due_is_tried()
+    ensures tried { DueIsTried }
+    ensures rested { TriedOnceRested }
+{}
+
+/// In a lawful log, a terminal of which nothing was heard since it was linked, and so since its registration was sent, is cut before
+/// the next poll, once a poll comes that brings nothing of it and is later than the link by the seconds that its settings give it
+/// to acknowledge a command; so is one that has acknowledged its registration and said nothing more, by the seconds that they give
+/// it from one message to the next; and one that was enquired and said nothing more, again by those for a command.
+pub fn law_silent_cuts()
+    ensures registration { SilentRegistrationIsCut }
+    ensures unfinished { UnfinishedRegistrationIsCut }
+    ensures enquiry { SilentEnquiryIsCut }
+{}
+
+/// In a lawful log, after a terminal that has acknowledged its registration says that it is done, the next turn acknowledges that,
+/// and the one after it enquires the terminal of its last transaction, by the run's setup, unless the run ends there or the
+/// acknowledgement can't be sent.
+pub fn law_registered_is_enquired()
+    ensures enquired { EnquiryFollowsRegistration }
 {}
 
 /// After each lawful log the file, that of the last sync, and whatever a power failure leaves are files that a journal can have
@@ -96,13 +135,13 @@ pub fn law_run_examples()
     ensures not_opened { NoRunWhereNotOpened }
 {}
 
-/// While no terminal is served, one poll follows the other, and a till whose bytes begin no frame is cut before the next. The
-/// items of a row come before those that were to come. A link that is owed and made registers the terminal; one that
+/// A link that can't be made isn't tried again at once, so that one poll follows the other; and a till whose bytes begin no
+/// frame is cut before the next. The items of a row come before those that were to come. A link that is owed and made registers the terminal; one that
 /// isn't made, is cut after a failed send, or is lost, is due five seconds later. Where it is lost in an end of day the till has
 /// its reply, and where it is lost in a payment or a reversal the till is remembered. Each APDU that is heard is three items; how
 /// it is acknowledged or refused is spelled. A till that is gone is forgotten, and requests wait by their deadlines.
 pub fn law_terminal_examples()
-    ensures unserved { UnservedIsLawful }
+    ensures unlinked { UnlinkedIsLawful }
     ensures unframed { UnframedIsLawful }
     ensures poll_before_cut { PollBeforeUnframedCut }
     ensures row_items { RowItemsComeFirst }
@@ -116,6 +155,30 @@ pub fn law_terminal_examples()
     ensures sendings { SendingsAreSpelled }
     ensures gone_till { GoneTillIsForgotten }
     ensures waits { WaitsByDeadline }
+{}
+
+/// The way of a terminal to ready: its link, its registration, the enquiry, and what that reports. A link that can't be made is
+/// tried again five seconds later; a registration that is declined or isn't done in time, and a registration or an enquiry that isn't
+/// acknowledged in time, are cut; and where the acknowledgement of an APDU can't be sent, neither it nor the one after it is handled. No poll
+/// comes before the link of a terminal that is due, and none is made before it is; nothing but the registration follows a link; no
+/// poll comes before a silent terminal is cut at its deadline, or before the enquiry of one whose registration is done; and after a
+/// cut nothing is sent.
+pub fn law_terminal_logs()
+    ensures ready { ReadyIsLawful }
+    ensures due_again { DueAgainIsLawful }
+    ensures declined { DeclinedIsLawful }
+    ensures silent_enquiry { SilentEnquiryIsLawful }
+    ensures silent_registration { SilentRegistrationIsLawful }
+    ensures done { DoneIsEnquired }
+    ensures done_then_silent { DoneThenSilentIsCut }
+    ensures unfinished { UnfinishedIsCut }
+    ensures unacknowledged { UnacknowledgedIsLawful }
+    ensures poll_before_silent_cut { PollBeforeSilentCut }
+    ensures poll_before_enquiry { PollBeforeEnquiry }
+    ensures poll_before_link { PollBeforeLink }
+    ensures link_too_early { LinkTooEarly }
+    ensures early_enquiry { EnquiryBeforeRegistration }
+    ensures sent_after_cut { EnquiryAfterCut }
 {}
 
 /// A record is in flight once its gate is written, and kept once that is synced. A start leaves it in flight; a power failure

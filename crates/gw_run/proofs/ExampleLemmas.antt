@@ -5,16 +5,19 @@ use Rattle.std.specs.Str.{is_utf8, chars}
 use Rattle.std.specs.Fmt.{digits}
 use lib.Utf8.{encode}
 use Rattle.sale_frame.specs.Grammar.{frame}
-use Rattle.gw_site.specs.declared.turn.Turn.TheVariants.{Start, Polled, Opened, HeardTill, SentTill}
+use Rattle.gw_site.specs.declared.turn.Turn.TheVariants.{Start, Polled, Opened, HeardTill, Stopped, Linked, SentTill, SentPt}
+use Rattle.gw_owes.specs.Calls.{Ask}
+use Rattle.gw_owes.specs.Terminals.{registration}
 use Rattle.gw_script.specs.Decode.{Open, Say, Poll, Script, script_of, script_setup}
 use Rattle.gw_script.specs.Plays.{PlaysLines, PlaysRead}
-use Rattle.gw_rules.specs.View.{view_from, at_first}
+use Rattle.gw_rules.specs.View.{Begin, Make, view_from, at_first}
 use Rattle.gw_rules.specs.Example.{status_request, status_reply, status_log, status_course}
-use Rattle.gw_rules.specs.RowExample.{terminal_setup}
+use Rattle.gw_rules.specs.RowExample.{example_pt, register_bytes, terminal_setup}
 use Rattle.gw_rules.proofs.ExampleLemmas.{status-lawful}
-use Rattle.gw_rules.proofs.RowExampleLemmas.{unserved-lawful}
+use Rattle.gw_rules.proofs.PrefixLemmas.{lawful-along}
+use Rattle.gw_rules.proofs.RowExampleLemmas.{formed}
 use Rattle.gw_run.specs.ScriptLog.{IsRunRead}
-use Rattle.gw_run.specs.Example.{status_script, StatusIsOfScript, StatusHasText, UnservedIsOfLines}
+use Rattle.gw_run.specs.Example.{status_script, two_polls_log, StatusIsOfScript, StatusHasText, LinkedIsOfLines}
 
 -- the script that was read
 abbrev status_read : Script
@@ -39,10 +42,20 @@ pub status-has-text : StatusHasText
 unfolding status_request status_reply digits
 status-has-text = refl
 
-pub unserved-of-lines : UnservedIsOfLines
-unserved-of-lines = record {
-  lawful = unserved-lawful;
-  plays = (refl, ((refl, refl), ((refl, refl), (refl, tt))));
-  one_run = (_, refl, (refl, (refl, (refl, tt))));
-  stopped = (Start terminal_setup ∷ Polled (pos 0) ∷ Polled (pos 1) ∷ [], refl);
+pub linked-of-lines : LinkedIsOfLines
+linked-of-lines = record {
+  lawful = lawful-along two_polls_log
+      (Make (Start terminal_setup) ∷ Make (Polled (pos 0)) ∷ Begin ∷ Begin ∷ Make (Linked 0) ∷ Make (SentPt 0 register_bytes true) ∷ Make (Polled (pos 1)) ∷ Make Stopped ∷ []) refl (
+        (refl, formed),
+        (
+          record { running = refl; calls = refl; items = refl },
+          (
+            record { idle = record { round = refl; calls = refl }; first = refl },
+            (record { idle = record { round = refl; calls = refl }; first = refl }, (refl, ((Ask (registration example_pt), refl, refl), (record { running = refl; calls = refl; items = refl }, (refl, tt))))),
+          ),
+        ),
+      );
+  plays = (refl, ((refl, refl), (refl, ((refl, refl), ((refl, refl), (refl, tt))))));
+  one_run = (_, refl, (refl, (refl, (refl, (refl, (refl, tt))))));
+  stopped = (Start terminal_setup ∷ Polled (pos 0) ∷ Linked 0 ∷ SentPt 0 register_bytes true ∷ Polled (pos 1) ∷ [], refl);
 }

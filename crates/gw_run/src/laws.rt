@@ -1,13 +1,13 @@
 //! Laws of the logs of scripts.
-ghost use Rattle.gw_run.specs.Example.{StatusHasText, StatusIsOfScript, UnservedIsOfLines};
+ghost use Rattle.gw_run.specs.Example.{LinkedIsOfLines, StatusHasText, StatusIsOfScript};
 ghost use Rattle.gw_run.specs.Laws.{LogGoesByLines, LogHasEvents, LogHasScript, OneLog, OneLogOfLines};
 
-/// At most one lawful log plays a script in one run to its end; and so for its lines with any setup, in which terminals may
-/// be due at each poll.
+/// At most one lawful log plays a script in one run to its end; and so for its lines with any setup, in which terminals are
+/// linked as they are due.
 pub fn law_one_log()
     ensures one { OneLog }
     ensures lines { OneLogOfLines }
-    ensures terminal { UnservedIsOfLines }
+    ensures terminal { LinkedIsOfLines }
 {}
 
 /// The log of a script is a lawful log that goes by the script's lines, in their order: each is skipped where it names a

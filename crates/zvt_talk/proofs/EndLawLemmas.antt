@@ -136,3 +136,19 @@ dialogue_kind_from dialogue means before (StopWished ∷ rest) end is = dialogue
 dialogue_kind_from dialogue means before (Message message at ∷ rest) end is =
     dialogue_kind_at dialogue.dialogue_kind (is_end (meaning dialogue before message)) (meaning dialogue before message) end (end_from dialogue (before ++ Message message at ∷ []) rest)
     refl (means before message) (dialogue_kind_from dialogue means (before ++ Message message at ∷ []) rest end) is
+
+-- ---- an end stays
+
+at_stays : (now : Bool) (first : Heard) (rest longer : Option Heard) (end : Heard) → (rest ≡ Some end → longer ≡ Some end) → cond now (Some first) rest ≡ Some end → cond now (Some first) longer ≡ Some end
+at_stays true first rest longer end later is = is
+at_stays false first rest longer end later is = later is
+
+from_stays : (dialogue : Dialogue) (before rest more : List Came) (end : Heard) → end_from dialogue before rest ≡ Some end → end_from dialogue before (rest ++ more) ≡ Some end
+from_stays dialogue before [] more end is = absurd cc
+from_stays dialogue before (StopWished ∷ rest) more end is = from_stays dialogue (before ++ StopWished ∷ []) rest more end is
+from_stays dialogue before (Message message at ∷ rest) more end is =
+    at_stays (is_end (meaning dialogue before message)) (meaning dialogue before message) (end_from dialogue (before ++ Message message at ∷ []) rest)
+    (end_from dialogue (before ++ Message message at ∷ []) (rest ++ more)) end (from_stays dialogue (before ++ Message message at ∷ []) rest more end) is
+
+pub end_stays : (dialogue : Dialogue) (came more : List Came) (end : Heard) → end_of dialogue came ≡ Some end → end_of dialogue (came ++ more) ≡ Some end
+end_stays dialogue came more end is = from_stays dialogue [] came more end is

@@ -1,5 +1,5 @@
 -- What the table says, in words of its own.
-use Rattle.std.specs.Prelude.{◌≡◌, ◌≢◌, ℕ, ◌≤◌, ◌⊎◌, Bool, false, List, [], ◌∷◌, Option, None, Some, IsTrue}
+use Rattle.std.specs.Prelude.{◌≡◌, ◌≢◌, ℕ, ℤ, ◌≤◌, ◌⊎◌, Bool, false, List, [], ◌∷◌, ◌++◌, Option, None, Some, IsTrue}
 use Rattle.gw_base.specs.declared.figures.Figures.{Figures}
 use Rattle.zvt_bmp.specs.declared.fields.Fields.{Fields}
 use Rattle.zvt_msg.specs.Message.{MessageValue, Ack, Nack, Intermediate, Line, Block, Status, Completion, Abort, Other}
@@ -10,6 +10,8 @@ use Rattle.zvt_talk.specs.declared.meaning.Heard.TheVariants as heard
 use Rattle.zvt_talk.specs.Dialogue.{Dialogue}
 use Rattle.zvt_talk.specs.Came.{Came, Message, StopWished, messages, statuses, last_status, said_approved}
 use Rattle.zvt_talk.specs.Table.{trace_of}
+use Rattle.zvt_talk.specs.Talk.{meaning, end_of, talk_after, talk_goes_on}
+use Rattle.zvt_talk.specs.TalkSteps.{meaning_for_talk, next_talk}
 
 -- a payment or a reversal
 abbrev pub IsTransaction : DialogueKind → Type 0
@@ -281,3 +283,21 @@ BringsBlock came message = (messages came ≢ []) × ((objects : List ℕ) × (m
 -- the command was acknowledged, and this is a status
 abbrev pub BringsStatus : List Came → MessageValue → Type 0
 BringsStatus came message = (messages came ≢ []) × ((fields : Fields) × (message ≡ Status fields))
+
+-- ---- a talk, and all that came
+
+-- while a dialogue goes on, a message means for its talk what it means after all that came
+abbrev pub MeansForTalkAsAfterAll : Type 0
+MeansForTalkAsAfterAll =
+    (dialogue : Dialogue) (came : List Came) (message : MessageValue) → IsTrue (talk_goes_on (talk_after dialogue came))
+    → meaning_for_talk (talk_after dialogue came) message ≡ meaning dialogue came message
+
+-- and the talk that the message makes of it is that of all that came with the message added
+abbrev pub NextTalkIsAfterAll : Type 0
+NextTalkIsAfterAll =
+    (dialogue : Dialogue) (came : List Came) (message : MessageValue) (at : ℤ) → IsTrue (talk_goes_on (talk_after dialogue came))
+    → next_talk (talk_after dialogue came) message at ≡ talk_after dialogue (came ++ Message message at ∷ [])
+
+-- once a dialogue has ended, its end stays, whatever comes
+abbrev pub EndStays : Type 0
+EndStays = (dialogue : Dialogue) (came more : List Came) (end : Heard) → end_of dialogue came ≡ Some end → end_of dialogue (came ++ more) ≡ Some end

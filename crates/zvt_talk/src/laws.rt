@@ -11,7 +11,7 @@ ghost use Rattle.zvt_talk.specs.Example.{ExampleBegins, ExampleGoesOn, ExampleDe
 ghost use Rattle.zvt_talk.specs.Came.{Came, Message, StopWished, messages, statuses, last_status, said_approved, has_ended, is_begun, is_stop_sent, is_stop_wished, deadline};
 ghost use Rattle.zvt_talk.specs.Talk.{meaning, end_of, is_end, phase_of, talk_after, talk_goes_on};
 ghost use Rattle.zvt_talk.specs.Limits.{AreAtLeastOne, FiguresFitFields, FiguresFitRecord, AllNumbersFitFields, WereRead};
-ghost use Rattle.zvt_talk.specs.Laws.{AbortsApproved, AbortsEnquiry, AbortsWithoutCode, AcknowledgesCommand, Approves, BringsBlock, BringsLine, BringsStatus, HasNoRefusal, HasNoStopWished, HasStopWished, IsAckOrNack, IsEndOf, IsEnquiry, IsEnquiryOrDisplay, LeavesCommandUnclear, IsService, IsTransaction, LeavesEnquiryOpen, LeavesTransactionOpen, RefusedAtOnce, RefusedLater, RefusesCommand, ReportsLastTransaction, ReportsNoTransaction, says_stop};
+ghost use Rattle.zvt_talk.specs.Laws.{AbortsApproved, AbortsEnquiry, AbortsWithoutCode, AcknowledgesCommand, Approves, BringsBlock, BringsLine, BringsStatus, EndStays, HasNoRefusal, HasNoStopWished, HasStopWished, IsAckOrNack, IsEndOf, IsEnquiry, IsEnquiryOrDisplay, LeavesCommandUnclear, IsService, IsTransaction, LeavesEnquiryOpen, LeavesTransactionOpen, MeansForTalkAsAfterAll, NextTalkIsAfterAll, RefusedAtOnce, RefusedLater, RefusesCommand, ReportsLastTransaction, ReportsNoTransaction, says_stop};
 
 /// A message approves exactly where it completes a payment or a reversal whose last status said that it is approved, with
 /// full figures.
@@ -138,6 +138,14 @@ pub fn law_ends()
 {
     law_meanings();
 }
+
+/// The few facts that a talk keeps are enough: while a dialogue goes on, a message means for them, and makes of them, what it does
+/// for all that came. Once the dialogue has ended, its end stays.
+pub fn law_talk_steps()
+    ensures means { MeansForTalkAsAfterAll }
+    ensures next { NextTalkIsAfterAll }
+    ensures ended { EndStays }
+{}
 
 /// What ends a dialogue is an end that its kind may have. For the prover alone: `law_ends` follows from it.
 fn law_meanings()

@@ -22,7 +22,7 @@ mod talk;
 pub use laws::{
     law_approved, law_begun, law_deadline, law_declined, law_done, law_ends, law_examples,
     law_figures, law_goes_on, law_no_status, law_read_figures, law_reports, law_stop,
-    law_stop_acknowledged, law_stray, law_unclear,
+    law_stop_acknowledged, law_stray, law_talk_steps, law_unclear,
 };
 pub use meaning::Heard;
 pub use talk::Talk;

@@ -8,5 +8,5 @@ use Rattle.gw_core.proofs.till.reply.Goals as goal
 
 pub lies_within-requires : goal.lies_within-requires
 lies_within-requires c =
-    let is_reply : IsReplyTo c.args.name.now (moment_of c.args.now) c.args.message.now (Some c.in-Ok-Some.reply) = rw c.in-Ok-Some.field-0-is at (simp (to_z-of_z, c.ranges.now) at c.in-Ok-Some.ensures) in
-    all-limited c.args.name.now (moment_of c.args.now) c.args.message.now c.in-Ok-Some.reply is_reply
+    let is_reply : IsReplyTo c.args.name.now c.args.core.now (moment_of c.args.now) c.args.message.now (Some c.in-Ok-Some.reply) = rw c.in-Ok-Some.field-0-is at (simp (to_z-of_z, c.ranges.now) at c.in-Ok-Some.ensures) in
+    all-limited c.args.name.now c.args.core.now (moment_of c.args.now) c.args.message.now c.in-Ok-Some.reply is_reply

@@ -14,9 +14,9 @@ reply_to_request-requires c = few-outputs (value_of c.args.json.now) c.in-Ok-Req
 
 pub returns-in-Ok-Request : goal.returns-in-Ok-Request
 returns-in-Ok-Request c = λ message spelled.
-    replied c.args.name.now (moment_of c.args.now) message (Request c.in-Ok-Request.header c.in-Ok-Request.request) _
+    replied c.args.name.now c.args.core.now (moment_of c.args.now) message (Request c.in-Ok-Request.header c.in-Ok-Request.request) _
     (record { tree = value_of c.args.json.now; spelled = spelled; read = subst (IsTillMessage (value_of c.args.json.now)) c.in-Ok-Request.field-0-is c.in-Ok-Request.ensures.ok })
-    (λ known at. c.reply_to_request.ensures known (rw (to_z-of_z, c.ranges.now) at.moment_is))
+    (λ known at. c.reply_to_request.ensures known (rw (to_z-of_z, c.ranges.now) at.moment_is) at.core_is)
 
 pub returns-in-Ok-Silent : goal.returns-in-Ok-Silent
 returns-in-Ok-Silent c = λ message spelled. record {
@@ -27,6 +27,6 @@ returns-in-Ok-Silent c = λ message spelled. record {
 
 pub returns-in-Err-Fault : goal.returns-in-Err-Fault
 returns-in-Err-Fault c = λ message spelled.
-    replied c.args.name.now (moment_of c.args.now) message (NoMessage c.in-Err-Fault.fault) _
+    replied c.args.name.now c.args.core.now (moment_of c.args.now) message (NoMessage c.in-Err-Fault.fault) _
     (record { tree = value_of c.args.json.now; spelled = spelled; faulty = subst (RefusesTree (value_of c.args.json.now)) c.in-Err-Fault.field-0-is c.in-Err-Fault.ensures.err })
     (λ known at. rw (at.name_is, at.moment_is) (simp (to_z-of_z, c.ranges.now) at c.reply_to_fault.ensures))

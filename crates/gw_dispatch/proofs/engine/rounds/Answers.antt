@@ -6,30 +6,32 @@ use Rattle.gw_dispatch.proofs.engine.rounds.Goals as goal
 
 pub loop-made-init : goal.loop-made-init
 loop-made-init g c = record {
-  kept = λ setup named. triple-after _ _ _ _ _ (triple-refl _ _) (rw c.new-tills.ensures.items (begun-rest setup));
-  name = refl;
+  kept = triple-after _ _ _ _ _ (triple-refl _ _) (begun-rest c.args.setup.now c.in-Ok.dispatch c.in-Ok.ensures.tills c.in-Ok.ensures.core);
+  ready = c.in-Ok.ensures.ready;
+  name = c.in-Ok.ensures.name;
   buf = refl;
   later = omega arith;
 }
 
 pub returns-in-Ok-Stopped-clause-triple : goal.returns-in-Ok-Stopped-clause-triple
-returns-in-Ok-Stopped-clause-triple g c = λ setup named. triple-then _ _ _ _ _ _ (c.loop-made.invariant.kept setup named)
-    (triple-after _ _ _ _ _ (rw c.in-Ok-Stopped.field-0-is at (c.in-Ok-Stopped.ensures.triple setup c.loop-made.made (named ∙ sym c.loop-made.invariant.name))) (λ v q. inl q))
+returns-in-Ok-Stopped-clause-triple g c = triple-then _ _ _ _ _ _ c.loop-made.invariant.kept
+    (triple-after _ _ _ _ _ (rw c.in-Ok-Stopped.field-0-is at (c.in-Ok-Stopped.ensures.triple c.args.setup.now c.loop-made.made (sym c.loop-made.invariant.name))) (λ v q. inl q))
 
 pub returns-in-Err-clause-triple : goal.returns-in-Err-clause-triple
-returns-in-Err-clause-triple g c = λ setup named. no-memory _ _
+returns-in-Err-clause-triple g c = no-memory _ _
 
 pub returns-in-Err-round-clause-triple : goal.returns-in-Err-round-clause-triple
-returns-in-Err-round-clause-triple g c = λ setup named. triple-then _ _ _ _ _ _ (c.loop-made.invariant.kept setup named) (c.in-Err-round.ensures.triple setup c.loop-made.made (named ∙ sym c.loop-made.invariant.name))
+returns-in-Err-round-clause-triple g c = triple-then _ _ _ _ _ _ c.loop-made.invariant.kept (c.in-Err-round.ensures.triple c.args.setup.now c.loop-made.made (sym c.loop-made.invariant.name))
 
 pub loop-made-preserved : goal.loop-made-preserved
 loop-made-preserved g c = record {
-  kept = λ setup named. triple-then _ _ _ _ _ _ (c.loop-made.invariant.kept setup named) (rw c.in-Ok-Went.field-0-is at (c.in-Ok-Went.ensures.triple setup c.loop-made.made (named ∙ sym c.loop-made.invariant.name)));
+  kept = triple-then _ _ _ _ _ _ c.loop-made.invariant.kept (rw c.in-Ok-Went.field-0-is at (c.in-Ok-Went.ensures.triple c.args.setup.now c.loop-made.made (sym c.loop-made.invariant.name)));
+  ready = c.in-Ok-Went.ensures.ready;
   name = c.in-Ok-Went.ensures.name ∙ c.loop-made.invariant.name;
   buf = c.in-Ok-Went.ensures.buf;
   later = omega (arith, c.loop-made.invariant.later, c.in-Ok-Went.ensures.later);
 }
 
 pub returns-clause-triple : goal.returns-clause-triple
-returns-clause-triple g c = λ setup named. triple-after _ _ _ _ _ (c.loop-made.invariant.kept setup named)
-    (λ v q. all-polled setup _ c.loop-made.made c.args.most v (omega (arith, c.loop-made-test.false, c.loop-made.auto.made-end)) q)
+returns-clause-triple g c = triple-after _ _ _ _ _ c.loop-made.invariant.kept
+    (λ v q. all-polled c.args.setup.now _ c.loop-made.made c.args.most v (omega (arith, c.loop-made-test.false, c.loop-made.auto.made-end)) q)

@@ -1,5 +1,5 @@
 -- Proof of the contract of `law_terminal_row_examples`.
-use Rattle.gw_owes.proofs.ExampleLemmas.{becomes-ready, reports-last, registration-fails, enquiry-fails, link-fails, silence, stray-messages, foreign-command, outside, late-stop, compared-reports, many-terminals, diagnosis, unserved}
+use Rattle.gw_owes.proofs.ExampleLemmas.{becomes-ready, reports-last, registration-fails, enquiry-fails, link-fails, silence, stray-messages, foreign-command, outside, failed-send, unlinked, aside, stop, late-stop, compared-reports, many-terminals, diagnosis, unserved}
 use Rattle.gw_owes.proofs.terminal_laws.law_terminal_row_examples.Goals as goal
 
 pub returns-clause-becomes_ready : goal.returns-clause-becomes_ready
@@ -28,6 +28,18 @@ returns-clause-foreign c = foreign-command
 
 pub returns-clause-outside : goal.returns-clause-outside
 returns-clause-outside c = outside
+
+pub returns-clause-failed_send : goal.returns-clause-failed_send
+returns-clause-failed_send c = failed-send
+
+pub returns-clause-unlinked : goal.returns-clause-unlinked
+returns-clause-unlinked c = unlinked
+
+pub returns-clause-aside : goal.returns-clause-aside
+returns-clause-aside c = aside
+
+pub returns-clause-stop : goal.returns-clause-stop
+returns-clause-stop c = stop
 
 pub returns-clause-late_stop : goal.returns-clause-late_stop
 returns-clause-late_stop c = late-stop

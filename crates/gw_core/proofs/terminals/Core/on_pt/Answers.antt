@@ -1,25 +1,48 @@
 -- Proof of the contract of `on_pt`.
-use Rattle.std.proofs.Common.{◌≡◌, ◌<◌, ℕ, ℤ, w64, [], length, sym, subst}
-use Rattle.std.specs.Prelude.{get_or}
+use Rattle.std.proofs.Common.{◌≡◌, ◌<◌, ℕ, ℤ, w64, [], length, sym, subst, ap}
+use Rattle.std.specs.Prelude.{get_or, slice_get, Some}
 use Rattle.std.proofs.lemmas.Int.{to_z-of_z}
+use Rattle.std.proofs.lemmas.List.{length-set}
 use Rattle.zvt_msg.specs.Message.{value_of}
 use Rattle.gw_base.specs.Moment.{moment_of}
+use Rattle.gw_owes.specs.Row.{owing_where}
 use Rattle.gw_owes.specs.Core.{Core as CoreValue}
 use Rattle.gw_owes.specs.Handling.{handle_message}
-use Rattle.gw_owes.specs.Links.{is_linked, where_linked}
+use Rattle.gw_owes.specs.Links.{is_linked}
 use Rattle.gw_owes.specs.Terminals.{terminal_becomes}
+use Rattle.gw_owes.specs.declared.terminal.Terminal.{Terminal}
 use Rattle.gw_core.specs.IsRow.{calls_wanted, known_with}
+use Rattle.gw_core.proofs.CoreLemmas.{found-at, settings-stay, new-serves}
 use Rattle.gw_core.proofs.HandlingLemmas.{pt-row}
 use Rattle.gw_core.proofs.terminals.Core.on_pt.Goals as goal
 
-pub returns : goal.returns
-returns c = λ setup kept.
+pub handle-requires-clause-settings : goal.handle-requires-clause-settings
+handle-requires-clause-settings c =
+    let items = c.self.inside.terminals.items in
+    let terminal : Terminal = c.index_mut-terminal.result.now in
+    c.self.invariant.1 c.args.pt terminal
+    (found-at items c.args.self.now c.args.pt c.from.result terminal (sym (ap (λ (held : CoreValue). held.terminals) c.self.view_is)) c.requires.there c.from.ensures c.index_mut-terminal.ensures.value)
+
+pub returns-clause-row : goal.returns-clause-row
+returns-clause-row c = λ setup kept.
     let core : CoreValue = record { terminals = c.self.inside.terminals.items; waits = []; logged_out = []; device_requests = 0 } in
     let inside : c.args.pt < length core.terminals = subst (λ (held : CoreValue). c.args.pt < length held.terminals) (sym c.self.view_is) c.requires.there in
     let is : c.index_mut-terminal.result.now ≡ get_or core.terminals c.args.pt c.index_mut-terminal.result.now =
     subst (λ (at : ℕ). c.index_mut-terminal.result.now ≡ get_or core.terminals at c.index_mut-terminal.result.now) c.from.ensures c.index_mut-terminal.ensures.value in
     rw (← c.self.view_is, c.from.ensures)
     (pt-row (known_with setup kept core (moment_of c.args.now)) c.args.pt c.index_mut-terminal.result.now c.handle.new.terminal (value_of c.args.message.now) c.handle.result inside is
-    (λ found. subst (λ (now : ℤ). where_linked (is_linked c.index_mut-terminal.result.now.standing) (known_with setup kept core (moment_of now))
+    (λ found. subst (λ (now : ℤ). owing_where (is_linked c.index_mut-terminal.result.now.standing) (known_with setup kept core (moment_of now))
     (handle_message (known_with setup kept core (moment_of now)) c.args.pt c.index_mut-terminal.result.now (value_of c.args.message.now))
-    ≡ terminal_becomes (known_with setup kept core (moment_of now)) c.args.pt c.handle.new.terminal (calls_wanted c.handle.result)) (to_z-of_z w64 c.args.now c.ranges.now) (c.handle.ensures setup kept core found)))
+    ≡ terminal_becomes (known_with setup kept core (moment_of now)) c.args.pt c.handle.new.terminal (calls_wanted c.handle.result)) (to_z-of_z w64 c.args.now c.ranges.now) (c.handle.ensures.row setup kept core found)))
+
+pub returns-clause-unserved : goal.returns-clause-unserved
+returns-clause-unserved c =
+    let items = c.self.inside.terminals.items in
+    rw c.from.ensures (new-serves items c.args.pt c.handle.new.terminal c.handle.ensures.unserved)
+
+pub invariant_of-self : goal.invariant_of-self
+invariant_of-self c =
+    let items = c.self.inside.terminals.items in
+    let terminal : Terminal = c.index_mut-terminal.result.now in
+    let found : slice_get items c.args.pt ≡ Some terminal = found-at items c.args.self.now c.args.pt c.from.result terminal (sym (ap (λ (held : CoreValue). held.terminals) c.self.view_is)) c.requires.there c.from.ensures c.index_mut-terminal.ensures.value in
+    rw c.from.ensures (rw length-set c.self.invariant.0, settings-stay items c.args.pt terminal c.handle.new.terminal c.self.invariant.1 found c.handle.ensures.settings)

@@ -7,26 +7,30 @@ use Rattle.gw_dispatch.proofs.RoundLemmas.{at-what, rest-nothing, rest-pt-bytes,
 use Rattle.gw_dispatch.proofs.engine.Dispatch.on_event.Goals as goal
 
 pub returns-in-Stopped-clause-triple : goal.returns-in-Stopped-clause-triple
-returns-in-Stopped-clause-triple g c = λ setup polls named. at-what _ setup c.args.self.now.tills.items polls c.args.now c.args.what Stopped c.args.buf.now _ c.in-Stopped.is (rest-stopped c.args.buf.now setup c.args.self.now.tills.items polls c.args.now)
+returns-in-Stopped-clause-triple g c = λ setup polls named. at-what _ setup c.args.self.now polls c.args.now c.args.what Stopped c.args.buf.now _ c.in-Stopped.is (rest-stopped c.args.buf.now setup c.args.self.now polls c.args.now)
 
 pub returns-in-TillOpened-clause-triple : goal.returns-in-TillOpened-clause-triple
 returns-in-TillOpened-clause-triple g c = λ setup polls named. triple-then _ _ _ _ _ _
-    (at-what _ setup c.args.self.now.tills.items polls c.args.now c.args.what (TillOpened c.in-TillOpened.number) c.args.buf.now _ c.in-TillOpened.is (rest-opened c.in-TillOpened.number c.args.buf.now setup c.args.self.now.tills.items polls c.args.now))
+    (at-what _ setup c.args.self.now polls c.args.now c.args.what (TillOpened c.in-TillOpened.number) c.args.buf.now _ c.in-TillOpened.is (rest-opened c.in-TillOpened.number c.args.buf.now setup c.args.self.now polls c.args.now))
     (c.on_open.ensures.triple setup (polls + 1) c.args.now)
 
 pub returns-in-TillBytes-clause-triple : goal.returns-in-TillBytes-clause-triple
 returns-in-TillBytes-clause-triple g c = λ setup polls named. triple-then _ _ _ _ _ _
-    (at-what _ setup c.args.self.now.tills.items polls c.args.now c.args.what (TillBytes c.in-TillBytes.number c.in-TillBytes.count) c.args.buf.now _ c.in-TillBytes.is (rest-heard c.in-TillBytes.number c.in-TillBytes.count c.args.buf.now setup c.args.self.now.tills.items polls c.args.now))
+    (at-what _ setup c.args.self.now polls c.args.now c.args.what (TillBytes c.in-TillBytes.number c.in-TillBytes.count) c.args.buf.now _ c.in-TillBytes.is (rest-heard c.in-TillBytes.number c.in-TillBytes.count c.args.buf.now setup c.args.self.now polls c.args.now))
     (simp (to_z-of_z, c.ranges.now) at (c.on_bytes.ensures.triple setup (polls + 1) named))
 
 pub returns-in-TillClosed-clause-triple : goal.returns-in-TillClosed-clause-triple
-returns-in-TillClosed-clause-triple g c = λ setup polls named. rest-closed _ c.in-TillClosed.number c.args.buf.now setup c.args.self.now.tills.items _ polls c.args.now c.args.what c.in-TillClosed.is c.drop_till.ensures
+returns-in-TillClosed-clause-triple g c = λ setup polls named. rest-closed _ c.in-TillClosed.number c.args.buf.now setup c.args.self.now _ c.forget.new.self.core c.forget.new.self.readers.items polls c.args.now c.args.what c.in-TillClosed.is c.drop_till.ensures c.forget.ensures.core c.forget.ensures.readers
 
 pub returns-in-PtBytes-clause-triple : goal.returns-in-PtBytes-clause-triple
-returns-in-PtBytes-clause-triple g c = λ setup polls named. at-what _ setup c.args.self.now.tills.items polls c.args.now c.args.what (PtBytes c.in-PtBytes.field-0 c.in-PtBytes.field-1) c.args.buf.now _ c.in-PtBytes.is (rest-pt-bytes c.in-PtBytes.field-0 c.in-PtBytes.field-1 c.args.buf.now setup c.args.self.now.tills.items polls c.args.now _)
+returns-in-PtBytes-clause-triple g c = λ setup polls named. triple-then _ _ _ _ _ _
+    (at-what _ setup c.args.self.now polls c.args.now c.args.what (PtBytes c.in-PtBytes.pt c.in-PtBytes.count) c.args.buf.now _ c.in-PtBytes.is (rest-pt-bytes c.in-PtBytes.pt c.in-PtBytes.count c.args.buf.now setup c.args.self.now polls c.args.now))
+    (simp (to_z-of_z, c.ranges.now) at (c.on_pt_bytes.ensures.triple setup (polls + 1)))
 
 pub returns-in-PtClosed-clause-triple : goal.returns-in-PtClosed-clause-triple
-returns-in-PtClosed-clause-triple g c = λ setup polls named. at-what _ setup c.args.self.now.tills.items polls c.args.now c.args.what (PtClosed c.in-PtClosed.field-0) c.args.buf.now _ c.in-PtClosed.is (rest-pt-closed c.in-PtClosed.field-0 c.args.buf.now setup c.args.self.now.tills.items polls c.args.now _)
+returns-in-PtClosed-clause-triple g c = λ setup polls named. triple-then _ _ _ _ _ _
+    (at-what _ setup c.args.self.now polls c.args.now c.args.what (PtClosed c.in-PtClosed.pt) c.args.buf.now _ c.in-PtClosed.is (rest-pt-closed c.in-PtClosed.pt c.args.buf.now setup c.args.self.now polls c.args.now))
+    (simp (to_z-of_z, c.ranges.now) at (c.on_pt_closed.ensures.triple setup (polls + 1)))
 
 pub returns-in-Nothing-clause-triple : goal.returns-in-Nothing-clause-triple
-returns-in-Nothing-clause-triple g c = λ setup polls named. at-what _ setup c.args.self.now.tills.items polls c.args.now c.args.what Nothing c.args.buf.now _ c.in-Nothing.is (rest-nothing c.args.buf.now setup c.args.self.now.tills.items polls c.args.now)
+returns-in-Nothing-clause-triple g c = λ setup polls named. at-what _ setup c.args.self.now polls c.args.now c.args.what Nothing c.args.buf.now _ c.in-Nothing.is (rest-nothing c.args.buf.now setup c.args.self.now polls c.args.now)

@@ -1,15 +1,50 @@
 -- Proof of the contract of `Dispatch::round`.
-use Rattle.std.proofs.Common.{◌≡◌, ◌+◌, to_z, of_z, w64}
+use Rattle.std.proofs.Common.{◌≡◌, ◌∙◌, ◌+◌, ℕ, List, length, ap, to_z, of_z, w64}
+use Rattle.std.specs.Prelude.{ℤ, pos}
 use Rattle.std.proofs.lemmas.Int.{to_z-of_z}
-use Rattle.gw_rules.proofs.TripleLemmas.{triple-then}
+use Rattle.gw_bytes.specs.Bytes.{AreBytes}
+use Rattle.gw_base.specs.Moment.{moment_of}
+use Rattle.gw_base.specs.declared.setup.Setup.{Setup}
+use Rattle.gw_site.specs.Observed.{Observed, Grows, IfObserved}
+use Rattle.gw_site.specs.Outside.{outside_of}
+use Rattle.gw_site.specs.Turns.{PolledTurns, IsPromised, IsWithinBuf}
+use Rattle.gw_site.specs.declared.site.Polled.{Polled}
+use Rattle.gw_rules.specs.Triple.{Triple}
+use Rattle.gw_rules.proofs.TripleLemmas.{triple-then, triple-after}
 use Rattle.gw_rules.proofs.CallLemmas.{poll-triple}
-use Rattle.gw_dispatch.proofs.RoundLemmas.{rest-polled, event-round}
+use Rattle.gw_dispatch.specs.Rounds.{IsBetweenRounds, IsPolled}
+use Rattle.gw_dispatch.specs.declared.engine.Dispatch.{Dispatch}
+use Rattle.gw_dispatch.proofs.RoundLemmas.{rest-polled, moment-taken, handled-rest}
 use Rattle.gw_dispatch.proofs.engine.Dispatch.round.Goals as goal
 
-pub returns-clause-triple : goal.returns-clause-triple
-returns-clause-triple g c = λ setup polls named.
+-- the poll, whose moment is taken into the range of moments
+polled : (a b : Observed) (setup : Setup) (dispatch : Dispatch) (polls : ℕ) (result : Polled) (now : ℤ) (buf : List ℕ) → now ≡ pos (moment_of result.now) → Grows a b (PolledTurns result buf) →
+    IfObserved a (λ log. IsPromised (outside_of log) result.what) → IsWithinBuf result.what → length buf ≡ 4096 → AreBytes buf → Triple a b (IsBetweenRounds setup dispatch polls) (IsPolled setup dispatch polls now result.what buf)
+polled a b setup dispatch polls result now buf taken turns promise count long bytes =
+    rest-polled a b setup dispatch polls result.now now result.what buf (moment-taken result.now now taken) (λ scene. poll-triple scene result buf a b turns promise count long bytes)
+
+pub returns-in-Ok-Went-clause-triple : goal.returns-in-Ok-Went-clause-triple
+returns-in-Ok-Went-clause-triple g c = λ setup polls named.
     let same : to_z w64 (of_z w64 c.poll-now.result.now) ≡ c.poll-now.result.now = to_z-of_z w64 c.poll-now.result.now (assumption (c.poll-now.type_inv)) in
+    let taken : to_z w64 (of_z w64 c.to_moment-now.result) ≡ pos (moment_of c.poll-now.result.now) = to_z-of_z w64 c.to_moment-now.result (assumption (c.to_moment-now.type_inv)) ∙ c.to_moment-now.ensures.value ∙ ap (λ x. pos (moment_of x)) same in
     triple-then _ _ _ _ _ _
-    (rest-polled _ _ setup c.args.self.now.tills.items polls c.poll-now.result.now c.poll-now.result.what c.poll-now.new.buf
-    (λ scene. poll-triple scene c.poll-now.result c.poll-now.new.buf _ _ c.poll-now.ensures.turns c.poll-now.ensures.promise c.poll-now.ensures.count c.poll-now.ensures.buf c.on_event.ensures.bytes))
-    (triple-then _ _ _ _ _ _ (rw same at (c.on_event.ensures.triple setup polls named)) (event-round _ setup _ (polls + 1) c.on_event.result))
+    (polled _ _ setup c.args.self.now polls c.poll-now.result (to_z w64 (of_z w64 c.to_moment-now.result)) c.poll-now.new.buf taken c.poll-now.ensures.turns c.poll-now.ensures.promise c.poll-now.ensures.count c.poll-now.ensures.buf c.on_event.ensures.bytes)
+    (triple-then _ _ _ _ _ _ (rw c.in-Ok-Went.field-0-is at (c.in-Ok-Went.ensures.triple setup polls named))
+    (triple-after _ _ _ _ _ (c.on_due.ensures.triple setup c.on_event.new.self.tills.items (polls + 1))
+    (λ v q. handled-rest setup (record { replier = c.on_event.new.self.replier; tills = c.on_event.new.self.tills; pts = c.on_due.new.self }) (polls + 1) (to_z w64 (of_z w64 c.to_moment-now.result)) v q)))
+
+pub returns-in-Ok-Stopped-clause-triple : goal.returns-in-Ok-Stopped-clause-triple
+returns-in-Ok-Stopped-clause-triple g c = λ setup polls named.
+    let same : to_z w64 (of_z w64 c.poll-now.result.now) ≡ c.poll-now.result.now = to_z-of_z w64 c.poll-now.result.now (assumption (c.poll-now.type_inv)) in
+    let taken : to_z w64 (of_z w64 c.to_moment-now.result) ≡ pos (moment_of c.poll-now.result.now) = to_z-of_z w64 c.to_moment-now.result (assumption (c.to_moment-now.type_inv)) ∙ c.to_moment-now.ensures.value ∙ ap (λ x. pos (moment_of x)) same in
+    triple-then _ _ _ _ _ _
+    (polled _ _ setup c.args.self.now polls c.poll-now.result (to_z w64 (of_z w64 c.to_moment-now.result)) c.poll-now.new.buf taken c.poll-now.ensures.turns c.poll-now.ensures.promise c.poll-now.ensures.count c.poll-now.ensures.buf c.on_event.ensures.bytes)
+    (rw c.in-Ok-Stopped.field-0-is at (c.in-Ok-Stopped.ensures.triple setup polls named))
+
+pub returns-in-Err-clause-triple : goal.returns-in-Err-clause-triple
+returns-in-Err-clause-triple g c = λ setup polls named.
+    let same : to_z w64 (of_z w64 c.poll-now.result.now) ≡ c.poll-now.result.now = to_z-of_z w64 c.poll-now.result.now (assumption (c.poll-now.type_inv)) in
+    let taken : to_z w64 (of_z w64 c.to_moment-now.result) ≡ pos (moment_of c.poll-now.result.now) = to_z-of_z w64 c.to_moment-now.result (assumption (c.to_moment-now.type_inv)) ∙ c.to_moment-now.ensures.value ∙ ap (λ x. pos (moment_of x)) same in
+    triple-then _ _ _ _ _ _
+    (polled _ _ setup c.args.self.now polls c.poll-now.result (to_z w64 (of_z w64 c.to_moment-now.result)) c.poll-now.new.buf taken c.poll-now.ensures.turns c.poll-now.ensures.promise c.poll-now.ensures.count c.poll-now.ensures.buf c.on_event.ensures.bytes)
+    (c.in-Err.ensures.triple setup polls named)

@@ -1,0 +1,171 @@
+-- What the core remembers of its terminals: their settings, their links, and their tills.
+use Rattle.std.proofs.Common.{append-nil, ◌≡◌, ◌≤◌, ◌<◌, ◌+◌, ◌^◌, ◌++◌, ℕ, zero, suc, List, [], ◌∷◌, refl, sym, ◌∙◌, ap, subst, inl, inr, ◌⊎◌, arith}
+use Rattle.std.proofs.lemmas.List.{take_all, drop_all}
+use Rattle.std.specs.Prelude.{All, set, map, slice_get, get_or, take, drop, length, IfSome, Option, Some, None}
+use Rattle.std.proofs.lemmas.Option.{slice_get_read}
+use Rattle.gw_base.specs.Currency.{currency_number}
+use Rattle.gw_base.specs.Setup.{IsPt}
+use Rattle.gw_base.specs.declared.currency.Currency.{Currency}
+use Rattle.gw_base.specs.declared.currency.Currency.TheVariants.{Eur, Chf, Gbp, Usd, Dkk, Sek, Nok, Pln, Czk}
+use Rattle.gw_base.specs.declared.setup.Pt.{Pt}
+use Rattle.zvt_msg.specs.CommandGrammar.{HasCommandDigits}
+use Rattle.zvt_msg.specs.declared.command.Command.{Command}
+use Rattle.gw_owes.specs.Calls.{SendPt, Ask}
+use Rattle.gw_base.specs.declared.setup.Setup.{Setup}
+use Rattle.gw_owes.specs.Core.{Core as CoreValue, new_core, new_terminal}
+use Rattle.gw_owes.specs.Dialogues.{AllHaveDialogues, EachLinkGivesDialogues, HasItsDialogue, NewCoreHasDialogues}
+use Rattle.gw_owes.specs.Links.{LinkIsLost, LinkIsMade, link_row}
+use Rattle.gw_owes.specs.Row.{Known}
+use Rattle.gw_owes.specs.Terminals.{after_command, asker_of_lost, forgets_till, registration, reply_calls_to, reply_to_lost, with_terminal}
+use Rattle.gw_owes.specs.declared.terminal.Standing.{Standing}
+use Rattle.gw_owes.specs.declared.terminal.Standing.TheVariants.{Unlinked, Registering, Enquiring, Ready, Serving, Aside}
+use Rattle.gw_owes.specs.declared.terminal.Terminal.{Terminal}
+use Rattle.gw_core.specs.declared.act.Act.{Act}
+use Rattle.gw_core.specs.IsRow.{HaveSettings, IsRow, ServesNothing, act_calls, known_with}
+
+-- ---- settings
+
+same-some : (one other : Terminal) → Some one ≡ Some other → one ≡ other
+same-some one other same = cc
+
+-- after one terminal was replaced each is the new one, or was there before
+set-or-there : (all : List Terminal) (at other : ℕ) (new terminal : Terminal) → slice_get (set all at new) other ≡ Some terminal → (terminal ≡ new) ⊎ (slice_get all other ≡ Some terminal)
+set-or-there [] at other new terminal found = inr found
+set-or-there (first ∷ rest) zero zero new terminal found = inl (sym (same-some new terminal found))
+set-or-there (first ∷ rest) zero (suc other) new terminal found = inr found
+set-or-there (first ∷ rest) (suc at) zero new terminal found = inr found
+set-or-there (first ∷ rest) (suc at) (suc other) new terminal found = set-or-there rest at other new terminal found
+
+-- the settings stay where the new one has those of the old
+pub settings-stay : (all : List Terminal) (at : ℕ) (old new : Terminal) → HaveSettings all → slice_get all at ≡ Some old → new.pt ≡ old.pt → HaveSettings (set all at new)
+settings-stay all at old new have found same = λ other terminal there. by-case other terminal (set-or-there all at other new terminal there)
+  where
+    by-case : (other : ℕ) (terminal : Terminal) → (terminal ≡ new) ⊎ (slice_get all other ≡ Some terminal) → IsPt terminal.pt
+    by-case other terminal (inl is) = subst IsPt (sym (ap (λ (t : Terminal). t.pt) is ∙ same)) (have at old found)
+    by-case other terminal (inr there) = have other terminal there
+
+-- the terminals of a setup within its limits have theirs as a run begins
+pub new-have-settings : (pts : List Pt) → All IsPt pts → HaveSettings (map new_terminal pts)
+new-have-settings pts each = λ number terminal there. in-list pts each number terminal there
+  where
+    in-list : (pts : List Pt) → All IsPt pts → (number : ℕ) (terminal : Terminal) → slice_get (map new_terminal pts) number ≡ Some terminal → IsPt terminal.pt
+    in-list [] each number terminal there = absurd cc
+    in-list (pt ∷ pts) each zero terminal there = subst (λ (t : Terminal). IsPt t.pt) (same-some (new_terminal pt) terminal there) (each 0 pt (omega arith))
+    in-list (pt ∷ pts) each (suc number) terminal there = in-list pts (λ k d within. each (suc k) d (omega arith)) number terminal there
+
+-- the registration of a terminal within its limits can be written
+pub registration-writable : (pt : Pt) → IsPt pt → HasCommandDigits (registration pt)
+registration-writable pt within = (within.password.1, by-currency pt.currency)
+  where
+    by-currency : (currency : Currency) → currency_number currency < 100 ^ 2
+    by-currency Eur = omega arith
+    by-currency Chf = omega arith
+    by-currency Gbp = omega arith
+    by-currency Usd = omega arith
+    by-currency Dkk = omega arith
+    by-currency Sek = omega arith
+    by-currency Nok = omega arith
+    by-currency Pln = omega arith
+    by-currency Czk = omega arith
+
+-- ---- one terminal
+
+-- a terminal that was read is there
+pub found-at : (items : List Terminal) (held : CoreValue) (pt at : ℕ) (terminal : Terminal) → held.terminals ≡ items → pt < length held.terminals → at ≡ pt → terminal ≡ get_or items at terminal → slice_get items pt ≡ Some terminal
+found-at items held pt at terminal held_is within at_is is =
+    slice_get_read items (length items) pt terminal refl (subst (λ (all : List Terminal). pt < length all) held_is within) (subst (λ n. terminal ≡ get_or items n terminal) at_is is)
+
+-- a terminal that is there serves nothing, where this is said of it
+pub serves-at : (items : List Terminal) (held : CoreValue) (pt : ℕ) (terminal : Terminal) → held.terminals ≡ items → slice_get items pt ≡ Some terminal
+    → IfSome (slice_get held.terminals pt) (λ (one : Terminal). ServesNothing one.standing) → ServesNothing terminal.standing
+serves-at items held pt terminal held_is found serves =
+    subst (λ (o : Option Terminal). IfSome o (λ (one : Terminal). ServesNothing one.standing)) (ap (λ (all : List Terminal). slice_get all pt) held_is ∙ found) serves
+
+-- so does one that takes another's place
+pub new-serves : (items : List Terminal) (pt : ℕ) (new : Terminal) → ServesNothing new.standing → IfSome (slice_get (set items pt new) pt) (λ (one : Terminal). ServesNothing one.standing)
+new-serves [] pt new serves = tt
+new-serves (first ∷ rest) zero new serves = serves
+new-serves (first ∷ rest) (suc pt) new serves = new-serves rest pt new serves
+
+-- as a run begins each serves nothing
+pub begins-serving-nothing : (pts : List Pt) (number : ℕ) → IfSome (slice_get (map new_terminal pts) number) (λ (one : Terminal). ServesNothing one.standing)
+begins-serving-nothing [] number = tt
+begins-serving-nothing (pt ∷ pts) zero = tt
+begins-serving-nothing (pt ∷ pts) (suc number) = begins-serving-nothing pts number
+
+-- where each has the dialogue of its standing the one of a number has it
+pub dialogue-at : (core : CoreValue) (number : ℕ) → AllHaveDialogues core → IfSome (slice_get core.terminals number) HasItsDialogue
+dialogue-at core number all = by-found (slice_get core.terminals number) refl
+  where
+    by-found : (found : Option Terminal) → slice_get core.terminals number ≡ found → IfSome found HasItsDialogue
+    by-found None is = tt
+    by-found (Some terminal) is = all number terminal is
+
+-- so it is after a link of the first run is made
+pub linked-has-dialogue : (setup : Setup) (number : ℕ) (core : CoreValue) (wanted : Option Act) → NewCoreHasDialogues → EachLinkGivesDialogues
+    → IsRow (link_row (known_with setup [] (new_core setup) 0) number LinkIsMade) core wanted → IfSome (slice_get core.terminals number) HasItsDialogue
+linked-has-dialogue setup number core wanted new links row =
+    subst (λ (after : CoreValue). IfSome (slice_get after.terminals number) HasItsDialogue) (sym row.core_is)
+    (dialogue-at (link_row (known_with setup [] (new_core setup) 0) number LinkIsMade).core number (links (known_with setup [] (new_core setup) 0) number LinkIsMade (λ other terminal apart found. new setup other terminal found)))
+
+-- ---- a link
+
+-- a terminal whose link is made registers
+pub made-row : (known : Known) (pt : ℕ) (old new : Terminal) (command : Command) (wanted : Act) → slice_get known.core.terminals pt ≡ Some old → command ≡ registration old.pt
+    → new ≡ after_command (record old { awaited = 0 }) command Registering known.moment → act_calls wanted ≡ SendPt pt (Ask command) ∷ []
+    → IsRow (link_row known pt LinkIsMade) (with_terminal known.core pt new) (Some wanted)
+made-row known pt old new command wanted found is becomes wants = rw found (record {
+  core_is = ap (with_terminal known.core pt) (becomes ∙ ap (λ c. after_command (record old { awaited = 0 }) c Registering known.moment) is);
+  calls_are = ap (λ calls. calls ++ []) wants ∙ ap (λ c. SendPt pt (Ask c) ∷ []) is;
+  items_are = refl;
+})
+
+-- a terminal that serves nothing, and whose link isn't there, owes nothing
+pub lost-row : (known : Known) (pt : ℕ) (old : Terminal) → slice_get known.core.terminals pt ≡ Some old → ServesNothing old.standing
+    → IsRow (link_row known pt LinkIsLost) (with_terminal known.core pt (record old { standing = Unlinked (Some (known.moment + 5)); talk = None; awaited = 0 })) None
+lost-row known pt old found serves = rw found (record {
+  core_is = ap (λ asker. with_terminal known.core pt (record old { standing = Unlinked (Some (known.moment + 5)); talk = None; awaited = 0; asker = asker })) (sym (same-asker old.asker old.standing serves));
+  calls_are = sym (no-reply old.asker old.standing serves);
+  items_are = refl;
+})
+  where
+    same-asker : (asker : Option ℕ) (standing : Standing) → ServesNothing standing → asker_of_lost asker standing ≡ asker
+    same-asker asker (Unlinked due) serves = refl
+    same-asker asker Registering serves = refl
+    same-asker asker Enquiring serves = refl
+    same-asker asker (Ready last) serves = refl
+    same-asker asker (Serving service last) serves = absurd serves
+    same-asker asker (Aside before reported) serves = refl
+
+    none-to : (asker : Option ℕ) → reply_calls_to asker None ≡ []
+    none-to None = refl
+    none-to (Some till) = refl
+
+    no-reply : (asker : Option ℕ) (standing : Standing) → ServesNothing standing → reply_calls_to asker (reply_to_lost standing) ≡ []
+    no-reply asker (Unlinked due) serves = none-to asker
+    no-reply asker Registering serves = none-to asker
+    no-reply asker Enquiring serves = none-to asker
+    no-reply asker (Ready last) serves = none-to asker
+    no-reply asker (Serving service last) serves = absurd serves
+    no-reply asker (Aside before reported) serves = none-to asker
+
+-- ---- a till that is gone
+
+-- a loop over all of them has changed each
+pub all-mapped : (f : Terminal → Terminal) (items from now : List Terminal) (at : ℕ) → from ≡ items → length from ≤ at → now ≡ map f (take at from) ++ drop at from → now ≡ map f items
+all-mapped f items from now at from_is past is =
+    is ∙ ap (λ (l : List Terminal). map f l ++ drop at from) (take_all at from past) ∙ ap (λ (l : List Terminal). map f from ++ l) (drop_all at from past) ∙ append-nil (map f from) ∙ ap (map f) from_is
+
+-- what was written back over as many as there were is what is there
+pub written-back : (items new : List Terminal) (len : ℕ) → length new ≡ length items → len ≡ length items → take len (new ++ drop (length new) items) ≡ new
+written-back items new len same len_is =
+    ap (λ (l : List Terminal). take len (new ++ l)) (drop_all (length new) items (omega arith)) ∙ ap (take len) (append-nil new) ∙ take_all len new (omega arith)
+
+-- the settings stay where a till is forgotten
+pub forgotten-have-settings : (all : List Terminal) (till : ℕ) → HaveSettings all → HaveSettings (map (forgets_till till) all)
+forgotten-have-settings all till have = λ number terminal there. in-list all have number terminal there
+  where
+    in-list : (all : List Terminal) → HaveSettings all → (number : ℕ) (terminal : Terminal) → slice_get (map (forgets_till till) all) number ≡ Some terminal → IsPt terminal.pt
+    in-list [] have number terminal there = absurd cc
+    in-list (first ∷ rest) have zero terminal there = subst (λ (t : Terminal). IsPt t.pt) (same-some (forgets_till till first) terminal there) (have 0 first refl)
+    in-list (first ∷ rest) have (suc number) terminal there = in-list rest (λ n t found. have (suc n) t found) number terminal there

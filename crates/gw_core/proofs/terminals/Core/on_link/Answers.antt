@@ -1,0 +1,51 @@
+-- Proof of the contract of `on_link`.
+use Rattle.std.proofs.Common.{ap, sym, ◌≡◌, [], refl, rules, tests}
+use Rattle.std.specs.Prelude.{slice_get, Some}
+use Rattle.std.proofs.lemmas.Int.{to_z-of_z}
+use Rattle.std.proofs.lemmas.List.{length-set}
+use Rattle.gw_base.specs.Moment.{moment_of}
+use Rattle.gw_owes.specs.Core.{Core as CoreValue}
+use Rattle.gw_owes.specs.declared.terminal.Terminal.{Terminal}
+use Rattle.gw_core.specs.IsRow.{known_with}
+use Rattle.gw_core.proofs.CoreLemmas.{settings-stay, found-at, serves-at, made-row, lost-row, registration-writable}
+use Rattle.gw_core.proofs.terminals.Core.on_link.Goals as goal
+
+pub returns-then-up-clause-row : goal.returns-then-up-clause-row
+returns-then-up-clause-row c = λ setup kept.
+    let core : CoreValue = record { terminals = c.self.inside.terminals.items; waits = []; logged_out = []; device_requests = 0 } in
+    let terminal : Terminal = c.index_mut-terminal.result.now in
+    let found : slice_get core.terminals c.args.pt ≡ Some terminal = found-at core.terminals c.args.self.now c.args.pt c.from.result terminal (sym (ap (λ (held : CoreValue). held.terminals) c.self.view_is)) c.requires.there c.from.ensures c.index_mut-terminal.ensures.value in
+    rw (← c.self.view_is, c.from.ensures, c.if-up.true)
+    (made-row (known_with setup kept core (moment_of c.args.now)) c.args.pt terminal c.ask.new.terminal c.registration-command.result c.ask.result found c.registration-command.ensures
+    (simp (to_z-of_z, c.ranges.now) at c.ask.ensures.asked) c.ask.ensures.act)
+
+pub returns-then-up-clause-wanted : goal.returns-then-up-clause-wanted
+returns-then-up-clause-wanted c =
+    let items = c.self.inside.terminals.items in
+    let terminal : Terminal = c.index_mut-terminal.result.now in
+    let found : slice_get items c.args.pt ≡ Some terminal = found-at items c.args.self.now c.args.pt c.from.result terminal (sym (ap (λ (held : CoreValue). held.terminals) c.self.view_is)) c.requires.there c.from.ensures c.index_mut-terminal.ensures.value in
+    c.ask.ensures.wanted (rw c.registration-command.ensures (registration-writable terminal.pt (c.self.invariant.1 c.args.pt terminal found)))
+
+pub invariant_of-self : goal.invariant_of-self
+invariant_of-self c =
+    let items = c.self.inside.terminals.items in
+    let terminal : Terminal = c.index_mut-terminal.result.now in
+    let found : slice_get items c.args.pt ≡ Some terminal = found-at items c.args.self.now c.args.pt c.from.result terminal (sym (ap (λ (held : CoreValue). held.terminals) c.self.view_is)) c.requires.there c.from.ensures c.index_mut-terminal.ensures.value in
+    rw c.from.ensures (rw length-set c.self.invariant.0, settings-stay items c.args.pt terminal c.ask.new.terminal c.self.invariant.1 found (ap (λ (t : Terminal). t.pt) c.ask.ensures.asked))
+
+pub invariant_of-self-2 : goal.invariant_of-self-2
+invariant_of-self-2 c =
+    let items = c.self.inside.terminals.items in
+    let terminal : Terminal = c.index_mut-terminal.result.now in
+    let found : slice_get items c.args.pt ≡ Some terminal = found-at items c.args.self.now c.args.pt c.from.result terminal (sym (ap (λ (held : CoreValue). held.terminals) c.self.view_is)) c.requires.there c.from.ensures c.index_mut-terminal.ensures.value in
+    rw c.from.ensures (rw length-set c.self.invariant.0, settings-stay items c.args.pt terminal _ c.self.invariant.1 found refl)
+
+pub returns-clause-row : goal.returns-clause-row
+returns-clause-row c = λ setup kept.
+    let core : CoreValue = record { terminals = c.self.inside.terminals.items; waits = []; logged_out = []; device_requests = 0 } in
+    let terminal : Terminal = c.index_mut-terminal.result.now in
+    let held : c.args.self.now.terminals ≡ core.terminals = sym (ap (λ (held : CoreValue). held.terminals) c.self.view_is) in
+    let found : slice_get core.terminals c.args.pt ≡ Some terminal = found-at core.terminals c.args.self.now c.args.pt c.from.result terminal held c.requires.there c.from.ensures c.index_mut-terminal.ensures.value in
+    let due : c.unsigned_abs.result ≡ moment_of c.args.now = search (rules, tests) in
+    rw (← c.self.view_is, c.from.ensures, c.if-up.false, due)
+    (lost-row (known_with setup kept core (moment_of c.args.now)) c.args.pt terminal found (serves-at core.terminals c.args.self.now c.args.pt terminal held found c.requires.unserved))

@@ -1,0 +1,214 @@
+-- Which terminals are linked after what their items and links leave of them, and which rows link one.
+use Rattle.std.proofs.Common.{◌≡◌, ◌≢◌, ◌<◌, ℕ, zero, suc, List, [], ◌∷◌, length, refl, sym, ◌∙◌, ap, subst, arith, Bool, true, false}
+use Rattle.std.proofs.lemmas.Bool.{eqb-true, eqb-false, ne_eqb, eq-eqb}
+use Rattle.std.specs.Prelude.{◌==◌, ◌++◌, ◌||◌, if◌then◌else◌, nat_le, set, slice_get, Option, Some, None}
+use Rattle.gw_site.specs.Outside.{Connection, Outside, outside_after, is_connected, without, new_connection}
+use Rattle.gw_site.specs.declared.turn.Turn.TheVariants.{Linked, CutPt as PtCut}
+use Rattle.zvt_msg.specs.Message.{MessageValue, Ack, Nack, Intermediate, Line, Block, Status, Completion, Abort, Other}
+use Rattle.zvt_talk.specs.declared.meaning.Heard.{Heard}
+use Rattle.zvt_talk.specs.declared.meaning.Heard.TheVariants as heard
+use Rattle.zvt_talk.specs.Came.{is_taken}
+use Rattle.gw_owes.specs.Calls.{OwedCall, SendPt, CutPt, Ask}
+use Rattle.gw_owes.specs.Core.{Core}
+use Rattle.gw_owes.specs.declared.terminal.Standing.{Standing}
+use Rattle.gw_owes.specs.declared.terminal.Standing.TheVariants.{Unlinked, Registering, Enquiring, Ready, Serving, Aside}
+use Rattle.gw_owes.specs.declared.terminal.Terminal.{Terminal}
+use Rattle.gw_owes.specs.Row.{Known, Row, owing, owing_where}
+use Rattle.gw_owes.specs.Terminals.{terminal_at, of_terminal, terminal_becomes, after_command, unlinks, unlinked_terminal}
+use Rattle.gw_owes.specs.Links.{is_linked, cutting, LinkIsMade, LinkIsLost, link_row}
+use Rattle.gw_owes.specs.Greeting.{greeting, sending_calls, greeted_row}
+use Rattle.gw_owes.specs.Handling.{taking, meaning_at, enquiry_command, registering, enquiring, serving, consequence, handle_message, handled_row}
+use Rattle.gw_owes.specs.Reports.{standing_reported}
+use Rattle.gw_owes.specs.Deadlines.{late_row, is_late}
+use Rattle.gw_owes.specs.TerminalLaws.{ChangesTerminalAlone}
+use Rattle.gw_owes.proofs.HandlingLemmas.{each-terminal, each-linked}
+use Rattle.gw_owes.proofs.SetLemmas.{new-is-there}
+use Rattle.gw_owes.proofs.TerminalLemmas.{link-changes-alone}
+use Rattle.gw_dispatch.specs.MidRound.{AreLinked, is_linked_in}
+use Rattle.gw_dispatch.specs.Wanted.{owes_link}
+use Rattle.gw_dispatch.proofs.HeardLemmas.{cut-there, cut-others}
+
+-- ---- terminals that are linked as they were
+
+-- each terminal is linked exactly where it was before
+abbrev pub LinksStay : Core → Core → Type 0
+LinksStay old new = (number : ℕ) → is_linked_in (slice_get new.terminals number) ≡ is_linked_in (slice_get old.terminals number)
+
+-- the row leaves each terminal linked or not as it was, and links none
+pub record KeepsLinks (core : Core) (row : Row) : Type 0 where
+  pub stay : LinksStay core row.core
+  pub none : owes_link row.calls ≡ false
+
+set-linked : (all : List Terminal) (at number : ℕ) (old new : Terminal) → slice_get all at ≡ Some old → is_linked new.standing ≡ is_linked old.standing
+    → is_linked_in (slice_get (set all at new) number) ≡ is_linked_in (slice_get all number)
+set-linked [] at number old new found same = refl
+set-linked (first ∷ rest) zero zero old new found same = same ∙ ap is_linked_in (sym found)
+set-linked (first ∷ rest) zero (suc number) old new found same = refl
+set-linked (first ∷ rest) (suc at) zero old new found same = refl
+set-linked (first ∷ rest) (suc at) (suc number) old new found same = set-linked rest at number old new found same
+
+becomes-keeps : (known : Known) (number : ℕ) (old new : Terminal) (calls : List OwedCall) → terminal_at known number ≡ Some old → is_linked new.standing ≡ is_linked old.standing → owes_link calls ≡ false
+    → KeepsLinks known.core (terminal_becomes known number new calls)
+becomes-keeps known number old new calls found same none = record { stay = λ other. set-linked known.core.terminals number other old new found same; none = none }
+
+owing-keeps : (known : Known) (calls : List OwedCall) → owes_link calls ≡ false → KeepsLinks known.core (owing known calls)
+owing-keeps known calls none = record { stay = λ other. refl; none = none }
+
+-- ---- what a message leaves
+
+reported-linked : (least reported : ℕ) → is_linked (standing_reported least reported) ≡ true
+reported-linked least reported = by_test (nat_le least reported)
+  where
+    by_test : (test : Bool) → is_linked (if test then Ready reported else Aside least reported) ≡ true
+    by_test true = refl
+    by_test false = refl
+
+module _ (known : Known) (number : ℕ) (old : Terminal) (found : terminal_at known number ≡ Some old) (linked : is_linked old.standing ≡ true) (terminal : Terminal) (same : terminal.standing ≡ old.standing) where
+  stays : (calls : List OwedCall) → owes_link calls ≡ false → KeepsLinks known.core (terminal_becomes known number terminal calls)
+  stays calls none = becomes-keeps known number old terminal calls found (ap is_linked same) none
+
+  registering-keeps : (meant : Heard) → KeepsLinks known.core (registering known number terminal meant)
+  registering-keeps (heard.Begun stop) = stays [] refl
+  registering-keeps (heard.Note intermediate_status) = stays [] refl
+  registering-keeps heard.Line = stays [] refl
+  registering-keeps heard.Block = stays [] refl
+  registering-keeps heard.Seen = stays [] refl
+  registering-keeps (heard.Approved figures) = stays [] refl
+  registering-keeps heard.Done = becomes-keeps known number old (after_command terminal (enquiry_command terminal.pt) Enquiring known.moment) (SendPt number (Ask (enquiry_command terminal.pt)) ∷ []) found (sym linked) refl
+  registering-keeps (heard.Told reported approved result_code) = stays [] refl
+  registering-keeps (heard.Declined result_code reported) = stays (CutPt number ∷ []) refl
+  registering-keeps heard.Unclear = stays (CutPt number ∷ []) refl
+  registering-keeps heard.Stray = stays [] refl
+
+  enquiring-keeps : (meant : Heard) → KeepsLinks known.core (enquiring known number terminal meant)
+  enquiring-keeps (heard.Begun stop) = stays [] refl
+  enquiring-keeps (heard.Note intermediate_status) = stays [] refl
+  enquiring-keeps heard.Line = stays [] refl
+  enquiring-keeps heard.Block = stays [] refl
+  enquiring-keeps heard.Seen = stays [] refl
+  enquiring-keeps (heard.Approved figures) = stays [] refl
+  enquiring-keeps heard.Done = stays [] refl
+  enquiring-keeps (heard.Told reported approved result_code) =
+      becomes-keeps known number old (record terminal { standing = standing_reported 0 reported; talk = None }) [] found (reported-linked 0 reported ∙ sym linked) refl
+  enquiring-keeps (heard.Declined result_code reported) = stays (CutPt number ∷ []) refl
+  enquiring-keeps heard.Unclear = stays (CutPt number ∷ []) refl
+  enquiring-keeps heard.Stray = stays [] refl
+
+  serving-keeps : (meant : Heard) → KeepsLinks known.core (serving known number terminal meant)
+  serving-keeps (heard.Begun true) = becomes-keeps known number old _ _ found (ap is_linked same) refl
+  serving-keeps (heard.Begun false) = stays [] refl
+  serving-keeps (heard.Note intermediate_status) = stays [] refl
+  serving-keeps heard.Line = stays [] refl
+  serving-keeps heard.Block = stays [] refl
+  serving-keeps heard.Seen = stays [] refl
+  serving-keeps (heard.Approved figures) = stays [] refl
+  serving-keeps heard.Done = stays [] refl
+  serving-keeps (heard.Told reported approved result_code) = stays [] refl
+  serving-keeps (heard.Declined result_code reported) = stays [] refl
+  serving-keeps heard.Unclear = stays (CutPt number ∷ []) refl
+  serving-keeps heard.Stray = stays [] refl
+
+  consequence-keeps : (meant : Heard) (standing : Standing) → KeepsLinks known.core (consequence known number terminal meant standing)
+  consequence-keeps meant (Unlinked due) = owing-keeps known [] refl
+  consequence-keeps meant Registering = registering-keeps meant
+  consequence-keeps meant Enquiring = enquiring-keeps meant
+  consequence-keeps meant (Ready last) = stays [] refl
+  consequence-keeps meant (Serving service last) = serving-keeps meant
+  consequence-keeps meant (Aside before reported) = stays [] refl
+
+where-keeps : (there : Bool) (known : Known) (row : Row) → KeepsLinks known.core row → KeepsLinks known.core (owing_where there known row)
+where-keeps true known row kept = kept
+where-keeps false known row kept = owing-keeps known [] refl
+
+-- a message that was acknowledged or refused
+pub handled-keeps : (known : Known) (number : ℕ) (message : MessageValue) → KeepsLinks known.core (handled_row known number message)
+handled-keeps known number message =
+    each-linked (KeepsLinks known.core) known number (λ terminal. handle_message known number terminal message) (owing-keeps known [] refl)
+    (λ terminal found linked. where-keeps (is_taken message) known (consequence known number (taking terminal message known.moment) (meaning_at terminal message) terminal.standing)
+    (consequence-keeps known number terminal found linked (taking terminal message known.moment) refl (meaning_at terminal message) terminal.standing))
+
+sending-keeps : (number : ℕ) (message : MessageValue) → owes_link (sending_calls number (greeting message)) ≡ false
+sending-keeps number Ack = refl
+sending-keeps number (Nack error_code) = refl
+sending-keeps number (Intermediate intermediate_status) = refl
+sending-keeps number (Line text) = refl
+sending-keeps number (Block objects) = refl
+sending-keeps number (Status fields) = refl
+sending-keeps number Completion = refl
+sending-keeps number (Abort result_code) = refl
+sending-keeps number Other = refl
+
+-- its greeting
+pub greeted-keeps : (known : Known) (number : ℕ) (message : MessageValue) → KeepsLinks known.core (greeted_row known number message)
+greeted-keeps known number message =
+    each-linked (KeepsLinks known.core) known number (λ terminal. owing known (sending_calls number (greeting message))) (owing-keeps known [] refl)
+    (λ terminal found linked. owing-keeps known (sending_calls number (greeting message)) (sending-keeps number message))
+
+-- a silence
+pub late-keeps : (known : Known) (number : ℕ) → KeepsLinks known.core (late_row known number)
+late-keeps known number =
+    each-terminal (KeepsLinks known.core) known number (λ terminal. owing_where (is_late known.moment terminal.talk) known (cutting known number)) (owing-keeps known [] refl)
+    (λ terminal found. where-keeps (is_late known.moment terminal.talk) known (cutting known number) (owing-keeps known (CutPt number ∷ []) refl))
+
+-- ---- the links of the log
+
+new-there : (connections : List Connection) (number : ℕ) → is_connected (connections ++ new_connection number ∷ []) number ≡ true
+new-there [] number = rw (eq-eqb number number refl) refl
+new-there (connection ∷ connections) number = by_test (connection.number == number) refl (new-there connections number)
+  where
+    by_test : (test : Bool) → (connection.number == number) ≡ test → is_connected (connections ++ new_connection number ∷ []) number ≡ true → is_connected (connection ∷ (connections ++ new_connection number ∷ [])) number ≡ true
+    by_test true e h = rw e refl
+    by_test false e h = rw e h
+
+new-others : (connections : List Connection) (number other : ℕ) → other ≢ number → is_connected (connections ++ new_connection number ∷ []) other ≡ is_connected connections other
+new-others [] number other apart = rw (ne_eqb number other (λ same. apart (sym same))) refl
+new-others (connection ∷ connections) number other apart = ap (λ found. (connection.number == other) || found) (new-others connections number other apart)
+
+-- of the terminals one is changed, and of the links its own
+one-changes : (old new : Core) (pt : ℕ) (before after : Outside) → ChangesTerminalAlone pt old new → ((other : ℕ) → other ≢ pt → is_connected after.links other ≡ is_connected before.links other)
+    → is_connected after.links pt ≡ is_linked_in (slice_get new.terminals pt) → AreLinked old before → AreLinked new after
+one-changes old new pt before after alone others own linked number = by_test (number == pt) refl
+  where
+    by_test : (test : Bool) → (number == pt) ≡ test → is_connected after.links number ≡ is_linked_in (slice_get new.terminals number)
+    by_test true e = subst (λ n. is_connected after.links n ≡ is_linked_in (slice_get new.terminals n)) (sym (eqb-true number pt e)) own
+    by_test false e =
+        let apart : number ≢ pt = eqb-false number pt e in
+        others number apart ∙ linked number ∙ ap is_linked_in (sym (alone.others number apart))
+
+-- ---- what a link leaves
+
+lost-unlinked : (known : Known) (number : ℕ) (found : Option Terminal) → terminal_at known number ≡ found → is_linked_in (slice_get (of_terminal known (unlinks known number) found).core.terminals number) ≡ false
+lost-unlinked known number None none = ap is_linked_in none
+lost-unlinked known number (Some terminal) some = ap is_linked_in (new-is-there known.core.terminals number terminal (unlinked_terminal terminal known.moment) some)
+
+made-linked : (known : Known) (number : ℕ) (terminal : Terminal) → terminal_at known number ≡ Some terminal → is_linked_in (slice_get (link_row known number LinkIsMade).core.terminals number) ≡ true
+made-linked known number terminal found = rw found (ap is_linked_in (new-is-there known.core.terminals number terminal _ found))
+
+-- there is a terminal of each number below their count
+pub one-there : (all : List Terminal) (at : ℕ) → at < length all → (terminal : Terminal) × (slice_get all at ≡ Some terminal)
+one-there [] at inside = absurd (omega arith)
+one-there (first ∷ rest) zero inside = (first, refl)
+one-there (first ∷ rest) (suc at) inside = one-there rest at (omega arith)
+
+-- after the loss of its link a terminal isn't linked
+pub lost-is-unlinked : (known : Known) (number : ℕ) → is_linked_in (slice_get (link_row known number LinkIsLost).core.terminals number) ≡ false
+lost-is-unlinked known number = lost-unlinked known number (terminal_at known number) refl
+
+-- the links after a cut
+pub cut-linked : (known : Known) (number : ℕ) (o : Outside) → AreLinked known.core o → AreLinked (link_row known number LinkIsLost).core (outside_after o (PtCut number))
+cut-linked known number o linked =
+    one-changes known.core (link_row known number LinkIsLost).core number o (outside_after o (PtCut number)) (link-changes-alone known number LinkIsLost) (λ other apart. cut-others o.links number other apart)
+    (cut-there o.links number ∙ sym (lost-is-unlinked known number)) linked
+
+-- after a link that was made
+pub made-linked-so : (known : Known) (number : ℕ) (o : Outside) → number < length known.core.terminals → AreLinked known.core o → AreLinked (link_row known number LinkIsMade).core (outside_after o (Linked number))
+made-linked-so known number o inside linked =
+    let there = one-there known.core.terminals number inside in
+    one-changes known.core (link_row known number LinkIsMade).core number o (outside_after o (Linked number)) (link-changes-alone known number LinkIsMade)
+    (λ other apart. new-others (without o.links number) number other apart ∙ cut-others o.links number other apart)
+    (new-there (without o.links number) number ∙ sym (made-linked known number there.0 there.1)) linked
+
+-- and after one that could not be made, of a terminal that isn't linked
+pub failed-linked : (known : Known) (number : ℕ) (o : Outside) → is_linked_in (slice_get known.core.terminals number) ≡ false → AreLinked known.core o → AreLinked (link_row known number LinkIsLost).core o
+failed-linked known number o unlinked linked =
+    one-changes known.core (link_row known number LinkIsLost).core number o o (link-changes-alone known number LinkIsLost) (λ other apart. refl) (linked number ∙ unlinked ∙ sym (lost-is-unlinked known number)) linked

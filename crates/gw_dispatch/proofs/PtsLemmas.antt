@@ -1,0 +1,527 @@
+-- The terminals of a run: their links, what their readers hold, and their items.
+use Rattle.std.proofs.Common.{◌≡◌, ℕ, zero, suc, ◌+◌, ◌-◌, ◌<◌, ◌≤◌, List, [], ◌∷◌, ◌++◌, length, get_or, set, refl, sym, ◌∙◌, ap, subst, arith, append_assoc, inl, inr}
+use Rattle.std.specs.Prelude.{◌≢◌, ℤ, ◌==◌, if◌then◌else◌, Bool, true, false, IfSome, Option, Some, None, slice_get, replicate}
+use Rattle.std.specs.List.{flat_map}
+use Rattle.std.specs.Option.{option_map}
+use Rattle.std.proofs.lemmas.Bool.{cases_eq, eq-eqb, ne_eqb, eqb-true, eqb-false}
+use Rattle.std.proofs.lemmas.List.{length-set, length-map, length-replicate}
+use Rattle.std.proofs.lemmas.Option.{slice_get-map, slice_get-get_or, get_or_from_slice_get}
+use Rattle.gw_base.specs.declared.setup.Setup.{Setup}
+use Rattle.gw_site.specs.Observed.{Observed}
+use Rattle.gw_site.specs.Outside.{Outside, outside_after, is_connected, heard_on, hears, without}
+use Rattle.gw_site.specs.declared.turn.Turn.TheVariants.{HeardPt, Lost}
+use Rattle.jrn_record.specs.declared.records.Record.{Record}
+use Rattle.zvt_apdu.specs.Grammar.{ApduValue}
+use Rattle.zvt_apdu.specs.Decode.{DecodedApdu, decode_apdu}
+use Rattle.zvt_apdu.specs.DecodeStream.{decode_apdus}
+use Rattle.gw_owes.specs.declared.terminal.Standing.{Standing}
+use Rattle.gw_owes.specs.declared.terminal.Standing.TheVariants.{Unlinked, Registering, Enquiring, Ready, Serving, Aside}
+use Rattle.gw_owes.specs.declared.terminal.Terminal.{Terminal}
+use Rattle.gw_owes.specs.Calls.{LinkPt}
+use Rattle.gw_owes.specs.Core.{Core, new_core}
+use Rattle.gw_owes.specs.Deadlines.{is_due}
+use Rattle.gw_owes.specs.Dialogues.{IsDialogueOf, HasItsDialogue, AllHaveDialogues}
+use Rattle.gw_owes.specs.Events.{apdu_items, is_oversized}
+use Rattle.gw_owes.specs.Items.{RoundItem, Greet, Handle, NextWaiting, Oversized, LinkLost, Due}
+use Rattle.gw_owes.specs.Links.{is_linked, LinkIsLost, link_row}
+use Rattle.gw_owes.specs.Row.{Known, Row, owing, owing_nothing, owing_where, becoming}
+use Rattle.gw_owes.specs.TerminalLaws.{IsOwedNothing}
+use Rattle.gw_owes.specs.Terminals.{terminal_at, of_terminal, unlinks, unlinked_terminal, reply_calls_to, reply_to_lost, core_without, forgets_till}
+use Rattle.gw_owes.proofs.DialogueLemmas.{links-give, new-has}
+use Rattle.gw_owes.proofs.SetLemmas.{others-stay, new-is-there}
+use Rattle.gw_owes.proofs.TerminalLemmas.{unlinked-owes-nothing, absent-owes-nothing, link-changes-alone}
+use Rattle.gw_rules.specs.Triple.{Triple}
+use Rattle.gw_rules.specs.View.{View, at_first}
+use Rattle.gw_rules.proofs.TripleLemmas.{triple-refl, triple-then, triple-after, triple-before, triple-frame, triple-some}
+use Rattle.gw_core.specs.IsRow.{ServesNothing}
+use Rattle.gw_dispatch.specs.Apdus.{items_held, IsRest}
+use Rattle.gw_dispatch.specs.MidRound.{is_linked_in, AreLinked, AllHear, AreHeard, AreReady, MidRound, BeforePt, BeforePtChunk, BeforePtClosed, each_terminal}
+use Rattle.gw_dispatch.specs.Round.{InRound, HoldsTills, known_at}
+use Rattle.gw_dispatch.specs.declared.tills.Till.{Till}
+use Rattle.gw_dispatch.proofs.ApduLemmas.{items-apdu, items-oversized, items-waiting, rest-chunk, rest-waiting}
+use Rattle.gw_dispatch.proofs.EngineLemmas.{begin-first, pass}
+use Rattle.gw_dispatch.proofs.HeardLemmas.{cut-there, cut-others, cut-heard, hears-there, hears-here, hears-others}
+
+-- ---- what is remembered of a terminal
+
+-- a terminal with the dialogue of its standing serves nothing
+serves-nothing : (terminal : Terminal) (standing : Standing) → terminal.standing ≡ standing → HasItsDialogue terminal → ServesNothing standing
+serves-nothing terminal (Unlinked due) e has = tt
+serves-nothing terminal Registering e has = tt
+serves-nothing terminal Enquiring e has = tt
+serves-nothing terminal (Ready last) e has = tt
+serves-nothing terminal (Serving service last) e has = absurd (subst (λ standing. IsDialogueOf standing terminal.talk terminal.awaited) e has)
+serves-nothing terminal (Aside before reported) e has = tt
+
+pub all-serve-nothing : (core : Core) (pt : ℕ) → AllHaveDialogues core → IfSome (slice_get core.terminals pt) (λ (terminal : Terminal). ServesNothing terminal.standing)
+all-serve-nothing core pt all = by_terminal (slice_get core.terminals pt) refl
+  where
+    by_terminal : (found : Option Terminal) → slice_get core.terminals pt ≡ found → IfSome found (λ (terminal : Terminal). ServesNothing terminal.standing)
+    by_terminal None e = tt
+    by_terminal (Some terminal) e = serves-nothing terminal terminal.standing refl (all pt terminal e)
+
+-- whether the terminal is linked, as the code asks
+pub linked-is : (terminals : List Terminal) (pt : ℕ) (linked : Bool) → pt < length terminals → IfSome (slice_get terminals pt) (λ (terminal : Terminal). linked ≡ is_linked terminal.standing) → is_linked_in (slice_get terminals pt) ≡ linked
+linked-is [] pt linked inside asked = absurd (omega arith)
+linked-is (terminal ∷ terminals) zero linked inside asked = sym asked
+linked-is (terminal ∷ terminals) (suc pt) linked inside asked = linked-is terminals pt linked (omega arith) asked
+
+-- one that is linked is there
+linked-there : (terminals : List Terminal) (pt : ℕ) → is_linked_in (slice_get terminals pt) ≡ true → pt < length terminals
+linked-there [] pt linked = absurd (let h : false ≡ true = linked in cc)
+linked-there (terminal ∷ terminals) zero linked = omega arith
+linked-there (terminal ∷ terminals) (suc pt) linked = omega (arith, linked-there terminals pt linked)
+
+-- a till is forgotten
+pub forgotten : (core : Core) (readers : List (List ℕ)) (till : ℕ) → AreReady core readers → AreReady (core_without core till) readers
+forgotten core readers till ready = record {
+  dialogues = λ number terminal found. by_terminal number terminal (slice_get core.terminals number) refl (sym (slice_get-map (forgets_till till) core.terminals number) ∙ found);
+  count = ready.count ∙ sym (length-map core.terminals (forgets_till till));
+  waits = ready.waits;
+}
+  where
+    by_terminal : (number : ℕ) (terminal : Terminal) (old : Option Terminal) → slice_get core.terminals number ≡ old → option_map (forgets_till till) old ≡ Some terminal → HasItsDialogue terminal
+    by_terminal number terminal None e found = absurd cc
+    by_terminal number terminal (Some old) e found =
+        let same : forgets_till till old ≡ terminal = cc in
+        subst HasItsDialogue same (ready.dialogues number old e)
+
+-- as a run begins each reader is empty
+empty-there : (count number : ℕ) (bytes : List ℕ) → slice_get (replicate count []) number ≡ Some bytes → decode_apdu bytes ≡ DecodedApdu.Incomplete
+empty-there zero number bytes found = absurd cc
+empty-there (suc count) zero bytes found =
+    let same : [] ≡ bytes = cc in
+    ap decode_apdu (sym same)
+empty-there (suc count) (suc number) bytes found = empty-there count number bytes found
+
+pub new-ready : (setup : Setup) (core : Core) (readers : List (List ℕ)) (count : ℕ) → core ≡ new_core setup → count ≡ length core.terminals → readers ≡ replicate count [] → AreReady core readers
+new-ready setup core readers count is counted empty = record {
+  dialogues = subst AllHaveDialogues (sym is) (new-has setup);
+  count = ap length empty ∙ length-replicate {A = List ℕ} count [] ∙ counted;
+  waits = λ number bytes found. empty-there count number bytes (ap (λ (list : List (List ℕ)). slice_get list number) (sym empty) ∙ found);
+}
+
+-- ---- rounds that are held
+
+-- which records are kept, and the outside
+record Setting : Type 0 where
+  kept : List Record
+  outside : Outside
+
+-- one is wanted where the site is dark
+no_setting : Setting
+no_setting = record { kept = []; outside = at_first.scene.outside }
+
+-- what makes no call keeps what is held beside the items
+pub pass-held : (s : Observed) (setup : Setup) (core : Core) (tills : List Till) (polls : ℕ) (now : ℤ) (Also : Outside → Type 0) (old new : List RoundItem) →
+    ((kept : List Record) (o : Outside) → Triple s s (InRound (known_at setup core kept now) polls o old) (InRound (known_at setup core kept now) polls o new)) →
+    Triple s s (MidRound setup core tills polls now Also [] old) (MidRound setup core tills polls now Also [] new)
+pass-held s setup core tills polls now Also old new k =
+    triple-before s s _ (λ v. (w : Setting) × (InRound (known_at setup core w.kept now) polls w.outside old v × Facts w)) _ (λ v p. (record { kept = p.kept; outside = p.outside }, (p.round, (p.tills_are, (p.linked, p.also)))))
+    (triple-some s s (λ (w : Setting) v. InRound (known_at setup core w.kept now) polls w.outside old v × Facts w) _ no_setting
+    (λ w. triple-after s s _ _ _ (triple-frame s s _ _ (Facts w) (k w.kept w.outside)) (λ v q. record { kept = w.kept; outside = w.outside; round = q.0; tills_are = q.1.0; linked = q.1.1.0; also = q.1.1.1 })))
+  where
+    Facts : Setting → Type 0
+    Facts w = HoldsTills tills w.outside × (AreLinked core w.outside × Also w.outside)
+
+-- ---- items that are passed
+
+-- the items of what a terminal sends that isn't linked owe nothing
+module _ (s : Observed) (known : Known) (polls : ℕ) (o : Outside) (pt : ℕ) (unlinked : is_linked_in (terminal_at known pt) ≡ false) where
+  owed-nothing : (apdu : ApduValue) → IsOwedNothing known pt apdu
+  owed-nothing apdu = by_terminal (terminal_at known pt) refl unlinked
+    where
+      by_standing : (terminal : Terminal) (standing : Standing) → terminal_at known pt ≡ Some terminal → terminal.standing ≡ standing → is_linked standing ≡ false → IsOwedNothing known pt apdu
+      by_standing terminal (Unlinked due) found e none = unlinked-owes-nothing known pt terminal due apdu found e
+      by_standing terminal Registering found e none = absurd (let h : true ≡ false = none in cc)
+      by_standing terminal Enquiring found e none = absurd (let h : true ≡ false = none in cc)
+      by_standing terminal (Ready last) found e none = absurd (let h : true ≡ false = none in cc)
+      by_standing terminal (Serving service last) found e none = absurd (let h : true ≡ false = none in cc)
+      by_standing terminal (Aside before reported) found e none = absurd (let h : true ≡ false = none in cc)
+
+      by_terminal : (found : Option Terminal) → terminal_at known pt ≡ found → is_linked_in found ≡ false → IsOwedNothing known pt apdu
+      by_terminal None e none = absent-owes-nothing known pt apdu e
+      by_terminal (Some terminal) e none = by_standing terminal terminal.standing e refl none
+
+  pass-apdu : (apdu : ApduValue) (items : List RoundItem) → Triple s s (InRound known polls o (apdu_items pt apdu ++ items)) (InRound known polls o items)
+  pass-apdu apdu items =
+      triple-then s s s _ _ _ (pass s known polls o (Greet pt apdu) (Handle pt apdu ∷ NextWaiting pt ∷ items) (record { begins = λ scene e. refl; row = (owed-nothing apdu).greeted }))
+      (triple-then s s s _ _ _ (pass s known polls o (Handle pt apdu) (NextWaiting pt ∷ items) (record { begins = λ scene e. refl; row = (owed-nothing apdu).handled }))
+      (pass s known polls o (NextWaiting pt) items (record { begins = λ scene e. refl; row = refl })))
+
+  pass-each : (apdus : List ApduValue) (items : List RoundItem) → Triple s s (InRound known polls o (flat_map (apdu_items pt) apdus ++ items)) (InRound known polls o items)
+  pass-each [] items = triple-refl s _
+  pass-each (apdu ∷ apdus) items = triple-then s s s _ _ _ (pass-apdu apdu (flat_map (apdu_items pt) apdus ++ items)) (pass-each apdus items)
+
+  pass-oversized : (test : Bool) (items : List RoundItem) → Triple s s (InRound known polls o ((if test then Oversized pt ∷ [] else []) ++ items)) (InRound known polls o items)
+  pass-oversized true items = pass s known polls o (Oversized pt) items (record { begins = λ scene e. refl; row = (owed-nothing (record { class = 0; instr = 0; body = [] })).oversized })
+  pass-oversized false items = triple-refl s _
+
+  pub pass-apdus : (bytes : List ℕ) (items : List RoundItem) → Triple s s (InRound known polls o (items_held pt bytes ++ items)) (InRound known polls o items)
+  pass-apdus bytes items =
+      let decoded = decode_apdus bytes in
+      let last : List RoundItem = if is_oversized (decode_apdu decoded.rest) then Oversized pt ∷ [] else [] in
+      triple-before s s _ _ _ (λ v p. subst (λ list. InRound known polls o list v) (append_assoc (flat_map (apdu_items pt) decoded.apdus) last items) p)
+      (triple-then s s s _ _ _ (pass-each decoded.apdus (last ++ items)) (pass-oversized (is_oversized (decode_apdu decoded.rest)) items))
+
+-- a terminal that is linked isn't due
+due-linked : (known : Known) (pt : ℕ) (found : Option Terminal) → is_linked_in found ≡ true →
+    of_terminal known (λ terminal. owing_where (is_due known.moment terminal.standing) known (owing known (LinkPt pt ∷ []))) found ≡ owing_nothing known
+due-linked known pt None linked = refl
+due-linked known pt (Some terminal) linked = by_standing terminal.standing linked
+  where
+    by_standing : (standing : Standing) → is_linked standing ≡ true → owing_where (is_due known.moment standing) known (owing known (LinkPt pt ∷ [])) ≡ owing_nothing known
+    by_standing (Unlinked due) linked = absurd (let h : false ≡ true = linked in cc)
+    by_standing Registering linked = refl
+    by_standing Enquiring linked = refl
+    by_standing (Ready last) linked = refl
+    by_standing (Serving service last) linked = refl
+    by_standing (Aside before reported) linked = refl
+
+pub pass-linked : (s : Observed) (setup : Setup) (core : Core) (tills : List Till) (polls : ℕ) (now : ℤ) (Also : Outside → Type 0) (pt : ℕ) (items : List RoundItem) → is_linked_in (slice_get core.terminals pt) ≡ true →
+    Triple s s (MidRound setup core tills polls now Also [] (Due pt ∷ items)) (MidRound setup core tills polls now Also [] items)
+pass-linked s setup core tills polls now Also pt items linked = pass-held s setup core tills polls now Also (Due pt ∷ items) items
+    (λ kept o. pass s (known_at setup core kept now) polls o (Due pt) items (record { begins = λ scene e. refl; row = due-linked (known_at setup core kept now) pt (slice_get core.terminals pt) linked }))
+
+-- ---- steps of a reader
+
+-- what handles a terminal's items, whatever items come after them
+abbrev pub Handles : Observed → Observed → Core → Core → ℤ → List RoundItem → Type 0
+Handles a b old new now done = (setup : Setup) (tills : List Till) (polls : ℕ) (heard : ℕ → List ℕ) (items : List RoundItem) →
+    Triple a b (MidRound setup old tills polls now (AreHeard heard) [] (done ++ items)) (MidRound setup new tills polls now (AreHeard heard) [] items)
+
+-- an APDU was handled, and more may be
+pub apdu-handled : (a b : Observed) (old new : Core) (now : ℤ) (pt : ℕ) (bytes rest : List ℕ) (apdu : ApduValue) → decode_apdu bytes ≡ DecodedApdu.Whole apdu rest → Handles a b old new now (apdu_items pt apdu) →
+    (setup : Setup) (tills : List Till) (polls : ℕ) (heard : ℕ → List ℕ) (items : List RoundItem) → Triple a b (MidRound setup old tills polls now (AreHeard heard) [] (items_held pt bytes ++ items)) (MidRound setup new tills polls now (AreHeard heard) [] (items_held pt rest ++ items))
+apdu-handled a b old new now pt bytes rest apdu e k setup tills polls heard items =
+    subst (λ (list : List RoundItem). Triple a b (MidRound setup old tills polls now (AreHeard heard) [] (list ++ items)) (MidRound setup new tills polls now (AreHeard heard) [] (items_held pt rest ++ items))) (sym (items-apdu pt bytes apdu rest e))
+    (k setup tills polls heard (items_held pt rest ++ items))
+
+-- by an APDU the terminal was cut, and the rest is passed
+pub apdu-cut : (a b : Observed) (old new : Core) (now : ℤ) (pt : ℕ) (bytes rest : List ℕ) (apdu : ApduValue) → decode_apdu bytes ≡ DecodedApdu.Whole apdu rest → is_linked_in (slice_get new.terminals pt) ≡ false →
+    Handles a b old new now (apdu_items pt apdu) → Handles a b old new now (items_held pt bytes)
+apdu-cut a b old new now pt bytes rest apdu e unlinked k setup tills polls heard items = triple-then a b b _ _ _ (apdu-handled a b old new now pt bytes rest apdu e k setup tills polls heard items)
+    (pass-held b setup new tills polls now (AreHeard heard) (items_held pt rest ++ items) items (λ kept o. pass-apdus b (known_at setup new kept now) polls o pt unlinked rest items))
+
+-- bytes that begin an APDU above the limit were handled
+pub oversized-cut : (a b : Observed) (old new : Core) (now : ℤ) (pt : ℕ) (bytes : List ℕ) (n : ℕ) → decode_apdu bytes ≡ DecodedApdu.TooLong n → Handles a b old new now (Oversized pt ∷ []) → Handles a b old new now (items_held pt bytes)
+oversized-cut a b old new now pt bytes n e k = subst (Handles a b old new now) (sym (items-oversized pt bytes n e)) k
+
+-- less than an APDU waits
+pub apdu-waits : (s : Observed) (core : Core) (now : ℤ) (pt : ℕ) (bytes : List ℕ) → decode_apdu bytes ≡ DecodedApdu.Incomplete → Handles s s core core now (items_held pt bytes)
+apdu-waits s core now pt bytes e = subst (Handles s s core core now) (sym (items-waiting pt bytes e)) (λ setup tills polls heard items. triple-refl s _)
+
+-- ---- what the readers hold
+
+-- each reader holds less than an APDU
+abbrev pub AllWait : List (List ℕ) → Type 0
+AllWait readers = (number : ℕ) (bytes : List ℕ) → slice_get readers number ≡ Some bytes → decode_apdu bytes ≡ DecodedApdu.Incomplete
+
+-- each reader but this one holds the rest after what was heard
+abbrev OthersFit : ℕ → List (List ℕ) → (ℕ → List ℕ) → Type 0
+OthersFit but readers heard = (number : ℕ) (bytes : List ℕ) → number ≢ but → slice_get readers number ≡ Some bytes → (decode_apdus (heard number)).rest ≡ bytes
+
+-- each reader holds it
+abbrev Fit : List (List ℕ) → (ℕ → List ℕ) → Type 0
+Fit readers heard = (number : ℕ) (bytes : List ℕ) → slice_get readers number ≡ Some bytes → (decode_apdus (heard number)).rest ≡ bytes
+
+-- what was heard on each link; of a terminal that isn't linked, what its reader holds
+abbrev heard_by : List (List ℕ) → Outside → ℕ → List ℕ
+heard_by readers o number = if is_connected o.links number then heard_on o.links number else get_or readers number []
+
+are-heard : (readers : List (List ℕ)) (o : Outside) → AreHeard (heard_by readers o) o
+are-heard readers o number there = rw there refl
+
+same-bytes : (one other : List ℕ) → Some one ≡ Some other → one ≡ other
+same-bytes one other e = cc
+
+fit-heard : (readers : List (List ℕ)) (o : Outside) → AllWait readers → AllHear readers o → Fit readers (heard_by readers o)
+fit-heard readers o waits hear number bytes found = by_link (is_connected o.links number) refl
+  where
+    by_link : (link : Bool) → is_connected o.links number ≡ link → (decode_apdus (heard_by readers o number)).rest ≡ bytes
+    by_link true there = rw there (same-bytes _ bytes (sym (hear number there) ∙ found))
+    by_link false none = rw none (ap (λ (b : List ℕ). (decode_apdus b).rest) (get_or_from_slice_get readers number bytes [] found) ∙ rest-waiting bytes (waits number bytes found))
+
+-- what the reader of a terminal holds that is linked
+hears-at : (readers : List (List ℕ)) (heard : ℕ → List ℕ) (core : Core) (o : Outside) (number : ℕ) → length readers ≡ length core.terminals → AreLinked core o → AreHeard heard o →
+    ((bytes : List ℕ) → slice_get readers number ≡ Some bytes → (decode_apdus (heard number)).rest ≡ bytes) → is_connected o.links number ≡ true → slice_get readers number ≡ Some (decode_apdus (heard_on o.links number)).rest
+hears-at readers heard core o number count linked all fits there =
+    let inside : number < length readers = omega (arith, count, linked-there core.terminals number (sym (linked number) ∙ there)) in
+    let found : slice_get readers number ≡ Some (get_or readers number []) = slice_get-get_or readers number [] inside in
+    found ∙ ap Some (sym (fits (get_or readers number []) found) ∙ sym (ap (λ (b : List ℕ). (decode_apdus b).rest) (all number there)))
+
+-- what is done whatever was heard
+pub over-heard : (a b : Observed) (setup : Setup) (core new : Core) (tills : List Till) (polls : ℕ) (now : ℤ) (readers : List (List ℕ)) (old items : List RoundItem) → AllWait readers → length readers ≡ length new.terminals →
+    ((heard : ℕ → List ℕ) → Triple a b (MidRound setup core tills polls now (AreHeard heard) [] old) (MidRound setup new tills polls now (AreHeard heard) [] items)) →
+    Triple a b (MidRound setup core tills polls now (AllHear readers) [] old) (MidRound setup new tills polls now (AllHear readers) [] items)
+over-heard a b setup core new tills polls now readers old items waits count k =
+    triple-before a b _ (λ v. (heard : ℕ → List ℕ) × (MidRound setup core tills polls now (AreHeard heard) [] old v × Fit readers heard)) _ first
+    (triple-some a b (λ (heard : ℕ → List ℕ) v. MidRound setup core tills polls now (AreHeard heard) [] old v × Fit readers heard) _ (λ number. [])
+    (λ heard. triple-after a b _ _ _ (triple-frame a b _ _ (Fit readers heard) (k heard)) (λ v q. last heard v q.0 q.1)))
+  where
+    first : (v : View) → MidRound setup core tills polls now (AllHear readers) [] old v → (heard : ℕ → List ℕ) × (MidRound setup core tills polls now (AreHeard heard) [] old v × Fit readers heard)
+    first v p = (
+      heard_by readers p.outside,
+      (record { kept = p.kept; outside = p.outside; round = p.round; tills_are = p.tills_are; linked = p.linked; also = are-heard readers p.outside }, fit-heard readers p.outside waits p.also),
+    )
+
+    last : (heard : ℕ → List ℕ) (v : View) → MidRound setup new tills polls now (AreHeard heard) [] items v → Fit readers heard → MidRound setup new tills polls now (AllHear readers) [] items v
+    last heard v q fits = record {
+      kept = q.kept;
+      outside = q.outside;
+      round = q.round;
+      tills_are = q.tills_are;
+      linked = q.linked;
+      also = λ number there. hears-at readers heard new q.outside number count q.linked q.also (fits number) there;
+    }
+
+-- ---- a reader that is emptied
+
+-- on the link of this terminal nothing was heard yet
+abbrev cleared : ℕ → (ℕ → List ℕ) → ℕ → List ℕ
+cleared pt heard number = if number == pt then [] else heard number
+
+cleared-none : (pt : ℕ) (heard : ℕ → List ℕ) → cleared pt heard pt ≡ []
+cleared-none pt heard = rw (eq-eqb pt pt refl) refl
+
+cleared-heard : (pt : ℕ) (heard : ℕ → List ℕ) (o : Outside) → is_connected o.links pt ≡ false → AreHeard heard o → AreHeard (cleared pt heard) o
+cleared-heard pt heard o none all number there = by_test (number == pt) refl
+  where
+    by_test : (test : Bool) → (number == pt) ≡ test → heard_on o.links number ≡ cleared pt heard number
+    by_test true t = absurd (let h : false ≡ true = sym none ∙ sym (ap (is_connected o.links) (eqb-true number pt t)) ∙ there in cc)
+    by_test false t = rw t (all number there)
+
+set-there : (all : List (List ℕ)) (at : ℕ) (new found : List ℕ) → slice_get (set all at new) at ≡ Some found → new ≡ found
+set-there [] at new found e = absurd cc
+set-there (first ∷ rest) zero new found e = same-bytes new found e
+set-there (first ∷ rest) (suc at) new found e = set-there rest at new found e
+
+cleared-fit : (pt : ℕ) (readers : List (List ℕ)) (heard : ℕ → List ℕ) → Fit readers heard → Fit (set readers pt []) (cleared pt heard)
+cleared-fit pt readers heard fits number bytes found = by_test (number == pt) refl
+  where
+    by_test : (test : Bool) → (number == pt) ≡ test → (decode_apdus (cleared pt heard number)).rest ≡ bytes
+    by_test true t = rw t (rest-waiting [] refl ∙ set-there readers pt [] bytes (ap (slice_get (set readers pt [])) (sym (eqb-true number pt t)) ∙ found))
+    by_test false t = rw t (fits number bytes (sym (others-stay readers pt number [] (eqb-false number pt t)) ∙ found))
+
+-- a reader that holds less than an APDU in place of another
+pub set-waits : (readers : List (List ℕ)) (pt : ℕ) (new : List ℕ) → decode_apdu new ≡ DecodedApdu.Incomplete → AllWait readers → AllWait (set readers pt new)
+set-waits readers pt new waits all number bytes found =
+    elim (cases_eq number pt) [
+      | inl e ↦ subst (λ b. decode_apdu b ≡ DecodedApdu.Incomplete) (set-there readers pt new bytes (ap (slice_get (set readers pt new)) (sym e) ∙ found)) waits
+      | inr other ↦ all number bytes (sym (others-stay readers pt number new other) ∙ found)
+    ]
+
+-- the reader of a terminal that isn't linked is emptied, and then a link may be made
+pub over-cleared : (a b : Observed) (setup : Setup) (core new : Core) (tills : List Till) (polls : ℕ) (now : ℤ) (readers : List (List ℕ)) (pt : ℕ) (old items : List RoundItem) → AllWait readers → length readers ≡ length new.terminals →
+    is_linked_in (slice_get core.terminals pt) ≡ false →
+    ((heard : ℕ → List ℕ) → heard pt ≡ [] → Triple a b (MidRound setup core tills polls now (AreHeard heard) [] old) (MidRound setup new tills polls now (AreHeard heard) [] items)) →
+    Triple a b (MidRound setup core tills polls now (AllHear readers) [] old) (MidRound setup new tills polls now (AllHear (set readers pt [])) [] items)
+over-cleared a b setup core new tills polls now readers pt old items waits count unlinked k =
+    triple-before a b _ (λ v. (heard : ℕ → List ℕ) × (MidRound setup core tills polls now (AreHeard (cleared pt heard)) [] old v × Fit readers heard)) _ first
+    (triple-some a b (λ (heard : ℕ → List ℕ) v. MidRound setup core tills polls now (AreHeard (cleared pt heard)) [] old v × Fit readers heard) _ (λ number. [])
+    (λ heard. triple-after a b _ _ _ (triple-frame a b _ _ (Fit readers heard) (k (cleared pt heard) (cleared-none pt heard))) (λ v q. last heard v q.0 q.1)))
+  where
+    first : (v : View) → MidRound setup core tills polls now (AllHear readers) [] old v → (heard : ℕ → List ℕ) × (MidRound setup core tills polls now (AreHeard (cleared pt heard)) [] old v × Fit readers heard)
+    first v p = (
+      heard_by readers p.outside,
+      (
+        record {
+          kept = p.kept;
+          outside = p.outside;
+          round = p.round;
+          tills_are = p.tills_are;
+          linked = p.linked;
+          also = cleared-heard pt (heard_by readers p.outside) p.outside (p.linked pt ∙ unlinked) (are-heard readers p.outside);
+        },
+        fit-heard readers p.outside waits p.also,
+      ),
+    )
+
+    last : (heard : ℕ → List ℕ) (v : View) → MidRound setup new tills polls now (AreHeard (cleared pt heard)) [] items v → Fit readers heard → MidRound setup new tills polls now (AllHear (set readers pt [])) [] items v
+    last heard v q fits = record {
+      kept = q.kept;
+      outside = q.outside;
+      round = q.round;
+      tills_are = q.tills_are;
+      linked = q.linked;
+      also = λ number there. hears-at (set readers pt []) (cleared pt heard) new q.outside number (length-set readers pt [] ∙ count) q.linked q.also (cleared-fit pt readers heard fits number) there;
+    }
+
+-- ---- a chunk
+
+-- what was heard once a terminal has sent a chunk more
+abbrev heard_with : List (List ℕ) → Outside → ℕ → List ℕ → ℕ → List ℕ
+heard_with readers before pt chunk number = if number == pt then heard_on before.links pt ++ chunk else heard_by readers before number
+
+with-heard : (readers : List (List ℕ)) (before : Outside) (pt : ℕ) (chunk : List ℕ) → is_connected before.links pt ≡ true → AreHeard (heard_with readers before pt chunk) (outside_after before (HeardPt pt chunk))
+with-heard readers before pt chunk here number there = by_test (number == pt) refl
+  where
+    by_test : (test : Bool) → (number == pt) ≡ test → heard_on (hears before.links pt chunk) number ≡ heard_with readers before pt chunk number
+    by_test true t = rw t (ap (heard_on (hears before.links pt chunk)) (eqb-true number pt t) ∙ hears-here before.links pt chunk here)
+    by_test false t = rw t (hears-others before.links pt number chunk (eqb-false number pt t) ∙ are-heard readers before number (sym (hears-there before.links pt number chunk) ∙ there))
+
+-- each other reader fits, and this one's bytes and the chunk have the rest of what was heard
+record FitsChunk (readers : List (List ℕ)) (pt : ℕ) (bytes : List ℕ) (heard : ℕ → List ℕ) : Type 0 where
+  others : OthersFit pt readers heard
+  here : (decode_apdus (heard pt)).rest ≡ (decode_apdus bytes).rest
+
+fits-chunk : (readers : List (List ℕ)) (before : Outside) (pt : ℕ) (reader chunk : List ℕ) → AllWait readers → AllHear readers before → reader ≡ (decode_apdus (heard_on before.links pt)).rest →
+    FitsChunk readers pt (reader ++ chunk) (heard_with readers before pt chunk)
+fits-chunk readers before pt reader chunk waits hear same = record {
+  others = λ number bytes other found. rw (ne_eqb number pt other) (fit-heard readers before waits hear number bytes found);
+  here = rw (eq-eqb pt pt refl) (rest-chunk (heard_on before.links pt) chunk ∙ ap (λ (b : List ℕ). (decode_apdus (b ++ chunk)).rest) (sym same));
+}
+
+-- a chunk was handled
+pub over-chunk : (a b : Observed) (setup : Setup) (core new : Core) (tills : List Till) (polls : ℕ) (now : ℤ) (readers : List (List ℕ)) (pt : ℕ) (reader chunk left : List ℕ) (items : List RoundItem) → AllWait readers → length readers ≡ length new.terminals →
+    slice_get readers pt ≡ Some reader → IsRest new pt (reader ++ chunk) left → Handles a b core new now (items_held pt (reader ++ chunk)) →
+    Triple a b (BeforePtChunk setup core readers tills polls now pt chunk items) (MidRound setup new tills polls now (AllHear (set readers pt left)) [] items)
+over-chunk a b setup core new tills polls now readers pt reader chunk left items waits count held rest k =
+    triple-before a b _ (λ v. (heard : ℕ → List ℕ) × (MidRound setup core tills polls now (AreHeard heard) [] (items_held pt (reader ++ chunk) ++ items) v × FitsChunk readers pt (reader ++ chunk) heard)) _ first
+    (triple-some a b (λ (heard : ℕ → List ℕ) v. MidRound setup core tills polls now (AreHeard heard) [] (items_held pt (reader ++ chunk) ++ items) v × FitsChunk readers pt (reader ++ chunk) heard) _ (λ number. [])
+    (λ heard. triple-after a b _ _ _ (triple-frame a b _ _ (FitsChunk readers pt (reader ++ chunk) heard) (k setup tills polls heard items)) (λ v q. last heard v q.0 q.1)))
+  where
+    first : (v : View) → BeforePtChunk setup core readers tills polls now pt chunk items v → (heard : ℕ → List ℕ) × (MidRound setup core tills polls now (AreHeard heard) [] (items_held pt (reader ++ chunk) ++ items) v × FitsChunk readers pt (reader ++ chunk) heard)
+    first v (before, kept, h, round) =
+        let same : reader ≡ (decode_apdus (heard_on before.links pt)).rest = same-bytes reader _ (sym held ∙ h.hear pt h.connected) in (
+          heard_with readers before pt chunk,
+          (
+            record {
+              kept = kept;
+              outside = outside_after before (HeardPt pt chunk);
+              round = subst (λ (b : List ℕ). InRound (known_at setup core kept now) polls (outside_after before (HeardPt pt chunk)) (items_held pt (b ++ chunk) ++ items) v) (sym same) round;
+              tills_are = record { tills_are = h.tills_are.tills_are; below = h.tills_are.below };
+              linked = λ number. hears-there before.links pt number chunk ∙ h.linked number;
+              also = with-heard readers before pt chunk h.connected;
+            },
+            fits-chunk readers before pt reader chunk waits h.hear same,
+          ),
+        )
+
+    last : (heard : ℕ → List ℕ) (v : View) → MidRound setup new tills polls now (AreHeard heard) [] items v → FitsChunk readers pt (reader ++ chunk) heard → MidRound setup new tills polls now (AllHear (set readers pt left)) [] items v
+    last heard v q fits = record { kept = q.kept; outside = q.outside; round = q.round; tills_are = q.tills_are; linked = q.linked; also = hear }
+      where
+        hear : AllHear (set readers pt left) q.outside
+        hear number there =
+            hears-at (set readers pt left) heard new q.outside number (length-set readers pt left ∙ count) q.linked q.also
+            (λ bytes found.
+            elim (cases_eq number pt) [
+              | inl e ↦
+                  let linked : is_linked_in (slice_get new.terminals pt) ≡ true = sym (q.linked pt) ∙ ap (is_connected q.outside.links) (sym e) ∙ there in
+                  ap (λ n. (decode_apdus (heard n)).rest) e ∙ fits.here ∙ sym (rest.rest linked) ∙ set-there readers pt left bytes (ap (slice_get (set readers pt left)) (sym e) ∙ found)
+              | inr other ↦ fits.others number bytes other (sym (others-stay readers pt number left other) ∙ found)
+            ])
+            there
+
+-- ---- a link that is lost
+
+no-reply : (asker : Option ℕ) → reply_calls_to asker None ≡ []
+no-reply None = refl
+no-reply (Some till) = refl
+
+lost-calls : (asker : Option ℕ) (standing : Standing) → ServesNothing standing → reply_calls_to asker (reply_to_lost standing) ≡ []
+lost-calls asker (Unlinked due) none = no-reply asker
+lost-calls asker Registering none = no-reply asker
+lost-calls asker Enquiring none = no-reply asker
+lost-calls asker (Ready last) none = no-reply asker
+lost-calls asker (Serving service last) none = absurd none
+lost-calls asker (Aside before reported) none = no-reply asker
+
+-- what the loss of a link leaves of a terminal that serves nothing, and that it owes nothing
+record IsLost (known : Known) (pt : ℕ) (row : Row) : Type 0 where
+  owes : row ≡ becoming row.core []
+  unlinked : is_linked_in (slice_get row.core.terminals pt) ≡ false
+
+lost-by : (known : Known) (pt : ℕ) → AllHaveDialogues known.core → (found : Option Terminal) → terminal_at known pt ≡ found → IsLost known pt (of_terminal known (unlinks known pt) found)
+lost-by known pt all None e = record { owes = refl; unlinked = rw e refl }
+lost-by known pt all (Some terminal) e = record {
+  owes = ap (becoming (unlinks known pt terminal).core) (lost-calls terminal.asker terminal.standing (serves-nothing terminal terminal.standing refl (all pt terminal e)));
+  unlinked = ap is_linked_in (new-is-there known.core.terminals pt terminal (unlinked_terminal terminal known.moment) e);
+}
+
+lost : (known : Known) (pt : ℕ) → AllHaveDialogues known.core → IsLost known pt (link_row known pt LinkIsLost)
+lost known pt all = lost-by known pt all (terminal_at known pt) refl
+
+-- the links are those that are remembered once one is lost
+lost-links : (known : Known) (pt : ℕ) (o : Outside) → AllHaveDialogues known.core → AreLinked known.core o → AreLinked (link_row known pt LinkIsLost).core (outside_after o (Lost pt))
+lost-links known pt o all linked number =
+    elim (cases_eq number pt) [
+      | inl e ↦
+          ap (is_connected (without o.links pt)) e ∙ cut-there o.links pt ∙ sym (lost known pt all).unlinked ∙ ap (λ n. is_linked_in (slice_get (link_row known pt LinkIsLost).core.terminals n)) (sym e)
+      | inr other ↦ cut-others o.links pt number other ∙ linked number ∙ ap is_linked_in (sym ((link-changes-alone known pt LinkIsLost).others number other))
+    ]
+
+lost-hear : (readers : List (List ℕ)) (pt : ℕ) (o : Outside) → AllHear readers o → AllHear readers (outside_after o (Lost pt))
+lost-hear readers pt o hear number there =
+    elim (cases_eq number pt) [
+      | inl e ↦ absurd (let h : false ≡ true = sym (cut-there o.links pt) ∙ sym (ap (is_connected (without o.links pt)) e) ∙ there in cc)
+      | inr other ↦
+          hear number (sym (cut-others o.links pt number other) ∙ there) ∙ ap (λ (b : List ℕ). Some (decode_apdus b).rest) (sym (cut-heard o.links pt number other))
+    ]
+
+-- a terminal has closed its connection
+pub lost-handled : (s : Observed) (setup : Setup) (core new : Core) (tills : List Till) (polls : ℕ) (now : ℤ) (readers : List (List ℕ)) (pt : ℕ) (items : List RoundItem) → AllHaveDialogues core →
+    ((kept : List Record) → new ≡ (link_row (known_at setup core kept now) pt LinkIsLost).core) →
+    Triple s s (BeforePtClosed setup core readers tills polls now pt items) (MidRound setup new tills polls now (AllHear readers) [] items)
+lost-handled s setup core new tills polls now readers pt items all is =
+    triple-before s s _ (λ v. (w : Setting) × (InRound (knows w) polls (after w) (LinkLost pt ∷ items) v × BeforePt core readers tills pt w.outside)) _ (λ v p. (record { kept = p.1; outside = p.0 }, (p.3, p.2)))
+    (triple-some s s (λ (w : Setting) v. InRound (knows w) polls (after w) (LinkLost pt ∷ items) v × BeforePt core readers tills pt w.outside) _ no_setting
+    (λ w. triple-after s s _ _ _ (triple-frame s s _ _ (BeforePt core readers tills pt w.outside) (begin-first s (knows w) polls (after w) (LinkLost pt) items new [] (record {
+      begins = λ scene e. refl;
+      row = (lost (knows w) pt all).owes ∙ ap (λ core. becoming core []) (sym (is w.kept));
+    })))
+    (λ v q. last w v q.0 q.1)))
+  where
+    knows : Setting → Known
+    knows w = known_at setup core w.kept now
+
+    after : Setting → Outside
+    after w = outside_after w.outside (Lost pt)
+
+    last : (w : Setting) (v : View) → InRound (known_at setup new w.kept now) polls (after w) items v → BeforePt core readers tills pt w.outside → MidRound setup new tills polls now (AllHear readers) [] items v
+    last w v q h = record {
+      kept = w.kept;
+      outside = after w;
+      round = q;
+      tills_are = record { tills_are = h.tills_are.tills_are; below = h.tills_are.below };
+      linked = subst (λ core. AreLinked core (after w)) (sym (is w.kept)) (lost-links (knows w) pt w.outside all h.linked);
+      also = lost-hear readers pt w.outside h.hear;
+    }
+
+-- what is ready stays so when a link is lost
+pub lost-ready : (known : Known) (core new : Core) (pt : ℕ) (readers : List (List ℕ)) → known.core ≡ core → new ≡ (link_row known pt LinkIsLost).core → AreReady core readers → AreReady new readers
+lost-ready known core new pt readers same is ready =
+    let all : AllHaveDialogues known.core = subst AllHaveDialogues (sym same) ready.dialogues in
+    subst (λ core. AreReady core readers) (sym is) (record {
+      dialogues = links-give known pt LinkIsLost (λ number terminal other found. all number terminal found);
+      count = ready.count ∙ ap (λ (c : Core). length c.terminals) (sym same) ∙ sym (link-changes-alone known pt LinkIsLost).count;
+      waits = ready.waits;
+    })
+
+-- ---- an item for each terminal
+
+pub each-first : (number count : ℕ) (item : ℕ → RoundItem) → number < count → each_terminal number (count - number) item ≡ item number ∷ each_terminal (number + 1) (count - (number + 1)) item
+each-first number count item more =
+    let e : count - number ≡ suc (count - (number + 1)) = omega arith in
+    ap (λ n. each_terminal number n item) e
+
+pub each-end : (number count : ℕ) (item : ℕ → RoundItem) → count ≤ number → each_terminal number (count - number) item ≡ []
+each-end number count item all =
+    let e : count - number ≡ zero = omega arith in
+    ap (λ n. each_terminal number n item) e
+
+-- the item of one terminal was handled, and those of the next come
+pub each-step : (a b : Observed) (core new : Core) (now : ℤ) (Also Next : Outside → Type 0) (item : ℕ → RoundItem) (number count : ℕ) → number < count →
+    ((setup : Setup) (tills : List Till) (polls : ℕ) (items : List RoundItem) → Triple a b (MidRound setup core tills polls now Also [] (item number ∷ items)) (MidRound setup new tills polls now Next [] items)) →
+    (setup : Setup) (tills : List Till) (polls : ℕ) (items : List RoundItem) →
+    Triple a b (MidRound setup core tills polls now Also [] (each_terminal number (count - number) item ++ items)) (MidRound setup new tills polls now Next [] (each_terminal (number + 1) (count - (number + 1)) item ++ items))
+each-step a b core new now Also Next item number count more k setup tills polls items =
+    let rest : List RoundItem = each_terminal (number + 1) (count - (number + 1)) item in
+    subst (λ (list : List RoundItem). Triple a b (MidRound setup core tills polls now Also [] (list ++ items)) (MidRound setup new tills polls now Next [] (rest ++ items))) (sym (each-first number count item more))
+    (k setup tills polls (rest ++ items))
+
+-- that of the last was handled
+pub each-last : (a b : Observed) (P : View → Type 0) (setup : Setup) (core : Core) (tills : List Till) (polls : ℕ) (now : ℤ) (Also : Outside → Type 0) (item : ℕ → RoundItem) (number count : ℕ) (items : List RoundItem) → count ≤ number →
+    Triple a b P (MidRound setup core tills polls now Also [] (each_terminal number (count - number) item ++ items)) → Triple a b P (MidRound setup core tills polls now Also [] items)
+each-last a b P setup core tills polls now Also item number count items all k =
+    subst (λ (list : List RoundItem). Triple a b P (MidRound setup core tills polls now Also [] (list ++ items))) (each-end number count item all) k

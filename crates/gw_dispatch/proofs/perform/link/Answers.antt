@@ -1,0 +1,48 @@
+-- Proof of the contract of `link`.
+use Rattle.std.proofs.Common.{◌<◌, ◌∙◌, sym, subst}
+use Rattle.std.proofs.lemmas.Int.{to_z-of_z}
+use Rattle.gw_base.specs.Moment.{moment_of}
+use Rattle.gw_owes.specs.Links.{link_row}
+use Rattle.gw_owes.specs.TerminalLaws.{ChangesTerminalAlone}
+use Rattle.gw_core.specs.IsRow.{calls_wanted, link_event_of}
+use Rattle.gw_dispatch.proofs.PerformLemmas.{IsRowOf, Performs, link-tried, link-has, link-alone, link-no-link, others-have}
+use Rattle.gw_dispatch.proofs.PtsLemmas.{all-serve-nothing}
+use Rattle.gw_dispatch.proofs.perform.link.Goals as goal
+
+pub perform-requires-clause-there : goal.perform-requires-clause-there
+perform-requires-clause-there g c =
+    let is : IsRowOf c.args.core.now (moment_of c.args.now) (λ known. link_row known c.args.pt (link_event_of c.is_ok-made.result)) c.on_link-wanted.new.self c.on_link-wanted.result = simp (to_z-of_z, c.ranges.now) at c.on_link-wanted.ensures.row in
+    let alone : ChangesTerminalAlone c.args.pt c.args.core.now c.on_link-wanted.new.self = link-alone c.args.core.now c.on_link-wanted.new.self (moment_of c.args.now) c.args.pt (link_event_of c.is_ok-made.result) c.on_link-wanted.result is in
+    subst (λ count. c.args.pt < count) (sym alone.count) c.requires.there
+
+pub perform-requires-clause-no_link : goal.perform-requires-clause-no_link
+perform-requires-clause-no_link g c =
+    let is : IsRowOf c.args.core.now (moment_of c.args.now) (λ known. link_row known c.args.pt (link_event_of c.is_ok-made.result)) c.on_link-wanted.new.self c.on_link-wanted.result = simp (to_z-of_z, c.ranges.now) at c.on_link-wanted.ensures.row in
+    link-no-link c.args.core.now c.on_link-wanted.new.self (moment_of c.args.now) c.args.pt (link_event_of c.is_ok-made.result) c.on_link-wanted.result is
+
+pub perform-requires-clause-others : goal.perform-requires-clause-others
+perform-requires-clause-others g c =
+    let is : IsRowOf c.args.core.now (moment_of c.args.now) (λ known. link_row known c.args.pt (link_event_of c.is_ok-made.result)) c.on_link-wanted.new.self c.on_link-wanted.result = simp (to_z-of_z, c.ranges.now) at c.on_link-wanted.ensures.row in
+    others-have c.on_link-wanted.new.self c.args.pt (link-has c.args.core.now c.on_link-wanted.new.self (moment_of c.args.now) c.args.pt (link_event_of c.is_ok-made.result) c.on_link-wanted.result (others-have c.args.core.now c.args.pt c.requires.dialogues) is)
+
+pub perform-requires-clause-unserved : goal.perform-requires-clause-unserved
+perform-requires-clause-unserved g c =
+    let is : IsRowOf c.args.core.now (moment_of c.args.now) (λ known. link_row known c.args.pt (link_event_of c.is_ok-made.result)) c.on_link-wanted.new.self c.on_link-wanted.result = simp (to_z-of_z, c.ranges.now) at c.on_link-wanted.ensures.row in
+    all-serve-nothing c.on_link-wanted.new.self c.args.pt (link-has c.args.core.now c.on_link-wanted.new.self (moment_of c.args.now) c.args.pt (link_event_of c.is_ok-made.result) c.on_link-wanted.result (others-have c.args.core.now c.args.pt c.requires.dialogues) is)
+
+pub perform-requires-clause-dialogues : goal.perform-requires-clause-dialogues
+perform-requires-clause-dialogues g c = λ uncut.
+    let is : IsRowOf c.args.core.now (moment_of c.args.now) (λ known. link_row known c.args.pt (link_event_of c.is_ok-made.result)) c.on_link-wanted.new.self c.on_link-wanted.result = simp (to_z-of_z, c.ranges.now) at c.on_link-wanted.ensures.row in
+    link-has c.args.core.now c.on_link-wanted.new.self (moment_of c.args.now) c.args.pt (link_event_of c.is_ok-made.result) c.on_link-wanted.result (others-have c.args.core.now c.args.pt c.requires.dialogues) is
+
+pub returns-clause-triple : goal.returns-clause-triple
+returns-clause-triple g c =
+    let is : IsRowOf c.args.core.now (moment_of c.args.now) (λ known. link_row known c.args.pt (link_event_of c.is_ok-made.result)) c.on_link-wanted.new.self c.on_link-wanted.result = simp (to_z-of_z, c.ranges.now) at c.on_link-wanted.ensures.row in
+    let performs : Performs (g.S.Site.observed c.link_pt.new.self) (g.S.Site.observed c.perform.new.site) c.on_link-wanted.new.self c.perform.new.core c.args.now (calls_wanted c.on_link-wanted.result) = simp (to_z-of_z, c.ranges.now) at c.perform.ensures.triple in
+    link-tried _ _ _ c.args.core.now c.on_link-wanted.new.self c.perform.new.core c.args.now c.args.pt c.link_pt.result c.is_ok-made.result c.on_link-wanted.result c.is_ok-made.ensures.value c.requires.there c.requires.unlinked is c.link_pt.ensures.turns performs
+
+pub returns-clause-count : goal.returns-clause-count
+returns-clause-count g c =
+    let is : IsRowOf c.args.core.now (moment_of c.args.now) (λ known. link_row known c.args.pt (link_event_of c.is_ok-made.result)) c.on_link-wanted.new.self c.on_link-wanted.result = simp (to_z-of_z, c.ranges.now) at c.on_link-wanted.ensures.row in
+    let alone : ChangesTerminalAlone c.args.pt c.args.core.now c.on_link-wanted.new.self = link-alone c.args.core.now c.on_link-wanted.new.self (moment_of c.args.now) c.args.pt (link_event_of c.is_ok-made.result) c.on_link-wanted.result is in
+    c.perform.ensures.count ∙ alone.count

@@ -1,0 +1,19 @@
+-- Proof of the contract of `reject`.
+use Rattle.std.proofs.Common.{◌∙◌, [], ◌∷◌, true, false}
+use Rattle.std.proofs.lemmas.Int.{to_z-of_z}
+use Rattle.gw_owes.specs.Calls.{CutPt}
+use Rattle.gw_dispatch.proofs.PerformLemmas.{Performs, outside-handled, none-performed}
+use Rattle.gw_dispatch.proofs.PtsLemmas.{all-serve-nothing, linked-is}
+use Rattle.gw_dispatch.proofs.perform.reject.Goals as goal
+
+pub cut-requires-clause-unserved : goal.cut-requires-clause-unserved
+cut-requires-clause-unserved g c = all-serve-nothing c.args.core.now c.args.pt c.requires.dialogues
+
+pub returns-then-is_linked-clause-triple : goal.returns-then-is_linked-clause-triple
+returns-then-is_linked-clause-triple g c = λ item outside.
+    let cuts : Performs (g.S.Site.observed c.args.site.now) (g.S.Site.observed c.cut.new.site) c.args.core.now c.cut.new.core c.args.now (CutPt c.args.pt ∷ []) = simp (to_z-of_z, c.ranges.now) at c.cut.ensures.triple in
+    outside-handled _ _ c.args.core.now c.cut.new.core c.args.now c.args.pt item true outside (linked-is c.args.core.now.terminals c.args.pt c.is_linked.result c.requires.there c.is_linked.ensures ∙ c.if-is_linked.true) cuts
+
+pub returns-else-is_linked-clause-triple : goal.returns-else-is_linked-clause-triple
+returns-else-is_linked-clause-triple g c = λ item outside.
+    outside-handled _ _ c.args.core.now c.args.core.now c.args.now c.args.pt item false outside (linked-is c.args.core.now.terminals c.args.pt c.is_linked.result c.requires.there c.is_linked.ensures ∙ c.if-is_linked.false) (none-performed _ c.args.core.now c.args.now)

@@ -1,0 +1,25 @@
+-- Proof of the contract of `Pts::link_due`.
+use Rattle.std.proofs.Common.{◌≡◌, ◌-◌, length, refl, ◌∙◌, arith}
+use Rattle.std.proofs.lemmas.Int.{to_z-of_z}
+use Rattle.gw_rules.proofs.TripleLemmas.{triple-refl, triple-then}
+use Rattle.gw_owes.specs.Items.{Due}
+use Rattle.gw_dispatch.proofs.PtsLemmas.{each-step, each-last}
+use Rattle.gw_dispatch.proofs.pts.Pts.link_due.Goals as goal
+
+pub loop-pt-init : goal.loop-pt-init
+loop-pt-init g c =
+    let all : length c.args.self.now.core.terminals - 0 ≡ length c.args.self.now.core.terminals = omega arith in
+    record { kept = λ setup tills polls items. rw all (triple-refl _ _); ready = c.requires.ready; count = refl; later = omega arith }
+
+pub loop-pt-preserved : goal.loop-pt-preserved
+loop-pt-preserved g c = record {
+  kept = λ setup tills polls items. triple-then _ _ _ _ _ _ (c.loop-pt.invariant.kept setup tills polls items)
+      (each-step _ _ _ _ _ _ _ Due c.loop-pt.pt (length c.args.self.now.core.terminals) (omega (arith, c.loop-pt-test.true, c.count-pt-end.ensures.count)) c.link_if_due.ensures.triple setup tills polls items);
+  ready = c.link_if_due.ensures.ready;
+  count = c.link_if_due.ensures.count ∙ c.loop-pt.invariant.count;
+  later = omega (arith, c.loop-pt.invariant.later, c.link_if_due.ensures.later);
+}
+
+pub returns-clause-triple : goal.returns-clause-triple
+returns-clause-triple g c = λ setup tills polls items. each-last _ _ _ setup c.loop-pt.self.core tills polls c.args.now _ Due c.loop-pt.pt (length c.args.self.now.core.terminals) items
+    (omega (arith, c.loop-pt-test.false, c.count-pt-end.ensures.count)) (simp (to_z-of_z, c.ranges.now) at (c.loop-pt.invariant.kept setup tills polls items))

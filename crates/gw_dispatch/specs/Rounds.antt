@@ -1,0 +1,105 @@
+-- Inner: what holds between rounds, as an event comes, and once it was handled.
+use Rattle.std.specs.Prelude.{◌≡◌, ℕ, ◌≤◌, ℤ, true, List, [], ◌++◌, length, Some, Result, Ok, Err}
+use Rattle.gw_base.specs.declared.setup.Setup.{Setup}
+use Rattle.gw_site.specs.Outside.{Outside, outside_after, is_connected, heard_on}
+use Rattle.gw_site.specs.declared.site.What.{What}
+use Rattle.gw_site.specs.declared.turn.Turn.TheVariants.{Opened, HeardTill}
+use Rattle.jrn_record.specs.declared.records.Record.{Record}
+use Rattle.gw_owes.specs.Events.{till_bytes_items, till_opened_items}
+use Rattle.gw_owes.specs.Items.{RoundItem}
+use Rattle.gw_rules.specs.Scene.{Scene}
+use Rattle.gw_rules.specs.Stage.{Over, is_running}
+use Rattle.gw_rules.specs.Triple.{Owing, AtEvent}
+use Rattle.gw_rules.specs.View.{View}
+use Rattle.gw_dispatch.specs.MidRound.{AllHear, AreLinked, AreReady, BeforePtChunk, BeforePtClosed, MidRound, due_items}
+use Rattle.gw_dispatch.specs.Round.{HoldsTills, InRound, known_at}
+use Rattle.gw_dispatch.specs.declared.engine.Dispatch.{Dispatch}
+use Rattle.gw_dispatch.specs.declared.engine.RoundEnd.{RoundEnd}
+use Rattle.gw_dispatch.specs.declared.engine.RoundEnd.TheVariants.{Went, Stopped}
+
+-- ---- between rounds
+
+-- each terminal has the dialogue of its standing, and a reader that holds less than an APDU
+abbrev pub IsReady : Dispatch → Type 0
+IsReady dispatch = AreReady dispatch.pts.core dispatch.pts.readers.items
+
+-- what is held is that of the outside: its tills, its links, and the rest of what was heard on each link
+pub record MatchesOutside (dispatch : Dispatch) (o : Outside) : Type 0 where
+  pub tills_are : HoldsTills dispatch.tills.items o
+  pub linked : AreLinked dispatch.pts.core o
+  pub hear : AllHear dispatch.pts.readers.items o
+
+-- a run with this setup goes on, with so many polls, and this is held in it
+pub record IsHeldRun (setup : Setup) (dispatch : Dispatch) (polls : ℕ) (scene : Scene) : Type 0 where
+  pub setup_is : scene.setup ≡ Some setup
+  pub running : is_running scene.stage ≡ true
+  pub polls_are : scene.polls ≡ polls
+  pub core_is : scene.core ≡ dispatch.pts.core
+  pub matches : MatchesOutside dispatch scene.outside
+
+-- between two rounds nothing is owed
+abbrev pub IsBetweenRounds : Setup → Dispatch → ℕ → View → Type 0
+IsBetweenRounds setup dispatch polls v = (scene : Scene) × Owing scene [] [] v × IsHeldRun setup dispatch polls scene
+
+-- the site was polled, and nothing of its event was handled yet; no request waits
+abbrev pub IsPolled : Setup → Dispatch → ℕ → ℤ → What → List ℕ → View → Type 0
+IsPolled setup dispatch polls now what buf v = (scene : Scene) × AtEvent scene now what buf v × IsHeldRun setup dispatch polls scene × (scene.core.waits ≡ [])
+
+-- ---- events
+
+-- what may be due after an event
+abbrev pub due_in : Dispatch → List RoundItem
+due_in dispatch = due_items (length dispatch.pts.core.terminals)
+
+-- what a round goes by beside its event: the outside, and the records that are kept
+pub record RoundSetting : Type 0 where
+  pub outside : Outside
+  pub kept : List Record
+
+-- a till that is there has sent this chunk, and nothing of it was handled yet
+pub record BringsChunk (setup : Setup) (dispatch : Dispatch) (polls : ℕ) (now : ℤ) (till : ℕ) (chunk : List ℕ) (setting : RoundSetting) (v : View) : Type 0 where
+  pub round : InRound (known_at setup dispatch.pts.core setting.kept now) polls (outside_after setting.outside (HeardTill till chunk)) (till_bytes_items till (heard_on setting.outside.tills till) chunk ++ due_in dispatch) v
+  pub matches : MatchesOutside dispatch setting.outside
+  pub connected : is_connected setting.outside.tills till ≡ true
+
+-- this chunk of a till has come in some setting, and nothing of it was handled yet
+abbrev pub BeforeChunk : Setup → Dispatch → ℕ → ℤ → ℕ → List ℕ → View → Type 0
+BeforeChunk setup dispatch polls now till chunk v = (setting : RoundSetting) × BringsChunk setup dispatch polls now till chunk setting v
+
+-- a till has opened, and nothing of it was handled yet
+pub record BringsTill (setup : Setup) (dispatch : Dispatch) (polls : ℕ) (now : ℤ) (till : ℕ) (setting : RoundSetting) (v : View) : Type 0 where
+  pub round : InRound (known_at setup dispatch.pts.core setting.kept now) polls (outside_after setting.outside (Opened till)) (till_opened_items till setting.outside.tills ++ due_in dispatch) v
+  pub matches : MatchesOutside dispatch setting.outside
+  pub above : setting.outside.next_till ≤ till
+
+-- a till has opened in some setting, and nothing of it was handled yet
+abbrev pub BeforeOpen : Setup → Dispatch → ℕ → ℤ → ℕ → View → Type 0
+BeforeOpen setup dispatch polls now till v = (setting : RoundSetting) × BringsTill setup dispatch polls now till setting v
+
+-- a terminal has sent this chunk, and nothing of it was handled yet
+abbrev pub BeforePtBytes : Setup → Dispatch → ℕ → ℤ → ℕ → List ℕ → View → Type 0
+BeforePtBytes setup dispatch polls now pt chunk v = BeforePtChunk setup dispatch.pts.core dispatch.pts.readers.items dispatch.tills.items polls now pt chunk (due_in dispatch) v
+
+-- a terminal has closed its connection, and nothing of it was handled yet
+abbrev pub BeforePtEnd : Setup → Dispatch → ℕ → ℤ → ℕ → View → Type 0
+BeforePtEnd setup dispatch polls now pt v = BeforePtClosed setup dispatch.pts.core dispatch.pts.readers.items dispatch.tills.items polls now pt (due_in dispatch) v
+
+-- what the event has brought was handled, and these items come; this is held
+abbrev pub IsHandling : Setup → Dispatch → ℕ → ℤ → List RoundItem → View → Type 0
+IsHandling setup dispatch polls now items v = MidRound setup dispatch.pts.core dispatch.tills.items polls now (AllHear dispatch.pts.readers.items) [] items v
+
+-- what the event has brought was handled, and what may be due comes
+abbrev pub IsHandled : Setup → Dispatch → ℕ → ℤ → View → Type 0
+IsHandled setup dispatch polls now v = IsHandling setup dispatch polls now (due_in dispatch) v
+
+-- after what an event has brought
+abbrev pub AfterEvent : {E : Type 0} → Result RoundEnd E → Setup → Dispatch → ℕ → ℤ → View → Type 0
+AfterEvent (Ok Went) setup dispatch polls now v = IsHandled setup dispatch polls now v
+AfterEvent (Ok Stopped) setup dispatch polls now v = v.scene.stage ≡ Over
+AfterEvent (Err memory) setup dispatch polls now v = Unit {0}
+
+-- after a round
+abbrev pub AfterRound : {E : Type 0} → Result RoundEnd E → Setup → Dispatch → ℕ → View → Type 0
+AfterRound (Ok Went) setup dispatch polls v = IsBetweenRounds setup dispatch polls v
+AfterRound (Ok Stopped) setup dispatch polls v = v.scene.stage ≡ Over
+AfterRound (Err memory) setup dispatch polls v = Unit {0}

@@ -1,0 +1,33 @@
+-- Proof of the contract of `law_transcript`.
+use Rattle.std.proofs.Common.{◌∙◌, ap, not}
+use Rattle.gw_owes.proofs.TranscriptLemmas.{new-follows, rows-follow, links-begin, runs-follow, example-transcript}
+use Rattle.gw_owes.proofs.terminal_laws.law_transcript.Goals as goal
+
+pub returns-clause-new : goal.returns-clause-new
+returns-clause-new c = new-follows
+
+pub returns-clause-rows : goal.returns-clause-rows
+returns-clause-rows c = rows-follow (record {
+  goes_on = λ dialogue came. c.law_ends.ensures.goes_on dialogue came ∙ ap not (c.law_ends.ensures.ended dialogue came);
+  means = c.law_talk_steps.ensures.means;
+  next = c.law_talk_steps.ensures.next;
+  stays = c.law_talk_steps.ensures.ended;
+  by_message = c.law_ends.ensures.by_message;
+  kinds = c.law_ends.ensures.dialogue_kinds;
+})
+
+pub returns-clause-links : goal.returns-clause-links
+returns-clause-links c = links-begin
+
+pub returns-clause-runs : goal.returns-clause-runs
+returns-clause-runs c = runs-follow (record {
+  goes_on = λ dialogue came. c.law_ends.ensures.goes_on dialogue came ∙ ap not (c.law_ends.ensures.ended dialogue came);
+  means = c.law_talk_steps.ensures.means;
+  next = c.law_talk_steps.ensures.next;
+  stays = c.law_talk_steps.ensures.ended;
+  by_message = c.law_ends.ensures.by_message;
+  kinds = c.law_ends.ensures.dialogue_kinds;
+})
+
+pub returns-clause-example : goal.returns-clause-example
+returns-clause-example c = example-transcript

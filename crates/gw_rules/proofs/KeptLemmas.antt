@@ -1,0 +1,354 @@
+-- What is remembered of a terminal is kept while nothing of it is handled and its link lasts.
+use Rattle.std.proofs.Common.{◌≡◌, ◌≢◌, ℕ, zero, suc, List, [], ◌∷◌, ◌++◌, refl, sym, ◌∙◌, ap, subst, true, false, inl, inr, eqb-true}
+use Rattle.std.proofs.lemmas.Bool.{and_parts}
+use Rattle.std.specs.Prelude.{Bool, ◌⊎◌, ◌+◌, ◌==◌, ◌&&◌, not, nat_lt, if◌then◌else◌, map, length, slice_get, Option, Some, None}
+use Rattle.std.specs.List.{flat_map}
+use Rattle.std.specs.Option.{option_map}
+use Rattle.gw_base.specs.declared.setup.Setup.{Setup}
+use Rattle.gw_site.specs.Outside.{Connection, Outside, is_connected, without, hears, heard_on, new_connection}
+use Rattle.gw_site.specs.Sorts.{IsQuiet, is_between}
+use Rattle.gw_site.specs.declared.turn.Turn.{Turn}
+use Rattle.gw_site.specs.declared.turn.Turn.TheVariants.{Start, OpenFailed, Polled, Opened, HeardTill, Closed, HeardPt, Lost, Stopped, Linked, LinkFailed, SentTill, SentPt, CutTill, CutPt, Wrote, Synced, DiskFailed, Crash}
+use Rattle.sale_frame.specs.Decode.{DecodedFrames, decode_after, decode_frames}
+use Rattle.zvt_apdu.specs.Decode.{decode_apdu}
+use Rattle.zvt_apdu.specs.DecodeStream.{DecodedApdus, decode_apdus}
+use Rattle.zvt_apdu.specs.Grammar.{ApduValue}
+use Rattle.gw_owes.specs.Calls.{LinkPt, CutPt as OwedCutPt}
+use Rattle.gw_owes.specs.Core.{Core, Wait}
+use Rattle.gw_owes.specs.Events.{till_opened_items, has_bad_length, decoded_items, is_oversized, apdu_items, decoded_apdu_items, for_each_terminal, waits_by_deadline, items_due}
+use Rattle.gw_owes.specs.Items.{RoundItem, Crowded, Message, Asked, Unframed, Gone, Greet, Handle, NextWaiting, Oversized, LinkLost, Late, Overdue, Due}
+use Rattle.gw_owes.specs.Links.{LinkIsMade, LinkIsLost}
+use Rattle.gw_owes.specs.ReadAs.{ReadAs}
+use Rattle.gw_owes.specs.Row.{Known, Row, owing_where}
+use Rattle.gw_owes.specs.Rows.{row_of, asked_row}
+use Rattle.gw_owes.specs.Terminals.{link_made, link_lost, forgets_till}
+use Rattle.gw_owes.specs.declared.terminal.Terminal.{Terminal}
+use Rattle.gw_owes.proofs.TerminalLemmas.{greeting-changes-nothing, late-same, due-same, oversized-same, link-changes-alone, row-changes-alone}
+use Rattle.gw_rules.specs.LinkLaws.{IsOfTerminal, BringNothing, EndsNone}
+use Rattle.gw_rules.specs.Lawful.{may_begin, Begins, AllowedTurn, IsCourse, turns_of}
+use Rattle.gw_rules.specs.Scene.{Scene, known_in, row_in, row_at, link_made_at, link_lost_at}
+use Rattle.gw_rules.specs.View.{View, Move, Begin, Read, Make, read_first, after, after_turn, view_from}
+use Rattle.gw_rules.proofs.CourseLemmas.{begin-outside}
+use Rattle.gw_rules.proofs.LinkStateLemmas.{On, state_of, state_in, loses, apart}
+use Rattle.gw_rules.proofs.LinkedLemmas.{Agrees, Settled, Losing, lose_none, at-keeps, call-settled, call-setup, lost-at-turns, made-at-turns, move-agrees, round-setup}
+use Rattle.gw_rules.proofs.OutsideCutLemmas.{no-link}
+use Rattle.gw_rules.proofs.StageLemmas.{no-true, not-true}
+
+-- ---- what is remembered of a terminal
+
+-- but for the till that asked, which may be gone
+abbrev pub without_asker : Terminal → Terminal
+without_asker terminal = record terminal { asker = None }
+
+abbrev pub kept_in : Core → ℕ → Option Terminal
+kept_in core number = option_map without_asker (slice_get core.terminals number)
+
+-- the item may change what is remembered of this terminal
+abbrev pub changes : ℕ → RoundItem → Bool
+changes pt (Crowded till) = false
+changes pt (Message till bytes) = false
+changes pt (Asked till as_read) = false
+changes pt (Unframed till) = false
+changes pt (Gone till) = false
+changes pt (Greet other apdu) = false
+changes pt (Handle other apdu) = other == pt
+changes pt (NextWaiting other) = false
+changes pt (Oversized other) = false
+changes pt (LinkLost other) = other == pt
+changes pt (Late other) = false
+changes pt (Overdue key) = false
+changes pt (Due other) = false
+
+abbrev pub change_none : ℕ → List RoundItem → Bool
+change_none pt [] = true
+change_none pt (item ∷ items) = not (changes pt item) && change_none pt items
+
+-- ---- rows
+
+without-kept : (till : ℕ) (terminals : List Terminal) (number : ℕ) → option_map without_asker (slice_get (map (forgets_till till) terminals) number) ≡ option_map without_asker (slice_get terminals number)
+without-kept till [] number = refl
+without-kept till (terminal ∷ terminals) zero = refl
+without-kept till (terminal ∷ terminals) (suc number) = without-kept till terminals number
+
+where-core : (holds : Bool) (known : Known) (row : Row) → row.core ≡ known.core → (owing_where holds known row).core ≡ known.core
+where-core true known row e = e
+where-core false known row e = refl
+
+other-number : (pt other : ℕ) → (other == pt) ≡ false → pt ≢ other
+other-number pt other e same = apart other pt e (sym same)
+
+rows-kept : (tills : List Connection) (known : Known) (item : RoundItem) (pt : ℕ) → changes pt item ≡ false → kept_in (row_of tills known item).core pt ≡ kept_in known.core pt
+rows-kept tills known (Crowded till) pt e = refl
+rows-kept tills known (Message till bytes) pt e = refl
+rows-kept tills known (Asked till as_read) pt e = ap (λ c. kept_in c pt) (where-core (is_connected tills till) known (asked_row known till as_read) refl)
+rows-kept tills known (Unframed till) pt e = ap (λ c. kept_in c pt) (where-core (is_connected tills till) known _ refl)
+rows-kept tills known (Gone till) pt e = without-kept till known.core.terminals pt
+rows-kept tills known (Greet number apdu) pt e = ap (λ c. kept_in c pt) (greeting-changes-nothing known number apdu)
+rows-kept tills known (Handle number apdu) pt e = ap (option_map without_asker) ((row-changes-alone known (Handle number apdu) number refl).others pt (other-number pt number e))
+rows-kept tills known (NextWaiting number) pt e = refl
+rows-kept tills known (Oversized number) pt e = ap (λ c. kept_in c pt) (oversized-same known number)
+rows-kept tills known (LinkLost number) pt e = ap (option_map without_asker) ((row-changes-alone known (LinkLost number) number refl).others pt (other-number pt number e))
+rows-kept tills known (Late number) pt e = ap (λ c. kept_in c pt) (late-same known number)
+rows-kept tills known (Overdue key) pt e = refl
+rows-kept tills known (Due number) pt e = ap (λ c. kept_in c pt) (due-same known number)
+
+at-kept : (scene : Scene) (item : RoundItem) (pt : ℕ) → changes pt item ≡ false → kept_in (row_at scene item).core pt ≡ kept_in scene.core pt
+at-kept scene item pt e = by_setup scene.setup
+  where
+    by_setup : (setup : Option Setup) → kept_in (row_in scene (λ known. row_of scene.outside.tills known item) setup).core pt ≡ kept_in scene.core pt
+    by_setup None = refl
+    by_setup (Some setup) = rows-kept scene.outside.tills (known_in scene setup) item pt e
+
+made-kept : (scene : Scene) (other pt : ℕ) → pt ≢ other → kept_in (link_made_at scene other).core pt ≡ kept_in scene.core pt
+made-kept scene other pt differs = by_setup scene.setup
+  where
+    by_setup : (setup : Option Setup) → kept_in (row_in scene (λ known. link_made known other) setup).core pt ≡ kept_in scene.core pt
+    by_setup None = refl
+    by_setup (Some setup) = ap (option_map without_asker) ((link-changes-alone (known_in scene setup) other LinkIsMade).others pt differs)
+
+lost-kept : (scene : Scene) (other pt : ℕ) → pt ≢ other → kept_in (link_lost_at scene other).core pt ≡ kept_in scene.core pt
+lost-kept scene other pt differs = by_setup scene.setup
+  where
+    by_setup : (setup : Option Setup) → kept_in (row_in scene (λ known. link_lost known other) setup).core pt ≡ kept_in scene.core pt
+    by_setup None = refl
+    by_setup (Some setup) = ap (option_map without_asker) ((link-changes-alone (known_in scene setup) other LinkIsLost).others pt differs)
+
+-- ---- items
+
+none-append : (pt : ℕ) (items more : List RoundItem) → change_none pt items ≡ true → change_none pt more ≡ true → change_none pt (items ++ more) ≡ true
+none-append pt [] more h k = k
+none-append pt (item ∷ items) more h k =
+    let p = and_parts (not (changes pt item)) (change_none pt items) h in
+    rw (p.0, none-append pt items more p.1 k) refl
+
+none-each : (pt number : ℕ) (item : ℕ → RoundItem) (terminals : List Terminal) → ((n : ℕ) → changes pt (item n) ≡ false) → change_none pt (for_each_terminal number item terminals) ≡ true
+none-each pt number item [] never = refl
+none-each pt number item (terminal ∷ terminals) never = rw (never number, none-each pt (number + 1) item terminals never) refl
+
+none-overdue : (pt : ℕ) (waits : List Wait) → change_none pt (map (λ (wait : Wait). Overdue wait.key) waits) ≡ true
+none-overdue pt [] = refl
+none-overdue pt (wait ∷ waits) = none-overdue pt waits
+
+pub due-change-none : (pt : ℕ) (core : Core) → change_none pt (items_due core) ≡ true
+due-change-none pt core =
+    none-append pt (for_each_terminal 0 Late core.terminals) (map (λ (wait : Wait). Overdue wait.key) (waits_by_deadline core.waits) ++ for_each_terminal 0 Due core.terminals) (none-each pt 0 Late core.terminals (λ n. refl))
+    (none-append pt (map (λ (wait : Wait). Overdue wait.key) (waits_by_deadline core.waits)) (for_each_terminal 0 Due core.terminals) (none-overdue pt (waits_by_deadline core.waits)) (none-each pt 0 Due core.terminals (λ n. refl)))
+
+none-where : (pt : ℕ) (test : Bool) (item : RoundItem) → changes pt item ≡ false → change_none pt (if test then item ∷ [] else []) ≡ true
+none-where pt true item never = rw never refl
+none-where pt false item never = refl
+
+none-opened : (pt till : ℕ) (tills : List Connection) → change_none pt (till_opened_items till tills) ≡ true
+none-opened pt till tills = by_test (nat_lt (length tills) 64)
+  where
+    by_test : (test : Bool) → change_none pt (if test then [] else Crowded till ∷ []) ≡ true
+    by_test true = refl
+    by_test false = refl
+
+none-messages : (pt till : ℕ) (payloads : List (List ℕ)) → change_none pt (map (Message till) payloads) ≡ true
+none-messages pt till [] = refl
+none-messages pt till (payload ∷ payloads) = none-messages pt till payloads
+
+none-till : (pt till : ℕ) (decoded : DecodedFrames) → change_none pt (decoded_items till decoded) ≡ true
+none-till pt till decoded = none-append pt (map (Message till) decoded.payloads) _ (none-messages pt till decoded.payloads) (none-where pt (has_bad_length decoded.rest) (Unframed till) refl)
+
+none-apdus : (pt other : ℕ) (apdus : List ApduValue) → (other == pt) ≡ false → change_none pt (flat_map (apdu_items other) apdus) ≡ true
+none-apdus pt other [] e = refl
+none-apdus pt other (apdu ∷ apdus) e = rw (e, none-apdus pt other apdus e) refl
+
+none-pt : (pt other : ℕ) (decoded : DecodedApdus) → (other == pt) ≡ false → change_none pt (decoded_apdu_items other decoded) ≡ true
+none-pt pt other decoded e = none-append pt (flat_map (apdu_items other) decoded.apdus) _ (none-apdus pt other decoded.apdus e) (none-where pt (is_oversized (decode_apdu decoded.rest)) (Oversized other) refl)
+
+-- what each event brings but bytes of this terminal and the loss of its link
+pub opened-none : (pt till : ℕ) (tills : List Connection) (core : Core) → change_none pt (till_opened_items till tills ++ items_due core) ≡ true
+opened-none pt till tills core = none-append pt (till_opened_items till tills) (items_due core) (none-opened pt till tills) (due-change-none pt core)
+
+pub till-none : (pt till : ℕ) (decoded : DecodedFrames) (core : Core) → change_none pt (decoded_items till decoded ++ items_due core) ≡ true
+till-none pt till decoded core = none-append pt (decoded_items till decoded) (items_due core) (none-till pt till decoded) (due-change-none pt core)
+
+pub other-none : (pt other : ℕ) (decoded : DecodedApdus) (core : Core) → (other == pt) ≡ false → change_none pt (decoded_apdu_items other decoded ++ items_due core) ≡ true
+other-none pt other decoded core e = none-append pt (decoded_apdu_items other decoded) (items_due core) (none-pt pt other decoded e) (due-change-none pt core)
+
+-- an item that begins is the first, and those after it are left
+pub record BeginsFirst (v : View) : Type 0 where
+  pub item : RoundItem
+  pub rest : List RoundItem
+  pub items_are : v.items ≡ item ∷ rest
+  pub left : (after v Begin).items ≡ rest
+
+pub begins-first : (v : View) → Agrees v → Begins v → BeginsFirst v
+begins-first v a b = by_items v.items refl
+  where
+    by_items : (items : List RoundItem) → v.items ≡ items → BeginsFirst v
+    by_items [] e = no-true (sym (ap (may_begin v.scene) e) ∙ b.first)
+    by_items (item ∷ rest) e = record { item = item; rest = rest; items_are = e; left = ap (λ l. (after (record v { items = l }) Begin).items) e ∙ ap (λ l. l ++ rest) (by_links a.links) }
+      where
+        by_links : Settled v ⊎ Losing v → (row_at v.scene item).items ≡ []
+        by_links (inl s) =
+            let known = round-setup v a.run b.idle.round in
+            let none : lose_none (item ∷ rest) ≡ true = subst (λ l. lose_none l ≡ true) e s.none in
+            (at-keeps v.scene item known.setup known.setup_is s.even (not-true (loses item) (and_parts (not (loses item)) (lose_none rest) none).0)).items
+        by_links (inr l) =
+            let known = round-setup v a.run b.idle.round in
+            let same : LinkLost l.pt ≡ item = (let n : LinkLost l.pt ∷ l.rest ≡ item ∷ rest = sym l.items_are ∙ e in cc) in
+            subst (λ i. (row_at v.scene i).items ≡ []) same (lost-at-turns v.scene l.pt known.setup known.setup_is).items
+
+pub read-none : (pt : ℕ) (as_read : ReadAs) (items : List RoundItem) → change_none pt items ≡ true → change_none pt (read_first as_read items) ≡ true
+read-none pt as_read [] e = e
+read-none pt as_read (Crowded till ∷ items) e = e
+read-none pt as_read (Message till bytes ∷ items) e = e
+read-none pt as_read (Asked till other ∷ items) e = e
+read-none pt as_read (Unframed till ∷ items) e = e
+read-none pt as_read (Gone till ∷ items) e = e
+read-none pt as_read (Greet other apdu ∷ items) e = e
+read-none pt as_read (Handle other apdu ∷ items) e = e
+read-none pt as_read (NextWaiting other ∷ items) e = e
+read-none pt as_read (Oversized other ∷ items) e = e
+read-none pt as_read (LinkLost other ∷ items) e = e
+read-none pt as_read (Late other ∷ items) e = e
+read-none pt as_read (Overdue key ∷ items) e = e
+read-none pt as_read (Due other ∷ items) e = e
+
+-- ---- what was heard
+
+heard-other : (connections : List Connection) (other pt : ℕ) (bytes : List ℕ) → (other == pt) ≡ false → heard_on (hears connections other bytes) pt ≡ heard_on connections pt
+heard-other [] other pt bytes e = refl
+heard-other (connection ∷ connections) other pt bytes e = by_tests (connection.number == other) (connection.number == pt) refl refl (heard-other connections other pt bytes e)
+  where
+    by_tests : (one two : Bool) → (connection.number == other) ≡ one → (connection.number == pt) ≡ two → heard_on (hears connections other bytes) pt ≡ heard_on connections pt → heard_on (hears (connection ∷ connections) other bytes) pt ≡ heard_on (connection ∷ connections) pt
+    by_tests true true t u h = absurd (apart other pt e (sym (eqb-true connection.number other t) ∙ eqb-true connection.number pt u))
+    by_tests true false t u h = rw (t, u) refl
+    by_tests false true t u h = rw (t, u) refl
+    by_tests false false t u h = rw (t, u) h
+
+heard-without : (connections : List Connection) (other pt : ℕ) → (other == pt) ≡ false → heard_on (without connections other) pt ≡ heard_on connections pt
+heard-without [] other pt e = refl
+heard-without (connection ∷ connections) other pt e = by_tests (connection.number == other) (connection.number == pt) refl refl (heard-without connections other pt e)
+  where
+    by_tests : (one two : Bool) → (connection.number == other) ≡ one → (connection.number == pt) ≡ two → heard_on (without connections other) pt ≡ heard_on connections pt → heard_on (without (connection ∷ connections) other) pt ≡ heard_on (connection ∷ connections) pt
+    by_tests true true t u h = absurd (apart other pt e (sym (eqb-true connection.number other t) ∙ eqb-true connection.number pt u))
+    by_tests true false t u h = rw (t, u) h
+    by_tests false true t u h = rw (t, u) refl
+    by_tests false false t u h = rw (t, u) h
+
+heard-new : (connections : List Connection) (other pt : ℕ) → (other == pt) ≡ false → heard_on (connections ++ new_connection other ∷ []) pt ≡ heard_on connections pt
+heard-new [] other pt e = rw e refl
+heard-new (connection ∷ connections) other pt e = by_test (connection.number == pt) refl (heard-new connections other pt e)
+  where
+    by_test : (test : Bool) → (connection.number == pt) ≡ test → heard_on (connections ++ new_connection other ∷ []) pt ≡ heard_on connections pt → heard_on (connection ∷ (connections ++ new_connection other ∷ [])) pt ≡ heard_on (connection ∷ connections) pt
+    by_test true t h = rw t refl
+    by_test false t h = rw t h
+
+-- ---- what is kept
+
+-- this is remembered of the terminal, which is linked, and this was heard on its link; no item is left that may change it
+pub record Kept (pt : ℕ) (terminal : Terminal) (heard : List ℕ) (v : View) : Type 0 where
+  pub kept : kept_in v.scene.core pt ≡ Some terminal
+  pub linked : state_of (Some terminal) ≡ On
+  pub items : change_none pt v.items ≡ true
+  pub heard_is : heard_on v.scene.outside.links pt ≡ heard
+
+state-kept : (found : Option Terminal) → state_of (option_map without_asker found) ≡ state_of found
+state-kept None = refl
+state-kept (Some terminal) = refl
+
+pub kept-on : (pt : ℕ) (terminal : Terminal) (heard : List ℕ) (v : View) → Kept pt terminal heard v → state_in v.scene.core pt ≡ On
+kept-on pt terminal heard v k = sym (state-kept (slice_get v.scene.core.terminals pt)) ∙ ap state_of k.kept ∙ k.linked
+
+-- with another view
+same-kept : (pt : ℕ) (terminal : Terminal) (heard : List ℕ) (v w : View) → Kept pt terminal heard v → kept_in w.scene.core pt ≡ kept_in v.scene.core pt → change_none pt w.items ≡ true → heard_on w.scene.outside.links pt ≡ heard_on v.scene.outside.links pt → Kept pt terminal heard w
+same-kept pt terminal heard v w k core items same = record { kept = core ∙ k.kept; linked = k.linked; items = items; heard_is = same ∙ k.heard_is }
+
+pub begin-kept : (pt : ℕ) (terminal : Terminal) (heard : List ℕ) (v : View) → Agrees v → Kept pt terminal heard v → Begins v → Kept pt terminal heard (after v Begin)
+begin-kept pt terminal heard v a k b =
+    let first = begins-first v a b in
+    let none : change_none pt (first.item ∷ first.rest) ≡ true = subst (λ l. change_none pt l ≡ true) first.items_are k.items in
+    let p = and_parts (not (changes pt first.item)) (change_none pt first.rest) none in
+    same-kept pt terminal heard v (after v Begin) k
+    (ap (λ l. kept_in (after (record v { items = l }) Begin).scene.core pt) first.items_are ∙ at-kept v.scene first.item pt (not-true (changes pt first.item) p.0))
+    (ap (change_none pt) first.left ∙ p.1)
+    (ap (λ (o : Outside). heard_on o.links pt) (begin-outside v.scene v.items))
+
+pub read-kept : (pt : ℕ) (terminal : Terminal) (heard : List ℕ) (v : View) (as_read : ReadAs) → Kept pt terminal heard v → Kept pt terminal heard (after v (Read as_read))
+read-kept pt terminal heard v as_read k = same-kept pt terminal heard v (after v (Read as_read)) k refl (read-none pt as_read v.items k.items) refl
+
+pub by-equal : {A : Type 0} (pt other : ℕ) → (other ≡ pt → A) → ((other == pt) ≡ false → A) → A
+by-equal {A} pt other same differs = by_test (other == pt) refl
+  where
+    by_test : (test : Bool) → (other == pt) ≡ test → A
+    by_test true e = same (eqb-true other pt e)
+    by_test false e = differs e
+
+-- a turn of a run keeps it that is neither of the terminal nor cuts it
+pub turn-kept : (pt : ℕ) (terminal : Terminal) (heard : List ℕ) (v : View) (turn : Turn) → Agrees v → Kept pt terminal heard v → AllowedTurn v turn → is_between turn ≡ false → (IsOfTerminal pt turn → ⊥) → turn ≢ CutPt pt → Kept pt terminal heard (after_turn v turn)
+turn-kept pt terminal heard v turn a k ok e none uncut = by_turn turn ok e none uncut
+  where
+    same : (w : View) → kept_in w.scene.core pt ≡ kept_in v.scene.core pt → change_none pt w.items ≡ true → heard_on w.scene.outside.links pt ≡ heard_on v.scene.outside.links pt → Kept pt terminal heard w
+    same w core items all = same-kept pt terminal heard v w k core items all
+
+    linked : (other : ℕ) → AllowedTurn v (Linked other) → Kept pt terminal heard (after_turn v (Linked other))
+    linked other ok = by-equal pt other
+        (λ is. no-link other v (call-settled v (LinkPt other) a ok) (ap (state_in v.scene.core) is ∙ kept-on pt terminal heard v k) ok)
+        (λ differs.
+        let known = call-setup v (LinkPt other) a.run ok in
+        same (after_turn v (Linked other)) (made-kept v.scene other pt (other-number pt other differs))
+        (ap (λ l. change_none pt (l ++ v.items)) (made-at-turns v.scene other known.setup known.setup_is).items ∙ k.items)
+        (heard-new (without v.scene.outside.links other) other pt differs ∙ heard-without v.scene.outside.links other pt differs))
+
+    failed : (other : ℕ) → AllowedTurn v (LinkFailed other) → Kept pt terminal heard (after_turn v (LinkFailed other))
+    failed other ok = by-equal pt other
+        (λ is. no-link other v (call-settled v (LinkPt other) a ok) (ap (state_in v.scene.core) is ∙ kept-on pt terminal heard v k) ok)
+        (λ differs.
+        let known = call-setup v (LinkPt other) a.run ok in
+        same (after_turn v (LinkFailed other)) (lost-kept v.scene other pt (other-number pt other differs)) (ap (λ l. change_none pt (l ++ v.items)) (lost-at-turns v.scene other known.setup known.setup_is).items ∙ k.items) refl)
+
+    cut : (other : ℕ) → AllowedTurn v (CutPt other) → (CutPt other ≢ CutPt pt) → Kept pt terminal heard (after_turn v (CutPt other))
+    cut other ok uncut = by-equal pt other (λ is. absurd (uncut (ap CutPt is)))
+        (λ differs.
+        let known = call-setup v (OwedCutPt other) a.run ok in
+        same (after_turn v (CutPt other)) (lost-kept v.scene other pt (other-number pt other differs)) (ap (λ l. change_none pt (l ++ v.items)) (lost-at-turns v.scene other known.setup known.setup_is).items ∙ k.items)
+        (heard-without v.scene.outside.links other pt differs))
+
+    heard_more : (other : ℕ) (bytes : List ℕ) → (IsOfTerminal pt (HeardPt other bytes) → ⊥) → Kept pt terminal heard (after_turn v (HeardPt other bytes))
+    heard_more other bytes none = by-equal pt other (λ is. absurd (none (inl (bytes, ap (λ n. HeardPt n bytes) is))))
+        (λ differs.
+        let decoded : DecodedApdus = decode_apdus ((decode_apdus (heard_on v.scene.outside.links other)).rest ++ bytes) in
+        same (after_turn v (HeardPt other bytes)) refl (other-none pt other decoded v.scene.core differs) (heard-other v.scene.outside.links other pt bytes differs))
+
+    lost : (other : ℕ) → (IsOfTerminal pt (Lost other) → ⊥) → Kept pt terminal heard (after_turn v (Lost other))
+    lost other none = by-equal pt other (λ is. absurd (none (inr (ap Lost is))))
+        (λ differs. same (after_turn v (Lost other)) refl (rw (differs, due-change-none pt v.scene.core) refl) (heard-without v.scene.outside.links other pt differs))
+
+    by_turn : (turn : Turn) → AllowedTurn v turn → is_between turn ≡ false → (IsOfTerminal pt turn → ⊥) → turn ≢ CutPt pt → Kept pt terminal heard (after_turn v turn)
+    by_turn (Start setup) ok e none uncut = absurd (let n : true ≡ false = e in cc)
+    by_turn OpenFailed ok e none uncut = absurd (let n : true ≡ false = e in cc)
+    by_turn (Polled now) ok e none uncut = same (after_turn v (Polled now)) refl (due-change-none pt v.scene.core) refl
+    by_turn (Opened till) ok e none uncut = same (after_turn v (Opened till)) refl (opened-none pt till v.scene.outside.tills v.scene.core) refl
+    by_turn (HeardTill till bytes) ok e none uncut =
+        let decoded : DecodedFrames = decode_after (decode_frames (heard_on v.scene.outside.tills till)).rest bytes in
+        same (after_turn v (HeardTill till bytes)) refl (till-none pt till decoded v.scene.core) refl
+    by_turn (Closed till) ok e none uncut = same (after_turn v (Closed till)) refl (due-change-none pt v.scene.core) refl
+    by_turn (HeardPt other bytes) ok e none uncut = heard_more other bytes none
+    by_turn (Lost other) ok e none uncut = lost other none
+    by_turn Stopped ok e none uncut = same (after_turn v Stopped) refl refl refl
+    by_turn (Linked other) ok e none uncut = linked other ok
+    by_turn (LinkFailed other) ok e none uncut = failed other ok
+    by_turn (SentTill till bytes true) ok e none uncut = same (after_turn v (SentTill till bytes true)) refl k.items refl
+    by_turn (SentTill till bytes false) ok e none uncut = same (after_turn v (SentTill till bytes false)) refl k.items refl
+    by_turn (SentPt other bytes true) ok e none uncut = same (after_turn v (SentPt other bytes true)) refl k.items refl
+    by_turn (SentPt other bytes false) ok e none uncut = same (after_turn v (SentPt other bytes false)) refl k.items refl
+    by_turn (CutTill till) ok e none uncut = same (after_turn v (CutTill till)) (without-kept till v.scene.core.terminals pt) k.items refl
+    by_turn (CutPt other) ok e none uncut = cut other ok uncut
+    by_turn (Wrote offset bytes) ok e none uncut = same (after_turn v (Wrote offset bytes)) refl k.items refl
+    by_turn Synced ok e none uncut = same (after_turn v Synced) refl k.items refl
+    by_turn DiskFailed ok e none uncut = same (after_turn v DiskFailed) refl refl refl
+    by_turn (Crash file) ok e none uncut = absurd (let n : true ≡ false = e in cc)
+
+-- along a course in which nothing is heard of the terminal and its link lasts
+pub moves-kept : (pt : ℕ) (terminal : Terminal) (heard : List ℕ) (v : View) (moves : List Move) → Agrees v → Kept pt terminal heard v → IsCourse v moves → IsQuiet (turns_of moves) → BringNothing pt (turns_of moves) → EndsNone pt (turns_of moves)
+    → Kept pt terminal heard (view_from v moves)
+moves-kept pt terminal heard v [] a k c q none lasts = k
+moves-kept pt terminal heard v (Begin ∷ moves) a k c q none lasts = moves-kept pt terminal heard (after v Begin) moves (move-agrees v Begin a c.0) (begin-kept pt terminal heard v a k c.0) c.1 q none lasts
+moves-kept pt terminal heard v (Read as_read ∷ moves) a k c q none lasts = moves-kept pt terminal heard (after v (Read as_read)) moves (move-agrees v (Read as_read) a c.0) (read-kept pt terminal heard v as_read k) c.1 q none lasts
+moves-kept pt terminal heard v (Make turn ∷ moves) a k c q none lasts =
+    moves-kept pt terminal heard (after_turn v turn) moves (move-agrees v (Make turn) a c.0) (turn-kept pt terminal heard v turn a k c.0 q.0 none.0 (λ is. lasts.0 (inr (inl is)))) c.1 q.1 none.1 lasts.1

@@ -1,0 +1,379 @@
+-- Whether a terminal is linked, and else when it is due: what the row of each item leaves of it.
+use Rattle.std.proofs.Common.{◌≡◌, ◌≢◌, ℕ, zero, suc, List, [], ◌∷◌, refl, sym, ◌∙◌, ap, subst, true, false, eqb-true}
+use Rattle.std.proofs.lemmas.Bool.{eq-eqb}
+use Rattle.std.specs.Prelude.{Bool, ◌+◌, ◌==◌, map, slice_get, nat_le, if◌then◌else◌, Option, Some, None, Result, Ok, Err}
+use Rattle.gw_site.specs.Outside.{Connection, is_connected}
+use Rattle.zvt_apdu.specs.Grammar.{ApduValue}
+use Rattle.zvt_msg.specs.declared.fault.PtFault.{PtFault}
+use Rattle.zvt_msg.specs.Message.{MessageValue, Ack, Nack, Intermediate, Line, Block, Status, Completion, Abort, Other}
+use Rattle.zvt_msg.specs.MessageDecode.{decode_pt_message}
+use Rattle.zvt_talk.specs.Talk.{TalkFacts}
+use Rattle.zvt_talk.specs.declared.meaning.Heard.{Heard}
+use Rattle.zvt_talk.specs.declared.meaning.Heard.TheVariants as heard
+use Rattle.gw_owes.specs.Calls.{OwedCall, SendTill, SendPt, LinkPt, WriteBody, WriteGate, WriteFirstGate, Sync, CutTill, CutPt}
+use Rattle.gw_owes.specs.Core.{Core}
+use Rattle.gw_owes.specs.Deadlines.{is_late, is_due_by, is_due, late_row, due_row}
+use Rattle.gw_owes.specs.Greeting.{greeting, sending_calls, greet_decoded, oversized_row}
+use Rattle.gw_owes.specs.Handling.{taking, meaning_at, staying, breaking, registering, enquiring, serving, consequence, handle_row}
+use Rattle.gw_owes.specs.Items.{RoundItem, Crowded, Message, Asked, Unframed, Gone, Greet, Handle, NextWaiting, Oversized, LinkLost, Late, Overdue, Due}
+use Rattle.gw_owes.specs.Links.{is_linked, cutting}
+use Rattle.gw_owes.specs.Reply.{ReplyValue}
+use Rattle.gw_owes.specs.Reports.{standing_reported}
+use Rattle.gw_owes.specs.Requests.{reply_to}
+use Rattle.gw_owes.specs.Row.{Known, Row, owing, owing_nothing, owing_where}
+use Rattle.gw_owes.specs.Rows.{asked_row, row_of}
+use Rattle.gw_owes.specs.TerminalLaws.{settings_of}
+use Rattle.gw_owes.specs.Terminals.{terminal_at, of_terminal, terminal_becomes, with_terminal, registers, link_made, reply_calls_to, reply_to_lost, unlinks, unlinked_terminal, link_lost, forgets_till}
+use Rattle.gw_owes.specs.declared.terminal.Standing.{Standing}
+use Rattle.gw_owes.specs.declared.terminal.Standing.TheVariants.{Unlinked, Registering, Enquiring, Ready, Serving, Aside}
+use Rattle.gw_owes.specs.declared.terminal.Terminal.{Terminal}
+use Rattle.gw_owes.proofs.HandlingLemmas.{each-terminal, each-linked, each-handled}
+use Rattle.gw_owes.proofs.SetLemmas.{others-stay, new-is-there, same-stays}
+use Rattle.gw_rules.proofs.StageLemmas.{no-true}
+
+-- ---- states
+
+-- whether a terminal is linked
+pub data LinkState : Type 0 where
+  -- there is none of this number
+  Absent : LinkState
+  -- it is linked
+  On : LinkState
+  -- it isn't, and is due then; at once where that is none
+  Off : Option ℕ → LinkState
+  -- it isn't, though a dialogue runs: this never is
+  Odd : LinkState
+
+abbrev pub unlinked_state : Option ℕ → Option TalkFacts → LinkState
+unlinked_state due None = Off due
+unlinked_state due (Some talk) = Odd
+
+abbrev pub standing_state : Standing → Option TalkFacts → LinkState
+standing_state (Unlinked due) talk = unlinked_state due talk
+standing_state Registering talk = On
+standing_state Enquiring talk = On
+standing_state (Ready last) talk = On
+standing_state (Serving service last) talk = On
+standing_state (Aside before reported) talk = On
+
+abbrev pub state_of : Option Terminal → LinkState
+state_of None = Absent
+state_of (Some terminal) = standing_state terminal.standing terminal.talk
+
+-- that of the terminal of this number
+abbrev pub state_in : Core → ℕ → LinkState
+state_in core number = state_of (slice_get core.terminals number)
+
+linked-on : (standing : Standing) (talk : Option TalkFacts) → is_linked standing ≡ true → standing_state standing talk ≡ On
+linked-on (Unlinked due) talk e = no-true e
+linked-on Registering talk e = refl
+linked-on Enquiring talk e = refl
+linked-on (Ready last) talk e = refl
+linked-on (Serving service last) talk e = refl
+linked-on (Aside before reported) talk e = refl
+
+pub on-linked : (standing : Standing) (talk : Option TalkFacts) → standing_state standing talk ≡ On → is_linked standing ≡ true
+on-linked (Unlinked due) None e = absurd (let n : Off due ≡ On = e in cc)
+on-linked (Unlinked due) (Some talk) e = absurd (let n : Odd ≡ On = e in cc)
+on-linked Registering talk e = refl
+on-linked Enquiring talk e = refl
+on-linked (Ready last) talk e = refl
+on-linked (Serving service last) talk e = refl
+on-linked (Aside before reported) talk e = refl
+
+late-on : (moment : ℕ) (standing : Standing) (talk : Option TalkFacts) → standing_state standing talk ≢ Odd → is_late moment talk ≡ true → standing_state standing talk ≡ On
+late-on moment (Unlinked due) None even e = no-true e
+late-on moment (Unlinked due) (Some talk) even e = absurd (even refl)
+late-on moment Registering talk even e = refl
+late-on moment Enquiring talk even e = refl
+late-on moment (Ready last) talk even e = refl
+late-on moment (Serving service last) talk even e = refl
+late-on moment (Aside before reported) talk even e = refl
+
+due-off : (moment : ℕ) (standing : Standing) (talk : Option TalkFacts) → standing_state standing talk ≢ Odd → is_due moment standing ≡ true → (due : Option ℕ) × (standing_state standing talk ≡ Off due) × (is_due_by moment due ≡ true)
+due-off moment (Unlinked due) None even e = (due, refl, e)
+due-off moment (Unlinked due) (Some talk) even e = absurd (even refl)
+due-off moment Registering talk even e = no-true e
+due-off moment Enquiring talk even e = no-true e
+due-off moment (Ready last) talk even e = no-true e
+due-off moment (Serving service last) talk even e = no-true e
+due-off moment (Aside before reported) talk even e = no-true e
+
+-- ---- calls
+
+-- a terminal is sent something, or cut, that is linked, and linked that isn't and is due at this moment
+abbrev pub Fits : ℕ → Core → OwedCall → Type 0
+Fits moment core (SendTill till reply) = Unit {0}
+Fits moment core (SendPt number sending) = state_in core number ≡ On
+Fits moment core (CutTill till) = Unit {0}
+Fits moment core (CutPt number) = state_in core number ≡ On
+Fits moment core (LinkPt number) = (due : Option ℕ) × (state_in core number ≡ Off due) × (is_due_by moment due ≡ true)
+Fits moment core (WriteBody slot the_record) = Unit {0}
+Fits moment core (WriteGate slot the_record) = Unit {0}
+Fits moment core WriteFirstGate = Unit {0}
+Fits moment core Sync = Unit {0}
+
+abbrev pub EachFits : ℕ → Core → List OwedCall → Type 0
+EachFits moment core [] = Unit {0}
+EachFits moment core (call ∷ calls) = Fits moment core call × EachFits moment core calls
+
+call-same : (moment : ℕ) (core other : Core) (call : OwedCall) → ((number : ℕ) → state_in other number ≡ state_in core number) → Fits moment core call → Fits moment other call
+call-same moment core other (SendTill till reply) same h = tt
+call-same moment core other (SendPt number sending) same h = same number ∙ h
+call-same moment core other (CutTill till) same h = tt
+call-same moment core other (CutPt number) same h = same number ∙ h
+call-same moment core other (LinkPt number) same h = (h.0, same number ∙ h.1, h.2)
+call-same moment core other (WriteBody slot the_record) same h = tt
+call-same moment core other (WriteGate slot the_record) same h = tt
+call-same moment core other WriteFirstGate same h = tt
+call-same moment core other Sync same h = tt
+
+pub fits-same : (moment : ℕ) (core other : Core) (calls : List OwedCall) → ((number : ℕ) → state_in other number ≡ state_in core number) → EachFits moment core calls → EachFits moment other calls
+fits-same moment core other [] same h = tt
+fits-same moment core other (call ∷ calls) same h = (call-same moment core other call same h.0, fits-same moment core other calls same h.1)
+
+reply-fits : (moment : ℕ) (core : Core) (asker : Option ℕ) (reply : Option ReplyValue) → EachFits moment core (reply_calls_to asker reply)
+reply-fits moment core None reply = tt
+reply-fits moment core (Some till) None = tt
+reply-fits moment core (Some till) (Some reply) = (tt, tt)
+
+-- ---- rows that leave each terminal linked, or due, as it was
+
+pub record LeavesLinks (moment : ℕ) (core : Core) (row : Row) : Type 0 where
+  pub states : (number : ℕ) → state_in row.core number ≡ state_in core number
+  pub items : row.items ≡ []
+  pub settings : settings_of row.core ≡ settings_of core
+  pub fits : EachFits moment row.core row.calls
+
+owing-keeps : (known : Known) (calls : List OwedCall) → EachFits known.moment known.core calls → LeavesLinks known.moment known.core (owing known calls)
+owing-keeps known calls fits = record { states = λ number. refl; items = refl; settings = refl; fits = fits }
+
+where-keeps : (there : Bool) (known : Known) (row : Row) → (there ≡ true → LeavesLinks known.moment known.core row) → LeavesLinks known.moment known.core (owing_where there known row)
+where-keeps true known row h = h refl
+where-keeps false known row h = owing-keeps known [] tt
+
+pub apart : (one other : ℕ) → (one == other) ≡ false → one ≢ other
+apart one other e same = no-true (sym e ∙ eq-eqb one other same)
+
+-- a terminal that is linked stays linked
+becomes-keeps : (known : Known) (number : ℕ) (old new : Terminal) (calls : List OwedCall) → terminal_at known number ≡ Some old → standing_state old.standing old.talk ≡ On → standing_state new.standing new.talk ≡ On → new.pt ≡ old.pt
+    → (state_in (with_terminal known.core number new) number ≡ On → EachFits known.moment (with_terminal known.core number new) calls) → LeavesLinks known.moment known.core (terminal_becomes known number new calls)
+becomes-keeps known number old new calls found on new_on same fits =
+    let there : state_in (with_terminal known.core number new) number ≡ On = ap state_of (new-is-there known.core.terminals number old new found) ∙ new_on in
+    record {
+      states = λ other. by_test there other (other == number) refl;
+      items = refl;
+      settings = same-stays (λ (terminal : Terminal). terminal.pt) known.core.terminals number old new found same;
+      fits = fits there;
+    }
+  where
+    by_test : state_in (with_terminal known.core number new) number ≡ On → (other : ℕ) (test : Bool) → (other == number) ≡ test → state_in (with_terminal known.core number new) other ≡ state_in known.core other
+    by_test there other true e =
+        let is : other ≡ number = eqb-true other number e in
+        subst (λ n. state_in (with_terminal known.core number new) n ≡ state_in known.core n) (sym is) (there ∙ sym (ap state_of found ∙ on))
+    by_test there other false e = ap state_of (others-stay known.core.terminals number other new (apart other number e))
+
+-- ---- what a terminal sends
+
+sending-fits : (moment : ℕ) (core : Core) (number : ℕ) (message : MessageValue) → state_in core number ≡ On → EachFits moment core (sending_calls number (greeting message))
+sending-fits moment core number Ack on = tt
+sending-fits moment core number (Nack error_code) on = tt
+sending-fits moment core number (Intermediate intermediate_status) on = (on, tt)
+sending-fits moment core number (Line text) on = (on, tt)
+sending-fits moment core number (Block objects) on = (on, tt)
+sending-fits moment core number (Status fields) on = (on, tt)
+sending-fits moment core number Completion on = (on, tt)
+sending-fits moment core number (Abort result_code) on = (on, tt)
+sending-fits moment core number Other on = (on, tt)
+
+found-on : (known : Known) (number : ℕ) (terminal : Terminal) → terminal_at known number ≡ Some terminal → is_linked terminal.standing ≡ true → state_in known.core number ≡ On
+found-on known number terminal found linked = ap state_of found ∙ linked-on terminal.standing terminal.talk linked
+
+outside-keeps : (known : Known) (number : ℕ) → LeavesLinks known.moment known.core (oversized_row known number)
+outside-keeps known number = each-linked (LeavesLinks known.moment known.core) known number (λ terminal. cutting known number) (owing-keeps known [] tt)
+    (λ terminal found linked. owing-keeps known (CutPt number ∷ []) (found-on known number terminal found linked, tt))
+
+greet-keeps : (known : Known) (number : ℕ) (decoded : Result MessageValue PtFault) → LeavesLinks known.moment known.core (greet_decoded known number decoded)
+greet-keeps known number (Ok message) = each-linked (LeavesLinks known.moment known.core) known number (λ terminal. owing known (sending_calls number (greeting message))) (owing-keeps known [] tt)
+    (λ terminal found linked. owing-keeps known (sending_calls number (greeting message)) (sending-fits known.moment known.core number message (found-on known number terminal found linked)))
+greet-keeps known number (Err fault) = outside-keeps known number
+
+module _ (known : Known) (number : ℕ) (old terminal : Terminal) (found : terminal_at known number ≡ Some old) (old_on : standing_state old.standing old.talk ≡ On) (on : standing_state terminal.standing terminal.talk ≡ On) (same : terminal.pt ≡ old.pt) where
+  staying-keeps : LeavesLinks known.moment known.core (staying known number terminal)
+  staying-keeps = becomes-keeps known number old terminal [] found old_on on same (λ there. tt)
+
+  breaking-keeps : LeavesLinks known.moment known.core (breaking known number terminal)
+  breaking-keeps = becomes-keeps known number old terminal (CutPt number ∷ []) found old_on on same (λ there. (there, tt))
+
+  reported-on : (least reported : ℕ) (talk : Option TalkFacts) → standing_state (standing_reported least reported) talk ≡ On
+  reported-on least reported talk = by_test (nat_le least reported)
+    where
+      by_test : (test : Bool) → standing_state (if test then Ready reported else Aside least reported) talk ≡ On
+      by_test true = refl
+      by_test false = refl
+
+  registering-keeps : (meant : Heard) → LeavesLinks known.moment known.core (registering known number terminal meant)
+  registering-keeps (heard.Begun stop) = staying-keeps
+  registering-keeps (heard.Note intermediate_status) = staying-keeps
+  registering-keeps heard.Line = staying-keeps
+  registering-keeps heard.Block = staying-keeps
+  registering-keeps heard.Seen = staying-keeps
+  registering-keeps (heard.Approved figures) = staying-keeps
+  registering-keeps heard.Done = becomes-keeps known number old _ _ found old_on refl same (λ there. (there, tt))
+  registering-keeps (heard.Told reported approved result_code) = staying-keeps
+  registering-keeps (heard.Declined result_code reported) = breaking-keeps
+  registering-keeps heard.Unclear = breaking-keeps
+  registering-keeps heard.Stray = staying-keeps
+
+  enquiring-keeps : (meant : Heard) → LeavesLinks known.moment known.core (enquiring known number terminal meant)
+  enquiring-keeps (heard.Begun stop) = staying-keeps
+  enquiring-keeps (heard.Note intermediate_status) = staying-keeps
+  enquiring-keeps heard.Line = staying-keeps
+  enquiring-keeps heard.Block = staying-keeps
+  enquiring-keeps heard.Seen = staying-keeps
+  enquiring-keeps (heard.Approved figures) = staying-keeps
+  enquiring-keeps heard.Done = staying-keeps
+  enquiring-keeps (heard.Told reported approved result_code) = becomes-keeps known number old (record terminal { standing = standing_reported 0 reported; talk = None }) [] found old_on (reported-on 0 reported None) same (λ there. tt)
+  enquiring-keeps (heard.Declined result_code reported) = breaking-keeps
+  enquiring-keeps heard.Unclear = breaking-keeps
+  enquiring-keeps heard.Stray = staying-keeps
+
+  serving-keeps : (meant : Heard) → LeavesLinks known.moment known.core (serving known number terminal meant)
+  serving-keeps (heard.Begun true) = becomes-keeps known number old _ _ found old_on on same (λ there. (there, tt))
+  serving-keeps (heard.Begun false) = staying-keeps
+  serving-keeps (heard.Note intermediate_status) = staying-keeps
+  serving-keeps heard.Line = staying-keeps
+  serving-keeps heard.Block = staying-keeps
+  serving-keeps heard.Seen = staying-keeps
+  serving-keeps (heard.Approved figures) = staying-keeps
+  serving-keeps heard.Done = staying-keeps
+  serving-keeps (heard.Told reported approved result_code) = staying-keeps
+  serving-keeps (heard.Declined result_code reported) = staying-keeps
+  serving-keeps heard.Unclear = breaking-keeps
+  serving-keeps heard.Stray = staying-keeps
+
+  consequence-keeps : (meant : Heard) (standing : Standing) → LeavesLinks known.moment known.core (consequence known number terminal meant standing)
+  consequence-keeps meant (Unlinked due) = owing-keeps known [] tt
+  consequence-keeps meant Registering = registering-keeps meant
+  consequence-keeps meant Enquiring = enquiring-keeps meant
+  consequence-keeps meant (Ready last) = staying-keeps
+  consequence-keeps meant (Serving service last) = serving-keeps meant
+  consequence-keeps meant (Aside before reported) = staying-keeps
+
+handle-keeps : (known : Known) (number : ℕ) (apdu : ApduValue) → LeavesLinks known.moment known.core (handle_row known number apdu)
+handle-keeps known number apdu = each-handled (LeavesLinks known.moment known.core) known number apdu (owing-keeps known [] tt)
+    (λ terminal message found linked is taken.
+    consequence-keeps known number terminal (taking terminal message known.moment) found (linked-on terminal.standing terminal.talk linked) (linked-on terminal.standing (taking terminal message known.moment).talk linked) refl
+    (meaning_at terminal message) terminal.standing)
+
+-- ---- what may be due
+
+late-keeps : (known : Known) (number : ℕ) → state_in known.core number ≢ Odd → LeavesLinks known.moment known.core (late_row known number)
+late-keeps known number even = each-terminal (LeavesLinks known.moment known.core) known number (λ terminal. owing_where (is_late known.moment terminal.talk) known (cutting known number)) (owing-keeps known [] tt)
+    (λ terminal found. where-keeps (is_late known.moment terminal.talk) known (cutting known number)
+    (λ late. owing-keeps known (CutPt number ∷ []) (ap state_of found ∙ late-on known.moment terminal.standing terminal.talk (λ odd. even (ap state_of found ∙ odd)) late, tt)))
+
+due-keeps : (known : Known) (number : ℕ) → state_in known.core number ≢ Odd → LeavesLinks known.moment known.core (due_row known number)
+due-keeps known number even = each-terminal (LeavesLinks known.moment known.core) known number (λ terminal. owing_where (is_due known.moment terminal.standing) known (owing known (LinkPt number ∷ []))) (owing-keeps known [] tt)
+    (λ terminal found. where-keeps (is_due known.moment terminal.standing) known (owing known (LinkPt number ∷ []))
+    (λ due. let off = due-off known.moment terminal.standing terminal.talk (λ odd. even (ap state_of found ∙ odd)) due in owing-keeps known (LinkPt number ∷ []) ((off.0, ap state_of found ∙ off.1, off.2), tt)))
+
+-- ---- a till that is gone
+
+pub without-states : (till : ℕ) (terminals : List Terminal) (number : ℕ) → state_of (slice_get (map (forgets_till till) terminals) number) ≡ state_of (slice_get terminals number)
+without-states till [] number = refl
+without-states till (terminal ∷ terminals) zero = refl
+without-states till (terminal ∷ terminals) (suc number) = without-states till terminals number
+
+pub without-settings : (till : ℕ) (terminals : List Terminal) → map (λ (terminal : Terminal). terminal.pt) (map (forgets_till till) terminals) ≡ map (λ (terminal : Terminal). terminal.pt) terminals
+without-settings till [] = refl
+without-settings till (terminal ∷ terminals) = ap (λ l. terminal.pt ∷ l) (without-settings till terminals)
+
+-- ---- each row but that of a link that is lost
+
+-- the item isn't the loss of a link
+abbrev pub loses : RoundItem → Bool
+loses (Crowded till) = false
+loses (Message till bytes) = false
+loses (Asked till as_read) = false
+loses (Unframed till) = false
+loses (Gone till) = false
+loses (Greet number apdu) = false
+loses (Handle number apdu) = false
+loses (NextWaiting number) = false
+loses (Oversized number) = false
+loses (LinkLost number) = true
+loses (Late number) = false
+loses (Overdue key) = false
+loses (Due number) = false
+
+pub rows-keep : (tills : List Connection) (known : Known) (item : RoundItem) → ((number : ℕ) → state_in known.core number ≢ Odd) → loses item ≡ false → LeavesLinks known.moment known.core (row_of tills known item)
+rows-keep tills known (Crowded till) even stays = owing-keeps known (CutTill till ∷ []) (tt, tt)
+rows-keep tills known (Message till bytes) even stays = owing-keeps known [] tt
+rows-keep tills known (Asked till as_read) even stays = where-keeps (is_connected tills till) known (asked_row known till as_read) (λ there. owing-keeps known (reply_calls_to (Some till) (reply_to known as_read)) (reply-fits known.moment known.core (Some till) (reply_to known as_read)))
+rows-keep tills known (Unframed till) even stays = where-keeps (is_connected tills till) known (owing known (CutTill till ∷ [])) (λ there. owing-keeps known (CutTill till ∷ []) (tt, tt))
+rows-keep tills known (Gone till) even stays = record { states = without-states till known.core.terminals; items = refl; settings = without-settings till known.core.terminals; fits = tt }
+rows-keep tills known (Greet number apdu) even stays = greet-keeps known number (decode_pt_message apdu)
+rows-keep tills known (Handle number apdu) even stays = handle-keeps known number apdu
+rows-keep tills known (NextWaiting number) even stays = owing-keeps known [] tt
+rows-keep tills known (Oversized number) even stays = outside-keeps known number
+rows-keep tills known (LinkLost number) even stays = no-true (sym stays)
+rows-keep tills known (Late number) even stays = late-keeps known number (even number)
+rows-keep tills known (Overdue key) even stays = owing-keeps known [] tt
+rows-keep tills known (Due number) even stays = due-keeps known number (even number)
+
+-- ---- links
+
+-- what an event of its link leaves of a terminal
+abbrev pub state_then : LinkState → LinkState → LinkState
+state_then new Absent = Absent
+state_then new On = new
+state_then new (Off due) = new
+state_then new Odd = new
+
+-- the row leaves this state of one terminal, where there is one, and the others as they were
+pub record Turns (core : Core) (number : ℕ) (new : LinkState) (row : Row) : Type 0 where
+  pub own : state_in row.core number ≡ state_then new (state_in core number)
+  pub others : (other : ℕ) → other ≢ number → state_in row.core other ≡ state_in core other
+  pub items : row.items ≡ []
+  pub settings : settings_of row.core ≡ settings_of core
+  pub fits : (moment : ℕ) → EachFits moment row.core row.calls
+
+some-then : (new : LinkState) (standing : Standing) (talk : Option TalkFacts) → state_then new (standing_state standing talk) ≡ new
+some-then new (Unlinked due) None = refl
+some-then new (Unlinked due) (Some talk) = refl
+some-then new Registering talk = refl
+some-then new Enquiring talk = refl
+some-then new (Ready last) talk = refl
+some-then new (Serving service last) talk = refl
+some-then new (Aside before reported) talk = refl
+
+becomes-turns : (known : Known) (number : ℕ) (old new : Terminal) (calls : List OwedCall) → terminal_at known number ≡ Some old → new.pt ≡ old.pt
+    → (state_in (with_terminal known.core number new) number ≡ standing_state new.standing new.talk → (moment : ℕ) → EachFits moment (with_terminal known.core number new) calls) → Turns known.core number (standing_state new.standing new.talk) (terminal_becomes known number new calls)
+becomes-turns known number old new calls found same fits =
+    let there : state_in (with_terminal known.core number new) number ≡ standing_state new.standing new.talk = ap state_of (new-is-there known.core.terminals number old new found) in
+    record {
+      own = there ∙ sym (ap (λ s. state_then (standing_state new.standing new.talk) (state_of s)) found ∙ some-then (standing_state new.standing new.talk) old.standing old.talk);
+      others = λ other differs. ap state_of (others-stay known.core.terminals number other new differs);
+      items = refl;
+      settings = same-stays (λ (terminal : Terminal). terminal.pt) known.core.terminals number old new found same;
+      fits = fits there;
+    }
+
+absent-turns : (known : Known) (number : ℕ) (new : LinkState) → terminal_at known number ≡ None → Turns known.core number new (owing_nothing known)
+absent-turns known number new none = record { own = ap state_of none ∙ sym (ap (λ s. state_then new (state_of s)) none); others = λ other differs. refl; items = refl; settings = refl; fits = λ moment. tt }
+
+by-found : (known : Known) (number : ℕ) (new : LinkState) (row : Terminal → Row) (terminal : Option Terminal) → terminal_at known number ≡ terminal → ((terminal : Terminal) → terminal_at known number ≡ Some terminal → Turns known.core number new (row terminal))
+    → Turns known.core number new (of_terminal known row terminal)
+by-found known number new row None e some = absent-turns known number new e
+by-found known number new row (Some terminal) e some = some terminal e
+
+-- a link that is made
+pub made-turns : (known : Known) (number : ℕ) → Turns known.core number On (link_made known number)
+made-turns known number = by-found known number On (registers known number) (terminal_at known number) refl
+    (λ terminal found. becomes-turns known number terminal _ _ found refl (λ there moment. (there, tt)))
+
+-- a link that is lost, or couldn't be made
+pub lost-turns : (known : Known) (number : ℕ) → Turns known.core number (Off (Some (known.moment + 5))) (link_lost known number)
+lost-turns known number = by-found known number (Off (Some (known.moment + 5))) (unlinks known number) (terminal_at known number) refl
+    (λ terminal found. becomes-turns known number terminal _ (reply_calls_to terminal.asker (reply_to_lost terminal.standing)) found refl (λ there moment. reply-fits moment (with_terminal known.core number (unlinked_terminal terminal known.moment)) terminal.asker (reply_to_lost terminal.standing)))

@@ -1,0 +1,251 @@
+-- A terminal whose dialogue has a deadline that has come as a poll brings nothing of it is cut before the next poll.
+use Rattle.std.proofs.Common.{◌≡◌, ℕ, ◌+◌, zero, suc, List, [], ◌∷◌, ◌++◌, refl, sym, ◌∙◌, ap, subst, true, false, inl, inr, arith}
+use Rattle.std.proofs.lemmas.Bool.{eq-eqb}
+use Rattle.std.specs.Prelude.{Bool, ℤ, ◌⊎◌, ◌≢◌, pos, int_le, map, slice_get, Option, Some, None}
+use Rattle.std.specs.Option.{option_map}
+use Rattle.gw_base.specs.Moment.{moment_of}
+use Rattle.gw_site.specs.Outside.{Outside}
+use Rattle.gw_site.specs.Sorts.{AreOfRound, is_sort_of_round, sort_of, TurnSort, OpeningOutcome, Poll, Event, CallOutcome, PowerFailure, is_between, is_sort_between}
+use Rattle.gw_site.specs.declared.turn.Turn.{Turn}
+use Rattle.gw_site.specs.declared.turn.Turn.TheVariants.{Polled, HeardPt, Lost, CutPt}
+use Rattle.zvt_talk.specs.Talk.{TalkFacts}
+use Rattle.gw_owes.specs.Calls.{CutPt as OwedCutPt}
+use Rattle.gw_owes.specs.Core.{Core, Wait}
+use Rattle.gw_owes.specs.Events.{for_each_terminal, waits_by_deadline, items_due}
+use Rattle.gw_owes.specs.Items.{RoundItem, Crowded, Message, Asked, Unframed, Gone, Greet, Handle, NextWaiting, Oversized, LinkLost, Late, Overdue, Due}
+use Rattle.gw_owes.specs.Links.{is_linked}
+use Rattle.gw_owes.specs.ReadAs.{ReadAs}
+use Rattle.gw_owes.specs.Row.{Known}
+use Rattle.gw_owes.specs.TerminalLaws.{HasDialogueOnlyIn, IsLinkedAt}
+use Rattle.gw_owes.specs.TerminalRows.{terminal_row}
+use Rattle.gw_owes.specs.declared.terminal.Terminal.{Terminal}
+use Rattle.gw_owes.proofs.TerminalLemmas.{causes-cut}
+use Rattle.gw_rules.specs.LinkLaws.{IsOfTerminal, BringNothing, IsPtCutIn}
+use Rattle.gw_rules.specs.Lawful.{first_call, Begins, IsRead, AllowedTurn, IsCourse, turns_of}
+use Rattle.gw_rules.specs.Scene.{known_in}
+use Rattle.gw_rules.specs.Stage.{Handling, is_round}
+use Rattle.gw_rules.specs.View.{View, Move, Begin, Read, Make, after, after_turn, read_first}
+use Rattle.gw_rules.proofs.CourseLemmas.{begin-outside, begin-stage, after-outside}
+use Rattle.gw_rules.proofs.CutLemmas.{IsAmong, has-after, has-before, is_dead, dead-round, dead-running, dead-turn, none-among}
+use Rattle.gw_rules.proofs.KeptLemmas.{Kept, kept_in, without_asker, begins-first, begin-kept, read-kept, turn-kept}
+use Rattle.gw_rules.proofs.LinkStateLemmas.{on-linked}
+use Rattle.gw_rules.proofs.LinkedLemmas.{Agrees, move-agrees, turn-agrees, round-setup}
+use Rattle.gw_rules.proofs.OutsideCutLemmas.{is_cut, cut-is, cut-makes, in-owes}
+use Rattle.gw_rules.proofs.PrefixLemmas.{Along}
+use Rattle.gw_rules.proofs.RoundLemmas.{Follows, follows, turn-moment}
+use Rattle.gw_rules.proofs.StageLemmas.{no-true, round-busy}
+
+-- ---- what is owed
+
+-- the dialogue has a deadline that has come
+abbrev pub IsLateTalk : ℕ → Option TalkFacts → Type 0
+IsLateTalk moment talk = (facts : TalkFacts) × (talk ≡ Some facts) × (int_le facts.deadline (pos moment) ≡ true)
+
+-- what is kept of a terminal is of one that is there
+pub found-kept : (found : Option Terminal) (terminal : Terminal) → option_map without_asker found ≡ Some terminal → (own : Terminal) × (found ≡ Some own) × (without_asker own ≡ terminal)
+found-kept None terminal e = absurd (let n : None ≡ Some terminal = e in cc)
+found-kept (Some own) terminal e = (own, refl, let n : Some (without_asker own) ≡ Some terminal = e in cc)
+
+late-owes : (known : Known) (pt : ℕ) (terminal : Terminal) (heard : List ℕ) (v : View) → Kept pt terminal heard v → v.scene.core ≡ known.core → HasDialogueOnlyIn terminal.standing terminal.talk → IsLateTalk known.moment terminal.talk
+    → (terminal_row known (Late pt)).calls ≡ OwedCutPt pt ∷ []
+late-owes known pt terminal heard v k core only (facts, talk, late) =
+    let found = found-kept (slice_get known.core.terminals pt) terminal (ap (λ c. kept_in c pt) (sym core) ∙ k.kept) in
+    let own : Terminal = found.0 in
+    let standing : own.standing ≡ terminal.standing = ap (λ (t : Terminal). t.standing) found.2 in
+    let own_talk : own.talk ≡ terminal.talk = ap (λ (t : Terminal). t.talk) found.2 in
+    let there : IsLinkedAt known pt = record {
+      terminal = own;
+      found = found.1;
+      linked = ap is_linked standing ∙ on-linked terminal.standing terminal.talk k.linked;
+      dialogue = subst (λ t. HasDialogueOnlyIn own.standing t) (sym own_talk) (subst (λ s. HasDialogueOnlyIn s terminal.talk) (sym standing) only);
+    } in
+    causes-cut known (Late pt) pt refl there (record { terminal = own; found = found.1; talk = facts; talk_is = own_talk ∙ talk; late = late })
+
+late-each : (terminals : List Terminal) (first number at : ℕ) (terminal : Terminal) → slice_get terminals number ≡ Some terminal → at ≡ first + number → IsAmong (Late at) (for_each_terminal first Late terminals)
+late-each [] first number at terminal e is = absurd (let n : None ≡ Some terminal = e in cc)
+late-each (one ∷ terminals) first zero at terminal e is =
+    let same : first ≡ at = omega (arith, is) in
+    ([], for_each_terminal (first + 1) Late terminals, ap (λ n. Late n ∷ for_each_terminal (first + 1) Late terminals) same)
+late-each (one ∷ terminals) first (suc number) at terminal e is =
+    let later : at ≡ (first + 1) + number = omega (arith, is) in
+    has-after (Late at) (Late first ∷ []) (for_each_terminal (first + 1) Late terminals) (late-each terminals (first + 1) number at terminal e later)
+
+late-among : (core : Core) (pt : ℕ) (terminal : Terminal) → kept_in core pt ≡ Some terminal → IsAmong (Late pt) (items_due core)
+late-among core pt terminal kept =
+    let found = found-kept (slice_get core.terminals pt) terminal kept in
+    has-before (Late pt) (for_each_terminal 0 Late core.terminals) (map (λ (wait : Wait). Overdue wait.key) (waits_by_deadline core.waits) ++ for_each_terminal 0 Due core.terminals) (late-each core.terminals 0 pt pt found.0 found.1 (omega arith))
+
+-- ---- in the round
+
+-- so the cut is owed, or will be
+pub record AwaitsCut (pt moment : ℕ) (terminal : Terminal) (heard : List ℕ) (v : View) : Type 0 where
+  pub agrees : Agrees v
+  pub kept : Kept pt terminal heard v
+  pub only : HasDialogueOnlyIn terminal.standing terminal.talk
+  pub late : IsLateTalk moment terminal.talk
+  pub moment_is : v.scene.outside.moment ≡ moment
+  pub round : is_round v.scene.stage ≡ true
+  pub owed : IsAmong (Late pt) v.items ⊎ ((v.scene.stage ≡ Handling) × (v.calls ≡ OwedCutPt pt ∷ []))
+
+-- or the run has ended
+abbrev pub IsCutOrOver : ℕ → ℕ → Terminal → List ℕ → View → Type 0
+IsCutOrOver pt moment terminal heard v = AwaitsCut pt moment terminal heard v ⊎ (is_dead v.scene.stage ≡ true)
+
+late-begin : (pt moment : ℕ) (terminal : Terminal) (heard : List ℕ) (v : View) → IsCutOrOver pt moment terminal heard v → Begins v → IsCutOrOver pt moment terminal heard (after v Begin)
+late-begin pt moment terminal heard v (inr dead) b = dead-round v.scene.stage dead b.idle.round
+late-begin pt moment terminal heard v (inl w) b = by_owed w.owed
+  where
+    at : (after v Begin).scene.stage ≡ Handling
+    at = begin-stage v.scene v.items ∙ round-busy v.scene.stage b.idle.round
+
+    go_on : IsAmong (Late pt) (after v Begin).items ⊎ (((after v Begin).scene.stage ≡ Handling) × ((after v Begin).calls ≡ OwedCutPt pt ∷ [])) → IsCutOrOver pt moment terminal heard (after v Begin)
+    go_on owed = inl (record {
+      agrees = move-agrees v Begin w.agrees b;
+      kept = begin-kept pt terminal heard v w.agrees w.kept b;
+      only = w.only;
+      late = w.late;
+      moment_is = ap (λ (o : Outside). o.moment) (begin-outside v.scene v.items) ∙ w.moment_is;
+      round = ap is_round at;
+      owed = owed;
+    })
+
+    owes : (after (record v { items = Late pt ∷ [] }) Begin).calls ≡ OwedCutPt pt ∷ []
+    owes =
+        let known = round-setup v w.agrees.run b.idle.round in
+        in-owes v.scene known.setup (Late pt) (OwedCutPt pt ∷ []) known.setup_is (late-owes (known_in v.scene known.setup) pt terminal heard v w.kept refl w.only (subst (λ m. IsLateTalk m terminal.talk) (sym w.moment_is) w.late))
+
+    by_first : IsAmong (Late pt) v.items → IsCutOrOver pt moment terminal heard (after v Begin)
+    by_first ([], rest, e) = go_on (inr (at, ap (λ l. (after (record v { items = l }) Begin).calls) e ∙ owes))
+    by_first (x ∷ before, rest, e) =
+        let first = begins-first v w.agrees b in
+        let tails : first.rest ≡ before ++ Late pt ∷ rest = (let n : first.item ∷ first.rest ≡ x ∷ (before ++ Late pt ∷ rest) = sym first.items_are ∙ e in cc) in
+        go_on (inl (before, rest, first.left ∙ tails))
+
+    by_owed : IsAmong (Late pt) v.items ⊎ ((v.scene.stage ≡ Handling) × (v.calls ≡ OwedCutPt pt ∷ [])) → IsCutOrOver pt moment terminal heard (after v Begin)
+    by_owed (inl among) = by_first among
+    by_owed (inr owed) = absurd (let n : [] ≡ OwedCutPt pt ∷ [] = sym b.idle.calls ∙ owed.1 in cc)
+
+read-late : (pt : ℕ) (as_read : ReadAs) (items : List RoundItem) → IsAmong (Late pt) items → IsAmong (Late pt) (read_first as_read items)
+read-late pt as_read [] h = h
+read-late pt as_read (Message other text ∷ items) ([], rest, e) = absurd (let n : Message other text ∷ items ≡ Late pt ∷ rest = e in cc)
+read-late pt as_read (Message other text ∷ items) (x ∷ before, rest, e) =
+    let tails : items ≡ before ++ Late pt ∷ rest = (let n : Message other text ∷ items ≡ x ∷ (before ++ Late pt ∷ rest) = e in cc) in
+    (Asked other as_read ∷ before, rest, ap (λ l. Asked other as_read ∷ l) tails)
+read-late pt as_read (Crowded other ∷ items) h = h
+read-late pt as_read (Asked other read ∷ items) h = h
+read-late pt as_read (Unframed other ∷ items) h = h
+read-late pt as_read (Gone other ∷ items) h = h
+read-late pt as_read (Greet other apdu ∷ items) h = h
+read-late pt as_read (Handle other apdu ∷ items) h = h
+read-late pt as_read (NextWaiting other ∷ items) h = h
+read-late pt as_read (Oversized other ∷ items) h = h
+read-late pt as_read (LinkLost other ∷ items) h = h
+read-late pt as_read (Late other ∷ items) h = h
+read-late pt as_read (Overdue key ∷ items) h = h
+read-late pt as_read (Due other ∷ items) h = h
+
+late-read : (pt moment : ℕ) (terminal : Terminal) (heard : List ℕ) (v : View) (as_read : ReadAs) → IsCutOrOver pt moment terminal heard v → IsRead v as_read → IsCutOrOver pt moment terminal heard (after v (Read as_read))
+late-read pt moment terminal heard v as_read (inr dead) r = dead-round v.scene.stage dead r.idle.round
+late-read pt moment terminal heard v as_read (inl w) r = by_owed w.owed
+  where
+    by_owed : IsAmong (Late pt) v.items ⊎ ((v.scene.stage ≡ Handling) × (v.calls ≡ OwedCutPt pt ∷ [])) → IsCutOrOver pt moment terminal heard (after v (Read as_read))
+    by_owed (inr owed) = absurd (let n : [] ≡ OwedCutPt pt ∷ [] = sym r.idle.calls ∙ owed.1 in cc)
+    by_owed (inl among) = inl (record {
+      agrees = move-agrees v (Read as_read) w.agrees r;
+      kept = read-kept pt terminal heard v as_read w.kept;
+      only = w.only;
+      late = w.late;
+      moment_is = w.moment_is;
+      round = ap is_round (round-busy v.scene.stage r.idle.round);
+      owed = inl (read-late pt as_read v.items among);
+    })
+
+of-round-quiet : (turn : Turn) → is_sort_of_round (sort_of turn) ≡ true → is_between turn ≡ false
+of-round-quiet turn e = by_sort (sort_of turn) e
+  where
+    by_sort : (sort : TurnSort) → is_sort_of_round sort ≡ true → is_sort_between sort ≡ false
+    by_sort OpeningOutcome e = no-true e
+    by_sort Poll e = no-true e
+    by_sort Event e = refl
+    by_sort CallOutcome e = refl
+    by_sort PowerFailure e = no-true e
+
+late-turn : (pt moment : ℕ) (terminal : Terminal) (heard : List ℕ) (v : View) (turn : Turn) → IsCutOrOver pt moment terminal heard v → AllowedTurn v turn → is_sort_of_round (sort_of turn) ≡ true → (IsOfTerminal pt turn → ⊥)
+    → (turn ≡ CutPt pt) ⊎ IsCutOrOver pt moment terminal heard (after_turn v turn)
+late-turn pt moment terminal heard v turn (inr dead) ok e none = inr (inr (dead-turn v turn dead ok e))
+late-turn pt moment terminal heard v turn (inl w) ok e none = by_cut (is_cut pt turn) refl
+  where
+    go_on : (is_cut pt turn ≡ false) → is_round (after_turn v turn).scene.stage ≡ true → IsAmong (Late pt) (after_turn v turn).items → (turn ≡ CutPt pt) ⊎ IsCutOrOver pt moment terminal heard (after_turn v turn)
+    go_on uncut round among = inr (inl (record {
+      agrees = turn-agrees v turn w.agrees ok;
+      kept = turn-kept pt terminal heard v turn w.agrees w.kept ok (of-round-quiet turn e) none (λ cut. no-true (sym uncut ∙ ap (is_cut pt) cut ∙ eq-eqb pt pt refl));
+      only = w.only;
+      late = w.late;
+      moment_is = ap (λ (o : Outside). o.moment) (after-outside v turn) ∙ turn-moment v.scene.outside turn e ∙ w.moment_is;
+      round = round;
+      owed = inl among;
+    }))
+
+    by_owed : is_cut pt turn ≡ false → IsAmong (Late pt) v.items ⊎ ((v.scene.stage ≡ Handling) × (v.calls ≡ OwedCutPt pt ∷ [])) → Follows v turn → (turn ≡ CutPt pt) ⊎ IsCutOrOver pt moment terminal heard (after_turn v turn)
+    by_owed uncut (inr owed) next = inl (cut-is pt turn (cut-makes pt v turn owed.0 (ap first_call owed.1) ok e))
+    by_owed uncut (inl among) (inl (more, items, at)) = go_on uncut (ap is_round at) (subst (IsAmong (Late pt)) (sym items) (has-after (Late pt) more v.items among))
+    by_owed uncut (inl among) (inr (inl (polled, more, items, at))) = go_on uncut (ap is_round at) (subst (IsAmong (Late pt)) (sym items) (has-after (Late pt) more (items_due v.scene.core) (late-among v.scene.core pt terminal w.kept.kept)))
+    by_owed uncut (inl among) (inr (inr dead)) = inr (inr dead)
+
+    by_cut : (test : Bool) → is_cut pt turn ≡ test → (turn ≡ CutPt pt) ⊎ IsCutOrOver pt moment terminal heard (after_turn v turn)
+    by_cut true cut = inl (cut-is pt turn cut)
+    by_cut false uncut = by_owed uncut w.owed (follows v turn w.round ok e)
+
+-- ---- along the course
+
+late-polled : {A : Type 0} (pt moment : ℕ) (terminal : Terminal) (heard : List ℕ) (v : View) (now : ℤ) → IsCutOrOver pt moment terminal heard v → AllowedTurn v (Polled now) → A
+late-polled pt moment terminal heard v now (inr dead) ok = dead-running v.scene.stage dead ok.running
+late-polled {A} pt moment terminal heard v now (inl w) ok = by_owed w.owed
+  where
+    by_owed : IsAmong (Late pt) v.items ⊎ ((v.scene.stage ≡ Handling) × (v.calls ≡ OwedCutPt pt ∷ [])) → A
+    by_owed (inl among) = none-among (Late pt) v.items among ok.items
+    by_owed (inr owed) = absurd (let n : [] ≡ OwedCutPt pt ∷ [] = sym ok.calls ∙ owed.1 in cc)
+
+cut-later : (pt : ℕ) (turn : Turn) (turns : List Turn) → IsPtCutIn pt turns → IsPtCutIn pt (turn ∷ turns)
+cut-later pt turn turns (first, rest, e) = (turn ∷ first, rest, ap (λ l. turn ∷ l) e)
+
+cut-before-poll : (pt moment : ℕ) (terminal : Terminal) (heard : List ℕ) (now : ℤ) (rest : List Turn) (v : View) (moves : List Move) (inside : List Turn) → IsCutOrOver pt moment terminal heard v → IsCourse v moves
+    → turns_of moves ≡ inside ++ Polled now ∷ rest → AreOfRound inside → BringNothing pt inside → IsPtCutIn pt inside
+cut-before-poll pt moment terminal heard now rest v [] [] h c e a none = absurd (let n : [] ≡ Polled now ∷ rest = e in cc)
+cut-before-poll pt moment terminal heard now rest v [] (turn ∷ inside) h c e a none = absurd (let n : [] ≡ turn ∷ (inside ++ Polled now ∷ rest) = e in cc)
+cut-before-poll pt moment terminal heard now rest v (Begin ∷ moves) inside h c e a none = cut-before-poll pt moment terminal heard now rest (after v Begin) moves inside (late-begin pt moment terminal heard v h c.0) c.1 e a none
+cut-before-poll pt moment terminal heard now rest v (Read as_read ∷ moves) inside h c e a none = cut-before-poll pt moment terminal heard now rest (after v (Read as_read)) moves inside (late-read pt moment terminal heard v as_read h c.0) c.1 e a none
+cut-before-poll pt moment terminal heard now rest v (Make turn ∷ moves) [] h c e a none =
+    let heads : turn ≡ Polled now = (let n : turn ∷ turns_of moves ≡ Polled now ∷ rest = e in cc) in
+    late-polled pt moment terminal heard v now h (subst (AllowedTurn v) heads c.0)
+cut-before-poll pt moment terminal heard now rest v (Make turn ∷ moves) (other ∷ inside) h c e a none =
+    let heads : turn ≡ other = (let n : turn ∷ turns_of moves ≡ other ∷ (inside ++ Polled now ∷ rest) = e in cc) in
+    let tails : turns_of moves ≡ inside ++ Polled now ∷ rest = (let n : turn ∷ turns_of moves ≡ other ∷ (inside ++ Polled now ∷ rest) = e in cc) in
+    by_after (λ holds. cut-before-poll pt moment terminal heard now rest (after_turn v turn) moves inside holds c.1 tails a.1 none.1) heads
+    (late-turn pt moment terminal heard v turn h c.0 (ap (λ t. is_sort_of_round (sort_of t)) heads ∙ a.0) (λ is. none.0 (subst (IsOfTerminal pt) heads is)))
+  where
+    by_after : (IsCutOrOver pt moment terminal heard (after_turn v turn) → IsPtCutIn pt inside) → turn ≡ other → (turn ≡ CutPt pt) ⊎ IsCutOrOver pt moment terminal heard (after_turn v turn) → IsPtCutIn pt (other ∷ inside)
+    by_after more heads (inl cut) = ([], inside, ap (λ t. t ∷ inside) (sym heads ∙ cut))
+    by_after more heads (inr holds) = cut-later pt other inside (more holds)
+
+-- from a poll at which the deadline has come
+pub late-before-poll : (pt : ℕ) (terminal : Terminal) (heard : List ℕ) (now later : ℤ) (inside rest : List Turn) (v : View) → Agrees v → Kept pt terminal heard v → AllowedTurn v (Polled now) → Along (after_turn v (Polled now)) (inside ++ Polled later ∷ rest)
+    → AreOfRound inside → BringNothing pt inside → HasDialogueOnlyIn terminal.standing terminal.talk → IsLateTalk (moment_of now) terminal.talk → IsPtCutIn pt inside
+late-before-poll pt terminal heard now later inside rest v a k ok onward round nothing only late =
+    cut-before-poll pt (moment_of now) terminal heard later rest (after_turn v (Polled now)) onward.moves inside
+    (inl (record {
+      agrees = turn-agrees v (Polled now) a ok;
+      kept = turn-kept pt terminal heard v (Polled now) a k ok refl not_of not_cut;
+      only = only;
+      late = late;
+      moment_is = refl;
+      round = refl;
+      owed = inl (late-among v.scene.core pt terminal k.kept);
+    })) onward.lawful onward.turns_are round nothing
+  where
+    not_of : IsOfTerminal pt (Polled now) → ⊥
+    not_of (inl (bytes, e)) = absurd (let n : Polled now ≡ HeardPt pt bytes = e in cc)
+    not_of (inr e) = absurd (let n : Polled now ≡ Lost pt = e in cc)
+
+    not_cut : Polled now ≢ CutPt pt
+    not_cut e = absurd (let n : Polled now ≡ CutPt pt = e in cc)

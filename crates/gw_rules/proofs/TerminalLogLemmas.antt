@@ -1,0 +1,192 @@
+-- The example logs of a gateway with one terminal.
+use Rattle.std.proofs.Common.{◌≡◌, ℕ, List, [], ◌∷◌, ◌++◌, refl, subst, true, false, inl, inr, arith}
+use Rattle.std.specs.Prelude.{ℤ, pos, ◌+◌, ◌≤◌, Some}
+use Rattle.gw_base.specs.declared.setup.Pt.{Pt}
+use Rattle.zvt_apdu.specs.DecodeStream.{decode_apdus, decode_apdus_within}
+use Rattle.zvt_bmp.specs.Decode.{decode_field_value, decode_status_field, decode_status_within, decode_status}
+use Rattle.zvt_msg.specs.MessageDecode.{decode_pt_message}
+use Rattle.zvt_msg.specs.CommandCanonical.{canonical_command}
+use Rattle.gw_site.specs.declared.turn.Turn.{Turn}
+use Rattle.gw_site.specs.declared.turn.Turn.TheVariants.{Start, Polled, HeardPt, Lost, Stopped, Linked, LinkFailed, SentPt, CutPt}
+use Rattle.gw_owes.specs.TerminalExample.{ack, enquiry_sent}
+use Rattle.gw_owes.specs.Terminals.{registration}
+use Rattle.gw_rules.specs.Lawful.{IsCourse}
+use Rattle.gw_rules.specs.LinkLaws.{EndsLink, IsOfTerminal, IsSilentIn, IsPtCutIn, ack_bytes, IsSentTo, IsRegistered, HasRested, IsTriedIn}
+use Rattle.gw_rules.specs.RowExample.{example_pt, terminal_setup, register_bytes}
+use Rattle.gw_rules.specs.TerminalLogExample.{linked_log, linked_course, done_log, done_course, silent_registration_course, SilentRegistrationIsLawful, DoneIsEnquired, DoneThenSilentIsCut, UnfinishedIsCut, PollBeforeSilentCut, PollBeforeEnquiry, items_begin, cut_log, cut_course, PollBeforeLink, LinkTooEarly, EnquiryBeforeRegistration, EnquiryAfterCut, ready_course, due_again_course, declined_course, silent_enquiry_course, unacknowledged_course, ReadyIsLawful, DueAgainIsLawful, DeclinedIsLawful, SilentEnquiryIsLawful, UnacknowledgedIsLawful}
+use Rattle.gw_rules.specs.View.{Move, Begin, Make, after, at_first}
+use Rattle.gw_rules.proofs.DueLemmas.{due-is-tried, tried-once-rested}
+use Rattle.gw_rules.proofs.EnquiryLemmas.{registered-is-enquired}
+use Rattle.gw_rules.proofs.LinkLawLemmas.{uses-links, linked-registers}
+use Rattle.gw_rules.proofs.PrefixLemmas.{lawful-along}
+use Rattle.gw_rules.proofs.RowExampleLemmas.{formed}
+use Rattle.gw_rules.proofs.StageLemmas.{no-true}
+use Rattle.gw_rules.proofs.TestedLemmas.{passes_course, course-tested}
+use Rattle.gw_rules.proofs.RegistrationLemmas.{silent-registration-is-cut}
+
+-- the moves after the start
+abbrev after_start : List Move → List Move
+after_start [] = []
+after_start (move ∷ moves) = moves
+
+-- a course from the start on
+from-start : (moves : List Move) → passes_course (after at_first (Make (Start terminal_setup))) moves ≡ true → IsCourse at_first (Make (Start terminal_setup) ∷ moves)
+from-start moves e = ((refl, formed), course-tested (after at_first (Make (Start terminal_setup))) moves e)
+
+pub ready-lawful : ReadyIsLawful
+unfolding decode_apdus decode_apdus_within decode_pt_message decode_status decode_status_within decode_status_field decode_field_value
+ready-lawful = record { along = record { turns = refl; lawful = from-start (after_start ready_course) refl }; standing_is = refl }
+
+pub due-again-lawful : DueAgainIsLawful
+due-again-lawful = record { along = record { turns = refl; lawful = from-start (after_start due_again_course) refl }; standing_is = refl }
+
+pub declined-lawful : DeclinedIsLawful
+unfolding decode_apdus decode_apdus_within decode_pt_message
+declined-lawful = record { along = record { turns = refl; lawful = from-start (after_start declined_course) refl }; standing_is = refl }
+
+pub silent-enquiry-lawful : SilentEnquiryIsLawful
+unfolding decode_apdus decode_apdus_within decode_pt_message
+silent-enquiry-lawful = record { along = record { turns = refl; lawful = from-start (after_start silent_enquiry_course) refl }; standing_is = refl }
+
+pub silent-registration-lawful : SilentRegistrationIsLawful
+silent-registration-lawful = record { along = record { turns = refl; lawful = from-start (after_start silent_registration_course) refl }; standing_is = refl }
+
+pub done-enquired : DoneIsEnquired
+unfolding decode_apdus decode_apdus_within decode_pt_message
+done-enquired = record {
+  along = record { turns = refl; lawful = from-start (after_start (done_course ++ Begin ∷ Make (SentPt 0 enquiry_sent true) ∷ (items_begin 3 ++ Make (Polled (pos 3)) ∷ Make Stopped ∷ []))) refl };
+  standing_is = refl;
+}
+
+pub done-then-silent-cut : DoneThenSilentIsCut
+unfolding decode_apdus decode_apdus_within decode_pt_message
+done-then-silent-cut = record {
+  along = record {
+    turns = refl;
+    lawful = from-start (after_start (done_course ++ Begin ∷ Make (SentPt 0 enquiry_sent true) ∷ (items_begin 3 ++ Make (Polled (pos 7)) ∷ Begin ∷ Make (CutPt 0) ∷ Begin ∷ Make (Polled (pos 8)) ∷ Make Stopped ∷ []))) refl;
+  };
+  standing_is = refl;
+}
+
+pub unfinished-cut : UnfinishedIsCut
+unfolding decode_apdus decode_apdus_within decode_pt_message
+unfinished-cut = record {
+  along = record {
+    turns = refl;
+    lawful = from-start (after_start (linked_course ++ Make (Polled (pos 1)) ∷ Make (HeardPt 0 ack) ∷ (items_begin 5 ++ Make (Polled (pos 60)) ∷ (items_begin 2 ++ Make (Polled (pos 61)) ∷ Begin ∷ Make (CutPt 0) ∷ Begin ∷ Make (Polled (pos 62)) ∷ Make Stopped ∷ [])))) refl;
+  };
+  standing_is = refl;
+}
+
+pub unacknowledged-lawful : UnacknowledgedIsLawful
+unfolding decode_apdus decode_apdus_within decode_pt_message
+unacknowledged-lawful = record { along = record { turns = refl; lawful = from-start (after_start unacknowledged_course) refl }; standing_is = refl }
+
+-- ---- what isn't lawful
+
+none-tried : (pt : ℕ) → IsTriedIn pt [] → ⊥
+none-tried pt ([], turn, rest, e, tried) = absurd (let n : [] ≡ turn ∷ rest = e in cc)
+none-tried pt (x ∷ first, turn, rest, e, tried) = absurd (let n : [] ≡ x ∷ (first ++ turn ∷ rest) = e in cc)
+
+none-ended : (o : List Turn) (pt moment : ℕ) → HasRested o [] pt moment
+none-ended o pt moment [] rest turn e ends none = absurd (let n : [] ≡ turn ∷ rest = e in cc)
+none-ended o pt moment (x ∷ first) rest turn e ends none = absurd (let n : [] ≡ x ∷ (first ++ turn ∷ rest) = e in cc)
+
+pub poll-before-link : PollBeforeLink
+poll-before-link = record {
+  before = lawful-along (Start terminal_setup ∷ Polled (pos 0) ∷ []) (Make (Start terminal_setup) ∷ Make (Polled (pos 0)) ∷ []) refl (from-start (Make (Polled (pos 0)) ∷ []) refl);
+  with_turn = λ lawful. none-tried 0 (due-is-tried [] [] [] [] terminal_setup example_pt 0 (pos 0) (pos 1) lawful tt tt refl refl (none-ended (Start terminal_setup ∷ []) 0 0));
+}
+
+-- a poll ends no link
+poll-ends-none : (now : ℤ) → EndsLink 0 (Polled now) → ⊥
+poll-ends-none now (inl lost) = absurd (let n : Polled now ≡ Lost 0 = lost in cc)
+poll-ends-none now (inr (inl cut)) = absurd (let n : Polled now ≡ CutPt 0 = cut in cc)
+poll-ends-none now (inr (inr failed)) = absurd (let n : Polled now ≡ LinkFailed 0 = failed in cc)
+
+pub link-too-early : LinkTooEarly
+link-too-early = record {
+  before = lawful-along (Start terminal_setup ∷ Polled (pos 0) ∷ LinkFailed 0 ∷ Polled (pos 4) ∷ []) (Make (Start terminal_setup) ∷ Make (Polled (pos 0)) ∷ (items_begin 2 ++ Make (LinkFailed 0) ∷ Make (Polled (pos 4)) ∷ [])) refl
+      (from-start (Make (Polled (pos 0)) ∷ (items_begin 2 ++ Make (LinkFailed 0) ∷ Make (Polled (pos 4)) ∷ [])) refl);
+  with_turn = λ lawful.
+      let rested = tried-once-rested [] (Polled (pos 0) ∷ LinkFailed 0 ∷ Polled (pos 4) ∷ []) [] terminal_setup 0 (Linked 0) lawful (refl, (refl, (refl, tt))) (inl refl) (Polled (pos 0) ∷ []) (Polled (pos 4) ∷ []) (LinkFailed 0) refl (inr (inr refl)) (poll-ends-none (pos 4), tt) in
+      too_late rested;
+}
+  where
+    too_late : 5 ≤ 4 → ⊥
+    too_late e = omega arith
+
+-- the enquiry isn't the registration
+not-registered : IsRegistered terminal_setup 0 (SentPt 0 enquiry_sent true) → ⊥
+not-registered (settings, configured, sent) = by_sent (subst (λ (p : Pt). IsSentTo 0 (canonical_command (registration p)) (SentPt 0 enquiry_sent true)) (same settings configured) sent)
+  where
+    same : (settings : Pt) → Some example_pt ≡ Some settings → settings ≡ example_pt
+    same settings e = cc
+
+    by_sent : IsSentTo 0 (canonical_command (registration example_pt)) (SentPt 0 enquiry_sent true) → ⊥
+    by_sent (inl e) = absurd (let n : SentPt 0 enquiry_sent true ≡ SentPt 0 register_bytes true = e in cc)
+    by_sent (inr (taken, prefix, e)) = absurd (let n : SentPt 0 enquiry_sent true ≡ SentPt 0 taken false = e in cc)
+
+pub enquiry-before-registration : EnquiryBeforeRegistration
+enquiry-before-registration = record {
+  before = lawful-along (Start terminal_setup ∷ Polled (pos 0) ∷ Linked 0 ∷ []) (Make (Start terminal_setup) ∷ Make (Polled (pos 0)) ∷ (items_begin 2 ++ Make (Linked 0) ∷ [])) refl (from-start (Make (Polled (pos 0)) ∷ (items_begin 2 ++ Make (Linked 0) ∷ [])) refl);
+  with_turn = λ lawful. not-registered (linked-registers [] (Polled (pos 0) ∷ []) [] terminal_setup 0 (SentPt 0 enquiry_sent true) lawful (refl, tt) refl);
+}
+
+pub enquiry-after-cut : EnquiryAfterCut
+enquiry-after-cut = record {
+  before = lawful-along cut_log cut_course refl (from-start (after_start cut_course) refl);
+  with_turn = λ lawful. no-true ((uses-links cut_log 0).sent enquiry_sent lawful);
+}
+
+-- what was sent to the terminal doesn't end its silence
+sent-silent : (bytes : List ℕ) → IsSilentIn 0 (SentPt 0 bytes true ∷ [])
+sent-silent bytes = record { quiet = (refl, tt); unheard = (none_heard, tt); lasts = (none_ended, tt) }
+  where
+    none_heard : IsOfTerminal 0 (SentPt 0 bytes true) → ⊥
+    none_heard (inl (heard, e)) = absurd (let n : SentPt 0 bytes true ≡ HeardPt 0 heard = e in cc)
+    none_heard (inr e) = absurd (let n : SentPt 0 bytes true ≡ Lost 0 = e in cc)
+
+    none_ended : EndsLink 0 (SentPt 0 bytes true) → ⊥
+    none_ended (inl lost) = absurd (let n : SentPt 0 bytes true ≡ Lost 0 = lost in cc)
+    none_ended (inr (inl cut)) = absurd (let n : SentPt 0 bytes true ≡ CutPt 0 = cut in cc)
+    none_ended (inr (inr failed)) = absurd (let n : SentPt 0 bytes true ≡ LinkFailed 0 = failed in cc)
+
+-- nor does a poll
+polled-silent : (before : List Turn) (now : ℤ) → IsSilentIn 0 before → IsSilentIn 0 (Polled now ∷ before)
+polled-silent before now silent = record { quiet = (refl, silent.quiet); unheard = (none_heard, silent.unheard); lasts = (poll-ends-none now, silent.lasts) }
+  where
+    none_heard : IsOfTerminal 0 (Polled now) → ⊥
+    none_heard (inl (heard, e)) = absurd (let n : Polled now ≡ HeardPt 0 heard = e in cc)
+    none_heard (inr e) = absurd (let n : Polled now ≡ Lost 0 = e in cc)
+
+none-cut : (pt : ℕ) → IsPtCutIn pt [] → ⊥
+none-cut pt ([], rest, e) = absurd (let n : [] ≡ CutPt pt ∷ rest = e in cc)
+none-cut pt (x ∷ first, rest, e) = absurd (let n : [] ≡ x ∷ (first ++ CutPt pt ∷ rest) = e in cc)
+
+pub poll-before-silent-cut : PollBeforeSilentCut
+poll-before-silent-cut = record {
+  before = lawful-along (linked_log ++ Polled (pos 5) ∷ []) (linked_course ++ Make (Polled (pos 5)) ∷ []) refl (from-start (after_start (linked_course ++ Make (Polled (pos 5)) ∷ [])) refl);
+  with_turn = λ lawful. none-cut 0 (silent-registration-is-cut [] (Polled (pos 0) ∷ []) (SentPt 0 register_bytes true ∷ []) [] [] terminal_setup example_pt 0 (pos 5) (pos 6) lawful (refl, tt) (sent-silent register_bytes) tt tt refl in_time);
+}
+  where
+    in_time : 0 + 5 ≤ 5
+    in_time = omega arith
+
+none-sent : (bytes : List ℕ) (now : ℤ) → IsSentTo 0 bytes (Polled now) → ⊥
+none-sent bytes now (inl e) = absurd (let n : Polled now ≡ SentPt 0 bytes true = e in cc)
+none-sent bytes now (inr (taken, prefix, e)) = absurd (let n : Polled now ≡ SentPt 0 taken false = e in cc)
+
+pub poll-before-enquiry : PollBeforeEnquiry
+unfolding decode_apdus decode_apdus_within decode_pt_message
+poll-before-enquiry = record {
+  before = lawful-along done_log done_course refl (from-start (after_start done_course) refl);
+  with_turn = λ lawful.
+      let sent = sent-silent register_bytes in
+      let next = registered-is-enquired [] (Polled (pos 0) ∷ []) (SentPt 0 register_bytes true ∷ Polled (pos 1) ∷ []) (Polled (pos 2) ∷ []) [] terminal_setup example_pt 0 (SentPt 0 ack_bytes true) (Polled (pos 3)) lawful (refl, tt)
+      (record { quiet = (refl, (refl, tt)); unheard = (sent.unheard.0, (polled-silent [] (pos 1) silent).unheard); lasts = (sent.lasts.0, (polled-silent [] (pos 1) silent).lasts) }) (polled-silent [] (pos 2) silent) refl refl refl in
+      none-sent _ (pos 3) (next.enquired refl);
+}
+  where
+    silent : IsSilentIn 0 []
+    silent = record { quiet = tt; unheard = tt; lasts = tt }
