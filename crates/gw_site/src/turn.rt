@@ -1,7 +1,8 @@
 //! The entries of a site's log.
-ghost use Rattle.std.specs.Prelude.{◌≡◌};
+ghost use Rattle.std.specs.Prelude.{◌≡◌, ◌++◌, [], ◌∷◌, OnErr, OnOk};
 
 use gw_base::{Bytes, Setup};
+use std::alloc::AllocError;
 use std::marker::Model;
 
 /// One thing that went in or out.
@@ -57,6 +58,15 @@ impl Turns {
         ensures { result ≡ inner.items }
     {
         Turns { inner }
+    }
+
+    /// Appends a turn; nothing where there is no memory.
+    pub fn push(&mut self, turn: Turn) -> Result<(), AllocError>
+        ensures ok { OnOk result (self.new ≡ self.old ++ turn ∷ []) }
+        ensures err { OnErr result (self.new ≡ self.old) }
+    {
+        self.inner.push(turn)?;
+        Ok(())
     }
 
     /// The vector.

@@ -1,6 +1,6 @@
 -- What a power failure leaves where it puts one byte over all that was written.
-use Rattle.std.proofs.Common.{◌≡◌, ℕ, zero, suc, ◌+◌, ◌<◌, List, [], ◌∷◌, ◌++◌, length, get_or, refl, sym, ◌∙◌, ap, arith, true, false}
-use Rattle.std.proofs.lemmas.List.{reverse-append}
+use Rattle.std.proofs.Common.{◌≡◌, ℕ, zero, suc, ◌+◌, ◌<◌, ◌≤◌, List, [], ◌∷◌, ◌++◌, length, get_or, take, refl, sym, ◌∙◌, ap, arith, true, false}
+use Rattle.std.proofs.lemmas.List.{reverse-append, take_all}
 use Rattle.std.proofs.lemmas.Grind.{same_number_lists}
 use Rattle.std.specs.List.{list_any}
 use Rattle.std.specs.Prelude.{Bool, ◌||◌, map, reverse, if◌then◌else◌}
@@ -60,3 +60,7 @@ covered_any (w ∷ written) offset =
     ap (λ b. covers offset (range_value w) || b) (covered_any written offset) ∙ or_turned (covers offset (range_value w)) (is_covered (ranges_value written) offset)
     ∙ sym (covered_more (ranges_value written) (range_value w) offset) ∙ ap (λ ranges. is_covered ranges offset) (sym (map_more (reverse written) w))
     ∙ ap (λ all. is_covered (map range_value all) offset) (sym (reverse-append (w ∷ []) written))
+
+-- all ranges were asked
+pub covered_all : (written : List Written) (k offset : ℕ) → length written ≤ k → list_any (λ w. covers offset (range_value w)) (take k written) ≡ is_covered (ranges_value written) offset
+covered_all written k offset le = ap (list_any (λ w. covers offset (range_value w))) (take_all k written le) ∙ covered_any written offset

@@ -1,7 +1,13 @@
 -- The lemmas of the site in memory.
 pub mod ConnectionLemmas
 pub mod DiskLemmas
+pub mod EarlyLemmas
 pub mod HazardLemmas
 pub mod JunkLemmas
 pub mod PlaceLemmas
+pub mod PlayedLemmas
+pub mod RangeLemmas
+pub mod SetupLemmas
+pub mod SiteLemmas
 pub mod SoughtLemmas
+pub mod WriteLemmas

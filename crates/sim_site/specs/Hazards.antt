@@ -1,4 +1,4 @@
--- Inner: what fail and power lines have armed, as the play of a script sees it.
+-- What fail and power lines have armed, as the play of a script sees it.
 use Rattle.std.specs.Prelude.{List, map, option_map}
 use Rattle.gw_script.specs.site.Hazards.{Armed, FailingSend, Hazard}
 use Rattle.sim_script.specs.Values.{image_value}

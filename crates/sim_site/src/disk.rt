@@ -1,6 +1,5 @@
 //! The disk: the file, that of the last sync, and what was written since then.
-ghost use Rattle.std.specs.Prelude.{◌≡◌, ◌+◌, ◌-◌, ◌++◌, length, take, drop, replicate, IfOk, OnOk, if◌then◌else◌};
-ghost use Rattle.std.specs.List.{list_any};
+ghost use Rattle.std.specs.Prelude.{ℕ, ◌≡◌, ◌<◌, ◌≤◌, ◌+◌, ◌-◌, ◌++◌, length, get_or, min, replicate, IfOk, OnOk, if◌then◌else◌};
 ghost use Rattle.gw_site.specs.Outside.{Outside, nothing_yet, outside_after, overwrite};
 ghost use Rattle.gw_site.specs.Image.{covers, is_covered, junked_from};
 ghost use Rattle.gw_site.specs.declared.turn.Turn.TheVariants.{Crash, Synced, Wrote};
@@ -28,82 +27,79 @@ pub(crate) struct Disk {
     pub(crate) written: Vec<Written>,
 }
 
-/// The file with bytes written at an offset; a gap is filled with zeros.
-fn overwritten(
-    alloc: Global,
-    file: &[u8],
-    offset: usize,
-    bytes: &[u8],
-) -> Result<Vec<u8>, AllocError>
-    ensures { IfOk result (λ new. new.items ≡ overwrite file.now offset bytes.now) }
+/// Writes bytes at an offset; a gap is filled with zeros.
+fn write_over(file: &mut Vec<u8>, offset: usize, bytes: &[u8]) -> Result<(), AllocError>
+    ensures { OnOk result (file.new.items ≡ overwrite file.old.items offset bytes.now) }
 {
-    let mut new = prefix(alloc, file, offset)?;
-    new.extend_from_slice(bytes)?;
-    new.extend_from_slice(rest_after(file, offset, bytes.len()))?;
-    Ok(new)
+    reach(file, offset)?;
+    let inside = bytes.len().min(file.len() - offset);
+    put(file, offset, &bytes[..inside]);
+    file.extend_from_slice(&bytes[inside..])
 }
 
-/// The file's bytes up to an offset, with zeros past its end.
-fn prefix(alloc: Global, file: &[u8], offset: usize) -> Result<Vec<u8>, AllocError>
-    ensures { IfOk result (λ new. new.items ≡ take offset file.now ++ replicate (offset - length file.now) 0) }
+/// Fills a file with zeros up to an offset.
+fn reach(file: &mut Vec<u8>, offset: usize) -> Result<(), AllocError>
+    ensures { OnOk result (file.new.items ≡ file.old.items ++ replicate (offset - length file.old.items) 0) }
 {
-    if offset <= file.len() {
-        return Vec::from_slice(alloc, &file[..offset]);
+    if file.len() < offset {
+        file.resize(offset, 0)?;
     }
-    let mut new = Vec::from_slice(alloc, file)?;
-    new.resize(offset, 0)?;
-    Ok(new)
+    Ok(())
 }
 
-/// The file's bytes from so many after an offset on.
-fn rest_after(file: &[u8], offset: usize, count: usize) -> &[u8]
-    ensures { result.now ≡ drop (offset + count) file.now }
+/// Puts bytes over those at an offset.
+fn put(file: &mut [u8], offset: usize, bytes: &[u8])
+    requires { offset + length bytes.now ≤ length file.old }
+    ensures { file.new ≡ overwrite file.old offset bytes.now }
 {
-    if offset >= file.len() || count >= file.len() - offset {
-        return &[];
-    }
-    &file[offset + count..]
+    file[offset..offset + bytes.len()].copy_from_slice(bytes);
 }
 
 /// Puts one byte over each that was written.
 fn put_junk(file: &mut [u8], written: &[Written], junk: u8)
     ensures { file.new ≡ junked_from junk (ranges_value written.now) 0 file.old }
 {
-    for (index, byte) in file.iter_mut().enumerate() {
-        *byte = junk_at(written, index, *byte, junk);
+    for range in written {
+        fill(file, *range, junk);
     }
 }
 
-/// The byte of junk where the offset was written, else the file's.
-fn junk_at(written: &[Written], offset: usize, byte: u8, junk: u8) -> u8
-    ensures { result ≡ (if is_covered (ranges_value written.now) offset then junk else byte) }
+/// Puts one byte over each of a range.
+fn fill(file: &mut [u8], range: Written, junk: u8)
+    ensures { (i : ℕ) → i < length file.old → get_or file.new i 0 ≡ (if covers i (range_value range) then junk else get_or file.old i 0) }
 {
-    if is_written(written, offset) {
-        junk
-    } else {
-        byte
+    let end = end_within(range, file.len());
+    if range.offset < end {
+        file[range.offset..end].fill(junk);
     }
 }
 
-/// Whether the byte at an offset was written.
-fn is_written(written: &[Written], offset: usize) -> bool
-    ensures { result ≡ is_covered (ranges_value written.now) offset }
+/// Takes over from a file of the same length what was written to it.
+fn catch_up(stable: &mut [u8], file: &[u8], written: &[Written])
+    requires { length stable.old ≡ length file.now }
+    ensures { (i : ℕ) → i < length stable.old → get_or stable.new i 0 ≡ (if is_covered (ranges_value written.now) i then get_or file.now i 0 else get_or stable.old i 0) }
 {
-    lies_in_any(written, offset)
+    for range in written {
+        take_over(stable, file, *range);
+    }
 }
 
-/// Whether an offset lies in one of these ranges.
-fn lies_in_any(written: &[Written], offset: usize) -> bool
-    ensures { result ≡ list_any (λ range. covers offset (range_value range)) written.now }
+/// Takes over a range from a file of the same length.
+fn take_over(stable: &mut [u8], file: &[u8], range: Written)
+    requires { length stable.old ≡ length file.now }
+    ensures { (i : ℕ) → i < length stable.old → get_or stable.new i 0 ≡ (if covers i (range_value range) then get_or file.now i 0 else get_or stable.old i 0) }
 {
-    written.iter().any(|range| is_within(*range, offset))
+    let end = end_within(range, file.len());
+    if range.offset < end {
+        put(stable, range.offset, &file[range.offset..end]);
+    }
 }
 
-/// Whether an offset lies in a range.
-fn is_within(range: Written, offset: usize) -> bool
-    ensures { result ≡ covers offset (range_value range) }
+/// Where a range ends in a file of this size.
+fn end_within(range: Written, size: usize) -> usize
+    ensures { result ≡ min (range.offset + range.size) size }
 {
-    range.offset <= offset && offset - range.offset < range.size
+    range.offset.saturating_add(range.size).min(size)
 }
 
 /// A copy of these bytes, where there is memory.
@@ -128,28 +124,23 @@ impl Disk {
     }
 
     /// Writes over what is there and past the file's end.
-    pub(crate) fn write(
-        &mut self,
-        alloc: Global,
-        offset: usize,
-        bytes: &[u8],
-    ) -> Result<(), AllocError>
+    pub(crate) fn write(&mut self, offset: usize, bytes: &[u8]) -> Result<(), AllocError>
         ensures { OnOk result ((o : Outside) → HasDisk o self.old → HasDisk (outside_after o (Wrote offset bytes.now)) self.new) }
     {
-        let file = overwritten(alloc, &self.file, offset, bytes)?;
+        write_over(&mut self.file, offset, bytes)?;
         self.written.push(Written {
             offset,
             size: bytes.len(),
         })?;
-        self.file = file;
         Ok(())
     }
 
     /// The file is that of the last sync.
-    pub(crate) fn sync(&mut self, alloc: Global) -> Result<(), AllocError>
+    pub(crate) fn sync(&mut self) -> Result<(), AllocError>
         ensures { OnOk result ((o : Outside) → HasDisk o self.old → HasDisk (outside_after o Synced) self.new) }
     {
-        self.stable = copied(alloc, &self.file)?;
+        self.stable.resize(self.file.len(), 0)?;
+        catch_up(&mut self.stable, &self.file, &self.written);
         self.written.clear();
         Ok(())
     }
@@ -163,6 +154,14 @@ impl Disk {
             file,
             written: Vec::new(alloc),
         })
+    }
+
+    /// A disk with a copy of this file.
+    pub(crate) fn of(alloc: Global, file: &[u8]) -> Result<Disk, AllocError>
+        ensures { IfOk result (λ disk. (o : Outside) → HasDisk (outside_after o (Crash file.now)) disk) }
+    {
+        let copy = copied(alloc, file)?;
+        Disk::holding(alloc, copy)
     }
 
     /// What a power failure leaves.

@@ -6,4 +6,9 @@ mod connections;
 mod disk;
 mod hazard;
 mod place;
+mod played;
+mod polled;
+mod site;
 mod sought;
+
+pub use site::SimSite;

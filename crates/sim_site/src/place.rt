@@ -1,14 +1,20 @@
 //! How far a script is played, and how calls go on from there.
-ghost use Rattle.std.specs.Prelude.{◌≡◌, List, ℕ};
+ghost use Rattle.std.specs.Prelude.{◌≡◌, ◌||◌, ◌==◌, List, ℕ, None, IfOk, is_some};
+ghost use Rattle.std.specs.List.{list_all};
 ghost use Rattle.gw_base.specs.declared.setup.Setup.{Setup};
 ghost use Rattle.gw_script.specs.site.Calls.{CutPtCall, CutTillCall, LengthCall, LinkCall, OpenCall, ReadCall, SendPtCall, SendTillCall, SyncCall, WriteCall};
 ghost use Rattle.gw_script.specs.site.Hazards.{is_failing, takes_most};
-ghost use Rattle.gw_script.specs.site.Playing.{counted, restarted};
+ghost use Rattle.gw_script.specs.Decode.{is_empty};
+ghost use Rattle.gw_script.specs.site.Playing.{begins, counted, early_lines, restarted};
+ghost use Rattle.sim_script.specs.Values.{image_value, lines_value, script_line_value};
+ghost use Rattle.sim_site.specs.Early.{is_early_line};
 ghost use Rattle.sim_script.specs.declared.line.ScriptLine.{ScriptLine};
 ghost use Rattle.sim_site.specs.Hazards.{sends_value};
 
 use crate::hazard::{Armed, Hazard, drop_links, drop_sends, is_failing, takes_most};
-use sim_script::ImageKind;
+use crate::sought::{early_hazard, is_early};
+use sim_script::{ImageKind, ScriptLine};
+use std::alloc::{AllocError, Global};
 
 /// How far a script is played, between two calls.
 #[derive(Drop)]
@@ -24,8 +30,72 @@ pub(crate) struct Place {
     pub(crate) off: Option<ImageKind>,
 }
 
+/// Whether these lines are fail lines that take effect before the first run.
+fn are_early(lines: &[ScriptLine]) -> bool
+    ensures { result ≡ is_empty (early_lines (lines_value lines.now)) }
+{
+    lines_are_early(lines)
+}
+
+/// Whether each of these lines is a fail line that takes effect before the first run.
+fn lines_are_early(lines: &[ScriptLine]) -> bool
+    ensures { result ≡ list_all (λ line. is_early_line (script_line_value line)) lines.now }
+{
+    lines.iter().all(|line| is_early_line(line))
+}
+
+/// Whether the line is a fail line that takes effect before the first run.
+fn is_early_line(line: &ScriptLine) -> bool
+    ensures { result ≡ is_early_line (script_line_value line.now) }
+{
+    match line {
+        ScriptLine::Fail(failing) => is_early(*failing),
+        ScriptLine::At(_) | ScriptLine::Poll(_) | ScriptLine::Power(_, _) => false,
+    }
+}
+
 impl Place {
-    ghost use Rattle.sim_site.specs.Places.{Moves, place_value};
+    ghost use Rattle.sim_site.specs.Places.{Moves, place_value, set_to_fail};
+
+    /// Before the first line.
+    pub(crate) fn first(alloc: Global, lines: &[ScriptLine]) -> Result<Place, AllocError>
+        ensures place { IfOk result (λ place. place_value lines.now place ≡ begins (lines_value lines.now)) }
+        ensures power { IfOk result (λ place. place.off ≡ None) }
+    {
+        Ok(Place {
+            at: 0,
+            early: true,
+            moment: 0,
+            hazard: early_hazard(alloc, lines)?,
+            off: None,
+        })
+    }
+
+    /// Whether none of these lines is left.
+    pub(crate) fn is_last(&self, lines: &[ScriptLine]) -> bool
+        ensures { result ≡ is_empty (place_value lines.now self.now).lines }
+    {
+        if self.at >= lines.len() {
+            return true;
+        }
+        self.early && are_early(&lines[self.at..])
+    }
+
+    /// The power is to fail after so many more calls, at once after none, unless it has failed already.
+    pub(crate) fn fail_after(&mut self, calls: u64, kind: ImageKind)
+        ensures place { (lines : List ScriptLine) → place_value lines self.new ≡ set_to_fail calls (image_value kind) (place_value lines self.old) }
+        ensures power { is_some self.new.off ≡ (is_some self.old.off || (calls == 0)) }
+    {
+        if self.off.is_some() {
+            return;
+        }
+        if calls == 0 {
+            self.hazard.power = None;
+            self.off = Some(kind);
+        } else {
+            self.hazard.power = Some(Armed { calls, kind });
+        }
+    }
 
     /// A call was made that counts for a power failure.
     pub(crate) fn count(&mut self)
@@ -142,7 +212,8 @@ impl Place {
 
     /// The power, which had failed, is there again.
     pub(crate) fn restart(&mut self)
-        ensures { (lines : List ScriptLine) → place_value lines self.new ≡ restarted (place_value lines self.old) }
+        ensures place { (lines : List ScriptLine) → place_value lines self.new ≡ restarted (place_value lines self.old) }
+        ensures power { self.new.off ≡ None }
     {
         self.hazard.forget();
         self.off = None;

@@ -1,0 +1,13 @@
+//! Scripts and journals over the site in memory, by calls made by hand: rows that no clause of one crate says.
+#![tactic(auto)]
+
+#[cfg(test)]
+mod calls;
+#[cfg(test)]
+mod journal_tests;
+#[cfg(test)]
+mod line_tests;
+#[cfg(test)]
+mod power_tests;
+#[cfg(test)]
+mod script_tests;

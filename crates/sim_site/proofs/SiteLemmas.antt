@@ -1,0 +1,250 @@
+-- How the calls on a site make its log grow.
+use Rattle.std.proofs.Common.{◌≡◌, ℕ, List, [], ◌∷◌, ◌++◌, refl, sym, ◌∙◌, ap, subst, true, false, append-nil, inl, inr, take, drop, take-append-drop}
+use Rattle.std.specs.Prelude.{Bool, Option, not, option_and_then, option_map, ◌||◌, if◌then◌else◌, Some, None, Result, Ok, Err, IsErr, IfOk, OnOk, OnErr, is_some}
+use Rattle.std.specs.Str.{is_utf8}
+use Rattle.gw_base.specs.declared.setup.Setup.{Setup}
+use Rattle.gw_site.specs.Observed.{Observed, Added, AddedWhole, Grows, GrowsBy, GrowsWhole}
+use Rattle.gw_site.specs.declared.site.Failed.{Failed}
+use Rattle.gw_site.specs.Image.{Image}
+use Rattle.gw_site.specs.Outside.{outside_of}
+use Rattle.gw_site.specs.Turns.{SentPtTurns, SentTillTurns, WroteTurns}
+use Rattle.gw_site.specs.declared.turn.Turn.{Turn}
+use Rattle.gw_site.specs.declared.turn.Turn.TheVariants.{Crash, DiskFailed, SentPt, SentTill, Wrote}
+use Rattle.gw_site.proofs.ImageLemmas.{file_image, junk_image, stable_image}
+use Rattle.gw_site.proofs.GrowsLemmas.{all_grows}
+use Rattle.gw_script.specs.site.Calls.{SiteCall, WriteCall, call_turns}
+use Rattle.gw_script.specs.site.Decode.{no_lines, script_goes_on, script_of, spelled, with_entry}
+use Rattle.gw_script.specs.site.Hazards.{crash_file, sent_of}
+use Rattle.gw_script.specs.site.Playing.{restarted}
+use Rattle.gw_script.specs.site.ScriptLine.{ImageKind, Old, New, Junk, Script, setup_of}
+use Rattle.sim_script.specs.Values.{image_value, whole_script_value}
+use Rattle.sim_script.specs.declared.line.ImageKind.{ImageKind as ReadImageKind}
+use Rattle.sim_site.specs.Dark.{is_dark}
+use Rattle.sim_site.specs.Made.{IsLit, IsCallMade, IsRefused, IsCallReported, IsSameScript, IsUnchanged, IsWriteRefused, outside_at, play_at}
+use Rattle.sim_site.specs.Sites.{GoesOn, IsOriginSetup, IsRestarted, observed_with, origin_of}
+use Rattle.sim_site.specs.declared.played.Played.{Played}
+use Rattle.sim_site.specs.declared.site.SimSite.{SimSite}
+
+-- ---- dark or not
+
+pub lit_there : (played : Played) → IsLit played → is_dark played ≡ false
+lit_there played lit = ap (λ short. short || is_some played.place.off) lit.whole ∙ ap is_some lit.power
+
+pub short_dark : (played : Played) → played.short ≡ true → is_dark played ≡ true
+short_dark played short = ap (λ s. s || is_some played.place.off) short
+
+pub origin_same : (old new : Played) → IsSameScript old new → origin_of new ≡ origin_of old
+origin_same old new same = ap (λ s. if s then new.text else 255 ∷ []) same.scripted ∙ ap (λ (text : List ℕ). if old.scripted then text else 255 ∷ []) same.text
+
+-- ---- what is added
+
+all_added : (dark : Bool) (turns : List Turn) → Added false dark turns turns
+all_added true turns = ([], sym (append-nil turns))
+all_added false turns = refl
+
+all_added_whole : (dark : Bool) (turns : List Turn) → AddedWhole false dark turns turns
+all_added_whole true turns = inr refl
+all_added_whole false turns = refl
+
+nothing_added : (before after : Bool) (turns : List Turn) → after ≡ true → Added before after turns []
+nothing_added true true turns e = refl
+nothing_added false true turns e = (turns, refl)
+nothing_added before false turns e = absurd (let h : false ≡ true = e in cc)
+
+none_added : (before after : Bool) (turns : List Turn) → after ≡ true → AddedWhole before after turns []
+none_added true true turns e = refl
+none_added false true turns e = inl refl
+none_added before false turns e = absurd (let h : false ≡ true = e in cc)
+
+same_grows : (Add : Bool → Bool → List Turn → List Turn → Type 0) (old new : Observed) (Call : List Turn → List Turn → Type 0) (turns : List Turn) → ((before : List Turn) → Call before turns) → Add old.dark new.dark turns [] → new.dark ≡ true → new.log ≡ old.log → new.origin ≡ old.origin → GrowsBy Add old new Call
+same_grows Add old new Call turns call add d l o = record {
+  observed = λ before f. (turns, [], call before, add, (l ∙ f ∙ ap Some (sym (append-nil before))));
+  unobserved = λ f. l ∙ f;
+  stays = λ f. d;
+  origin = o;
+}
+
+-- a call on a site that is dark after it, and adds nothing
+pub dark_grows : (old new : Observed) (Call : List Turn → Type 0) (turns : List Turn) → Call turns → new.dark ≡ true → new.log ≡ old.log → new.origin ≡ old.origin → Grows old new Call
+dark_grows old new Call turns call d l o = same_grows Added old new (λ before. Call) turns (λ before. call) (nothing_added old.dark new.dark turns d) d l o
+
+-- opening, likewise
+pub dark_opens : (old new : Observed) (Call : List Turn → List Turn → Type 0) (turns : List Turn) → ((before : List Turn) → Call before turns) → new.dark ≡ true → new.log ≡ old.log → new.origin ≡ old.origin → GrowsWhole old new Call
+dark_opens old new Call turns call d l o = same_grows AddedWhole old new Call turns call (none_added old.dark new.dark turns d) d l o
+
+-- a call for which memory was refused after some of its turns
+pub part_grows : (old new : Observed) (Call : List Turn → Type 0) (before turns added rest : List Turn) → Call turns → turns ≡ added ++ rest → old.dark ≡ false → new.dark ≡ true → old.log ≡ Some before → new.log ≡ Some (before ++ added) → new.origin ≡ old.origin → Grows old new Call
+part_grows old new Call before turns added rest call split d n l e o = record {
+  observed = λ b f. let same : b ≡ before = (let h : Some b ≡ Some before = sym f ∙ l in cc) in (turns, added, call, rw (d, n) (rest, split), rw same e);
+  unobserved = λ f. absurd (let h : None ≡ Some before = sym f ∙ l in cc);
+  stays = λ f. n;
+  origin = o;
+}
+
+-- a call that was made
+pub made_grows : (f g : ℕ) (old new : Played) (call : SiteCall) (Call : List Turn → Type 0) → IsLit old → IsCallMade old new call → IsSameScript old new → Call (call_turns (outside_at old) (play_at old) call) → Grows (observed_with f old) (observed_with g new) Call
+made_grows f g old new call Call lit made same has =
+    let turns = call_turns (outside_at old) (play_at old) call in
+    let dark = lit_there old lit in
+    all_grows Added (observed_with f old) (observed_with g new) (λ before. Call) old.log turns (subst (λ d. Added d (is_dark new) turns turns) (sym dark) (all_added (is_dark new) turns)) dark refl (ap Some made.log) (origin_same old new same) has
+
+-- opening that was made
+pub made_opens : (f g : ℕ) (old new : Played) (call : SiteCall) (Call : List Turn → List Turn → Type 0) → IsLit old → IsCallMade old new call → IsSameScript old new → Call old.log (call_turns (outside_at old) (play_at old) call) → GrowsWhole (observed_with f old) (observed_with g new) Call
+made_opens f g old new call Call lit made same has =
+    let turns = call_turns (outside_at old) (play_at old) call in
+    let dark = lit_there old lit in
+    all_grows AddedWhole (observed_with f old) (observed_with g new) Call old.log turns (subst (λ d. AddedWhole d (is_dark new) turns turns) (sym dark) (all_added_whole (is_dark new) turns)) dark refl (ap Some made.log) (origin_same old new same) has
+
+-- a call for which memory was refused
+pub refused_grows : (f g : ℕ) (old new : Played) (Call : List Turn → Type 0) (turns : List Turn) → IsRefused old new → IsSameScript old new → Call turns → Grows (observed_with f old) (observed_with g new) Call
+refused_grows f g old new Call turns refused same has = dark_grows (observed_with f old) (observed_with g new) Call turns has (short_dark new refused.short) (ap Some refused.log) (origin_same old new same)
+
+-- a call that is reported as it was made
+pub reported_grows : (Call : Result (Unit {0}) Failed → List Turn → Type 0) (f g : ℕ) (old new : Played) (call : SiteCall) (test : Bool) (failed : List Turn) {E : Type 0} (made : Result Bool E) (result : Result (Unit {0}) Failed) →
+    IsLit old → OnOk made (IsCallMade old new call) → IfOk made (λ fails. fails ≡ test) → OnErr made (IsRefused old new) → IsSameScript old new → IsCallReported made result →
+    (test ≡ false → (done : Unit {0}) → Call (Ok done) (call_turns (outside_at old) (play_at old) call)) → (test ≡ true → (error : Failed) → Call (Err error) (call_turns (outside_at old) (play_at old) call)) → ((error : Failed) → Call (Err error) failed) →
+    Grows (observed_with f old) (observed_with g new) (Call result)
+reported_grows Call f g old new call test failed (Ok true) (Ok done) lit made fails refused same reported went fell short = absurd (let h : false ≡ true = reported in cc)
+reported_grows Call f g old new call test failed (Ok true) (Err error) lit made fails refused same reported went fell short = made_grows f g old new call (Call (Err error)) lit made same (fell (sym fails) error)
+reported_grows Call f g old new call test failed (Ok false) (Ok done) lit made fails refused same reported went fell short = made_grows f g old new call (Call (Ok done)) lit made same (went (sym fails) done)
+reported_grows Call f g old new call test failed (Ok false) (Err error) lit made fails refused same reported went fell short = absurd (let h : false ≡ true = reported in cc)
+reported_grows Call f g old new call test failed (Err refusal) (Ok done) lit made fails refused same reported went fell short = absurd (let h : false ≡ true = reported in cc)
+reported_grows Call f g old new call test failed (Err refusal) (Err error) lit made fails refused same reported went fell short = refused_grows f g old new (Call (Err error)) failed refused same (short error)
+
+-- a call for which no memory was refused was made
+pub was_made : {A E : Type 0} (old new : Played) (call : SiteCall) (made : Result A E) → OnOk made (IsCallMade old new call) → OnErr made (new.short ≡ true) → new.short ≡ false → IsCallMade old new call
+was_made old new call (Ok given) made refused whole = made
+was_made old new call (Err error) made refused whole = absurd (let h : true ≡ false = sym refused ∙ whole in cc)
+
+pub short_there : {A E : Type 0} (old new : Played) (made : Result A E) → OnErr made (IsRefused old new) → OnErr made (new.short ≡ true)
+short_there old new (Ok given) refused = tt
+short_there old new (Err error) refused = refused.short
+
+-- ---- cases of a result
+
+pub on_err : {T E A B : Type 0} (result : Result T E) → (A → B) → OnErr result A → OnErr result B
+on_err (Ok given) f h = tt
+on_err (Err error) f h = f h
+
+pub on_ok : {T E A B : Type 0} (result : Result T E) → (A → B) → OnOk result A → OnOk result B
+on_ok (Ok given) f h = f h
+on_ok (Err error) f h = tt
+
+-- ---- more calls
+
+-- a call on a dark site
+pub dark_there_grows : (f g : ℕ) (old new : Played) (Call : List Turn → Type 0) (turns : List Turn) → new ≡ old → is_dark old ≡ true → Call turns → Grows (observed_with f old) (observed_with g new) Call
+dark_there_grows f g old new Call turns e d has = subst (λ p. Grows (observed_with f old) (observed_with g p) Call) (sym e) (dark_grows (observed_with f old) (observed_with g old) Call turns has d refl refl)
+
+-- opening that is reported as it was made
+pub reported_opens : (Call : Result (Unit {0}) Failed → List Turn → List Turn → Type 0) (f g : ℕ) (old new : Played) (call : SiteCall) (test : Bool) (failed : List Turn) {E : Type 0} (made : Result Bool E) (result : Result (Unit {0}) Failed) →
+    IsLit old → OnOk made (IsCallMade old new call) → IfOk made (λ fails. fails ≡ test) → OnErr made (IsRefused old new) → IsSameScript old new → IsCallReported made result →
+    (test ≡ false → (done : Unit {0}) → Call (Ok done) old.log (call_turns (outside_at old) (play_at old) call)) → (test ≡ true → (error : Failed) → Call (Err error) old.log (call_turns (outside_at old) (play_at old) call)) → ((error : Failed) (before : List Turn) → Call (Err error) before failed) →
+    GrowsWhole (observed_with f old) (observed_with g new) (Call result)
+reported_opens Call f g old new call test failed (Ok true) (Ok done) lit made fails refused same reported went fell short = absurd (let h : false ≡ true = reported in cc)
+reported_opens Call f g old new call test failed (Ok true) (Err error) lit made fails refused same reported went fell short = made_opens f g old new call (Call (Err error)) lit made same (fell (sym fails) error)
+reported_opens Call f g old new call test failed (Ok false) (Ok done) lit made fails refused same reported went fell short = made_opens f g old new call (Call (Ok done)) lit made same (went (sym fails) done)
+reported_opens Call f g old new call test failed (Ok false) (Err error) lit made fails refused same reported went fell short = absurd (let h : false ≡ true = reported in cc)
+reported_opens Call f g old new call test failed (Err refusal) (Ok done) lit made fails refused same reported went fell short = absurd (let h : false ≡ true = reported in cc)
+reported_opens Call f g old new call test failed (Err refusal) (Err error) lit made fails refused same reported went fell short = dark_opens (observed_with f old) (observed_with g new) (Call (Err error)) failed (short error) (short_dark new refused.short) (ap Some refused.log) (origin_same old new same)
+
+-- a write that is reported as it was made
+pub reported_write : (f g : ℕ) (old new : Played) (offset : ℕ) (bytes : List ℕ) {E : Type 0} (made : Result Bool E) (result : Result (Unit {0}) Failed) →
+    IsLit old → OnOk made (IsCallMade old new (WriteCall offset bytes)) → IfOk made (λ fails. fails ≡ old.place.hazard.write) → OnErr made (IsWriteRefused old new offset bytes) → OnErr made (new.short ≡ true) → IsSameScript old new → IsCallReported made result →
+    Grows (observed_with f old) (observed_with g new) (WroteTurns offset bytes result)
+reported_write f g old new offset bytes (Ok true) (Ok done) lit made fails refused short same reported = absurd (let h : false ≡ true = reported in cc)
+reported_write f g old new offset bytes (Ok true) (Err error) lit made fails refused short same reported = made_grows f g old new (WriteCall offset bytes) (WroteTurns {E = Failed} offset bytes (Err error)) lit made same (ap (λ b. if b then Wrote offset bytes ∷ DiskFailed ∷ [] else Wrote offset bytes ∷ []) (sym fails))
+reported_write f g old new offset bytes (Ok false) (Ok done) lit made fails refused short same reported = made_grows f g old new (WriteCall offset bytes) (WroteTurns {E = Failed} offset bytes (Ok done)) lit made same (ap (λ b. if b then Wrote offset bytes ∷ DiskFailed ∷ [] else Wrote offset bytes ∷ []) (sym fails))
+reported_write f g old new offset bytes (Ok false) (Err error) lit made fails refused short same reported = absurd (let h : false ≡ true = reported in cc)
+reported_write f g old new offset bytes (Err refusal) (Ok done) lit made fails refused short same reported = absurd (let h : false ≡ true = reported in cc)
+reported_write f g old new offset bytes (Err refusal) (Err error) lit made fails (inl log) short same reported =
+    dark_grows (observed_with f old) (observed_with g new) (WroteTurns {E = Failed} offset bytes (Err error)) (Wrote offset bytes ∷ DiskFailed ∷ []) refl (short_dark new short) (ap Some log) (origin_same old new same)
+reported_write f g old new offset bytes (Err refusal) (Err error) lit made fails (inr log) short same reported =
+    part_grows (observed_with f old) (observed_with g new) (WroteTurns {E = Failed} offset bytes (Err error)) old.log (Wrote offset bytes ∷ DiskFailed ∷ []) (Wrote offset bytes ∷ []) (DiskFailed ∷ []) refl refl (lit_there old lit) (short_dark new short) refl (ap Some log) (origin_same old new same)
+
+-- what a send takes is all of its bytes, or where it fails a prefix of them
+pub till_sent : (till : ℕ) (bytes : List ℕ) (most : Option ℕ) (done : Unit {0}) → is_some most ≡ false → SentTillTurns {E = Failed} till bytes (Ok done) (SentTill till (sent_of most bytes) (not (is_some most)) ∷ [])
+till_sent till bytes None done e = refl
+till_sent till bytes (Some most) done e = absurd (let h : true ≡ false = e in cc)
+
+pub till_cut : (till : ℕ) (bytes : List ℕ) (most : Option ℕ) (error : Failed) → is_some most ≡ true → SentTillTurns till bytes (Err error) (SentTill till (sent_of most bytes) (not (is_some most)) ∷ [])
+till_cut till bytes None error e = absurd (let h : false ≡ true = e in cc)
+till_cut till bytes (Some most) error e = (take most bytes, (drop most bytes, sym (take-append-drop most bytes)), refl)
+
+pub pt_sent : (pt : ℕ) (bytes : List ℕ) (most : Option ℕ) (done : Unit {0}) → is_some most ≡ false → SentPtTurns {E = Failed} pt bytes (Ok done) (SentPt pt (sent_of most bytes) (not (is_some most)) ∷ [])
+pt_sent pt bytes None done e = refl
+pt_sent pt bytes (Some most) done e = absurd (let h : true ≡ false = e in cc)
+
+pub pt_cut : (pt : ℕ) (bytes : List ℕ) (most : Option ℕ) (error : Failed) → is_some most ≡ true → SentPtTurns pt bytes (Err error) (SentPt pt (sent_of most bytes) (not (is_some most)) ∷ [])
+pt_cut pt bytes None error e = absurd (let h : false ≡ true = e in cc)
+pt_cut pt bytes (Some most) error e = (take most bytes, (drop most bytes, sym (take-append-drop most bytes)), refl)
+
+not_err : (done : Unit {0}) (result : Result (Unit {0}) Failed) → result ≡ Ok done → IsErr result → ⊥
+not_err done (Ok given) ok err = let h : false ≡ true = err in cc
+not_err done (Err error) ok err = cc
+
+-- a look that succeeds leaves the log as it was, and the disk is that of the log
+pub looked : (old new : Played) (call : SiteCall) (test : Bool) {E : Type 0} (made : Result Bool E) (result : Result (Unit {0}) Failed) (done : Unit {0}) → OnOk made (IsCallMade old new call) → IfOk made (λ fails. fails ≡ test) → IsCallReported made result → result ≡ Ok done →
+    (test ≡ false → call_turns (outside_at old) (play_at old) call ≡ []) → (outside_of old.log).file ≡ new.disk.file.items
+looked old new call test (Ok true) result done made fails reported ok none = absurd (not_err done result ok reported)
+looked old new call test (Ok false) result done made fails reported ok none =
+    let same : new.log ≡ old.log = made.log ∙ ap (λ turns. old.log ++ turns) (none (sym fails)) ∙ append-nil old.log in
+    ap (λ log. (outside_of log).file) (sym same) ∙ (new.disk_is made.whole).file
+looked old new call test (Err refusal) result done made fails reported ok none = absurd (not_err done result ok reported)
+
+-- the call was made
+pub goes_on : (old new : SimSite) (after : Played) (call : SiteCall) → new.played ≡ after → IsCallMade old.played after call → GoesOn old new call
+goes_on old new after call e made = record { turns = ap (λ (p : Played). p.log) e ∙ made.log; place = ap play_at e ∙ made.place }
+
+-- ---- the site itself
+
+pub observed_same : (f : ℕ) (old new : Played) → IsUnchanged old new → observed_with f new ≡ observed_with f old
+observed_same f old new u = rw (u.log, u.short, u.place, u.scripted, u.text) refl
+
+pub play_same : (old new : Played) → IsUnchanged old new → play_at new ≡ play_at old
+play_same old new u = rw (u.script, u.place) refl
+
+pub image_there : (kind : ImageKind) (log : List Turn) → Image (outside_of log) (crash_file kind (outside_of log))
+image_there Old log = stable_image log
+image_there New log = file_image log
+image_there (Junk byte) log = junk_image byte log
+
+pub restarted_there : {E : Type 0} (result : Result (Unit {0}) E) (old new : SimSite) (kind : ReadImageKind) → old.played.place.off ≡ Some kind → OnOk result (new.played.log ≡ old.played.log ++ Crash (crash_file (image_value kind) (outside_at old.played)) ∷ []) →
+    OnOk result (play_at new.played ≡ restarted (play_at old.played)) → OnOk result (new.played.place.off ≡ None) → new.played.short ≡ false → IsSameScript old.played new.played → OnOk result (IsRestarted old new)
+restarted_there (Ok done) old new kind off log place power whole same = record {
+  kind = image_value kind;
+  failed = ap (option_map image_value) off;
+  log = log;
+  image = image_there (image_value kind) old.played.log;
+  place = place;
+  lit = lit_there new.played (record { whole = whole; power = power });
+  script = ap whole_script_value same.script;
+  origin = origin_same old.played new.played same;
+}
+restarted_there (Err error) old new kind off log place power whole same = tt
+
+-- no script has the text of a site that doesn't play its script alone
+no_text : script_of (255 ∷ []) ≡ Err 1
+no_text = by_test (is_utf8 (255 ∷ []))
+  where
+    by_test : (test : Bool) → script_goes_on (option_and_then (with_entry no_lines) (if test then spelled (255 ∷ []) else None)) 1 (λ more. Ok more) ≡ Err 1
+    by_test true = refl
+    by_test false = refl
+
+ok_same : (a b : Script) → ◌≡◌ {A = Result Script ℕ} (Ok a) (Ok b) → a ≡ b
+ok_same a b e = cc
+
+pub origin_own : (played : Played) (script : Script) → script_of (origin_of played) ≡ Ok script → (played.scripted ≡ true) × (whole_script_value played.script ≡ script)
+origin_own played script e = by_test played.scripted refl e
+  where
+    by_test : (test : Bool) → played.scripted ≡ test → script_of (if test then played.text else 255 ∷ []) ≡ Ok script → (played.scripted ≡ true) × (whole_script_value played.script ≡ script)
+    by_test true own same = (own, ok_same (whole_script_value played.script) script (sym played.read_is ∙ same))
+    by_test false own same = absurd (let h : Err 1 ≡ Ok script = sym no_text ∙ same in cc)
+
+pub some_same : (a b : List Turn) → Some a ≡ Some b → a ≡ b
+some_same a b e = cc
+
+-- the setup that the script gives is that of the text
+pub setup_own : {E : Type 0} (played : Played) (result : Result Setup E) → IfOk result (λ setup. setup ≡ setup_of (whole_script_value played.script).given) → IfOk result (λ setup. IsOriginSetup (origin_of played) setup)
+setup_own played (Ok setup) is = λ script e. is ∙ ap (λ (x : Script). setup_of x.given) (origin_own played script e).1
+setup_own played (Err error) is = tt

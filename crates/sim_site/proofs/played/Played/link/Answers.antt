@@ -1,0 +1,33 @@
+-- Proof of the contract of `link`.
+use Rattle.std.proofs.Common.{◌≡◌, ◌∷◌, ◌++◌, [], ◌∙◌, ap, true}
+use Rattle.std.specs.Prelude.{if◌then◌else◌}
+use Rattle.gw_site.specs.Outside.{outside_of}
+use Rattle.gw_site.specs.declared.turn.Turn.TheVariants.{Linked, LinkFailed}
+use Rattle.gw_script.specs.site.Calls.{LinkCall}
+use Rattle.gw_script.specs.site.Hazards.{is_failing}
+use Rattle.sim_script.specs.Values.{lines_value}
+use Rattle.sim_site.specs.Places.{place_value}
+use Rattle.sim_site.proofs.PlayedLemmas.{connections_there, disk_stays, link_leaves, never, plays_same, plays_stood, stands_made}
+use Rattle.sim_site.proofs.played.Played.link.Goals as goal
+
+pub invariant_of-self-in-Break-branch-2 : goal.invariant_of-self-in-Break-branch-2
+invariant_of-self-in-Break-branch-2 c =
+    let s = c.args.self.now in
+    record { read_is = s.read_is; plays = λ own. plays_same (lines_value s.script.lines.items) s.log c.push.new.self c.in_err-push.ensures.err (s.plays own); stands = λ own lit. never lit; disk_is = λ lit. never lit; connections_are = λ lit. never lit }
+
+pub invariant_of-self-2 : goal.invariant_of-self-2
+invariant_of-self-2 c =
+    let s = c.args.self.now in
+    let lines = s.script.lines.items in
+    let o = outside_of s.log in
+    let fails : c.is_failing-fails.result ≡ is_failing s.place.hazard.links.items c.args.pt = c.is_failing-fails.ensures ∙ ap (λ links. is_failing links c.args.pt) c.deref.ensures.value in
+    let turns = c.in_ok-push.ensures.ok ∙ ap (λ turns. s.log ++ turns) c.link_turn.ensures in
+    let grown = turns ∙ ap (λ b. s.log ++ (if b then LinkFailed c.args.pt ∷ [] else Linked c.args.pt ∷ [])) fails in
+    let stands = λ (own : s.scripted ≡ true). stands_made lines s.log c.push.new.self s.place c.link-2.new.self (LinkCall c.args.pt) c.requires.power grown (c.link-2.ensures.moves o lines) (s.stands own c.requires.whole) in
+    record {
+      read_is = s.read_is;
+      plays = λ own. plays_stood (lines_value lines) c.push.new.self (place_value lines c.link-2.new.self) (stands own);
+      stands = λ own lit. stands own;
+      disk_is = λ lit. disk_stays s.log c.push.new.self _ s.disk (link_leaves c.is_failing-fails.result c.args.pt) turns (s.disk_is c.requires.whole);
+      connections_are = λ lit. connections_there s.log c.push.new.self _ c.link.new.connections turns (c.in_ok-link.ensures o (s.connections_are c.requires.whole));
+    }

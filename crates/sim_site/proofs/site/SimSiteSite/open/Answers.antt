@@ -1,0 +1,21 @@
+-- Proof of the contract of `open`.
+use Rattle.std.proofs.Common.{◌∷◌, [], refl, sym, ap, subst, inl}
+use Rattle.std.specs.Prelude.{if◌then◌else◌, Result}
+use Rattle.gw_site.specs.Observed.{GrowsWhole}
+use Rattle.gw_site.specs.Turns.{OpenTurns}
+use Rattle.gw_site.specs.declared.site.Failed.{Failed}
+use Rattle.gw_site.specs.declared.turn.Turn.TheVariants.{OpenFailed, Start}
+use Rattle.gw_script.specs.site.Calls.{OpenCall}
+use Rattle.sim_site.specs.Sites.{observed_with}
+use Rattle.sim_site.specs.declared.played.Played.{Played}
+use Rattle.sim_site.proofs.SiteLemmas.{reported_opens}
+use Rattle.sim_site.proofs.site.SimSiteSite.open.Goals as goal
+
+pub returns-clause-turns : goal.returns-clause-turns
+returns-clause-turns c =
+    let s = c.args.self.now in
+    let test = s.played.place.hazard.open in
+    subst (λ (p : Played). GrowsWhole (observed_with s.faults s.played) (observed_with c.report.new.self.faults p) (OpenTurns c.args.setup.now c.report.result)) (sym c.report.ensures.played)
+    (reported_opens (λ (r : Result (Unit {0}) Failed). OpenTurns c.args.setup.now r) s.faults c.report.new.self.faults s.played c.open-made.new.self (OpenCall c.args.setup.now) test (OpenFailed ∷ []) c.open-made.result c.report.result (c.is_dark.ensures.lit c.if-is_dark.false)
+    c.open-made.ensures.made c.open-made.ensures.fails c.open-made.ensures.refused c.open-made.ensures.same c.report.ensures.reported
+    (λ e done. inl (ap (λ b. if b then OpenFailed ∷ [] else Start c.args.setup.now ∷ []) e)) (λ e error. ap (λ b. if b then OpenFailed ∷ [] else Start c.args.setup.now ∷ []) e) (λ error before. refl))

@@ -1,0 +1,49 @@
+-- Proof of the contract of `read_at`.
+use Rattle.std.proofs.Common.{◌∷◌, [], ◌∙◌, refl, sym, ap, subst}
+use Rattle.std.specs.Prelude.{if◌then◌else◌, Result, length}
+use Rattle.gw_site.specs.Observed.{Grows}
+use Rattle.gw_site.specs.Turns.{DiskTurns}
+use Rattle.gw_site.specs.Outside.{file_part, outside_of}
+use Rattle.gw_site.specs.declared.site.Failed.{Failed}
+use Rattle.gw_site.specs.declared.turn.Turn.TheVariants.{DiskFailed}
+use Rattle.gw_script.specs.site.Calls.{ReadCall}
+use Rattle.sim_site.specs.Sites.{observed_with}
+use Rattle.sim_site.specs.declared.played.Played.{Played}
+use Rattle.sim_site.proofs.SiteLemmas.{goes_on, looked, on_ok, reported_grows, short_there, some_same, was_made}
+use Rattle.sim_site.proofs.site.SimSiteSite.read_at.Goals as goal
+
+pub returns-in-Ok-clause-turns : goal.returns-in-Ok-clause-turns
+returns-in-Ok-clause-turns c =
+    let s = c.args.self.now in
+    let all = subst (λ (p : Played). Grows (observed_with s.faults s.played) (observed_with c.report.new.self.faults p) (DiskTurns {T = Unit {0}} {E = Failed} c.report.result)) (sym c.report.ensures.played)
+    (reported_grows (λ (r : Result (Unit {0}) Failed). DiskTurns r) s.faults c.report.new.self.faults s.played c.read-made.new.self (ReadCall c.args.offset (length c.args.buf.now)) s.played.place.hazard.read (DiskFailed ∷ []) c.read-made.result c.report.result (c.is_dark.ensures.lit c.if-is_dark.false)
+    (on_ok c.read-made.result (λ made. made c.args.offset (length c.args.buf.now)) c.read-made.ensures.made) c.read-made.ensures.fails c.read-made.ensures.refused c.read-made.ensures.same c.report.ensures.reported
+    (λ e done. ap (λ b. if b then DiskFailed ∷ [] else []) e) (λ e error. ap (λ b. if b then DiskFailed ∷ [] else []) e) (λ error. refl)) in
+    subst (λ (r : Result (Unit {0}) Failed). Grows (observed_with s.faults s.played) (observed_with c.report.new.self.faults c.report.new.self.played) (DiskTurns r)) c.in-Ok.is all
+
+pub returns-in-Ok-clause-call : goal.returns-in-Ok-clause-call
+returns-in-Ok-clause-call c = λ lit whole.
+    let s = c.args.self.now in
+    goes_on s c.report.new.self c.read-made.new.self (ReadCall c.args.offset (length c.args.buf.now)) c.report.ensures.played (was_made s.played c.read-made.new.self (ReadCall c.args.offset (length c.args.buf.now)) c.read-made.result (on_ok c.read-made.result (λ made. made c.args.offset (length c.args.buf.now)) c.read-made.ensures.made) (short_there s.played c.read-made.new.self c.read-made.result c.read-made.ensures.refused) (ap (λ (p : Played). p.short) (sym c.report.ensures.played) ∙ whole))
+
+pub returns-in-Err-clause-turns : goal.returns-in-Err-clause-turns
+returns-in-Err-clause-turns c =
+    let s = c.args.self.now in
+    let all = subst (λ (p : Played). Grows (observed_with s.faults s.played) (observed_with c.report.new.self.faults p) (DiskTurns {T = Unit {0}} {E = Failed} c.report.result)) (sym c.report.ensures.played)
+    (reported_grows (λ (r : Result (Unit {0}) Failed). DiskTurns r) s.faults c.report.new.self.faults s.played c.read-made.new.self (ReadCall c.args.offset (length c.args.buf.now)) s.played.place.hazard.read (DiskFailed ∷ []) c.read-made.result c.report.result (c.is_dark.ensures.lit c.if-is_dark.false)
+    (on_ok c.read-made.result (λ made. made c.args.offset (length c.args.buf.now)) c.read-made.ensures.made) c.read-made.ensures.fails c.read-made.ensures.refused c.read-made.ensures.same c.report.ensures.reported
+    (λ e done. ap (λ b. if b then DiskFailed ∷ [] else []) e) (λ e error. ap (λ b. if b then DiskFailed ∷ [] else []) e) (λ error. refl)) in
+    subst (λ (r : Result (Unit {0}) Failed). Grows (observed_with s.faults s.played) (observed_with c.report.new.self.faults c.report.new.self.played) (DiskTurns r)) c.in-Err.is all
+
+pub returns-in-Err-clause-call : goal.returns-in-Err-clause-call
+returns-in-Err-clause-call c = λ lit whole.
+    let s = c.args.self.now in
+    goes_on s c.report.new.self c.read-made.new.self (ReadCall c.args.offset (length c.args.buf.now)) c.report.ensures.played (was_made s.played c.read-made.new.self (ReadCall c.args.offset (length c.args.buf.now)) c.read-made.result (on_ok c.read-made.result (λ made. made c.args.offset (length c.args.buf.now)) c.read-made.ensures.made) (short_there s.played c.read-made.new.self c.read-made.result c.read-made.ensures.refused) (ap (λ (p : Played). p.short) (sym c.report.ensures.played) ∙ whole))
+
+pub returns-in-Ok-clause-bytes : goal.returns-in-Ok-clause-bytes
+returns-in-Ok-clause-bytes c = λ log e.
+    let s = c.args.self.now in
+    let call = ReadCall c.args.offset (length c.args.buf.now) in
+    let made = on_ok c.read-made.result (λ made. made c.args.offset (length c.args.buf.now)) c.read-made.ensures.made in
+    let held = looked s.played c.read-made.new.self call s.played.place.hazard.read c.read-made.result c.report.result _ made c.read-made.ensures.fails c.report.ensures.reported c.in-Ok.is (λ f. ap (λ b. if b then DiskFailed ∷ [] else []) f) in
+    c.read_part.ensures ∙ ap (λ file. file_part file c.args.offset (length c.args.buf.now)) (c.deref.ensures.value ∙ ap (λ (p : Played). p.disk.file.items) c.report.ensures.played ∙ sym held ∙ ap (λ l. (outside_of l).file) (some_same s.played.log log e))

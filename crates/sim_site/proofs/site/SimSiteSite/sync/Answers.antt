@@ -1,0 +1,21 @@
+-- Proof of the contract of `sync`.
+use Rattle.std.proofs.Common.{◌∷◌, [], refl, sym, ap, subst}
+use Rattle.std.specs.Prelude.{if◌then◌else◌, Result}
+use Rattle.gw_site.specs.Observed.{Grows}
+use Rattle.gw_site.specs.Turns.{SyncedTurns}
+use Rattle.gw_site.specs.declared.site.Failed.{Failed}
+use Rattle.gw_site.specs.declared.turn.Turn.TheVariants.{DiskFailed, Synced}
+use Rattle.gw_script.specs.site.Calls.{SyncCall}
+use Rattle.sim_site.specs.Sites.{observed_with}
+use Rattle.sim_site.specs.declared.played.Played.{Played}
+use Rattle.sim_site.proofs.SiteLemmas.{reported_grows}
+use Rattle.sim_site.proofs.site.SimSiteSite.sync.Goals as goal
+
+pub returns-clause-turns : goal.returns-clause-turns
+returns-clause-turns c =
+    let s = c.args.self.now in
+    let test = s.played.place.hazard.sync in
+    subst (λ (p : Played). Grows (observed_with s.faults s.played) (observed_with c.report.new.self.faults p) (SyncedTurns c.report.result)) (sym c.report.ensures.played)
+    (reported_grows (λ (r : Result (Unit {0}) Failed). SyncedTurns r) s.faults c.report.new.self.faults s.played c.sync-made.new.self SyncCall test (DiskFailed ∷ []) c.sync-made.result c.report.result (c.is_dark.ensures.lit c.if-is_dark.false)
+    c.sync-made.ensures.made c.sync-made.ensures.fails c.sync-made.ensures.refused c.sync-made.ensures.same c.report.ensures.reported
+    (λ e done. ap (λ b. if b then DiskFailed ∷ [] else Synced ∷ []) e) (λ e error. ap (λ b. if b then DiskFailed ∷ [] else Synced ∷ []) e) (λ error. refl))

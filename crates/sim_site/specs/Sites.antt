@@ -1,0 +1,92 @@
+-- What can be said of a site in memory.
+use Rattle.std.specs.Prelude.{◌≡◌, ℕ, Bool, false, not, ◌&&◌, if◌then◌else◌, List, [], ◌∷◌, ◌++◌, Some, Ok, is_some}
+use Rattle.gw_base.specs.declared.setup.Setup.{Setup}
+use Rattle.gw_site.specs.Image.{Image}
+use Rattle.gw_site.specs.Observed.{Observed}
+use Rattle.gw_site.specs.Outside.{Outside, outside_of}
+use Rattle.gw_site.specs.declared.turn.Turn.{Turn}
+use Rattle.gw_site.specs.declared.turn.Turn.TheVariants.{Crash}
+use Rattle.gw_script.specs.site.Calls.{IsPlayedTo, SiteCall, call_turns, place_after}
+use Rattle.gw_script.specs.site.Decode.{script_of}
+use Rattle.gw_script.specs.site.Hazards.{crash_file}
+use Rattle.gw_script.specs.site.Playing.{Play, PlaysLines, restarted}
+use Rattle.gw_script.specs.site.ScriptLine.{ImageKind, Script, setup_of}
+use Rattle.sim_script.specs.Values.{whole_script_value}
+use Rattle.sim_site.specs.Dark.{is_dark}
+use Rattle.sim_site.specs.Places.{place_value}
+use Rattle.sim_site.specs.declared.played.Played.{Played}
+use Rattle.sim_site.specs.declared.site.SimSite.{SimSite}
+
+-- the text that determines what is played; one that no script has, where the power was set to fail or a file was put on the disk beside the script
+abbrev pub origin_of : Played → List ℕ
+origin_of played = if played.scripted then played.text else 255 ∷ []
+
+-- the log that has played the script, how often a call has failed, whether the site is dark, and the text that determines what is played
+abbrev pub observed_with : ℕ → Played → Observed
+observed_with faults played = record { log = Some played.log; faults = faults; dark = is_dark played; origin = origin_of played }
+
+-- what a proof observes of a site
+abbrev pub sim_observed : SimSite → Observed
+sim_observed site = observed_with site.faults site.played
+
+-- the log
+abbrev pub log_of : SimSite → List Turn
+log_of site = site.played.log
+
+-- what the log says of the outside
+abbrev pub outside_there : SimSite → Outside
+outside_there site = outside_of site.played.log
+
+-- the script that is played
+abbrev pub played_script : SimSite → Script
+played_script site = whole_script_value site.played.script
+
+-- how far it is played
+abbrev pub place_of : SimSite → Play
+place_of site = place_value site.played.script.lines.items site.played.place
+
+-- the log could not grow
+abbrev pub is_log_full : SimSite → Bool
+is_log_full site = site.played.short
+
+-- the site is dark by a power failure
+abbrev pub is_crashed : SimSite → Bool
+is_crashed site = not site.played.short && is_some site.played.place.off
+
+-- the call was made as the script says: the log has its turns, and the script is played as far as after it
+pub record GoesOn (old new : SimSite) (call : SiteCall) : Type 0 where
+  pub turns : log_of new ≡ log_of old ++ call_turns (outside_there old) (place_of old) call
+  pub place : place_of new ≡ place_after (outside_there old) (place_of old) call
+
+-- so it was, where the site wasn't dark and its log could grow
+abbrev pub IsCalled : SimSite → SimSite → SiteCall → Type 0
+IsCalled old new call = (sim_observed old).dark ≡ false → is_log_full new ≡ false → GoesOn old new call
+
+-- the power is there again: the log has its failure with the image that the script says, and the script goes on in the next run
+pub record IsRestarted (old new : SimSite) : Type 0 where
+  pub kind : ImageKind
+  pub failed : (place_of old).off ≡ Some kind
+  pub log : log_of new ≡ log_of old ++ Crash (crash_file kind (outside_there old)) ∷ []
+  pub image : Image (outside_there old) (crash_file kind (outside_there old))
+  pub place : place_of new ≡ restarted (place_of old)
+  pub lit : (sim_observed new).dark ≡ false
+  pub script : played_script new ≡ played_script old
+  pub origin : (sim_observed new).origin ≡ (sim_observed old).origin
+
+-- all is as it was
+pub record IsSame (old new : SimSite) : Type 0 where
+  pub observed : sim_observed new ≡ sim_observed old
+  pub place : place_of new ≡ place_of old
+  pub script : played_script new ≡ played_script old
+
+-- the log plays the script of the text that determines what is played
+abbrev pub PlaysOrigin : List ℕ → List Turn → Type 0
+PlaysOrigin origin log = (script : Script) → script_of origin ≡ Ok script → ∥ PlaysLines script.lines log ∥₁
+
+-- some calls and power failures have this log, and lead to this place of the script of the text that determines what is played
+abbrev pub IsOriginPlayedTo : List ℕ → List Turn → Play → Type 0
+IsOriginPlayedTo origin log place = (script : Script) → script_of origin ≡ Ok script → ∥ IsPlayedTo script.lines log place ∥₁
+
+-- the setup is the one that the script of the text gives which determines what is played
+abbrev pub IsOriginSetup : List ℕ → Setup → Type 0
+IsOriginSetup origin setup = (script : Script) → script_of origin ≡ Ok script → setup ≡ setup_of script.given

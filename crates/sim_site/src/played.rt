@@ -1,0 +1,471 @@
+//! A script, and the log that has played it so far.
+ghost use Rattle.std.specs.Prelude.{◌≡◌, ◌⊎◌, ◌||◌, ◌==◌, ℕ, ◌∷◌, ◌++◌, [], List, length, Ok, Some, None, true, false, not, is_some, OnOk, OnErr, IfOk, if◌then◌else◌};
+ghost use Rattle.std.specs.Option.{option_to_list};
+ghost use Rattle.gw_site.specs.Outside.{Outside, outside_from, outside_of};
+ghost use Rattle.gw_site.specs.declared.turn.Turn.TheVariants.{Crash, DiskFailed, Linked, LinkFailed, OpenFailed, Polled, Start, Synced, Wrote};
+ghost use Rattle.gw_script.specs.site.Calls.{IsPlayedTo};
+ghost use Rattle.gw_script.specs.site.Decode.{script_of};
+ghost use Rattle.gw_script.specs.Decode.{is_empty};
+ghost use Rattle.gw_script.specs.site.Hazards.{crash_file, is_failing, sent_of, takes_most};
+ghost use Rattle.gw_script.specs.site.Playing.{PlaysLines, restarted};
+ghost use Rattle.sim_script.specs.Values.{image_value, lines_value, whole_script_value};
+ghost use Rattle.sim_site.specs.Connected.{HasConnections};
+ghost use Rattle.sim_site.specs.Disks.{HasDisk};
+ghost use Rattle.sim_site.specs.Places.{place_value, set_to_fail};
+
+use crate::connections::Connections;
+use crate::disk::Disk;
+use crate::hazard::{is_failing, takes_most};
+use crate::place::Place;
+use crate::polled::polled;
+use gw_base::{Bytes, Setup};
+use gw_site::{Turn, Turns, What};
+use sim_script::{ImageKind, Script};
+use std::alloc::{AllocError, Global};
+
+/// A script, the log that has played it up to a place, and the disk and the connections that the log has led to.
+#[derive(Drop)]
+pub(crate) struct Played {
+    /// The text of the script.
+    pub(crate) text: Bytes,
+    pub(crate) script: Script,
+    /// What is played is the script alone: no power failure was set and no file was put on the disk beside it.
+    pub(crate) scripted: bool,
+    pub(crate) place: Place,
+    pub(crate) log: Turns,
+    /// The log could not grow; place, disk and connections aren't those of the log any more.
+    pub(crate) short: bool,
+    pub(crate) disk: Disk,
+    pub(crate) connections: Connections,
+    pub(crate) ghost read_is: { script_of text ≡ Ok (whole_script_value script) },
+    pub(crate) ghost plays: { scripted ≡ true → ∥ PlaysLines (lines_value script.lines.items) log ∥₁ },
+    pub(crate) ghost stands: { scripted ≡ true → short ≡ false → ∥ IsPlayedTo (lines_value script.lines.items) log (place_value script.lines.items place) ∥₁ },
+    pub(crate) ghost disk_is: { short ≡ false → HasDisk (outside_of log) disk },
+    pub(crate) ghost connections_are: { short ≡ false → HasConnections (outside_of log) connections },
+}
+
+/// A log without turns.
+fn no_turns(alloc: Global) -> Turns
+    ensures { result ≡ [] }
+{
+    Turns::new(Vec::new(alloc))
+}
+
+/// A copy of a setup.
+fn copied(setup: &Setup) -> Result<Setup, AllocError>
+    ensures { IfOk result (λ copy. copy ≡ setup.now) }
+{
+    setup.clone()
+}
+
+/// The turn of an opening.
+fn open_turn(fails: bool, setup: Setup) -> Turn
+    ensures { result ∷ [] ≡ (if fails then OpenFailed ∷ [] else Start setup ∷ []) }
+{
+    if fails {
+        Turn::OpenFailed
+    } else {
+        Turn::Start(setup)
+    }
+}
+
+/// The turn of a link.
+fn link_turn(fails: bool, pt: u16) -> Turn
+    ensures { result ∷ [] ≡ (if fails then LinkFailed pt ∷ [] else Linked pt ∷ []) }
+{
+    if fails {
+        Turn::LinkFailed { pt }
+    } else {
+        Turn::Linked { pt }
+    }
+}
+
+/// What a send takes of these bytes: all, or where it fails the first so many.
+fn taken(bytes: &[u8], most: Option<u64>) -> &[u8]
+    ensures { result.now ≡ sent_of most bytes.now }
+{
+    match most {
+        Some(most) if most < bytes.len() as u64 => &bytes[..most as usize],
+        _ => bytes,
+    }
+}
+
+/// Appends the turn of a poll, and that of what it brings.
+fn push_poll(log: &mut Turns, now: i64, event: Option<Turn>) -> Result<(), AllocError>
+    ensures ok { OnOk result (log.new ≡ log.old ++ Polled now ∷ option_to_list event) }
+    ensures err { OnErr result ((log.new ≡ log.old) ⊎ (log.new ≡ log.old ++ Polled now ∷ [])) }
+{
+    log.push(Turn::Polled { now })?;
+    if let Some(turn) = event {
+        log.push(turn)?;
+    }
+    Ok(())
+}
+
+/// Appends the turn of a write, and that of its failure.
+fn push_write(log: &mut Turns, offset: u64, bytes: Bytes, fails: bool) -> Result<(), AllocError>
+    ensures ok { OnOk result (log.new ≡ log.old ++ (if fails then Wrote offset bytes ∷ DiskFailed ∷ [] else Wrote offset bytes ∷ [])) }
+    ensures err { OnErr result ((log.new ≡ log.old) ⊎ (log.new ≡ log.old ++ Wrote offset bytes ∷ [])) }
+{
+    log.push(Turn::Wrote { pos: offset, bytes })?;
+    if fails {
+        log.push(Turn::DiskFailed)?;
+    }
+    Ok(())
+}
+
+/// Appends the turn of a sync.
+fn push_sync(log: &mut Turns, fails: bool) -> Result<(), AllocError>
+    ensures ok { OnOk result (log.new ≡ log.old ++ (if fails then DiskFailed ∷ [] else Synced ∷ [])) }
+    ensures err { OnErr result (log.new ≡ log.old) }
+{
+    if fails {
+        log.push(Turn::DiskFailed)
+    } else {
+        log.push(Turn::Synced)
+    }
+}
+
+/// Appends the turn of a failure of the disk, where there is one.
+fn push_look(log: &mut Turns, fails: bool) -> Result<(), AllocError>
+    ensures ok { OnOk result (log.new ≡ log.old ++ (if fails then DiskFailed ∷ [] else [])) }
+    ensures err { OnErr result (log.new ≡ log.old) }
+{
+    if fails {
+        log.push(Turn::DiskFailed)?;
+    }
+    Ok(())
+}
+
+/// A terminal is linked, unless this fails.
+fn link(connections: &mut Connections, pt: u16, fails: bool) -> Result<(), AllocError>
+    ensures { OnOk result ((o : Outside) → HasConnections o connections.old → HasConnections (outside_from o (if fails then LinkFailed pt ∷ [] else Linked pt ∷ [])) connections.new) }
+{
+    if fails {
+        return Ok(());
+    }
+    connections.link(pt)
+}
+
+/// The file is synced, unless this fails.
+fn sync(disk: &mut Disk, fails: bool) -> Result<(), AllocError>
+    ensures { OnOk result ((o : Outside) → HasDisk o disk.old → HasDisk (outside_from o (if fails then DiskFailed ∷ [] else Synced ∷ [])) disk.new) }
+{
+    if fails {
+        return Ok(());
+    }
+    disk.sync()
+}
+
+impl Played {
+    ghost use Rattle.std.specs.Prelude.{IsSome};
+    ghost use Rattle.gw_site.specs.Turns.{IsPromised, IsWithinBuf};
+    ghost use Rattle.gw_script.specs.site.Calls.{CutPtCall, CutTillCall, LengthCall, LinkCall, OpenCall, PollCall, ReadCall, SendPtCall, SendTillCall, SyncCall, WriteCall};
+    ghost use Rattle.sim_site.specs.Hazards.{sends_value};
+    ghost use Rattle.sim_site.specs.Dark.{is_dark};
+    ghost use Rattle.sim_site.specs.Made.{IsLit, IsCallMade, IsUnplayed, IsPollRefused, IsPollMade, IsRefused, IsSameScript, IsUnchanged, IsWriteRefused, outside_at, play_at};
+
+    /// Nothing of this script, which the text was read as, is played yet.
+    pub(crate) fn new(alloc: Global, text: Bytes, script: Script) -> Result<Played, AllocError>
+        requires { script_of text ≡ Ok (whole_script_value script) }
+        ensures new { IfOk result (λ played. IsUnplayed text played) }
+    {
+        let place = Place::first(alloc, &script.lines)?;
+        Ok(Played {
+            text,
+            script,
+            scripted: true,
+            place,
+            log: no_turns(alloc),
+            short: false,
+            disk: Disk::empty(alloc),
+            connections: Connections::none(alloc),
+        })
+    }
+
+    /// Whether nothing is appended any more: the log could not grow, or the power has failed.
+    pub(crate) fn is_dark(&self) -> bool
+        ensures dark { result ≡ is_dark self.now }
+        ensures lit { result ≡ false → IsLit self.now }
+    {
+        self.short || self.place.off.is_some()
+    }
+
+    /// Whether no line is left.
+    pub(crate) fn is_ended(&self) -> bool
+        ensures { result ≡ is_empty (play_at self.now).lines }
+    {
+        self.place.is_last(&self.script.lines)
+    }
+
+    /// The power is to fail after so many more calls.
+    pub(crate) fn stop_after(&mut self, calls: u64, kind: ImageKind)
+        ensures place { play_at self.new ≡ set_to_fail calls (image_value kind) (play_at self.old) }
+        ensures scripted { self.new.scripted ≡ false }
+        ensures dark { is_dark self.new ≡ (is_dark self.old || (calls == 0)) }
+        ensures log { self.new.log ≡ self.old.log }
+        ensures short { self.new.short ≡ self.old.short }
+        ensures script { self.new.script ≡ self.old.script }
+    {
+        self.scripted = false;
+        self.place.fail_after(calls, kind);
+    }
+
+    /// The power, which has failed and leaves this, is there again; nothing changes where there is no memory.
+    pub(crate) fn restart(&mut self, alloc: Global, kind: ImageKind) -> Result<(), AllocError>
+        requires whole { self.old.short ≡ false }
+        requires off { self.old.place.off ≡ Some kind }
+        ensures log { OnOk result (self.new.log ≡ self.old.log ++ Crash (crash_file (image_value kind) (outside_at self.old)) ∷ []) }
+        ensures place { OnOk result (play_at self.new ≡ restarted (play_at self.old)) }
+        ensures power { OnOk result (self.new.place.off ≡ None) }
+        ensures refused { OnErr result (IsUnchanged self.old self.new) }
+        ensures whole { self.new.short ≡ false }
+        ensures same { IsSameScript self.old self.new }
+    {
+        let image = self.disk.image(alloc, kind)?;
+        let file = Bytes::copied(alloc, &image)?;
+        let disk = Disk::holding(alloc, image)?;
+        self.log.push(Turn::Crash { file })?;
+        self.place.restart();
+        self.connections.clear();
+        self.disk = disk;
+        Ok(())
+    }
+
+    /// The disk has this file, as a power failure left it; nothing changes where there is no memory.
+    pub(crate) fn hold(&mut self, alloc: Global, file: &[u8]) -> Result<(), AllocError>
+        ensures log { OnOk result (self.new.log ≡ self.old.log ++ Crash file.now ∷ []) }
+        ensures scripted { OnOk result (self.new.scripted ≡ false) }
+        ensures place { OnOk result (self.new.place ≡ self.old.place) }
+        ensures refused { OnErr result (IsUnchanged self.old self.new) }
+        ensures short { self.new.short ≡ self.old.short }
+        ensures script { self.new.script ≡ self.old.script }
+    {
+        let copy = Bytes::copied(alloc, file)?;
+        let disk = Disk::of(alloc, file)?;
+        self.log.push(Turn::Crash { file: copy })?;
+        self.scripted = false;
+        self.connections.clear();
+        self.disk = disk;
+        Ok(())
+    }
+
+    /// The site is opened. True where this fails.
+    pub(crate) fn open(&mut self, setup: &Setup) -> Result<bool, AllocError>
+        requires { IsLit self.old }
+        ensures made { OnOk result (IsCallMade self.old self.new (OpenCall setup.now)) }
+        ensures fails { IfOk result (λ fails. fails ≡ self.old.place.hazard.open) }
+        ensures refused { OnErr result (IsRefused self.old self.new) }
+        ensures same { IsSameScript self.old self.new }
+    {
+        self.short = true;
+        let fails = self.place.hazard.open;
+        let copy = copied(setup)?;
+        self.log.push(open_turn(fails, copy))?;
+        self.place.open();
+        self.connections.clear();
+        self.short = false;
+        Ok(fails)
+    }
+
+    /// The site is polled. What this brings, with its bytes in the buffer; the stop where the power fails.
+    pub(crate) fn poll(&mut self, alloc: Global, buf: &mut [u8; 4096]) -> Result<What, AllocError>
+        requires { IsLit self.old }
+        ensures made { OnOk result (IsCallMade self.old self.new PollCall) }
+        ensures polled { IfOk result (λ what. IsPollMade self.old self.new what buf.new) }
+        ensures promise { IfOk result (λ what. IsPromised (outside_at self.old) what) }
+        ensures count { IfOk result (λ what. IsWithinBuf what) }
+        ensures refused { OnErr result (IsPollRefused self.old self.new) }
+        ensures short { OnErr result (self.new.short ≡ true) }
+        ensures buf { length buf.new ≡ 4096 }
+        ensures same { IsSameScript self.old self.new }
+    {
+        self.short = true;
+        let brought = polled(
+            alloc,
+            &mut self.place,
+            &self.script.lines,
+            &mut self.connections,
+            buf,
+        )?;
+        let Some(brought) = brought else {
+            self.short = false;
+            return Ok(What::Stopped);
+        };
+        push_poll(&mut self.log, self.place.moment, brought.turn)?;
+        self.short = false;
+        Ok(brought.what)
+    }
+
+    /// Bytes are sent to a till. True where this fails.
+    pub(crate) fn send_till(
+        &mut self,
+        alloc: Global,
+        till: u64,
+        bytes: &[u8],
+    ) -> Result<bool, AllocError>
+        requires { IsLit self.old }
+        ensures made { OnOk result (IsCallMade self.old self.new (SendTillCall till bytes.now)) }
+        ensures fails { IfOk result (λ fails. fails ≡ is_some (takes_most (sends_value self.old.place.hazard.tills.items) till)) }
+        ensures refused { OnErr result (IsRefused self.old self.new) }
+        ensures same { IsSameScript self.old self.new }
+    {
+        self.short = true;
+        let most = takes_most(&self.place.hazard.tills, till);
+        let sent = Bytes::copied(alloc, taken(bytes, most))?;
+        self.log.push(Turn::SentTill {
+            till,
+            bytes: sent,
+            ok: most.is_none(),
+        })?;
+        self.place.send_till(till);
+        self.short = false;
+        Ok(most.is_some())
+    }
+
+    /// Bytes are sent to a terminal. True where this fails.
+    pub(crate) fn send_pt(
+        &mut self,
+        alloc: Global,
+        pt: u16,
+        bytes: &[u8],
+    ) -> Result<bool, AllocError>
+        requires { IsLit self.old }
+        ensures made { OnOk result (IsCallMade self.old self.new (SendPtCall pt bytes.now)) }
+        ensures fails { IfOk result (λ fails. fails ≡ is_some (takes_most (sends_value self.old.place.hazard.pts.items) pt)) }
+        ensures refused { OnErr result (IsRefused self.old self.new) }
+        ensures same { IsSameScript self.old self.new }
+    {
+        self.short = true;
+        let most = takes_most(&self.place.hazard.pts, u64::from(pt));
+        let sent = Bytes::copied(alloc, taken(bytes, most))?;
+        self.log.push(Turn::SentPt {
+            pt,
+            bytes: sent,
+            ok: most.is_none(),
+        })?;
+        self.place.send_pt(pt);
+        self.short = false;
+        Ok(most.is_some())
+    }
+
+    /// A terminal is linked. True where this fails.
+    pub(crate) fn link(&mut self, pt: u16) -> Result<bool, AllocError>
+        requires { IsLit self.old }
+        ensures made { OnOk result (IsCallMade self.old self.new (LinkCall pt)) }
+        ensures fails { IfOk result (λ fails. fails ≡ is_failing self.old.place.hazard.links.items pt) }
+        ensures refused { OnErr result (IsRefused self.old self.new) }
+        ensures same { IsSameScript self.old self.new }
+    {
+        self.short = true;
+        let fails = is_failing(&self.place.hazard.links, pt);
+        link(&mut self.connections, pt, fails)?;
+        self.log.push(link_turn(fails, pt))?;
+        self.place.link(pt);
+        self.short = false;
+        Ok(fails)
+    }
+
+    /// A till's connection is cut.
+    pub(crate) fn cut_till(&mut self, till: u64) -> Result<(), AllocError>
+        requires { IsLit self.old }
+        ensures made { OnOk result (IsCallMade self.old self.new (CutTillCall till)) }
+        ensures refused { OnErr result (IsRefused self.old self.new) }
+        ensures same { IsSameScript self.old self.new }
+    {
+        self.short = true;
+        self.log.push(Turn::CutTill { till })?;
+        self.place.cut();
+        self.connections.cut_till(till);
+        self.short = false;
+        Ok(())
+    }
+
+    /// A terminal's connection is cut.
+    pub(crate) fn cut_pt(&mut self, pt: u16) -> Result<(), AllocError>
+        requires { IsLit self.old }
+        ensures made { OnOk result (IsCallMade self.old self.new (CutPtCall pt)) }
+        ensures refused { OnErr result (IsRefused self.old self.new) }
+        ensures same { IsSameScript self.old self.new }
+    {
+        self.short = true;
+        self.log.push(Turn::CutPt { pt })?;
+        self.place.cut();
+        self.connections.cut_pt(pt);
+        self.short = false;
+        Ok(())
+    }
+
+    /// The file's length is asked. True where this fails.
+    pub(crate) fn length(&mut self) -> Result<bool, AllocError>
+        requires { IsLit self.old }
+        ensures made { OnOk result (IsCallMade self.old self.new LengthCall) }
+        ensures fails { IfOk result (λ fails. fails ≡ self.old.place.hazard.length) }
+        ensures refused { OnErr result (IsRefused self.old self.new) }
+        ensures same { IsSameScript self.old self.new }
+    {
+        self.short = true;
+        let fails = self.place.hazard.length;
+        push_look(&mut self.log, fails)?;
+        self.place.length();
+        self.short = false;
+        Ok(fails)
+    }
+
+    /// Bytes of the file are asked. True where this fails.
+    pub(crate) fn read(&mut self) -> Result<bool, AllocError>
+        requires { IsLit self.old }
+        ensures made { OnOk result ((offset size : ℕ) → IsCallMade self.old self.new (ReadCall offset size)) }
+        ensures fails { IfOk result (λ fails. fails ≡ self.old.place.hazard.read) }
+        ensures refused { OnErr result (IsRefused self.old self.new) }
+        ensures same { IsSameScript self.old self.new }
+    {
+        self.short = true;
+        let fails = self.place.hazard.read;
+        push_look(&mut self.log, fails)?;
+        self.place.read();
+        self.short = false;
+        Ok(fails)
+    }
+
+    /// Bytes are written. True where this fails.
+    pub(crate) fn write(
+        &mut self,
+        alloc: Global,
+        offset: u64,
+        bytes: &[u8],
+    ) -> Result<bool, AllocError>
+        requires { IsLit self.old }
+        ensures made { OnOk result (IsCallMade self.old self.new (WriteCall offset bytes.now)) }
+        ensures fails { IfOk result (λ fails. fails ≡ self.old.place.hazard.write) }
+        ensures refused { OnErr result (IsWriteRefused self.old self.new offset bytes.now) }
+        ensures short { OnErr result (self.new.short ≡ true) }
+        ensures same { IsSameScript self.old self.new }
+    {
+        self.short = true;
+        let fails = self.place.hazard.write;
+        let copy = Bytes::copied(alloc, bytes)?;
+        self.disk.write(offset as usize, bytes)?;
+        push_write(&mut self.log, offset, copy, fails)?;
+        self.place.write();
+        self.short = false;
+        Ok(fails)
+    }
+
+    /// The file is synced. True where this fails.
+    pub(crate) fn sync(&mut self) -> Result<bool, AllocError>
+        requires { IsLit self.old }
+        ensures made { OnOk result (IsCallMade self.old self.new SyncCall) }
+        ensures fails { IfOk result (λ fails. fails ≡ self.old.place.hazard.sync) }
+        ensures refused { OnErr result (IsRefused self.old self.new) }
+        ensures same { IsSameScript self.old self.new }
+    {
+        self.short = true;
+        let fails = self.place.hazard.sync;
+        sync(&mut self.disk, fails)?;
+        push_sync(&mut self.log, fails)?;
+        self.place.sync();
+        self.short = false;
+        Ok(fails)
+    }
+}

@@ -1,0 +1,367 @@
+//! The site in memory.
+ghost use Rattle.std.specs.Prelude.{◌≡◌, ◌≤◌, ◌<◌, ◌⊎◌, ◌↔◌, ◌∷◌, ◌||◌, ◌==◌, ℕ, [], length, Some, Ok, true, false, IfOk, IfErr, OnOk, OnErr, IsErr, IsErrOf};
+ghost use Rattle.gw_base.specs.Setup.{IsSetup};
+ghost use Rattle.gw_site.specs.Failures.{HasCause, Rose};
+ghost use Rattle.gw_site.specs.Observed.{Grows, GrowsWhole, IfObserved};
+ghost use Rattle.gw_site.specs.Outside.{file_part, outside_of};
+ghost use Rattle.gw_site.specs.Turns.{DiskTurns, IsPromised, IsTurn, IsWithinBuf, LinkTurns, OpenTurns, PolledTurns, SentPtTurns, SentTillTurns, SyncedTurns, WroteTurns};
+ghost use Rattle.gw_site.specs.declared.turn.Turn.TheVariants.{Crash, CutPt, CutTill};
+ghost use Rattle.gw_script.specs.Decode.{is_empty, script_limit};
+ghost use Rattle.gw_script.specs.site.Calls.{CutPtCall, CutTillCall, LengthCall, LinkCall, OpenCall, PollCall, ReadCall, SendPtCall, SendTillCall, SyncCall, WriteCall};
+ghost use Rattle.gw_script.specs.site.Decode.{script_of};
+ghost use Rattle.gw_script.specs.site.Playing.{begins};
+ghost use Rattle.gw_script.specs.site.ScriptLine.{setup_of};
+ghost use Rattle.sim_script.specs.Read.{IsScriptFault};
+ghost use Rattle.sim_script.specs.Values.{image_value, whole_script_value};
+ghost use Rattle.sim_site.specs.Places.{set_to_fail};
+
+use crate::played::Played;
+use gw_base::{Bytes, Setup};
+use gw_site::{Failed, Polled, Site, Turns, What};
+use jrn_log::read_part;
+use sim_script::{ImageKind, Script, ScriptFault, read_script};
+use std::alloc::{AllocError, Global};
+
+/// A site in memory. Its events, moments, failing calls and power failures are those of a script, in the lines of
+/// `docs/FORMATS.md`.
+///
+/// After its last line a poll brings the stop. Where memory is refused in a call of the trait the site is dark, and its
+/// log ends there.
+#[derive(Drop)]
+pub struct SimSite {
+    alloc: Global,
+    played: Played,
+    faults: u64,
+}
+
+/// A count of failures after one more; it stays at its last value.
+fn risen(faults: u64) -> u64
+    ensures rose { Rose faults result }
+    ensures later { faults ≤ result }
+{
+    faults.saturating_add(1)
+}
+
+impl SimSite {
+    ghost use Rattle.sim_site.specs.Made.{IsCallReported};
+    ghost use Rattle.sim_site.specs.Sites.{IsOriginPlayedTo, IsOriginSetup, IsRestarted, IsSame, PlaysOrigin, is_crashed, is_log_full, log_of, outside_there, place_of, played_script, sim_observed};
+
+    /// A site that plays the script of these bytes.
+    pub fn from_script(alloc: Global, bytes: &[u8]) -> Result<SimSite, ScriptFault>
+        ensures site { IfOk result (λ site. sim_observed site ≡ record { log = Some []; faults = 0; dark = false; origin = bytes.now }) }
+        ensures log { IfOk result (λ site. log_of site ≡ []) }
+        ensures script { IfOk result (λ site. script_of bytes.now ≡ Ok (played_script site)) }
+        ensures place { IfOk result (λ site. place_of site ≡ begins (played_script site).lines) }
+        ensures within { OnOk result (length bytes.now ≤ script_limit) }
+        ensures fault { IfErr result (IsScriptFault bytes.now) }
+
+        // Exactly then, but that memory may be refused before.
+        ensures long { IsErrOf result ScriptFault.Long ↔ (script_limit < length bytes.now) }
+        ensures line { (line : ℕ) → IsScriptFault bytes.now (ScriptFault.Line line)
+            → IsErrOf result (ScriptFault.Line line) ⊎ IsErrOf result ScriptFault.Memory }
+    {
+        match read_script(alloc, bytes) {
+            Ok(script) => match SimSite::of(alloc, bytes, script) {
+                Ok(site) => Ok(site),
+                Err(_) => Err(ScriptFault::Memory),
+            },
+            Err(fault) => Err(fault),
+        }
+    }
+
+    /// A site that plays the script that was read.
+    fn of(alloc: Global, bytes: &[u8], script: Script) -> Result<SimSite, AllocError>
+        requires { script_of bytes.now ≡ Ok (whole_script_value script) }
+        ensures site { IfOk result (λ site. sim_observed site ≡ record { log = Some []; faults = 0; dark = false; origin = bytes.now }) }
+        ensures log { IfOk result (λ site. log_of site ≡ []) }
+        ensures script { IfOk result (λ site. script_of bytes.now ≡ Ok (played_script site)) }
+        ensures place { IfOk result (λ site. place_of site ≡ begins (played_script site).lines) }
+    {
+        let text = Bytes::copied(alloc, bytes)?;
+        let played = Played::new(alloc, text, script)?;
+        Ok(SimSite {
+            alloc,
+            played,
+            faults: 0,
+        })
+    }
+
+    /// The power, which has failed, is there again, and the script goes on in the next run. Without memory the site stays
+    /// dark.
+    pub fn restart(&mut self, alloc: Global) -> Result<(), AllocError>
+        requires { is_crashed self.old ≡ true }
+        ensures restarted { OnOk result (IsRestarted self.old self.new) }
+        ensures refused { OnErr result (IsSame self.old self.new) }
+        ensures faults { (sim_observed self.new).faults ≡ (sim_observed self.old).faults }
+    {
+        match self.played.place.off {
+            Some(kind) => self.played.restart(alloc, kind),
+            None => Ok(()),
+        }
+    }
+
+    /// Puts a file on the disk of a site with an empty log, as if a power failure had left it.
+    pub fn holding(&mut self, alloc: Global, file: &[u8]) -> Result<(), AllocError>
+        requires { log_of self.old ≡ [] }
+        ensures log { OnOk result (log_of self.new ≡ Crash file.now ∷ []) }
+        ensures place { place_of self.new ≡ place_of self.old }
+        ensures script { played_script self.new ≡ played_script self.old }
+        ensures dark { (sim_observed self.new).dark ≡ (sim_observed self.old).dark }
+        ensures refused { OnErr result (IsSame self.old self.new) }
+        ensures faults { (sim_observed self.new).faults ≡ (sim_observed self.old).faults }
+    {
+        self.played.hold(alloc, file)
+    }
+
+    /// The power fails after so many more calls other than `poll`, `length` and `read_at`, at once after none, as the line
+    /// `power` of a script says; an earlier one that took no effect is replaced. Once the power has failed this does nothing.
+    pub fn stop_after(&mut self, calls: u64, image: ImageKind)
+        ensures place { place_of self.new ≡ set_to_fail calls (image_value image) (place_of self.old) }
+        ensures log { log_of self.new ≡ log_of self.old }
+        ensures script { played_script self.new ≡ played_script self.old }
+        ensures dark { (sim_observed self.new).dark ≡ ((sim_observed self.old).dark || (calls == 0)) }
+        ensures short { is_log_full self.new ≡ is_log_full self.old }
+        ensures faults { (sim_observed self.new).faults ≡ (sim_observed self.old).faults }
+    {
+        self.played.stop_after(calls, image);
+    }
+
+    /// Whether the script was read to its end: no line is left.
+    pub fn ended(&self) -> bool
+        ensures { result ≡ is_empty (place_of self.now).lines }
+    {
+        self.played.is_ended()
+    }
+
+    /// Whether the site is dark because its log could not grow.
+    pub fn short(&self) -> bool
+        ensures short { result ≡ is_log_full self.now }
+        ensures dark { result ≡ true → (sim_observed self.now).dark ≡ true }
+    {
+        self.played.short
+    }
+
+    /// Whether the site is dark by a power failure.
+    pub fn crashed(&self) -> bool
+        ensures crashed { result ≡ is_crashed self.now }
+        ensures dark { result ≡ true → (sim_observed self.now).dark ≡ true }
+        ensures either { is_log_full self.now ≡ false → result ≡ (sim_observed self.now).dark }
+    {
+        !self.played.short && self.played.place.off.is_some()
+    }
+
+    /// A copy of the setup with which the next run starts.
+    pub fn setup(&self, alloc: Global) -> Result<Setup, AllocError>
+        ensures given { IfOk result (λ setup. setup ≡ setup_of (played_script self.now).given) }
+        ensures own { IfOk result (λ setup. IsOriginSetup (sim_observed self.now).origin setup) }
+        ensures limits { IfOk result IsSetup }
+    {
+        self.played.script.given.setup(alloc)
+    }
+
+    /// What went in and out. It plays the script of the text of which the site was made, unless `holding` or `stop_after`
+    /// was called.
+    pub fn log(&self) -> &Turns
+        ensures log { result.now ≡ log_of self.now }
+        ensures plays { PlaysOrigin (sim_observed self.now).origin result.now }
+        ensures calls { is_log_full self.now ≡ false → IsOriginPlayedTo (sim_observed self.now).origin result.now (place_of self.now) }
+    {
+        &self.played.log
+    }
+
+    /// Counts a failure.
+    fn fail(&mut self) -> Failed
+        ensures rose { Rose self.old.faults self.new.faults }
+        ensures later { self.old.faults ≤ self.new.faults }
+        ensures played { self.new.played ≡ self.old.played }
+    {
+        self.faults = risen(self.faults);
+        Failed
+    }
+
+    /// What a call returns: it failed, or memory was refused for it, or it was made.
+    fn report(&mut self, made: Result<bool, AllocError>) -> Result<(), Failed>
+        ensures reported { IsCallReported made result }
+        ensures cause { HasCause self.old.faults self.new.faults result }
+        ensures played { self.new.played ≡ self.old.played }
+    {
+        match made {
+            Ok(fails) => { if fails { Err(self.fail()) } else { Ok(()) } }
+            Err(_) => Err(self.fail()),
+        }
+    }
+
+    /// The stop, of a dark site.
+    fn stopped(&self) -> Polled
+        ensures { result ≡ record { now = self.now.played.place.moment; what = What.Stopped } }
+    {
+        Polled {
+            now: self.played.place.moment,
+            what: What::Stopped,
+        }
+    }
+}
+
+impl Site for SimSite {
+    ghost use Rattle.sim_site.specs.Sites.{IsCalled, sim_observed};
+
+    ghost observed = { sim_observed };
+
+    fn open(&mut self, setup: &Setup) -> Result<(), Failed>
+        ensures turns { GrowsWhole (sim_observed self.old) (sim_observed self.new) (OpenTurns setup.now result) }
+        ensures cause { HasCause (sim_observed self.old).faults (sim_observed self.new).faults result }
+        ensures dark { (sim_observed self.old).dark ≡ true → IsErr result }
+        ensures call { IsCalled self.old self.new (OpenCall setup.now) }
+    {
+        if self.played.is_dark() {
+            return Err(self.fail());
+        }
+        let made = self.played.open(setup);
+        self.report(made)
+    }
+
+    fn poll(&mut self, buf: &mut [u8; 4096]) -> Polled
+        ensures turns { Grows (sim_observed self.old) (sim_observed self.new) (PolledTurns result buf.new) }
+        ensures promise { IfObserved (sim_observed self.old) (λ log. IsPromised (outside_of log) result.what) }
+        ensures count { IsWithinBuf result.what }
+        ensures buf { length buf.new ≡ 4096 }
+        ensures cause { (sim_observed self.old).faults ≤ (sim_observed self.new).faults }
+        ensures dark { (sim_observed self.old).dark ≡ true → result.what ≡ What.Stopped }
+        ensures call { IsCalled self.old self.new PollCall }
+    {
+        if self.played.is_dark() {
+            return self.stopped();
+        }
+        match self.played.poll(self.alloc, buf) {
+            Ok(what) => Polled {
+                now: self.played.place.moment,
+                what,
+            },
+            Err(_) => self.stopped(),
+        }
+    }
+
+    fn send_till(&mut self, till: u64, bytes: &[u8]) -> Result<(), Failed>
+        ensures turns { Grows (sim_observed self.old) (sim_observed self.new) (SentTillTurns till bytes.now result) }
+        ensures cause { HasCause (sim_observed self.old).faults (sim_observed self.new).faults result }
+        ensures dark { (sim_observed self.old).dark ≡ true → IsErr result }
+        ensures call { IsCalled self.old self.new (SendTillCall till bytes.now) }
+    {
+        if self.played.is_dark() {
+            return Err(self.fail());
+        }
+        let made = self.played.send_till(self.alloc, till, bytes);
+        self.report(made)
+    }
+
+    fn send_pt(&mut self, pt: u16, bytes: &[u8]) -> Result<(), Failed>
+        ensures turns { Grows (sim_observed self.old) (sim_observed self.new) (SentPtTurns pt bytes.now result) }
+        ensures cause { HasCause (sim_observed self.old).faults (sim_observed self.new).faults result }
+        ensures dark { (sim_observed self.old).dark ≡ true → IsErr result }
+        ensures call { IsCalled self.old self.new (SendPtCall pt bytes.now) }
+    {
+        if self.played.is_dark() {
+            return Err(self.fail());
+        }
+        let made = self.played.send_pt(self.alloc, pt, bytes);
+        self.report(made)
+    }
+
+    fn link_pt(&mut self, pt: u16) -> Result<(), Failed>
+        ensures turns { Grows (sim_observed self.old) (sim_observed self.new) (LinkTurns pt result) }
+        ensures cause { HasCause (sim_observed self.old).faults (sim_observed self.new).faults result }
+        ensures dark { (sim_observed self.old).dark ≡ true → IsErr result }
+        ensures call { IsCalled self.old self.new (LinkCall pt) }
+    {
+        if self.played.is_dark() {
+            return Err(self.fail());
+        }
+        let made = self.played.link(pt);
+        self.report(made)
+    }
+
+    fn cut_till(&mut self, till: u64)
+        ensures turns { Grows (sim_observed self.old) (sim_observed self.new) (IsTurn (CutTill till)) }
+        ensures cause { (sim_observed self.old).faults ≤ (sim_observed self.new).faults }
+        ensures call { IsCalled self.old self.new (CutTillCall till) }
+    {
+        if self.played.is_dark() {
+            return;
+        }
+        let _ = self.played.cut_till(till);
+    }
+
+    fn cut_pt(&mut self, pt: u16)
+        ensures turns { Grows (sim_observed self.old) (sim_observed self.new) (IsTurn (CutPt pt)) }
+        ensures cause { (sim_observed self.old).faults ≤ (sim_observed self.new).faults }
+        ensures call { IsCalled self.old self.new (CutPtCall pt) }
+    {
+        if self.played.is_dark() {
+            return;
+        }
+        let _ = self.played.cut_pt(pt);
+    }
+
+    fn length(&mut self) -> Result<u64, Failed>
+        ensures turns { Grows (sim_observed self.old) (sim_observed self.new) (DiskTurns result) }
+        ensures length { IfObserved (sim_observed self.old) (λ log. IfOk result (λ count. count ≡ length (outside_of log).file)) }
+        ensures cause { HasCause (sim_observed self.old).faults (sim_observed self.new).faults result }
+        ensures dark { (sim_observed self.old).dark ≡ true → IsErr result }
+        ensures call { IsCalled self.old self.new LengthCall }
+    {
+        if self.played.is_dark() {
+            return Err(self.fail());
+        }
+        let made = self.played.length();
+        match self.report(made) {
+            Ok(()) => Ok(self.played.disk.file.len() as u64),
+            Err(Failed) => Err(Failed),
+        }
+    }
+
+    fn read_at(&mut self, offset: u64, buf: &mut [u8]) -> Result<(), Failed>
+        ensures turns { Grows (sim_observed self.old) (sim_observed self.new) (DiskTurns result) }
+        ensures bytes { IfObserved (sim_observed self.old) (λ log. IfOk result (λ done. buf.new ≡ file_part (outside_of log).file offset (length buf.old))) }
+        ensures cause { HasCause (sim_observed self.old).faults (sim_observed self.new).faults result }
+        ensures dark { (sim_observed self.old).dark ≡ true → IsErr result }
+        ensures call { IsCalled self.old self.new (ReadCall offset (length buf.old)) }
+    {
+        if self.played.is_dark() {
+            return Err(self.fail());
+        }
+        let made = self.played.read();
+        match self.report(made) {
+            Ok(()) => {
+                read_part(&self.played.disk.file, offset, buf);
+                Ok(())
+            }
+            Err(Failed) => Err(Failed),
+        }
+    }
+
+    fn write_at(&mut self, offset: u64, bytes: &[u8]) -> Result<(), Failed>
+        ensures turns { Grows (sim_observed self.old) (sim_observed self.new) (WroteTurns offset bytes.now result) }
+        ensures cause { HasCause (sim_observed self.old).faults (sim_observed self.new).faults result }
+        ensures dark { (sim_observed self.old).dark ≡ true → IsErr result }
+        ensures call { IsCalled self.old self.new (WriteCall offset bytes.now) }
+    {
+        if self.played.is_dark() {
+            return Err(self.fail());
+        }
+        let made = self.played.write(self.alloc, offset, bytes);
+        self.report(made)
+    }
+
+    fn sync(&mut self) -> Result<(), Failed>
+        ensures turns { Grows (sim_observed self.old) (sim_observed self.new) (SyncedTurns result) }
+        ensures cause { HasCause (sim_observed self.old).faults (sim_observed self.new).faults result }
+        ensures dark { (sim_observed self.old).dark ≡ true → IsErr result }
+        ensures call { IsCalled self.old self.new SyncCall }
+    {
+        if self.played.is_dark() {
+            return Err(self.fail());
+        }
+        let made = self.played.sync();
+        self.report(made)
+    }
+}
