@@ -88,7 +88,7 @@ fn print_fold<R: AllocGlobal + Print + Clock>(
 }
 
 /// Adds so many payments after those of the ledger, and prints what each takes. Their keys come at the ends of those of 160 pairs of a
-/// till and a terminal: 100,000 of them fill the block at each of these twice, so that it is split twice.
+/// till and a terminal: 100,000 of them fill the block at each of these again and again, so that it is split some nine times.
 fn print_adding<R: AllocGlobal + Print + Clock>(
     rt: &R,
     records: u32,

@@ -15,7 +15,7 @@ use Rattle.jrn_record.specs.declared.records.Record.TheVariants.{Intent, Outcome
 use Rattle.gw_ledger.specs.Blocks.{IsInserted}
 use Rattle.gw_ledger.specs.Fold.{fits, fits_beside_key, has_new_key}
 use Rattle.gw_ledger.specs.Keys.{intent_key, is_key, key_at, record_key, settled_key, slot_in, slot_of}
-use Rattle.gw_ledger.specs.KeyTable.{AreKeyed, AreKeys, compare_record, key_or_empty, key_rows}
+use Rattle.gw_ledger.specs.KeyTable.{AreKeyed, AreKeys, HaveTheirKeys, compare_record, key_or_empty, key_rows}
 use Rattle.gw_ledger.specs.Table.{IsGapFor, IsRowOf, IsTable, value_at}
 use Rattle.gw_ledger.proofs.HistoryLemmas.{history-push}
 use Rattle.gw_ledger.proofs.RecordLemmas.{get_last}
@@ -97,7 +97,12 @@ rows_stay records more (slot ∷ slots) keyed =
 pub keyed_stays : (records more : List Record) (slots : List ℕ) → AreKeyed records slots → AreKeyed (records ++ more) slots
 keyed_stays records more slots keyed i d lt = subst IsSome (sym (key_stays records more (get_or slots i d) (keyed i d lt))) (keyed i d lt)
 
-map-insert : {X Y : Type 0} (f : X → Y) (xs : List X) (i : ℕ) (x : X) → map f (insert xs i x) ≡ insert (map f xs) i (f x)
+-- the rows whose keys are those of the records stay so
+pub their_keys_stay : (records more : List Record) (rows : List (Key × ℕ)) → HaveTheirKeys records rows → HaveTheirKeys (records ++ more) rows
+their_keys_stay records more rows keys i d lt =
+    key_stays records more (get_or rows i d).1 (subst IsSome (sym (keys i d lt)) refl) ∙ keys i d lt
+
+pub map-insert : {X Y : Type 0} (f : X → Y) (xs : List X) (i : ℕ) (x : X) → map f (insert xs i x) ≡ insert (map f xs) i (f x)
 map-insert f xs zero x = refl
 map-insert f [] (suc i) x = refl
 map-insert f (y ∷ xs) (suc i) x = ap (λ rest. f y ∷ rest) (map-insert f xs i x)
@@ -150,9 +155,14 @@ module _ (records : List Record) (the_record : Record) (slots : List ℕ) (at : 
 
 -- one more record with a key, whose slot was inserted
 pub keys_inserted : (records : List Record) (the_record : Record) (slots : List ℕ) (key : Key) → record_key the_record ≡ Some key → AreKeys records slots
-    → (slot : ℕ) → slot ≡ length records → (more : List ℕ) → IsInserted records slots key slot more → AreKeys (records ++ the_record ∷ []) more
+    → (slot : ℕ) → slot ≡ length records → (more : List ℕ) → IsInserted (records ++ the_record ∷ []) slots key slot more → AreKeys (records ++ the_record ∷ []) more
 keys_inserted records the_record slots key own keys slot last more placed =
-    rw (placed.inserted, last) (keys_push records the_record slots placed.at key own keys placed.gap)
+    rw (placed.inserted, last) (keys_push records the_record slots placed.at key own keys
+    (subst (λ rows. IsGapFor key_cmp rows key placed.at) (rows_stay records (the_record ∷ []) slots keys.keyed) placed.gap))
+
+-- the table is one of the records with one more
+pub table_stays : (records more : List Record) (slots : List ℕ) → AreKeys records slots → IsTable key_cmp (key_rows (records ++ more) slots)
+table_stays records more slots keys = subst (IsTable key_cmp) (sym (rows_stay records more slots keys.keyed)) keys.table
 
 -- ---- a new key
 
@@ -169,8 +179,8 @@ new_slot records (Intent intent) key own unknown = subst (λ k. slot_of records 
 new_slot records (Outcome outcome) key own unknown = cc
 new_slot records (Settled settled) key own unknown = subst (λ k. slot_of records k ≡ None) (same_Some (settled_key settled) key own) (none_from (slot_of records (settled_key settled)) unknown)
 
--- a record that fits has a key that the table lacks
+-- a record that fits has a key that the table lacks, also once the record is added
 pub new_value : (records : List Record) (the_record : Record) (slots : List ℕ) (key : Key) → record_key the_record ≡ Some key → IsTrue (fits records the_record) → AreKeys records slots
-    → value_at key_cmp (key_rows records slots) key ≡ None
+    → value_at key_cmp (key_rows (records ++ the_record ∷ []) slots) key ≡ None
 new_value records the_record slots key own fitting keys =
-    keys.values key ∙ new_slot records the_record key own (first_part (has_new_key records the_record) (fits_beside_key records the_record) fitting)
+    ap (λ rows. value_at key_cmp rows key) (rows_stay records (the_record ∷ []) slots keys.keyed) ∙ keys.values key ∙ new_slot records the_record key own (first_part (has_new_key records the_record) (fits_beside_key records the_record) fitting)

@@ -31,6 +31,10 @@ compare_record (Some (Settled settled)) key = key_cmp (settled_key settled) key
 abbrev pub AreKeyed : List Record → List ℕ → Type 0
 AreKeyed records slots = All (λ slot. IsSome (key_at records slot)) slots
 
+-- the key of each row is that of the record at its slot
+abbrev pub HaveTheirKeys : List Record → List (Key × ℕ) → Type 0
+HaveTheirKeys records rows = All (λ row. key_at records row.1 ≡ Some row.0) rows
+
 -- the table of keys agrees with the records
 pub record AreKeys (records : List Record) (slots : List ℕ) : Type 0 where
   pub table : IsTable key_cmp (key_rows records slots)
@@ -39,7 +43,7 @@ pub record AreKeys (records : List Record) (slots : List ℕ) : Type 0 where
 
 -- the rows are the keys of the records, each with its slot, in some order
 pub record AreRowsOf (records : List Record) (rows : List (Key × ℕ)) : Type 0 where
-  pub sound : All (λ row. key_at records row.1 ≡ Some row.0) rows
+  pub sound : HaveTheirKeys records rows
   pub complete : (slot : ℕ) (key : Key) → key_at records slot ≡ Some key → Contains rows (key, slot)
 
 -- two rows have the same slot
@@ -53,7 +57,7 @@ pub record AreKeyRows (records : List Record) (rows : List (Key × ℕ)) : Type 
 
 -- the rows are the keys of the records below this slot, each with its slot, in their order
 pub record AreRowsBelow (records : List Record) (below : ℕ) (rows : List (Key × ℕ)) : Type 0 where
-  pub sound : All (λ row. key_at records row.1 ≡ Some row.0) rows
+  pub sound : HaveTheirKeys records rows
   pub complete : (slot : ℕ) (key : Key) → slot < below → key_at records slot ≡ Some key → Contains rows (key, slot)
   pub lower : All (λ row. row.1 < below) rows
   pub rising : (i j : ℕ) (d : Key × ℕ) → i < j → j < length rows → (slice_index_or rows i d).1 < (slice_index_or rows j d).1

@@ -6,7 +6,7 @@ use gw_base::{Ident, Key};
 use std::alloc::Global;
 use std::test::Fail;
 
-/// How many payments have keys that rise: a block of 512 is split among them.
+/// How many payments have keys that rise: blocks of 128 are split among them.
 const RISING: u32 = 540;
 
 /// How many payments there are: the others fill the first block, so that it is split again.

@@ -40,12 +40,12 @@ impl Model for Ledger {
 
     ghost Value = { LedgerValue };
 
-    ghost use Rattle.gw_ledger.specs.KeyTable.{AreKeys};
+    ghost use Rattle.gw_ledger.specs.KeyTable.{AreKeys, HaveTheirKeys};
 
     ghost view = { λ l. record { records = l.tables.records; spare = l.tables.spare } };
 
     ghost invariant = { λ l. AreFolded l.tables.records × AreKeys l.tables.records l.slots.slots
-        × (l.tables.spare ≤ l.slots.spare) };
+        × HaveTheirKeys l.tables.records l.slots.firsts × (l.tables.spare ≤ l.slots.spare) };
 }
 
 impl Ledger {
@@ -88,7 +88,7 @@ impl Ledger {
         requires rows { AreKeyRows tables.records rows.now }
         ensures { IfOk result (λ ledger. ledger.records ≡ tables.records) }
     {
-        let mut slots = Blocks::of(alloc, &slots_of(alloc, rows)?)?;
+        let mut slots = Blocks::of(alloc, &tables, &slots_of(alloc, rows)?)?;
         tables.law_folded();
         slots.reserve(tables.spare())?;
         Ok(Ledger { tables, slots })
@@ -123,10 +123,10 @@ impl Ledger {
         ensures records { self.new.records ≡ self.old.records ++ Record.Intent intent.now ∷ [] }
         ensures spare { self.new.spare + 1 ≡ self.old.spare }
     {
-        let slot = self.tables.count();
+        let slot = self.tables.accept(intent);
         self.slots
             .insert(&self.tables, &key_of_intent(intent), slot);
-        self.tables.accept(intent)
+        slot
     }
 
     /// Adds the Outcome of an open Intent, for which there is room since that was accepted.
@@ -151,9 +151,10 @@ impl Ledger {
         ensures spare { self.new.spare + 1 ≡ self.old.spare }
     {
         let slot = self.tables.count();
+        let totals = self.tables.settle(settled);
         self.slots
             .insert(&self.tables, &key_of_settled(settled), slot);
-        self.tables.settle(settled)
+        totals
     }
 
     /// What has the key: an entry, open or with its Outcome, or a reconciliation.

@@ -31,7 +31,7 @@ pub fn sorted_rows(alloc: Global, tables: &Tables) -> Result<Vec<(Key, u32)>, Al
     ensures sorted { IfOk result (λ rows. IsSorted row_cmp rows.items) }
 {
     let mut rows = rows_of(alloc, tables)?;
-    rows.sort()?;
+    rows.sort_unstable();
     Ok(rows)
 }
 

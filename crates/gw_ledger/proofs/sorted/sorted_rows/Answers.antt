@@ -3,4 +3,4 @@ use Rattle.gw_ledger.proofs.SortedLemmas.{rows_moved}
 use Rattle.gw_ledger.proofs.sorted.sorted_rows.Goals as goal
 
 pub returns-clause-rows : goal.returns-clause-rows
-returns-clause-rows c = rows_moved c.args.tables.now.records c.in_ok-rows.rows.items c.sort.new.self.items c.sort.ensures.permutation c.in_ok-rows.ensures
+returns-clause-rows c = rows_moved c.args.tables.now.records c.in_ok-rows.rows.items c.sort_unstable.new.self.items c.sort_unstable.ensures.permutation c.in_ok-rows.ensures
