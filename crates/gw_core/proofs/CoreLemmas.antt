@@ -1,13 +1,16 @@
 -- What the core remembers of its terminals: their settings, their links, and their tills.
-use Rattle.std.proofs.Common.{append-nil, ◌≡◌, ◌≤◌, ◌<◌, ◌+◌, ◌^◌, ◌++◌, ℕ, zero, suc, List, [], ◌∷◌, refl, sym, ◌∙◌, ap, subst, inl, inr, ◌⊎◌, arith}
+use Rattle.std.proofs.Common.{ℤ, append-nil, ◌≡◌, ◌≤◌, ◌<◌, ◌+◌, ◌^◌, ◌++◌, ℕ, zero, suc, List, [], ◌∷◌, refl, sym, ◌∙◌, ap, subst, inl, inr, ◌⊎◌, arith}
+use Rattle.std.proofs.Math.Nat.{min-eq_left}
 use Rattle.std.proofs.lemmas.List.{take_all, drop_all}
-use Rattle.std.specs.Prelude.{All, set, map, slice_get, get_or, take, drop, length, IfSome, Option, Some, None}
+use Rattle.std.specs.Prelude.{pos, All, set, map, slice_get, get_or, take, drop, length, IfSome, Option, Some, None}
 use Rattle.std.proofs.lemmas.Option.{slice_get_read}
 use Rattle.gw_base.specs.Currency.{currency_number}
+use Rattle.gw_base.specs.Moment.{moment_of}
 use Rattle.gw_base.specs.Setup.{IsPt}
 use Rattle.gw_base.specs.declared.currency.Currency.{Currency}
 use Rattle.gw_base.specs.declared.currency.Currency.TheVariants.{Eur, Chf, Gbp, Usd, Dkk, Sek, Nok, Pln, Czk}
 use Rattle.gw_base.specs.declared.setup.Pt.{Pt}
+use Rattle.gw_base.proofs.MomentLemmas.{moment_of_bound}
 use Rattle.zvt_msg.specs.CommandGrammar.{HasCommandDigits}
 use Rattle.zvt_msg.specs.declared.command.Command.{Command}
 use Rattle.gw_owes.specs.Calls.{SendPt, Ask}
@@ -22,6 +25,12 @@ use Rattle.gw_owes.specs.declared.terminal.Standing.TheVariants.{Unlinked, Regis
 use Rattle.gw_owes.specs.declared.terminal.Terminal.{Terminal}
 use Rattle.gw_core.specs.declared.act.Act.{Act}
 use Rattle.gw_core.specs.IsRow.{HaveSettings, IsRow, ServesNothing, act_calls, known_with}
+
+-- ---- moments
+
+-- a number of seconds that was taken into the range of moments has the moment that it had
+pub moment-stays : (seconds now : ℤ) → now ≡ pos (moment_of seconds) → moment_of now ≡ moment_of seconds
+moment-stays seconds now is = ap moment_of is ∙ min-eq_left (moment_of_bound seconds)
 
 -- ---- settings
 

@@ -1,5 +1,5 @@
 -- What is replied to what was read, and that the types of its parts limit it.
-use Rattle.std.proofs.Common.{ℕ, List, [], refl}
+use Rattle.std.proofs.Common.{ℕ, List, [], refl, sym}
 use Rattle.std.specs.Prelude.{Option, Some, None, Result, Ok, Err, IfOk}
 use Rattle.std.specs.declared.alloc.AllocError.{AllocError}
 use Rattle.sale_reply.specs.declared.reply.SaleReply.{SaleReply}
@@ -7,9 +7,10 @@ use Rattle.sale_reply.specs.Limits.{HasUnlimitedParts}
 use Rattle.gw_owes.specs.Core.{Core as CoreValue}
 use Rattle.gw_owes.specs.Reply.{ReplyValue}
 use Rattle.gw_owes.specs.Requests.{reply_to}
+use Rattle.gw_owes.specs.Terminals.{reply_calls_to}
 use Rattle.gw_owes.specs.Row.{Known}
 use Rattle.gw_owes.specs.ReadAs.{ReadAs, IsReadAs}
-use Rattle.gw_core.specs.ReplyOf.{AreSameReplies, IsKnownAt, IsReplyTo}
+use Rattle.gw_core.specs.ReplyOf.{AreSameReplies, AreSendOf, IsAskedRow, IsKnownAt, IsReplyTo}
 
 -- a gateway of this name that remembers this, and knows nothing else at this moment
 abbrev known_alone : List ℕ → CoreValue → ℕ → Known
@@ -34,3 +35,18 @@ pub replied : (name : List ℕ) (core : CoreValue) (moment : ℕ) (message : Lis
     → IfOk result (λ given. IsReplyTo name core moment message given)
 replied name core moment message as_read (Ok given) read each = record { as_read = as_read; read = read; replied = each }
 replied name core moment message as_read (Err refused) read each = tt
+
+-- the calls of a row send the till the reply that is the one owed
+sends : (till : ℕ) (given : Option SaleReply) (owed : Option ReplyValue) → AreSameReplies given owed → AreSendOf till given (reply_calls_to (Some till) owed)
+sends till None None alike = refl
+sends till None (Some reply) alike = absurd alike
+sends till (Some given) None alike = absurd alike
+sends till (Some given) (Some reply) alike = (reply, alike, refl)
+
+-- so what is given is by the row of what was read
+pub asked : (name : List ℕ) (core : CoreValue) (moment till : ℕ) (message : List ℕ) (given : Option SaleReply) → IsReplyTo name core moment message given → IsAskedRow name core moment till message given
+asked name core moment till message given is = record {
+  as_read = is.as_read;
+  read = is.read;
+  row = λ known at. record { core_is = sym at.core_is; calls_are = sends till given (reply_to known is.as_read) (is.replied known at); items_are = refl };
+}

@@ -9,10 +9,13 @@ use Rattle.gw_owes.specs.declared.terminal.Terminal.{Terminal}
 use Rattle.gw_owes.specs.declared.terminal.Standing.TheVariants.{Unlinked, Registering, Enquiring, Ready, Serving, Aside}
 use Rattle.gw_owes.specs.Calls.{Ask, Acknowledge, Refuse, OwedCall, SendPt, CutPt, LinkPt}
 use Rattle.gw_owes.specs.Core.{Core as CoreValue}
+use Rattle.gw_owes.specs.Deadlines.{due_row, late_row}
 use Rattle.gw_owes.specs.Links.{LinkEvent, LinkIsMade, LinkIsLost}
 use Rattle.gw_owes.specs.Row.{Known, Row}
 use Rattle.gw_core.specs.declared.act.Act.{Act}
 use Rattle.gw_core.specs.declared.act.Act.TheVariants as act
+use Rattle.gw_core.specs.declared.terminals.Timer.{Timer}
+use Rattle.gw_core.specs.declared.terminals.Timer.TheVariants as timers
 
 -- the calls that an act is for
 abbrev pub act_calls : Act → List OwedCall
@@ -40,6 +43,16 @@ pub record IsRow (row : Row) (core : CoreValue) (wanted : Option Act) : Type 0 w
 abbrev pub link_event_of : Bool → LinkEvent
 link_event_of true = LinkIsMade
 link_event_of false = LinkIsLost
+
+-- the row of what may be due at a moment
+abbrev pub timer_row : Known → Timer → Row
+timer_row known (timers.Silence pt) = late_row known pt
+timer_row known (timers.Link pt) = due_row known pt
+
+-- the terminal that it is of
+abbrev pub pt_of_timer : Timer → ℕ
+pt_of_timer (timers.Silence pt) = pt
+pt_of_timer (timers.Link pt) = pt
 
 -- the terminal serves nothing
 abbrev pub ServesNothing : Standing → Type 0

@@ -8,8 +8,7 @@ mod terminals;
 mod till;
 
 pub use act::Act;
-pub use terminals::Core;
-pub use till::reply;
+pub use terminals::{Core, Timer};
 
 #[cfg(test)]
 mod tests;

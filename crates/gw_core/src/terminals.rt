@@ -1,7 +1,7 @@
 //! What the gateway remembers, and what each event of a terminal makes of it.
 ghost use Rattle.std.specs.Prelude.{◌≡◌, ◌<◌, ◌≤◌, ℕ, length, List, slice_get, IfOk, IfSome, option_map};
 ghost use Rattle.gw_base.specs.Setup.{IsSetup};
-ghost use Rattle.gw_base.specs.Moment.{IsMoment, moment_of};
+ghost use Rattle.gw_base.specs.Moment.{moment_of};
 ghost use Rattle.gw_base.specs.declared.setup.Setup.{Setup};
 ghost use Rattle.jrn_record.specs.declared.records.Record.{Record};
 ghost use Rattle.zvt_msg.specs.Message.{value_of};
@@ -14,7 +14,7 @@ ghost use Rattle.gw_owes.specs.Greeting.{greeted_row};
 ghost use Rattle.gw_owes.specs.Handling.{handled_row};
 ghost use Rattle.gw_owes.specs.Deadlines.{due_row, is_due, is_late, late_row};
 ghost use Rattle.gw_owes.specs.Dialogues.{HasItsDialogue};
-ghost use Rattle.gw_core.specs.IsRow.{IsRow, IsWantedAt, ServesNothing, known_with, link_event_of};
+ghost use Rattle.gw_core.specs.IsRow.{IsRow, IsWantedAt, ServesNothing, known_with, link_event_of, pt_of_timer, timer_row};
 
 use crate::act::Act;
 use crate::handling::{ask, handle, is_linked};
@@ -43,6 +43,15 @@ impl Model for Core {
     ghost use Rattle.gw_core.specs.IsRow.{HaveSettings};
 
     ghost invariant = { λ core. (length core.terminals.items ≤ 32) × HaveSettings core.terminals.items };
+}
+
+/// Something that may be due at a moment, of a terminal by its number.
+#[derive(Clone, Copy)]
+pub enum Timer {
+    /// The cut of one that has been silent for too long.
+    Silence(u16),
+    /// The link of one that isn't linked.
+    Link(u16),
 }
 
 /// A terminal as a run begins: it isn't linked, and is due at once.
@@ -147,6 +156,14 @@ impl Core {
         None
     }
 
+    /// The standing of a terminal.
+    pub fn standing(&self, pt: u16) -> &Standing
+        requires there { pt < length self.now.terminals }
+        ensures { IfSome (slice_get self.now.terminals pt) (λ (terminal : TheTerminal). result.now ≡ terminal.standing) }
+    {
+        &self.terminals[usize::from(pt)].standing
+    }
+
     /// The status that a Diagnosis reports of a terminal.
     pub fn status(&self, pt: u16) -> GlobalStatus
         requires there { pt < length self.now.terminals }
@@ -196,7 +213,6 @@ impl Core {
 
     /// What follows from a message that was acknowledged or refused.
     pub fn on_pt(&mut self, pt: u16, message: &PtMessage<'_>, now: i64) -> Option<Act>
-        requires moment { IsMoment now }
         requires there { pt < length self.old.terminals }
         requires dialogue { IfSome (slice_get self.old.terminals pt) HasItsDialogue }
         ensures row { (setup : Setup) (kept : List Record)
@@ -204,19 +220,20 @@ impl Core {
         ensures wanted { IfSome result (IsWantedAt pt) }
         ensures unserved { IfSome (slice_get self.new.terminals pt) (λ (terminal : TheTerminal). ServesNothing terminal.standing) }
     {
+        let now = to_moment(now);
         let terminal = &mut self.terminals[usize::from(pt)];
         handle(terminal, pt, message, now)
     }
 
     /// A link is made, or isn't there: it could not be made, or is lost. The terminal serves nothing.
     pub fn on_link(&mut self, pt: u16, up: bool, now: i64) -> Option<Act>
-        requires moment { IsMoment now }
         requires there { pt < length self.old.terminals }
         requires unserved { IfSome (slice_get self.old.terminals pt) (λ (terminal : TheTerminal). ServesNothing terminal.standing) }
         ensures row { (setup : Setup) (kept : List Record)
             → IsRow (link_row (known_with setup kept self.old (moment_of now)) pt (link_event_of up)) self.new result }
         ensures wanted { IfSome result (IsWantedAt pt) }
     {
+        let now = to_moment(now);
         let terminal = &mut self.terminals[usize::from(pt)];
         terminal.awaited = 0;
         if up {
@@ -224,14 +241,26 @@ impl Core {
             return Some(ask(terminal, pt, command, Standing::Registering, now));
         }
         terminal.standing = Standing::Unlinked {
-            due: Some(to_moment(now).unsigned_abs() + 5),
+            due: Some(now.unsigned_abs() + 5),
         };
         terminal.talk = None;
         None
     }
 
+    /// The call that is due at this moment; `None` where it isn't due.
+    pub fn on_moment(&self, timer: Timer, now: i64) -> Option<Act>
+        requires there { pt_of_timer timer < length self.now.terminals }
+        ensures wanted { IfSome result (IsWantedAt (pt_of_timer timer)) }
+        ensures row { (setup : Setup) (kept : List Record) → IsRow (timer_row (known_with setup kept self.now (moment_of now)) timer) self.now result }
+    {
+        match timer {
+            Timer::Silence(pt) => self.on_silence(pt, now),
+            Timer::Link(pt) => self.on_due(pt, now),
+        }
+    }
+
     /// The cut of a terminal that has been silent for too long.
-    pub fn on_silence(&self, pt: u16, now: i64) -> Option<Act>
+    fn on_silence(&self, pt: u16, now: i64) -> Option<Act>
         requires there { pt < length self.now.terminals }
         ensures wanted { IfSome result (IsWantedAt pt) }
         ensures row { (setup : Setup) (kept : List Record) → IsRow (late_row (known_with setup kept self.now (moment_of now)) pt) self.now result }
@@ -244,7 +273,7 @@ impl Core {
     }
 
     /// The link of a terminal that is due.
-    pub fn on_due(&self, pt: u16, now: i64) -> Option<Act>
+    fn on_due(&self, pt: u16, now: i64) -> Option<Act>
         requires there { pt < length self.now.terminals }
         ensures wanted { IfSome result (IsWantedAt pt) }
         ensures row { (setup : Setup) (kept : List Record) → IsRow (due_row (known_with setup kept self.now (moment_of now)) pt) self.now result }

@@ -1,7 +1,7 @@
 //! Two terminals of a setup: how they are named and linked, what is wanted of one, and what a Diagnosis of it gets.
 use crate::*;
 use gw_base::{Currency, Ident, Pt, Pts, Setup, Text};
-use gw_owes::law_dialogues;
+use gw_owes::{Standing, law_dialogues};
 use sale_reply::{GlobalStatus, SaleReply};
 use std::alloc::{AllocError, Global};
 use std::test::Fail;
@@ -46,7 +46,7 @@ fn two_terminals(rt: HostRuntime) -> Result<(), Fail> {
     assert_eq!(rt; core.count(), 2);
     assert_eq!(rt; core.named(&Ident::known(b"T2")), Some(1));
     assert_eq!(rt; core.named(&Ident::known(b"T3")), None);
-    assert!(rt; matches!(core.on_due(1, 0), Some(Act::Link(1))));
+    assert!(rt; matches!(core.on_moment(Timer::Link(1), 0), Some(Act::Link(1))));
     assert!(rt; core.greet(1, &PtMessage::Completion).is_none());
     law_dialogues();
     let registration = core.on_link(1, true, 0);
@@ -57,12 +57,13 @@ fn two_terminals(rt: HostRuntime) -> Result<(), Fail> {
     assert_eq!(rt; core.count(), 2);
     assert!(rt; matches!(core.greet(1, &PtMessage::Completion), Some(Act::Ack(1))));
     assert!(rt; matches!(core.greet(1, &PtMessage::Other), Some(Act::Refuse(1))));
-    assert!(rt; core.on_silence(1, 180).is_none());
-    assert!(rt; matches!(core.on_silence(1, 181), Some(Act::CutPt(1))));
+    assert!(rt; core.on_moment(Timer::Silence(1), 180).is_none());
+    assert!(rt; matches!(core.on_moment(Timer::Silence(1), 181), Some(Act::CutPt(1))));
     core.forget(7);
     assert_eq!(rt; core.count(), 2);
     assert!(rt; matches!(core.status(1), GlobalStatus::Unreachable));
-    let reply = reply(rt.alloc(), &core, &setup.name, 0, DIAGNOSIS)?;
+    assert!(rt; matches!(core.standing(1), Standing::Registering));
+    let reply = core.on_till(rt.alloc(), &setup.name, DIAGNOSIS, 0)?;
     assert!(rt;
         matches!(
             reply,

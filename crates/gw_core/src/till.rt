@@ -9,7 +9,7 @@ ghost use Rattle.gw_owes.specs.Row.{Known};
 ghost use Rattle.gw_owes.specs.Diagnosis.{diagnosis_reply, named_terminal};
 ghost use Rattle.gw_owes.specs.Replies.{reply_to_fault as reply_owed_to_fault, reject_event};
 ghost use Rattle.gw_owes.specs.Requests.{request_reply, unserved_for};
-ghost use Rattle.gw_core.specs.ReplyOf.{IsSameReply, AreSameReplies, IsReplyTo, HasFewOutputs, IsGivenWithinLimits};
+ghost use Rattle.gw_core.specs.ReplyOf.{IsSameReply, AreSameReplies, IsAskedRow, IsReplyTo, HasFewOutputs, IsGivenWithinLimits};
 
 use crate::refusal::{
     malformed_body, printed, refusal, refused, refused_display, reject, reject_without_header,
@@ -144,26 +144,30 @@ fn reply_to_message(
     }
 }
 
-/// The reply to a message of a till, by a gateway of this name that remembers this, at this moment; `None` where there is none.
-///
-/// The message is that of a frame, without its length.
-pub fn reply(
-    alloc: Global,
-    core: &Core,
-    name: &Ident<40>,
-    now: i64,
-    message: &[u8],
-) -> Result<Option<SaleReply<'static>>, AllocError>
-    ensures reply { IfOk result (λ given. IsReplyTo name.now core.now (moment_of now) message.now given) }
-    ensures within { IfOk result IsGivenWithinLimits }
-{
-    match reply_to_message(alloc, core, name, now, message) {
-        Ok(Some(reply)) => {
-            lies_within(&reply);
-            Ok(Some(reply))
+impl Core {
+    /// The reply to a message of a till, by a gateway of this name; `None` where there is none. It is to be sent to that till, whichever
+    /// it is.
+    ///
+    /// The message is that of a frame, without its length.
+    pub fn on_till(
+        &self,
+        alloc: Global,
+        name: &Ident<40>,
+        message: &[u8],
+        now: i64,
+    ) -> Result<Option<SaleReply<'static>>, AllocError>
+        ensures row { IfOk result (λ given. (till : ℕ) → IsAskedRow name.now self.now (moment_of now) till message.now given) }
+        ensures reply { IfOk result (λ given. IsReplyTo name.now self.now (moment_of now) message.now given) }
+        ensures within { IfOk result IsGivenWithinLimits }
+    {
+        match reply_to_message(alloc, self, name, now, message) {
+            Ok(Some(reply)) => {
+                lies_within(&reply);
+                Ok(Some(reply))
+            }
+            Ok(None) => Ok(None),
+            Err(AllocError) => Err(AllocError),
         }
-        Ok(None) => Ok(None),
-        Err(AllocError) => Err(AllocError),
     }
 }
 

@@ -3,7 +3,7 @@ use Rattle.std.proofs.Common.{◌≡◌, ◌<◌, ℕ, List, [], ◌∷◌, ◌+
 use Rattle.std.specs.Prelude.{ℤ, slice_get, Option, Some, None, Result, Ok, Err, IfSome, is_ok}
 use Rattle.gw_base.specs.Moment.{moment_of}
 use Rattle.gw_base.specs.declared.setup.Setup.{Setup}
-use Rattle.gw_site.specs.Observed.{Observed, Grows}
+use Rattle.gw_site.specs.Observed.{Observed, Grows, GrowsAfter}
 use Rattle.gw_site.specs.Turns.{SentPtTurns, LinkTurns, IsTurn}
 use Rattle.gw_site.specs.declared.site.Failed.{Failed}
 use Rattle.gw_site.specs.declared.turn.Turn.TheVariants.{CutPt as PtCut}
@@ -233,18 +233,18 @@ cut-performs a b old new now pt wanted none is grows = λ setup tills polls hear
     (λ kept. row-becomes (link_row (known_with setup kept old (moment_of now)) pt LinkIsLost) new wanted (is setup kept) ∙ ap (becoming new) (lost-owes-none old new (moment_of now) pt wanted none is))
 
 -- a send that went
-pub sent-performs : (a b : Observed) (old : Core) (now : ℤ) (pt : ℕ) (bytes : List ℕ) (sending : Sending) (r : Result (Unit {0}) Failed) (sent : Bool) → sent ≡ is_ok r → sent ≡ true → bytes ≡ sending_bytes sending → Grows a b (SentPtTurns pt bytes r) →
+pub sent-performs : (a b : Observed) (old : Core) (now : ℤ) (pt : ℕ) (bytes : List ℕ) (sending : Sending) (r : Result (Unit {0}) Failed) (sent : Bool) → sent ≡ is_ok r → sent ≡ true → bytes ≡ sending_bytes sending → GrowsAfter a b (SentPtTurns a.origin pt bytes r) →
     Performs a b old old now (SendPt pt sending ∷ [])
 sent-performs a b old now pt bytes sending (Ok done) sent value went is grows = λ setup tills polls heard items.
-    sent-held setup tills polls now (AreHeard heard) a b old pt sending done items (heard-stays pt heard) (subst (λ bytes. Grows a b (SentPtTurns {E = Failed} pt bytes (Ok done))) is grows)
+    sent-held setup tills polls now (AreHeard heard) a b old pt sending done items (heard-stays pt heard) (subst (λ bytes. GrowsAfter a b (SentPtTurns {E = Failed} a.origin pt bytes (Ok done))) is grows)
 sent-performs a b old now pt bytes sending (Err failed) sent value went is grows = absurd (let h : false ≡ true = sym value ∙ went in cc)
 
 -- a send that has failed, and the cut after it
-pub unsent-performs : (a b c : Observed) (old new : Core) (now : ℤ) (pt : ℕ) (bytes : List ℕ) (sending : Sending) (r : Result (Unit {0}) Failed) (sent : Bool) → sent ≡ is_ok r → sent ≡ false → bytes ≡ sending_bytes sending → Grows a b (SentPtTurns pt bytes r) →
+pub unsent-performs : (a b c : Observed) (old new : Core) (now : ℤ) (pt : ℕ) (bytes : List ℕ) (sending : Sending) (r : Result (Unit {0}) Failed) (sent : Bool) → sent ≡ is_ok r → sent ≡ false → bytes ≡ sending_bytes sending → GrowsAfter a b (SentPtTurns a.origin pt bytes r) →
     Performs b c old new now (CutPt pt ∷ []) → Performs a c old new now (SendPt pt sending ∷ [])
 unsent-performs a b c old new now pt bytes sending (Ok done) sent value failed is grows cuts = absurd (let h : true ≡ false = sym value ∙ failed in cc)
 unsent-performs a b c old new now pt bytes sending (Err fault) sent value failed is grows cuts = λ setup tills polls heard items. triple-then a b c _ _ _
-    (unsent-held setup tills polls now (AreHeard heard) a b old pt sending fault items (heard-stays pt heard) (subst (λ bytes. Grows a b (SentPtTurns pt bytes (Err fault))) is grows))
+    (unsent-held setup tills polls now (AreHeard heard) a b old pt sending fault items (heard-stays pt heard) (subst (λ bytes. GrowsAfter a b (SentPtTurns a.origin pt bytes (Err fault))) is grows))
     (cuts setup tills polls heard items)
 
 -- a link that was tried, and what is wanted then

@@ -1,19 +1,17 @@
 -- What is owed over a round.
 use Rattle.std.proofs.Common.{◌≡◌, ℕ, zero, suc, ◌+◌, ◌<◌, ◌≤◌, List, [], ◌∷◌, ◌++◌, length, get_or, refl, sym, ◌∙◌, ap, subst, arith, inr}
-use Rattle.std.specs.Prelude.{ℤ, pos, map, true, false, Some, None, Result, Ok, Err, slice_get, slice_set, take}
-use Rattle.std.proofs.Math.Nat.{min-eq_left}
+use Rattle.std.specs.Prelude.{ℤ, map, true, false, Some, None, Result, Ok, Err, slice_get, slice_set, take}
 use Rattle.std.proofs.lemmas.Bool.{lt-ltb, le-ltb}
 use Rattle.std.proofs.lemmas.List.{length-map}
 use Rattle.gw_base.specs.Moment.{moment_of}
 use Rattle.gw_base.specs.declared.setup.Pt.{Pt}
 use Rattle.gw_base.specs.declared.setup.Setup.{Setup}
-use Rattle.gw_base.proofs.MomentLemmas.{moment_of_bound}
 use Rattle.gw_site.specs.Outside.{Outside, Connection, outside_after, is_connected, hears, heard_on, without, new_connection}
 use Rattle.gw_site.specs.declared.turn.Turn.TheVariants.{Polled, Opened, HeardTill, Closed, HeardPt, Lost, CutTill as TillCut}
 use Rattle.gw_site.specs.declared.site.What.{What}
 use Rattle.gw_site.specs.declared.site.What.TheVariants.{TillOpened, TillBytes, TillClosed, PtBytes, PtClosed, Nothing, Stopped as StopEvent}
 use Rattle.gw_site.specs.Observed.{Observed, Grows}
-use Rattle.gw_site.specs.Turns.{IsTurn, event_turns}
+use Rattle.gw_site.specs.Turns.{IsTurn}
 use Rattle.sale_frame.specs.Decode.{decode_frames}
 use Rattle.gw_owes.specs.Calls.{CutTill}
 use Rattle.gw_owes.specs.Core.{Core, Wait, new_core, new_terminal}
@@ -25,7 +23,7 @@ use Rattle.gw_owes.specs.declared.terminal.Terminal.{Terminal}
 use Rattle.gw_owes.proofs.FrameLemmas.{reading-chunk, rest-chunk}
 use Rattle.gw_rules.specs.Scene.{Scene}
 use Rattle.gw_rules.specs.Stage.{Stage, Resting, Opening, Looking, AtPoll, Handling, Over, Broken, is_round, is_running}
-use Rattle.gw_rules.specs.View.{View, Make, polled, at_event, at_first, till_cut, view_from}
+use Rattle.gw_rules.specs.View.{View, polled, at_event, at_first, till_cut}
 use Rattle.gw_rules.specs.Triple.{Triple, Owing, AtEvent, JustBegun}
 use Rattle.gw_rules.proofs.TripleLemmas.{triple-refl, triple-then, triple-weaker, triple-after, triple-before, triple-frame, triple-some}
 use Rattle.gw_rules.proofs.CallLemmas.{cut-till-triple}
@@ -314,23 +312,14 @@ pt-handled a b P setup core new_core readers tills polls now count k = triple-af
 
 -- ---- a poll
 
--- a number of seconds that was taken into the range of moments
-pub moment-taken : (seconds now : ℤ) → now ≡ pos (moment_of seconds) → moment_of seconds ≡ moment_of now
-moment-taken seconds now e = sym (ap moment_of e ∙ min-eq_left (moment_of_bound seconds))
-
--- an event goes by the moment
-at-moment : (scene : Scene) (seconds now : ℤ) (what : What) (buf : List ℕ) → moment_of seconds ≡ moment_of now → (v : View) → AtEvent scene seconds what buf v → AtEvent scene now what buf v
-at-moment scene seconds now what buf same v q =
-    (q.0 ∙ ap (λ (moment : ℕ). view_from (record { scene = record scene { outside = record scene.outside { moment = moment }; stage = AtPoll; polls = scene.polls + 1 }; calls = []; items = items_due scene.core }) (map Make (event_turns what buf))) same, q.1)
-
 -- a poll between two rounds
-pub rest-polled : (a b : Observed) (setup : Setup) (dispatch : Dispatch) (polls : ℕ) (seconds now : ℤ) (what : What) (buf : List ℕ) → moment_of seconds ≡ moment_of now →
-    ((scene : Scene) → Triple a b (λ v. Owing scene [] [] v × (is_running scene.stage ≡ true)) (AtEvent scene seconds what buf)) → Triple a b (IsBetweenRounds setup dispatch polls) (IsPolled setup dispatch polls now what buf)
-rest-polled a b setup dispatch polls seconds now what buf same polls_keep =
+pub rest-polled : (a b : Observed) (setup : Setup) (dispatch : Dispatch) (polls : ℕ) (now : ℤ) (what : What) (buf : List ℕ) →
+    ((scene : Scene) → Triple a b (λ v. Owing scene [] [] v × (is_running scene.stage ≡ true)) (AtEvent scene now what buf)) → Triple a b (IsBetweenRounds setup dispatch polls) (IsPolled setup dispatch polls now what buf)
+rest-polled a b setup dispatch polls now what buf polls_keep =
     triple-unwaited a b _ _
     (triple-before a b _ _ _ (λ v p. (p.0.0, ((p.0.1, p.0.2.running), (p.0.2, sym (ap (λ (w : View). w.scene.core.waits) p.0.1) ∙ p.1))))
     (triple-some a b (λ scene v. (Owing scene [] [] v × (is_running scene.stage ≡ true)) × Facts scene) _ at_first.scene
-    (λ scene. triple-after a b _ _ _ (triple-frame a b _ _ (Facts scene) (polls_keep scene)) (λ v q. (scene, at-moment scene seconds now what buf same v q.0, q.1.0, q.1.1)))))
+    (λ scene. triple-after a b _ _ _ (triple-frame a b _ _ (Facts scene) (polls_keep scene)) (λ v q. (scene, q.0, q.1.0, q.1.1)))))
   where
     Facts : Scene → Type 0
     Facts scene = IsHeldRun setup dispatch polls scene × (scene.core.waits ≡ [])

@@ -2,7 +2,7 @@
 use Rattle.std.proofs.Common.{◌≡◌, ◌<◌, ℕ, List, [], ◌∷◌, length, refl, sym, ◌∙◌, ap, subst, Bool, true, false}
 use Rattle.std.specs.Prelude.{ℤ, slice_get, Ok, Err}
 use Rattle.gw_base.specs.declared.setup.Setup.{Setup}
-use Rattle.gw_site.specs.Observed.{Observed, Grows}
+use Rattle.gw_site.specs.Observed.{Observed, Grows, GrowsAfter}
 use Rattle.gw_site.specs.Outside.{Connection, Outside, outside_after, nothing_yet}
 use Rattle.gw_site.specs.Turns.{SentPtTurns, LinkTurns, IsTurn}
 use Rattle.gw_site.specs.declared.site.Failed.{Failed}
@@ -153,14 +153,14 @@ module _ (setup : Setup) (tills : List Till) (polls : ℕ) (now : ℤ) (Also : O
       into-held core core (SentPt pt bytes ok) calls items place v fits (sent-keeps pt bytes ok) fits.linked (stays.sent place.outside bytes ok fits.also) (same-core core (SentPt pt bytes ok) calls items place v fits q)
 
   -- a send to a terminal, after which nothing is owed
-  pub sent-held : (a b : Observed) (core : Core) (pt : ℕ) (sending : Sending) (done : Unit {0}) (items : List RoundItem) → StaysAt pt Also → Grows a b (SentPtTurns {E = Failed} pt (sending_bytes sending) (Ok done)) →
+  pub sent-held : (a b : Observed) (core : Core) (pt : ℕ) (sending : Sending) (done : Unit {0}) (items : List RoundItem) → StaysAt pt Also → GrowsAfter a b (SentPtTurns {E = Failed} a.origin pt (sending_bytes sending) (Ok done)) →
       Triple a b (MidRound setup core tills polls now Also (SendPt pt sending ∷ []) items) (MidRound setup core tills polls now Also [] items)
   sent-held a b core pt sending done items stays grows =
       held-call a b core (SendPt pt sending ∷ []) items (λ scene. SentToPt {E = Failed} (Ok done) scene pt (sending_bytes sending) items) _ (λ scene. send-pt-triple scene items a b {E = Failed} pt sending (Ok done) grows)
       (λ place v fits q. after-send core pt (sending_bytes sending) true [] items place v stays fits q)
 
   -- a send that has failed, after which the cut is owed
-  pub unsent-held : (a b : Observed) (core : Core) (pt : ℕ) (sending : Sending) (failed : Failed) (items : List RoundItem) → StaysAt pt Also → Grows a b (SentPtTurns pt (sending_bytes sending) (Err failed)) →
+  pub unsent-held : (a b : Observed) (core : Core) (pt : ℕ) (sending : Sending) (failed : Failed) (items : List RoundItem) → StaysAt pt Also → GrowsAfter a b (SentPtTurns a.origin pt (sending_bytes sending) (Err failed)) →
       Triple a b (MidRound setup core tills polls now Also (SendPt pt sending ∷ []) items) (MidRound setup core tills polls now Also (CutPt pt ∷ []) items)
   unsent-held a b core pt sending failed items stays grows =
       held-call a b core (SendPt pt sending ∷ []) items (λ scene. SentToPt (Err failed) scene pt (sending_bytes sending) items) _ (λ scene. send-pt-triple scene items a b pt sending (Err failed) grows)

@@ -1,4 +1,4 @@
--- Inner: what the loop holds in a round: its tills, and its terminals beside the links of the log.
+-- What the loop holds in a round: its tills, and its terminals beside the links of the log.
 use Rattle.std.specs.Prelude.{◌≡◌, ℕ, ◌+◌, ℤ, Bool, true, false, List, [], ◌∷◌, ◌++◌, length, zero, suc, slice_get, Option, Some, None}
 use Rattle.gw_base.specs.declared.setup.Setup.{Setup}
 use Rattle.gw_site.specs.Outside.{Outside, outside_after, is_connected, heard_on}
@@ -36,7 +36,7 @@ HearsAt readers o number = is_connected o.links number ≡ true → slice_get re
 abbrev pub AllHear : List (List ℕ) → Outside → Type 0
 AllHear readers o = (number : ℕ) → HearsAt readers o number
 
--- on each link that is there, this was heard, by the terminal's number
+-- Inner: on each link that is there, this was heard, by the terminal's number
 abbrev pub AreHeard : (ℕ → List ℕ) → Outside → Type 0
 AreHeard heard o = (number : ℕ) → is_connected o.links number ≡ true → heard_on o.links number ≡ heard number
 
@@ -48,7 +48,7 @@ pub record AreReady (core : Core) (readers : List (List ℕ)) : Type 0 where
 
 -- ---- a round
 
--- in a round with this setup at this moment, in which this is remembered, these calls are owed, and then these items come; the loop holds its tills, the links are those that are remembered, and this holds of the outside
+-- Inner: in a round with this setup at this moment, in which this is remembered, these calls are owed, and then these items come; the loop holds its tills, the links are those that are remembered, and this holds of the outside
 pub record MidRound (setup : Setup) (core : Core) (tills : List Till) (polls : ℕ) (now : ℤ) (Also : Outside → Type 0) (calls : List OwedCall) (items : List RoundItem) (v : View) : Type 0 where
   pub kept : List Record
   pub outside : Outside
@@ -59,30 +59,30 @@ pub record MidRound (setup : Setup) (core : Core) (tills : List Till) (polls : �
 
 -- ---- events of a terminal
 
--- before the event of a terminal that is linked
+-- Inner: before the event of a terminal that is linked
 pub record BeforePt (core : Core) (readers : List (List ℕ)) (tills : List Till) (pt : ℕ) (before : Outside) : Type 0 where
   pub tills_are : HoldsTills tills before
   pub linked : AreLinked core before
   pub hear : AllHear readers before
   pub connected : is_connected before.links pt ≡ true
 
--- a terminal has sent this chunk, and nothing of it was handled yet
+-- Inner: a terminal has sent this chunk, and nothing of it was handled yet
 abbrev pub BeforePtChunk : Setup → Core → List (List ℕ) → List Till → ℕ → ℤ → ℕ → List ℕ → List RoundItem → View → Type 0
 BeforePtChunk setup core readers tills polls now pt chunk items v =
     (before : Outside) × (kept : List Record) × BeforePt core readers tills pt before × Pending (known_at setup core kept now) polls (outside_after before (HeardPt pt chunk)) [] (pt_bytes_items pt (heard_on before.links pt) chunk ++ items) v
 
--- a terminal has closed its connection, and nothing of it was handled yet
+-- Inner: a terminal has closed its connection, and nothing of it was handled yet
 abbrev pub BeforePtClosed : Setup → Core → List (List ℕ) → List Till → ℕ → ℤ → ℕ → List RoundItem → View → Type 0
 BeforePtClosed setup core readers tills polls now pt items v =
     (before : Outside) × (kept : List Record) × BeforePt core readers tills pt before × Pending (known_at setup core kept now) polls (outside_after before (Lost pt)) [] (LinkLost pt ∷ items) v
 
 -- ---- what may be due
 
--- an item for each of so many terminals, the first of which has this number
+-- Inner: an item for each of so many terminals, the first of which has this number
 abbrev pub each_terminal : ℕ → ℕ → (ℕ → RoundItem) → List RoundItem
 each_terminal number zero item = []
 each_terminal number (suc count) item = item number ∷ each_terminal (number + 1) count item
 
--- what may be due of so many terminals, while no request waits
+-- Inner: what may be due of so many terminals, while no request waits
 abbrev pub due_items : ℕ → List RoundItem
 due_items count = each_terminal 0 count Late ++ each_terminal 0 count Due

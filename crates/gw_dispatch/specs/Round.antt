@@ -1,4 +1,4 @@
--- Inner: what is owed as the loop goes through a round.
+-- What is owed as the loop goes through a round.
 use Rattle.std.specs.Prelude.{◌≡◌, ℕ, ◌<◌, ℤ, true, false, List, [], ◌++◌, length, map, Some, Result, Ok, Err}
 use Rattle.gw_base.specs.Moment.{moment_of}
 use Rattle.gw_base.specs.declared.setup.Setup.{Setup}
@@ -23,7 +23,7 @@ use Rattle.gw_dispatch.specs.declared.replier.Served.TheVariants.{More, Incomple
 
 -- ---- a round
 
--- in a round, this is known, so many polls were made, and this is the outside
+-- Inner: in a round, this is known, so many polls were made, and this is the outside
 pub record IsIn (known : Known) (polls : ℕ) (o : Outside) (scene : Scene) : Type 0 where
   pub setup_is : scene.setup ≡ Some known.setup
   pub known_is : known_in scene known.setup ≡ known
@@ -31,42 +31,42 @@ pub record IsIn (known : Known) (polls : ℕ) (o : Outside) (scene : Scene) : Ty
   pub polls_are : scene.polls ≡ polls
   pub outside_is : scene.outside ≡ o
 
--- these calls are owed in a round, and then these items come
+-- Inner: these calls are owed in a round, and then these items come
 abbrev pub Pending : Known → ℕ → Outside → List OwedCall → List RoundItem → View → Type 0
 Pending known polls o calls items v = (scene : Scene) × Owing scene calls items v × IsIn known polls o scene
 
--- no call is owed in a round, and these items come
+-- Inner: no call is owed in a round, and these items come
 abbrev pub InRound : Known → ℕ → Outside → List RoundItem → View → Type 0
 InRound known polls o items v = Pending known polls o [] items v
 
--- what is known, with this remembered in place of what was
+-- Inner: what is known, with this remembered in place of what was
 abbrev pub with_core : Known → Core → Known
 with_core known core = record known { core = core }
 
--- what is known once this till is gone
+-- Inner: what is known once this till is gone
 abbrev pub known_without : Known → ℕ → Known
 known_without known till = with_core known (core_without known.core till)
 
 -- ---- a till's bytes
 
--- the till is there, its reader holds these bytes, and after what they bring these items come
+-- Inner: the till is there, its reader holds these bytes, and after what they bring these items come
 abbrev pub BeforeTill : Known → ℕ → Outside → ℕ → List ℕ → List RoundItem → View → Type 0
 BeforeTill known polls o till bytes items v = InRound known polls o (decoded_items till (decode_frames bytes) ++ items) v × (is_connected o.tills till ≡ true)
 
--- after some of the payloads that a reader holds
+-- Inner: after some of the payloads that a reader holds
 abbrev pub AfterTill : {E : Type 0} → Result Served E → Known → ℕ → Outside → ℕ → List ℕ → List RoundItem → View → Type 0
 AfterTill (Ok More) known polls o till bytes items v = BeforeTill known polls o till bytes items v
 AfterTill (Ok Incomplete) known polls o till bytes items v = InRound known polls o items v
 AfterTill (Ok Gone) known polls o till bytes items v = InRound (known_without known till) polls (outside_after o (CutTill till)) items v
 AfterTill (Err memory) known polls o till bytes items v = Unit {0}
 
--- what the reader holds then
+-- Inner: what the reader holds then
 abbrev pub ReadsOn : Served → List ℕ → List ℕ → Type 0
 ReadsOn More old new = (length new < length old) × ((decode_frames new).rest ≡ (decode_frames old).rest)
 ReadsOn Incomplete old new = new ≡ (decode_frames old).rest
 ReadsOn Gone old new = Unit {0}
 
--- after a send to a till, which is followed by the cut of its connection where it failed
+-- Inner: after a send to a till, which is followed by the cut of its connection where it failed
 abbrev pub Delivered : Served → Scene → ℕ → List ℕ → List RoundItem → View → Type 0
 Delivered More scene till bytes items v = Owing (called scene (SentTill till bytes true)) [] items v
 Delivered Incomplete scene till bytes items v = ⊥
@@ -79,6 +79,6 @@ pub record HoldsTills (tills : List Till) (o : Outside) : Type 0 where
   pub tills_are : tills ≡ map till_of o.tills
   pub below : AreBelow o.next_till o.tills
 
--- what is known in a run with this setup at this moment, when this is remembered and kept
+-- Inner: what is known in a run with this setup at this moment, when this is remembered and kept
 abbrev pub known_at : Setup → Core → List Record → ℤ → Known
 known_at setup core kept now = record { setup = setup; core = core; kept = kept; moment = moment_of now }

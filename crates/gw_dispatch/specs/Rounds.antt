@@ -1,4 +1,4 @@
--- Inner: what holds between rounds, as an event comes, and once it was handled.
+-- What holds between rounds, as an event comes, and once it was handled.
 use Rattle.std.specs.Prelude.{◌≡◌, ℕ, ◌≤◌, ℤ, true, List, [], ◌++◌, length, Some, Result, Ok, Err}
 use Rattle.gw_base.specs.declared.setup.Setup.{Setup}
 use Rattle.gw_site.specs.Outside.{Outside, outside_after, is_connected, heard_on}
@@ -41,58 +41,58 @@ pub record IsHeldRun (setup : Setup) (dispatch : Dispatch) (polls : ℕ) (scene 
 abbrev pub IsBetweenRounds : Setup → Dispatch → ℕ → View → Type 0
 IsBetweenRounds setup dispatch polls v = (scene : Scene) × Owing scene [] [] v × IsHeldRun setup dispatch polls scene
 
--- the site was polled, and nothing of its event was handled yet; no request waits
+-- Inner: the site was polled, and nothing of its event was handled yet; no request waits
 abbrev pub IsPolled : Setup → Dispatch → ℕ → ℤ → What → List ℕ → View → Type 0
 IsPolled setup dispatch polls now what buf v = (scene : Scene) × AtEvent scene now what buf v × IsHeldRun setup dispatch polls scene × (scene.core.waits ≡ [])
 
 -- ---- events
 
--- what may be due after an event
+-- Inner: what may be due after an event
 abbrev pub due_in : Dispatch → List RoundItem
 due_in dispatch = due_items (length dispatch.pts.core.terminals)
 
--- what a round goes by beside its event: the outside, and the records that are kept
+-- Inner: what a round goes by beside its event: the outside, and the records that are kept
 pub record RoundSetting : Type 0 where
   pub outside : Outside
   pub kept : List Record
 
--- a till that is there has sent this chunk, and nothing of it was handled yet
+-- Inner: a till that is there has sent this chunk, and nothing of it was handled yet
 pub record BringsChunk (setup : Setup) (dispatch : Dispatch) (polls : ℕ) (now : ℤ) (till : ℕ) (chunk : List ℕ) (setting : RoundSetting) (v : View) : Type 0 where
   pub round : InRound (known_at setup dispatch.pts.core setting.kept now) polls (outside_after setting.outside (HeardTill till chunk)) (till_bytes_items till (heard_on setting.outside.tills till) chunk ++ due_in dispatch) v
   pub matches : MatchesOutside dispatch setting.outside
   pub connected : is_connected setting.outside.tills till ≡ true
 
--- this chunk of a till has come in some setting, and nothing of it was handled yet
+-- Inner: this chunk of a till has come in some setting, and nothing of it was handled yet
 abbrev pub BeforeChunk : Setup → Dispatch → ℕ → ℤ → ℕ → List ℕ → View → Type 0
 BeforeChunk setup dispatch polls now till chunk v = (setting : RoundSetting) × BringsChunk setup dispatch polls now till chunk setting v
 
--- a till has opened, and nothing of it was handled yet
+-- Inner: a till has opened, and nothing of it was handled yet
 pub record BringsTill (setup : Setup) (dispatch : Dispatch) (polls : ℕ) (now : ℤ) (till : ℕ) (setting : RoundSetting) (v : View) : Type 0 where
   pub round : InRound (known_at setup dispatch.pts.core setting.kept now) polls (outside_after setting.outside (Opened till)) (till_opened_items till setting.outside.tills ++ due_in dispatch) v
   pub matches : MatchesOutside dispatch setting.outside
   pub above : setting.outside.next_till ≤ till
 
--- a till has opened in some setting, and nothing of it was handled yet
+-- Inner: a till has opened in some setting, and nothing of it was handled yet
 abbrev pub BeforeOpen : Setup → Dispatch → ℕ → ℤ → ℕ → View → Type 0
 BeforeOpen setup dispatch polls now till v = (setting : RoundSetting) × BringsTill setup dispatch polls now till setting v
 
--- a terminal has sent this chunk, and nothing of it was handled yet
+-- Inner: a terminal has sent this chunk, and nothing of it was handled yet
 abbrev pub BeforePtBytes : Setup → Dispatch → ℕ → ℤ → ℕ → List ℕ → View → Type 0
 BeforePtBytes setup dispatch polls now pt chunk v = BeforePtChunk setup dispatch.pts.core dispatch.pts.readers.items dispatch.tills.items polls now pt chunk (due_in dispatch) v
 
--- a terminal has closed its connection, and nothing of it was handled yet
+-- Inner: a terminal has closed its connection, and nothing of it was handled yet
 abbrev pub BeforePtEnd : Setup → Dispatch → ℕ → ℤ → ℕ → View → Type 0
 BeforePtEnd setup dispatch polls now pt v = BeforePtClosed setup dispatch.pts.core dispatch.pts.readers.items dispatch.tills.items polls now pt (due_in dispatch) v
 
--- what the event has brought was handled, and these items come; this is held
+-- Inner: what the event has brought was handled, and these items come; this is held
 abbrev pub IsHandling : Setup → Dispatch → ℕ → ℤ → List RoundItem → View → Type 0
 IsHandling setup dispatch polls now items v = MidRound setup dispatch.pts.core dispatch.tills.items polls now (AllHear dispatch.pts.readers.items) [] items v
 
--- what the event has brought was handled, and what may be due comes
+-- Inner: what the event has brought was handled, and what may be due comes
 abbrev pub IsHandled : Setup → Dispatch → ℕ → ℤ → View → Type 0
 IsHandled setup dispatch polls now v = IsHandling setup dispatch polls now (due_in dispatch) v
 
--- after what an event has brought
+-- Inner: after what an event has brought
 abbrev pub AfterEvent : {E : Type 0} → Result RoundEnd E → Setup → Dispatch → ℕ → ℤ → View → Type 0
 AfterEvent (Ok Went) setup dispatch polls now v = IsHandled setup dispatch polls now v
 AfterEvent (Ok Stopped) setup dispatch polls now v = v.scene.stage ≡ Over

@@ -1,15 +1,15 @@
--- Inner: the tills that the gateway holds, and the connections of a log.
+-- The tills that the gateway holds, and the connections of a log.
 use Rattle.std.specs.Prelude.{ℕ, suc, ◌<◌, ◌==◌, if◌then◌else◌, not, List, [], ◌∷◌, filter, Option, Some, None, option_map}
 use Rattle.gw_site.specs.Outside.{Connection}
 use Rattle.sale_frame.specs.Decode.{decode_frames}
 use Rattle.gw_dispatch.specs.declared.tills.Till.{Till}
 
--- the index of the first till of this number
+-- Inner: the index of the first till of this number
 abbrev pub rank : ℕ → List Till → Option ℕ
 rank number [] = None
 rank number (till ∷ tills) = if till.number == number then Some 0 else option_map suc (rank number tills)
 
--- the tills without those of this number
+-- Inner: the tills without those of this number
 abbrev pub others : List Till → ℕ → List Till
 others tills number = filter (λ (till : Till). not (till.number == number)) tills
 
@@ -17,7 +17,7 @@ others tills number = filter (λ (till : Till). not (till.number == number)) til
 abbrev pub till_of : Connection → Till
 till_of connection = record { number = connection.number; reader = (decode_frames connection.heard).rest }
 
--- the till once its reader holds these bytes
+-- Inner: the till once its reader holds these bytes
 abbrev pub holding : Till → List ℕ → Till
 holding till bytes = record till { reader = bytes }
 

@@ -1,29 +1,30 @@
 //! One run over a site: it is opened and polled, what each event brings is handled, and then what may be due.
-ghost use Rattle.std.specs.Prelude.{◌≡◌, ◌≢◌, ◌≤◌, ◌+◌, [], ℕ, ℤ, length, IfOk, Ok};
+ghost use Rattle.std.specs.Prelude.{◌≡◌, ◌≢◌, ◌≤◌, ◌+◌, ℕ, ℤ, length, IfOk, Ok};
 ghost use Rattle.gw_bytes.specs.Bytes.{AreBytes};
 ghost use Rattle.gw_base.specs.Setup.{IsSetup};
-ghost use Rattle.gw_base.specs.Moment.{IsMoment};
 ghost use Rattle.gw_base.specs.declared.setup.Setup.{Setup as TheSetup};
 ghost use Rattle.gw_site.specs.Failures.{Rose};
 ghost use Rattle.gw_site.specs.Turns.{IsWithinBuf};
-ghost use Rattle.gw_owes.specs.Core.{new_core};
 ghost use Rattle.gw_rules.specs.Triple.{Triple, RunTriple, IsRun, JustBegun};
+ghost use Rattle.gw_rules.specs.View.{View};
 ghost use Rattle.gw_dispatch.specs.Rounds.{IsReady, BeforeChunk, BeforeOpen, BeforePtBytes, BeforePtEnd, IsBetweenRounds, IsPolled, IsHandled, AfterEvent, AfterRound};
 ghost use Rattle.gw_dispatch.specs.RunEnd.{EndedBy};
 
 use crate::pts::Pts;
 use crate::replier::{Replier, Served};
 use crate::tills::{Till, drop_till, index_of, open_till};
-use gw_base::{Setup, to_moment};
+use gw_base::Setup;
 use gw_bytes::{LONGEST_CHUNK, MOST_TILLS};
 use gw_site::{Failed, Polled, Site, What};
 use sale_reply::Out;
 use std::alloc::{AllocError, Global};
 
 /// How a round ended.
-#[derive(Clone, Copy)]
-enum RoundEnd {
+#[derive(Clone, Copy, Debug, PartialEq, Eq)]
+pub enum RoundEnd {
+    /// All that it owed is done, and the next poll may come.
     Went,
+    /// The poll has brought the stop.
     Stopped,
 }
 
@@ -40,7 +41,7 @@ pub enum Ended {
 
 /// What the gateway holds in a run.
 #[derive(Drop)]
-struct Dispatch {
+pub struct Dispatch {
     replier: Replier,
     /// The tills that are there.
     tills: Vec<Till>,
@@ -48,13 +49,12 @@ struct Dispatch {
 }
 
 impl Dispatch {
-    /// What is held as a run with this setup begins.
-    fn open(alloc: Global, setup: &Setup) -> Result<Dispatch, AllocError>
+    /// What is held as a run with this setup begins: the readers of all terminals and the buffer of replies are made here, and nowhere later.
+    pub fn open(alloc: Global, setup: &Setup) -> Result<Dispatch, AllocError>
         requires { IsSetup setup.now }
-        ensures name { IfOk result (λ dispatch. dispatch.replier.name ≡ setup.now.name) }
-        ensures tills { IfOk result (λ dispatch. dispatch.tills.items ≡ []) }
-        ensures core { IfOk result (λ dispatch. dispatch.pts.core ≡ new_core setup.now) }
+        ensures begun { IfOk result (λ dispatch. (v : View) → JustBegun setup.now v → IsBetweenRounds setup.now dispatch 0 v) }
         ensures ready { IfOk result IsReady }
+        ensures name { IfOk result (λ dispatch. dispatch.replier.name ≡ setup.now.name) }
     {
         let out = Out::new(alloc)?;
         let pts = Pts::open(alloc, setup)?;
@@ -132,7 +132,6 @@ impl Dispatch {
     /// Handles the bytes that a terminal's connection has brought. Those of a link that isn't held have no effect.
     fn on_pt_bytes<S: Site>(&mut self, site: &mut S, now: i64, pt: u16, bytes: &[u8])
         requires chunk { length bytes.now ≤ 4096 }
-        requires moment { IsMoment now }
         requires ready { IsReady self.old }
         ensures triple { (setup : TheSetup) (polls : ℕ) → Triple (S.observed site.old) (S.observed site.new)
             (BeforePtBytes setup self.old polls now pt bytes.now)
@@ -152,7 +151,6 @@ impl Dispatch {
 
     /// Handles the end of a terminal's connection. That of a link that isn't held has no effect.
     fn on_pt_closed<S: Site>(&mut self, site: &mut S, now: i64, pt: u16)
-        requires moment { IsMoment now }
         requires ready { IsReady self.old }
         ensures triple { (setup : TheSetup) (polls : ℕ) → Triple (S.observed site.old) (S.observed site.new)
             (BeforePtEnd setup self.old polls now pt)
@@ -179,7 +177,6 @@ impl Dispatch {
         buf: &[u8; 4096],
     ) -> Result<RoundEnd, AllocError>
         requires within { IsWithinBuf what }
-        requires moment { IsMoment now }
         requires ready { IsReady self.old }
         ensures triple { (setup : TheSetup) (polls : ℕ) → setup.name ≡ self.old.replier.name → Triple (S.observed site.old) (S.observed site.new)
             (IsPolled setup self.old polls now what buf.now)
@@ -210,8 +207,15 @@ impl Dispatch {
         }
     }
 
-    /// One poll, what its event brings, and then what may be due. What was heard is read into the buffer.
-    fn round<S: Site>(&mut self, site: &mut S, buf: &mut [u8; 4096]) -> Result<RoundEnd, AllocError>
+    /// One round: a poll, what its event brings, and then what may be due. What was heard is read into the buffer.
+    ///
+    /// Between two rounds nothing is owed, and so it is after this one: all that it owed is done, and nothing else. After no memory
+    /// the run ends.
+    pub fn turn<S: Site>(
+        &mut self,
+        site: &mut S,
+        buf: &mut [u8; 4096],
+    ) -> Result<RoundEnd, AllocError>
         requires ready { IsReady self.old }
         ensures triple { (setup : TheSetup) (polls : ℕ) → setup.name ≡ self.old.replier.name → Triple (S.observed site.old) (S.observed site.new)
             (IsBetweenRounds setup self.old polls)
@@ -222,7 +226,6 @@ impl Dispatch {
         ensures later { (S.observed site.old).faults ≤ (S.observed site.new).faults }
     {
         let Polled { now, what } = site.poll(buf);
-        let now = to_moment(now);
         match self.on_event(site, now, what, buf) {
             Ok(RoundEnd::Went) => {
                 self.pts.on_due(site, now);
@@ -248,7 +251,7 @@ fn rounds<S: Site>(alloc: Global, setup: &Setup, site: &mut S, most: u64) -> End
     // One buffer for all polls of the run, so that it is filled with zeros once.
     let mut buf = [0; LONGEST_CHUNK];
     for made in 0..most {
-        match dispatch.round(site, &mut buf) {
+        match dispatch.turn(site, &mut buf) {
             Ok(RoundEnd::Went) => {}
             Ok(RoundEnd::Stopped) => return Ended::Done,
             Err(AllocError) => return Ended::NoMemory,

@@ -7,4 +7,4 @@ mod pts;
 mod replier;
 mod tills;
 
-pub use engine::{Ended, run};
+pub use engine::{Dispatch, Ended, RoundEnd, run};

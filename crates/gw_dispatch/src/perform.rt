@@ -1,6 +1,5 @@
 //! What each item of a terminal wants done, and the calls that it makes.
 ghost use Rattle.std.specs.Prelude.{◌≡◌, ◌<◌, ◌≤◌, ℕ, true, false, length, List, [], ◌∷◌, ◌++◌, IfSome, slice_get};
-ghost use Rattle.gw_base.specs.Moment.{IsMoment};
 ghost use Rattle.gw_base.specs.declared.setup.Setup.{Setup};
 ghost use Rattle.zvt_apdu.specs.Grammar.{value_of as apdu_value};
 ghost use Rattle.zvt_msg.specs.CommandGrammar.{HasCommandDigits};
@@ -19,7 +18,7 @@ ghost use Rattle.gw_dispatch.specs.Wanted.{IsOutside, owes_link};
 ghost use Rattle.gw_dispatch.specs.declared.tills.Till.{Till};
 
 use arrayvec::ArrayVec;
-use gw_core::{Act, Core};
+use gw_core::{Act, Core, Timer};
 use gw_site::Site;
 use zvt_apdu::Apdu;
 use zvt_msg::{Command, PtMessage, read_pt, write_command, write_pt};
@@ -29,7 +28,6 @@ const UNKNOWN: u8 = 0x83;
 
 /// Cuts a terminal, with which its link is lost.
 fn cut<S: Site>(core: &mut Core, site: &mut S, pt: u16, now: i64)
-    requires moment { IsMoment now }
     requires there { pt < length core.old.terminals }
     requires others { OthersHaveDialogues pt core.old }
     requires unserved { IfSome (slice_get core.old.terminals pt) (λ (terminal : Terminal). ServesNothing terminal.standing) }
@@ -47,7 +45,6 @@ fn cut<S: Site>(core: &mut Core, site: &mut S, pt: u16, now: i64)
 
 /// Sends bytes to a terminal, and cuts it where that fails.
 fn send<S: Site>(core: &mut Core, site: &mut S, pt: u16, bytes: &[u8], now: i64)
-    requires moment { IsMoment now }
     requires there { pt < length core.old.terminals }
     requires dialogues { AllHaveDialogues core.old }
     ensures triple { (sending : Sending) → bytes.now ≡ sending_bytes sending → (setup : Setup) (tills : List Till) (polls : ℕ) (heard : ℕ → List ℕ) (items : List RoundItem) → Triple (S.observed site.old) (S.observed site.new)
@@ -66,7 +63,6 @@ fn send<S: Site>(core: &mut Core, site: &mut S, pt: u16, bytes: &[u8], now: i64)
 
 /// Sends a command to a terminal, and cuts it where that fails.
 fn ask<S: Site>(core: &mut Core, site: &mut S, pt: u16, command: &Command, now: i64)
-    requires moment { IsMoment now }
     requires there { pt < length core.old.terminals }
     requires dialogues { AllHaveDialogues core.old }
     requires digits { HasCommandDigits command.now }
@@ -85,7 +81,6 @@ fn ask<S: Site>(core: &mut Core, site: &mut S, pt: u16, command: &Command, now: 
 
 /// Sends a terminal the acknowledgement or refusal of its message, and cuts it where that fails.
 fn acknowledge<S: Site>(core: &mut Core, site: &mut S, pt: u16, message: &PtMessage<'_>, now: i64)
-    requires moment { IsMoment now }
     requires there { pt < length core.old.terminals }
     requires dialogues { AllHaveDialogues core.old }
     requires form { HasPtMessageForm (message_value message.now) }
@@ -105,7 +100,6 @@ fn acknowledge<S: Site>(core: &mut Core, site: &mut S, pt: u16, message: &PtMess
 
 /// Makes the call of a terminal that is wanted, which is no link: those are made by [`link`].
 fn perform<S: Site>(core: &mut Core, site: &mut S, pt: u16, wanted: Option<Act>, now: i64)
-    requires moment { IsMoment now }
     requires there { pt < length core.old.terminals }
     requires wanted { IfSome wanted (IsWantedAt pt) }
     requires no_link { owes_link (calls_wanted wanted) ≡ false }
@@ -132,7 +126,6 @@ fn perform<S: Site>(core: &mut Core, site: &mut S, pt: u16, wanted: Option<Act>,
 
 /// Links a terminal that isn't linked, and registers it where that is done.
 fn link<S: Site>(core: &mut Core, site: &mut S, pt: u16, now: i64)
-    requires moment { IsMoment now }
     requires there { pt < length core.old.terminals }
     requires dialogues { AllHaveDialogues core.old }
     requires unlinked { is_linked_in (slice_get core.old.terminals pt) ≡ false }
@@ -150,7 +143,6 @@ fn link<S: Site>(core: &mut Core, site: &mut S, pt: u16, now: i64)
 
 /// Cuts a terminal for bytes that are no message, where it is linked.
 fn reject<S: Site>(core: &mut Core, site: &mut S, pt: u16, now: i64)
-    requires moment { IsMoment now }
     requires there { pt < length core.old.terminals }
     requires dialogues { AllHaveDialogues core.old }
     ensures triple { (item : RoundItem) → IsOutside pt item → (setup : Setup) (tills : List Till) (polls : ℕ) (heard : ℕ → List ℕ) (items : List RoundItem) → Triple (S.observed site.old) (S.observed site.new)
@@ -175,7 +167,6 @@ pub(crate) fn on_apdu<S: Site>(
     apdu: &Apdu<'_>,
     now: i64,
 ) -> bool
-    requires moment { IsMoment now }
     requires there { pt < length core.old.terminals }
     requires dialogues { AllHaveDialogues core.old }
     ensures triple { (setup : Setup) (tills : List Till) (polls : ℕ) (heard : ℕ → List ℕ) (items : List RoundItem) → Triple (S.observed site.old) (S.observed site.new)
@@ -203,7 +194,6 @@ pub(crate) fn on_apdu<S: Site>(
 
 /// Bytes of a terminal begin an APDU above the limit, which cuts the terminal where it is linked.
 pub(crate) fn on_oversized<S: Site>(core: &mut Core, site: &mut S, pt: u16, now: i64)
-    requires moment { IsMoment now }
     requires there { pt < length core.old.terminals }
     requires dialogues { AllHaveDialogues core.old }
     ensures triple { (setup : Setup) (tills : List Till) (polls : ℕ) (heard : ℕ → List ℕ) (items : List RoundItem) → Triple (S.observed site.old) (S.observed site.new)
@@ -219,7 +209,6 @@ pub(crate) fn on_oversized<S: Site>(core: &mut Core, site: &mut S, pt: u16, now:
 
 /// What may be due of a terminal: after too long a silence it is cut.
 pub(crate) fn on_late<S: Site>(core: &mut Core, site: &mut S, pt: u16, now: i64)
-    requires moment { IsMoment now }
     requires there { pt < length core.old.terminals }
     requires dialogues { AllHaveDialogues core.old }
     ensures triple { (setup : Setup) (tills : List Till) (polls : ℕ) (heard : ℕ → List ℕ) (items : List RoundItem) → Triple (S.observed site.old) (S.observed site.new)
@@ -230,13 +219,12 @@ pub(crate) fn on_late<S: Site>(core: &mut Core, site: &mut S, pt: u16, now: i64)
     ensures count { length core.new.terminals ≡ length core.old.terminals }
     ensures later { (S.observed site.old).faults ≤ (S.observed site.new).faults }
 {
-    let wanted = core.on_silence(pt, now);
+    let wanted = core.on_moment(Timer::Silence(pt), now);
     perform(core, site, pt, wanted, now);
 }
 
 /// What may be due of a terminal: it is linked.
 pub(crate) fn on_due<S: Site>(core: &mut Core, site: &mut S, pt: u16, now: i64)
-    requires moment { IsMoment now }
     requires there { pt < length core.old.terminals }
     requires dialogues { AllHaveDialogues core.old }
     ensures triple { (setup : Setup) (tills : List Till) (polls : ℕ) (heard : ℕ → List ℕ) (items : List RoundItem) → heard pt ≡ [] → Triple (S.observed site.old) (S.observed site.new)
@@ -246,7 +234,7 @@ pub(crate) fn on_due<S: Site>(core: &mut Core, site: &mut S, pt: u16, now: i64)
     ensures count { length core.new.terminals ≡ length core.old.terminals }
     ensures later { (S.observed site.old).faults ≤ (S.observed site.new).faults }
 {
-    match core.on_due(pt, now) {
+    match core.on_moment(Timer::Link(pt), now) {
         Some(_) => link(core, site, pt, now),
         None => {}
     }

@@ -1,6 +1,5 @@
 //! The terminals of a run: what is remembered of them, and a reader of APDUs for each.
 ghost use Rattle.std.specs.Prelude.{◌≡◌, ◌<◌, ◌≤◌, ℕ, length, List, [], ◌∷◌, ◌++◌, IfOk, replicate};
-ghost use Rattle.gw_base.specs.Moment.{IsMoment};
 ghost use Rattle.gw_base.specs.Setup.{IsSetup};
 ghost use Rattle.gw_base.specs.declared.setup.Setup.{Setup as TheSetup};
 ghost use Rattle.gw_owes.specs.Core.{new_core};
@@ -28,7 +27,6 @@ fn take_apdu<S: Site>(
     reader: &mut ApduReader,
     now: i64,
 ) -> bool
-    requires moment { IsMoment now }
     requires there { pt < length core.old.terminals }
     requires dialogues { AllHaveDialogues core.old }
     ensures triple { (setup : TheSetup) (tills : List Till) (polls : ℕ) (heard : ℕ → List ℕ) (items : List RoundItem) → Triple (S.observed site.old) (S.observed site.new)
@@ -59,7 +57,6 @@ fn take_apdu<S: Site>(
 
 /// Handles the APDUs that a terminal's reader holds, until it holds less than one.
 fn take_apdus<S: Site>(core: &mut Core, site: &mut S, pt: u16, reader: &mut ApduReader, now: i64)
-    requires moment { IsMoment now }
     requires there { pt < length core.old.terminals }
     requires dialogues { AllHaveDialogues core.old }
     ensures triple { (setup : TheSetup) (tills : List Till) (polls : ℕ) (heard : ℕ → List ℕ) (items : List RoundItem) → Triple (S.observed site.old) (S.observed site.new)
@@ -111,7 +108,6 @@ impl Pts {
     /// Handles the bytes that a terminal's connection has brought.
     pub(crate) fn on_bytes<S: Site>(&mut self, site: &mut S, pt: u16, bytes: &[u8], now: i64)
         requires chunk { length bytes.now ≤ 4096 }
-        requires moment { IsMoment now }
         requires there { pt < length self.old.core.terminals }
         requires ready { AreReady self.old.core self.old.readers.items }
         ensures triple { (setup : TheSetup) (tills : List Till) (polls : ℕ) (items : List RoundItem) → Triple (S.observed site.old) (S.observed site.new)
@@ -128,7 +124,6 @@ impl Pts {
 
     /// Handles the end of a terminal's connection.
     pub(crate) fn on_closed<S: Site>(&mut self, site: &mut S, pt: u16, now: i64)
-        requires moment { IsMoment now }
         requires there { pt < length self.old.core.terminals }
         requires ready { AreReady self.old.core self.old.readers.items }
         ensures triple { (setup : TheSetup) (tills : List Till) (polls : ℕ) (items : List RoundItem) → Triple (S.observed site.old) (S.observed site.new)
@@ -144,7 +139,6 @@ impl Pts {
 
     /// Cuts the terminals that have been silent for too long.
     fn cut_late<S: Site>(&mut self, site: &mut S, now: i64)
-        requires moment { IsMoment now }
         requires ready { AreReady self.old.core self.old.readers.items }
         ensures triple { (setup : TheSetup) (tills : List Till) (polls : ℕ) (items : List RoundItem) → Triple (S.observed site.old) (S.observed site.new)
             (MidRound setup self.old.core tills polls now (AllHear self.old.readers.items) [] (each_terminal 0 (length self.old.core.terminals) Late ++ items))
@@ -160,7 +154,6 @@ impl Pts {
 
     /// Links a terminal that isn't linked and is due. Its new link begins with an empty reader.
     fn link_if_due<S: Site>(&mut self, site: &mut S, pt: u16, now: i64)
-        requires moment { IsMoment now }
         requires there { pt < length self.old.core.terminals }
         requires ready { AreReady self.old.core self.old.readers.items }
         ensures triple { (setup : TheSetup) (tills : List Till) (polls : ℕ) (items : List RoundItem) → Triple (S.observed site.old) (S.observed site.new)
@@ -179,7 +172,6 @@ impl Pts {
 
     /// Links the terminals that are due.
     fn link_due<S: Site>(&mut self, site: &mut S, now: i64)
-        requires moment { IsMoment now }
         requires ready { AreReady self.old.core self.old.readers.items }
         ensures triple { (setup : TheSetup) (tills : List Till) (polls : ℕ) (items : List RoundItem) → Triple (S.observed site.old) (S.observed site.new)
             (MidRound setup self.old.core tills polls now (AllHear self.old.readers.items) [] (each_terminal 0 (length self.old.core.terminals) Due ++ items))
@@ -195,7 +187,6 @@ impl Pts {
 
     /// Handles what may be due: first the terminals' silences, then their links.
     pub(crate) fn on_due<S: Site>(&mut self, site: &mut S, now: i64)
-        requires moment { IsMoment now }
         requires ready { AreReady self.old.core self.old.readers.items }
         ensures triple { (setup : TheSetup) (tills : List Till) (polls : ℕ) → Triple (S.observed site.old) (S.observed site.new)
             (MidRound setup self.old.core tills polls now (AllHear self.old.readers.items) [] (due_items (length self.old.core.terminals)))

@@ -17,7 +17,7 @@ ghost use Rattle.gw_dispatch.specs.Round.{BeforeTill, AfterTill, ReadsOn, Delive
 
 use crate::tills::Till;
 use gw_base::Ident;
-use gw_core::{Core, reply};
+use gw_core::Core;
 use gw_site::{Failed, Site};
 use sale_frame::FrameReader;
 use sale_reply::{Out, SaleReply, write_reply};
@@ -79,7 +79,7 @@ impl Replier {
             Err(_) => Ok(Next::Unframed),
             Ok(None) => Ok(Next::Incomplete),
             Ok(Some(message)) => {
-                let given = reply(self.alloc, core, &self.name, now, message)?;
+                let given = core.on_till(self.alloc, &self.name, message, now)?;
                 Ok(Next::Message(given))
             }
         }

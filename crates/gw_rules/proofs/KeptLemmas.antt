@@ -65,7 +65,7 @@ change_none pt (item ∷ items) = not (changes pt item) && change_none pt items
 
 -- ---- rows
 
-without-kept : (till : ℕ) (terminals : List Terminal) (number : ℕ) → option_map without_asker (slice_get (map (forgets_till till) terminals) number) ≡ option_map without_asker (slice_get terminals number)
+pub without-kept : (till : ℕ) (terminals : List Terminal) (number : ℕ) → option_map without_asker (slice_get (map (forgets_till till) terminals) number) ≡ option_map without_asker (slice_get terminals number)
 without-kept till [] number = refl
 without-kept till (terminal ∷ terminals) zero = refl
 without-kept till (terminal ∷ terminals) (suc number) = without-kept till terminals number
@@ -74,7 +74,7 @@ where-core : (holds : Bool) (known : Known) (row : Row) → row.core ≡ known.c
 where-core true known row e = e
 where-core false known row e = refl
 
-other-number : (pt other : ℕ) → (other == pt) ≡ false → pt ≢ other
+pub other-number : (pt other : ℕ) → (other == pt) ≡ false → pt ≢ other
 other-number pt other e same = apart other pt e (sym same)
 
 rows-kept : (tills : List Connection) (known : Known) (item : RoundItem) (pt : ℕ) → changes pt item ≡ false → kept_in (row_of tills known item).core pt ≡ kept_in known.core pt
@@ -92,21 +92,21 @@ rows-kept tills known (Late number) pt e = ap (λ c. kept_in c pt) (late-same kn
 rows-kept tills known (Overdue key) pt e = refl
 rows-kept tills known (Due number) pt e = ap (λ c. kept_in c pt) (due-same known number)
 
-at-kept : (scene : Scene) (item : RoundItem) (pt : ℕ) → changes pt item ≡ false → kept_in (row_at scene item).core pt ≡ kept_in scene.core pt
+pub at-kept : (scene : Scene) (item : RoundItem) (pt : ℕ) → changes pt item ≡ false → kept_in (row_at scene item).core pt ≡ kept_in scene.core pt
 at-kept scene item pt e = by_setup scene.setup
   where
     by_setup : (setup : Option Setup) → kept_in (row_in scene (λ known. row_of scene.outside.tills known item) setup).core pt ≡ kept_in scene.core pt
     by_setup None = refl
     by_setup (Some setup) = rows-kept scene.outside.tills (known_in scene setup) item pt e
 
-made-kept : (scene : Scene) (other pt : ℕ) → pt ≢ other → kept_in (link_made_at scene other).core pt ≡ kept_in scene.core pt
+pub made-kept : (scene : Scene) (other pt : ℕ) → pt ≢ other → kept_in (link_made_at scene other).core pt ≡ kept_in scene.core pt
 made-kept scene other pt differs = by_setup scene.setup
   where
     by_setup : (setup : Option Setup) → kept_in (row_in scene (λ known. link_made known other) setup).core pt ≡ kept_in scene.core pt
     by_setup None = refl
     by_setup (Some setup) = ap (option_map without_asker) ((link-changes-alone (known_in scene setup) other LinkIsMade).others pt differs)
 
-lost-kept : (scene : Scene) (other pt : ℕ) → pt ≢ other → kept_in (link_lost_at scene other).core pt ≡ kept_in scene.core pt
+pub lost-kept : (scene : Scene) (other pt : ℕ) → pt ≢ other → kept_in (link_lost_at scene other).core pt ≡ kept_in scene.core pt
 lost-kept scene other pt differs = by_setup scene.setup
   where
     by_setup : (setup : Option Setup) → kept_in (row_in scene (λ known. link_lost known other) setup).core pt ≡ kept_in scene.core pt

@@ -1,9 +1,15 @@
 -- The lemmas of lawful logs, and the steps along one.
 pub mod BusyLemmas
 pub mod CallLemmas
+pub mod CauseExampleLemmas
+pub mod ChunkExampleLemmas
+pub mod ChunkLemmas
 pub mod CourseLemmas
 pub mod CrowdLemmas
+pub mod CutCauseLemmas
+pub mod CutExampleLemmas
 pub mod CutLemmas
+pub mod DoneLemmas
 pub mod DueLemmas
 pub mod EnquiryLemmas
 pub mod ExampleLemmas
@@ -17,12 +23,16 @@ pub mod LinkedLemmas
 pub mod OpeningLemmas
 pub mod OutsideCutLemmas
 pub mod OwedLemmas
+pub mod PendingLemmas
 pub mod PrefixLemmas
 pub mod RegistrationLemmas
+pub mod ReportLemmas
 pub mod RestLemmas
 pub mod RoundLemmas
 pub mod RowExampleLemmas
 pub mod RunLemmas
+pub mod SaidLemmas
+pub mod SentLemmas
 pub mod SetupLemmas
 pub mod SilenceLemmas
 pub mod SpareLemmas
@@ -31,5 +41,7 @@ pub mod StageLemmas
 pub mod TerminalLogLemmas
 pub mod TestedLemmas
 pub mod TextLemmas
+pub mod TranscriptLogLemmas
 pub mod TripleLemmas
 pub mod UnlawfulLemmas
+pub mod UnsaidLemmas

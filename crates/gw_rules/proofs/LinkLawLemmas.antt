@@ -57,7 +57,7 @@ uses-links log pt = record {
 
 -- ---- a link is followed by the registration
 
-busy-not-poll : {A : Type 0} (stage : Stage) → busy stage ≡ AtPoll → A
+pub busy-not-poll : {A : Type 0} (stage : Stage) → busy stage ≡ AtPoll → A
 busy-not-poll Resting e = absurd (let n : Resting ≡ AtPoll = e in cc)
 busy-not-poll (Opening refused) e = absurd (let n : Opening refused ≡ AtPoll = e in cc)
 busy-not-poll (Looking refused) e = absurd (let n : Looking refused ≡ AtPoll = e in cc)

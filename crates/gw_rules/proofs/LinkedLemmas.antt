@@ -35,7 +35,7 @@ use Rattle.gw_rules.proofs.StageLemmas.{no-true, no-call, not-true, handling-not
 
 -- ---- connections
 
-connected-removed : (connections : List Connection) (number : ℕ) → is_connected (without connections number) number ≡ false
+pub connected-removed : (connections : List Connection) (number : ℕ) → is_connected (without connections number) number ≡ false
 connected-removed [] number = refl
 connected-removed (connection ∷ connections) number = by_test (connection.number == number) refl (connected-removed connections number)
   where
@@ -43,7 +43,7 @@ connected-removed (connection ∷ connections) number = by_test (connection.numb
     by_test true t h = rw t h
     by_test false t h = rw (t, t) h
 
-connected-other : (connections : List Connection) (other number : ℕ) → number ≢ other → is_connected (without connections other) number ≡ is_connected connections number
+pub connected-other : (connections : List Connection) (other number : ℕ) → number ≢ other → is_connected (without connections other) number ≡ is_connected connections number
 connected-other [] other number differs = refl
 connected-other (connection ∷ connections) other number differs = by_tests (connected-other connections other number differs) (connection.number == other) (connection.number == number) refl refl
   where
@@ -69,7 +69,7 @@ other-false one other differs = by_test (one == other) refl
     by_test true t = absurd (differs (eqb-true one other t))
     by_test false t = refl
 
-connected-old : (connections : List Connection) (new number : ℕ) → number ≢ new → is_connected (connections ++ new_connection new ∷ []) number ≡ is_connected connections number
+pub connected-old : (connections : List Connection) (new number : ℕ) → number ≢ new → is_connected (connections ++ new_connection new ∷ []) number ≡ is_connected connections number
 connected-old [] new number differs = rw (other-false new number (λ e. differs (sym e))) refl
 connected-old (connection ∷ connections) new number differs = by_test (connection.number == number) refl (connected-old connections new number differs)
   where
@@ -78,7 +78,7 @@ connected-old (connection ∷ connections) new number differs = by_test (connect
     by_test true t h = rw t refl
     by_test false t h = rw t h
 
-connected-heard : (connections : List Connection) (heard number : ℕ) (bytes : List ℕ) → is_connected (hears connections heard bytes) number ≡ is_connected connections number
+pub connected-heard : (connections : List Connection) (heard number : ℕ) (bytes : List ℕ) → is_connected (hears connections heard bytes) number ≡ is_connected connections number
 connected-heard [] heard number bytes = refl
 connected-heard (connection ∷ connections) heard number bytes = by_test (connection.number == heard) refl (connected-heard connections heard number bytes)
   where

@@ -202,7 +202,7 @@ greet-among : (pt : ℕ) (first : List ApduValue) (apdu : ApduValue) (rest : Lis
 greet-among pt [] apdu rest = ([], Handle pt apdu ∷ NextWaiting pt ∷ flat_map (apdu_items pt) rest, refl)
 greet-among pt (x ∷ first) apdu rest = has-after (Greet pt apdu) (apdu_items pt x) (flat_map (apdu_items pt) (first ++ apdu ∷ rest)) (greet-among pt first apdu rest)
 
-same-rest : (first one other : List ApduValue) → first ++ one ≡ first ++ other → one ≡ other
+pub same-rest : (first one other : List ApduValue) → first ++ one ≡ first ++ other → one ≡ other
 same-rest [] one other e = e
 same-rest (x ∷ first) one other e = same-rest first one other (let n : x ∷ (first ++ one) ≡ x ∷ (first ++ other) = e in cc)
 

@@ -6,7 +6,7 @@ use Rattle.std.specs.Option.{option_map}
 use Rattle.gw_base.specs.Moment.{moment_of}
 use Rattle.gw_base.specs.declared.setup.Pt.{Pt}
 use Rattle.gw_base.specs.declared.setup.Setup.{Setup}
-use Rattle.gw_site.specs.Outside.{Connection, Outside, without, heard_on, new_connection, outside_after, outside_from, outside_of}
+use Rattle.gw_site.specs.Outside.{Connection, Outside, without, heard_on, new_connection, outside_from, outside_of}
 use Rattle.gw_site.specs.Sorts.{IsQuiet}
 use Rattle.gw_site.specs.declared.turn.Turn.{Turn}
 use Rattle.gw_site.specs.declared.turn.Turn.TheVariants.{Start, Polled, Linked}
@@ -18,18 +18,18 @@ use Rattle.gw_owes.specs.Terminals.{registration, talk_of_command, link_made}
 use Rattle.gw_owes.specs.declared.terminal.Standing.TheVariants.{Registering}
 use Rattle.gw_owes.specs.declared.terminal.Terminal.{Terminal}
 use Rattle.gw_owes.proofs.SetLemmas.{new-is-there}
-use Rattle.gw_rules.specs.Lawful.{AllowedTurn, IsLawful}
+use Rattle.gw_rules.specs.Lawful.{AllowedTurn, IsLawful, Stands}
 use Rattle.gw_rules.specs.LinkLaws.{SilentRegistrationIsCut, IsSilentIn, BringNothing, EndsNone}
 use Rattle.gw_rules.specs.Scene.{known_in, row_in, link_made_at}
-use Rattle.gw_rules.specs.View.{View, after_turn, view_from, at_first}
+use Rattle.gw_rules.specs.View.{View, Make, after_turn, view_from, at_first}
 use Rattle.gw_rules.proofs.BusyLemmas.{linked-free}
-use Rattle.gw_rules.proofs.CourseLemmas.{outside_from-moves}
+use Rattle.gw_rules.proofs.CourseLemmas.{outside_from-moves, stands-more, stands-outside}
 use Rattle.gw_rules.proofs.KeptLemmas.{Kept, kept_in, without_asker, change_none, moves-kept}
 use Rattle.gw_rules.proofs.LinkLawLemmas.{found-by, get-setting}
 use Rattle.gw_rules.proofs.LinkedLemmas.{Agrees, AreConfigured, call-settled, course-agrees, first-fits, made-at-turns, turn-agrees}
 use Rattle.gw_rules.proofs.PrefixLemmas.{Along}
 use Rattle.gw_rules.proofs.SilenceLemmas.{IsLateTalk, late-before-poll}
-use Rattle.gw_rules.proofs.SplitLemmas.{split-at, split-log, split-agrees, split-outside, moves-setup}
+use Rattle.gw_rules.proofs.SplitLemmas.{split-at, split-log, split-agrees, split-stands, moves-setup}
 
 -- ---- a terminal that registers
 
@@ -95,28 +95,48 @@ kept-silent setup pt terminal heard log silent rest turn v a is k at onward sile
       onward = z.onward;
     }
 
+-- after a turn of a run this was kept of the terminal, and this was heard on its link, and these turns come
+pub record KeptFrom (setup : Setup) (pt : ℕ) (terminal : Terminal) (heard : List ℕ) (log turns : List Turn) : Type 0 where
+  pub view : View
+  pub before : Stands log view
+  pub agrees : Agrees view
+  pub setup_is : view.scene.setup ≡ Some setup
+  pub kept : Kept pt terminal heard view
+  pub onward : Along view turns
+
+-- a terminal that was linked in a run
+pub registers-linked : (before run turns : List Turn) (setup : Setup) (settings : Pt) (pt : ℕ) → IsLawful (before ++ Start setup ∷ (run ++ Linked pt ∷ turns)) → IsQuiet run → slice_get setup.terminals pt ≡ Some settings
+    → KeptFrom setup pt (registered settings (outside_of (before ++ Start setup ∷ run)).moment) [] ((before ++ Start setup ∷ run) ++ Linked pt ∷ []) turns
+registers-linked before run turns setup settings pt lawful quiet configured =
+    let x = split-log before (Start setup) (run ++ Linked pt ∷ turns) lawful in
+    let v = view_from at_first x.first in
+    let began = after_turn v (Start setup) in
+    let began_agrees = turn-agrees v (Start setup) (split-agrees before (Start setup) (run ++ Linked pt ∷ turns) x) x.allowed in
+    let y = split-at began x.onward.moves run (Linked pt) turns x.onward.turns_are x.onward.lawful in
+    let u = view_from began y.first in
+    let u_agrees = course-agrees began y.first began_agrees y.lawful in
+    let u_setup : u.scene.setup ≡ Some setup = moves-setup began y.first (subst IsQuiet (sym y.first_are) quiet) in
+    let log : List Turn = before ++ Start setup ∷ run in
+    let u_stands : Stands log u = subst (λ l. Stands (before ++ Start setup ∷ l) u) y.first_are (stands-more before v (Make (Start setup) ∷ y.first) (split-stands before (Start setup) (run ++ Linked pt ∷ turns) x) (x.allowed, y.lawful)) in
+    let s = call-settled u (LinkPt pt) u_agrees y.allowed in
+    let none = linked-free pt began y.first began_agrees refl y.lawful y.allowed s in
+    let w = after_turn u (Linked pt) in
+    record {
+      view = w;
+      before = stands-more log u (Make (Linked pt) ∷ []) u_stands (y.allowed, tt);
+      agrees = turn-agrees u (Linked pt) u_agrees y.allowed;
+      setup_is = u_setup;
+      kept = subst (λ (o : Outside). Kept pt (registered settings o.moment) [] w) (stands-outside log u u_stands) (linked-kept u setup settings pt u_agrees y.allowed u_setup configured none);
+      onward = y.onward;
+    }
+
 -- a terminal that was linked in a run, and of which nothing was heard since
 pub registers-silent : (before run silent rest : List Turn) (setup : Setup) (settings : Pt) (pt : ℕ) (turn : Turn) → IsLawful (before ++ Start setup ∷ (run ++ Linked pt ∷ (silent ++ turn ∷ rest))) → IsQuiet run → IsSilentIn pt silent → slice_get setup.terminals pt ≡ Some settings
     → KeptUpTo setup pt (registered settings (outside_of (before ++ Start setup ∷ run)).moment) [] (((before ++ Start setup ∷ run) ++ Linked pt ∷ []) ++ silent) turn rest
 registers-silent before run silent rest setup settings pt turn lawful quiet silence configured =
-    let x = split-log before (Start setup) (run ++ Linked pt ∷ (silent ++ turn ∷ rest)) lawful in
-    let v = view_from at_first x.first in
-    let began = after_turn v (Start setup) in
-    let began_agrees = turn-agrees v (Start setup) (split-agrees before (Start setup) (run ++ Linked pt ∷ (silent ++ turn ∷ rest)) x) x.allowed in
-    let y = split-at began x.onward.moves run (Linked pt) (silent ++ turn ∷ rest) x.onward.turns_are x.onward.lawful in
-    let u = view_from began y.first in
-    let u_agrees = course-agrees began y.first began_agrees y.lawful in
-    let u_setup : u.scene.setup ≡ Some setup = moves-setup began y.first (subst IsQuiet (sym y.first_are) quiet) in
-    let s = call-settled u (LinkPt pt) u_agrees y.allowed in
-    let none = linked-free pt began y.first began_agrees refl y.lawful y.allowed s in
-    let w = after_turn u (Linked pt) in
-    let w_kept = linked-kept u setup settings pt u_agrees y.allowed u_setup configured none in
     let log : List Turn = before ++ Start setup ∷ run in
-    let at : u.scene.outside ≡ outside_of log =
-    outside_from-moves began y.first ∙ ap (λ l. outside_from began.scene.outside l) y.first_are ∙ ap (λ o. outside_from (outside_after o (Start setup)) run) (split-outside before (Start setup) (run ++ Linked pt ∷ (silent ++ turn ∷ rest)) x)
-    ∙ sym (outside_of-append before (Start setup ∷ run)) in
-    kept-silent setup pt (registered settings (outside_of log).moment) [] (log ++ Linked pt ∷ []) silent rest turn w (turn-agrees u (Linked pt) u_agrees y.allowed) u_setup
-    (subst (λ (o : Outside). Kept pt (registered settings o.moment) [] w) at w_kept) (ap (λ o. outside_after o (Linked pt)) at ∙ sym (outside_of-append log (Linked pt ∷ []))) y.onward silence
+    let k = registers-linked before run (silent ++ turn ∷ rest) setup settings pt lawful quiet configured in
+    kept-silent setup pt (registered settings (outside_of log).moment) [] (log ++ Linked pt ∷ []) silent rest turn k.view k.agrees k.setup_is k.kept (stands-outside (log ++ Linked pt ∷ []) k.view k.before) k.onward silence
 
 -- ---- the law
 

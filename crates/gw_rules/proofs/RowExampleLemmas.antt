@@ -25,7 +25,7 @@ use Rattle.gw_rules.proofs.TextLemmas.{bytes-tested, ident-tested, setup-formed}
 
 -- ---- a terminal
 
-pt-formed : IsPt example_pt
+pub pt-formed : IsPt example_pt
 pt-formed = record {
   poi = ident-tested 40 example_pt.poi refl;
   password = (refl, passes_bcd example_pt.password refl);

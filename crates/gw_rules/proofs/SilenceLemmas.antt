@@ -160,7 +160,7 @@ late-read pt moment terminal heard v as_read (inl w) r = by_owed w.owed
       owed = inl (read-late pt as_read v.items among);
     })
 
-of-round-quiet : (turn : Turn) → is_sort_of_round (sort_of turn) ≡ true → is_between turn ≡ false
+pub of-round-quiet : (turn : Turn) → is_sort_of_round (sort_of turn) ≡ true → is_between turn ≡ false
 of-round-quiet turn e = by_sort (sort_of turn) e
   where
     by_sort : (sort : TurnSort) → is_sort_of_round sort ≡ true → is_sort_between sort ≡ false

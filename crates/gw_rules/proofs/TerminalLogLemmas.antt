@@ -25,12 +25,12 @@ use Rattle.gw_rules.proofs.TestedLemmas.{passes_course, course-tested}
 use Rattle.gw_rules.proofs.RegistrationLemmas.{silent-registration-is-cut}
 
 -- the moves after the start
-abbrev after_start : List Move → List Move
+abbrev pub after_start : List Move → List Move
 after_start [] = []
 after_start (move ∷ moves) = moves
 
 -- a course from the start on
-from-start : (moves : List Move) → passes_course (after at_first (Make (Start terminal_setup))) moves ≡ true → IsCourse at_first (Make (Start terminal_setup) ∷ moves)
+pub from-start : (moves : List Move) → passes_course (after at_first (Make (Start terminal_setup))) moves ≡ true → IsCourse at_first (Make (Start terminal_setup) ∷ moves)
 from-start moves e = ((refl, formed), course-tested (after at_first (Make (Start terminal_setup))) moves e)
 
 pub ready-lawful : ReadyIsLawful
@@ -99,7 +99,7 @@ poll-before-link = record {
 }
 
 -- a poll ends no link
-poll-ends-none : (now : ℤ) → EndsLink 0 (Polled now) → ⊥
+pub poll-ends-none : (now : ℤ) → EndsLink 0 (Polled now) → ⊥
 poll-ends-none now (inl lost) = absurd (let n : Polled now ≡ Lost 0 = lost in cc)
 poll-ends-none now (inr (inl cut)) = absurd (let n : Polled now ≡ CutPt 0 = cut in cc)
 poll-ends-none now (inr (inr failed)) = absurd (let n : Polled now ≡ LinkFailed 0 = failed in cc)
@@ -160,7 +160,7 @@ polled-silent before now silent = record { quiet = (refl, silent.quiet); unheard
     none_heard (inl (heard, e)) = absurd (let n : Polled now ≡ HeardPt 0 heard = e in cc)
     none_heard (inr e) = absurd (let n : Polled now ≡ Lost 0 = e in cc)
 
-none-cut : (pt : ℕ) → IsPtCutIn pt [] → ⊥
+pub none-cut : (pt : ℕ) → IsPtCutIn pt [] → ⊥
 none-cut pt ([], rest, e) = absurd (let n : [] ≡ CutPt pt ∷ rest = e in cc)
 none-cut pt (x ∷ first, rest, e) = absurd (let n : [] ≡ x ∷ (first ++ CutPt pt ∷ rest) = e in cc)
 

@@ -1,7 +1,7 @@
 -- The triple: one call after the other, weaker conditions, facts that stay, and what a single call keeps.
 use Rattle.std.proofs.Common.{◌≡◌, List, [], ◌∷◌, ◌++◌, refl, sym, ◌∙◌, ap, subst, append_assoc, append-nil}
 use Rattle.std.specs.Prelude.{ℕ, Bool, true, false, not, Option, Some, None}
-use Rattle.gw_site.specs.Observed.{Observed, Grows, Added}
+use Rattle.gw_site.specs.Observed.{Observed, Origin, GrowsAfter, Added}
 use Rattle.gw_site.specs.Outside.{is_connected}
 use Rattle.gw_site.specs.declared.turn.Turn.{Turn}
 use Rattle.gw_owes.specs.Items.{RoundItem, Message, Asked}
@@ -9,17 +9,17 @@ use Rattle.gw_owes.specs.ReadAs.{ReadAs, IsReadAs}
 use Rattle.gw_rules.specs.Lawful.{may_begin, Allowed, IsCourse, turns_of, Stands}
 use Rattle.gw_rules.specs.Scene.{Scene, row_at}
 use Rattle.gw_rules.specs.Stage.{is_round}
-use Rattle.gw_rules.specs.Triple.{Extends, Triple, Owing}
+use Rattle.gw_rules.specs.Triple.{Extends, Triple, Owing, TakesAlong}
 use Rattle.gw_site.specs.Sorts.{IsQuiet}
-use Rattle.gw_rules.specs.View.{View, Move, Begin, Read, after, view_from, begun, at_item}
-use Rattle.gw_rules.proofs.CourseLemmas.{view_from-append, course-append, course-prefix, turns_of-append, makes, turns_of-makes, makes-append, quiet-append, quiet-prefix, stands-more}
+use Rattle.gw_rules.specs.View.{View, Move, Begin, Read, Make, after, view_from, begun, at_item}
+use Rattle.gw_rules.proofs.CourseLemmas.{view_from-append, course-append, course-prefix, turns_of-append, makes, turns_of-makes, makes-append, quiet-append, quiet-prefix, stands-more, takes-append, takes-prefix}
 
--- what a call may do is lawful from a view on, and leads to Q
-pub record Leads (Call : List Turn → Type 0) (v : View) (Q : View → Type 0) : Type 0 where
-  pub each : (turns : List Turn) → Call turns → IsCourse v (makes turns) × IsQuiet turns × Q (view_from v (makes turns))
+-- what a call may do after this log is lawful from a view on, takes what the origin says, and leads to Q
+pub record Leads (origin : Origin) (before : List Turn) (Call : List Turn → Type 0) (v : View) (Q : View → Type 0) : Type 0 where
+  pub each : (turns : List Turn) → Call turns → IsCourse v (makes turns) × IsQuiet turns × TakesAlong origin before v (makes turns) × Q (view_from v (makes turns))
 
 pub nothing-extends : (before : List Turn) (v : View) (new : Observed) (Q : View → Type 0) → new.log ≡ Some before → (new.dark ≡ false → Q v) → Extends before v new Q
-nothing-extends before v new Q l q = record { moves = []; log_is = rw append-nil l; lawful = tt; quiet = tt; owed = q }
+nothing-extends before v new Q l q = record { moves = []; log_is = rw append-nil l; lawful = tt; takes = tt; quiet = tt; owed = q }
 
 pub triple-refl : (s : Observed) (P : View → Type 0) → Triple s s P P
 triple-refl s P = record {
@@ -38,6 +38,7 @@ extends-then before v b c Q R stands x k =
       moves = x.moves ++ y.moves;
       log_is = y.log_is ∙ ap Some (sym e);
       lawful = course-append v x.moves y.moves x.lawful y.lawful;
+      takes = takes-append c.origin before v x.moves y.moves (subst (λ origin. TakesAlong origin before v x.moves) (sym k.origin) x.takes) y.takes;
       quiet = rw turns_of-append (quiet-append (turns_of x.moves) (turns_of y.moves) x.quiet y.quiet);
       owed = λ d. rw view_from-append (y.owed d);
     }
@@ -55,7 +56,7 @@ pub triple-weaker : (a b : Observed) (P' P Q Q' : View → Type 0) → ((v : Vie
 triple-weaker a b P' P Q Q' f g k = record {
   observed = λ before v e stands p.
       let x = k.observed before v e stands (λ d. f v (p d)) in
-      record { moves = x.moves; log_is = x.log_is; lawful = x.lawful; quiet = x.quiet; owed = λ d. g (view_from v x.moves) (x.owed d) };
+      record { moves = x.moves; log_is = x.log_is; lawful = x.lawful; takes = x.takes; quiet = x.quiet; owed = λ d. g (view_from v x.moves) (x.owed d) };
   unobserved = k.unobserved;
   stays = k.stays;
   still = k.still;
@@ -77,7 +78,7 @@ pub triple-frame : (a b : Observed) (P Q : View → Type 0) (A : Type 0) → Tri
 triple-frame a b P Q A k = record {
   observed = λ before v e stands p.
       let x = k.observed before v e stands (λ d. (p d).0) in
-      record { moves = x.moves; log_is = x.log_is; lawful = x.lawful; quiet = x.quiet; owed = λ d. (x.owed d, (p (lit-before a.dark a b refl k.stays d)).1) };
+      record { moves = x.moves; log_is = x.log_is; lawful = x.lawful; takes = x.takes; quiet = x.quiet; owed = λ d. (x.owed d, (p (lit-before a.dark a b refl k.stays d)).1) };
   unobserved = k.unobserved;
   stays = k.stays;
   still = k.still;
@@ -100,7 +101,7 @@ triple-some a b P Q w k = record {
 }
 
 extends-by : (before turns added : List Turn) (v : View) (new : Observed) (Q : View → Type 0) (d n : Bool) → new.dark ≡ n → Added d n turns added → new.log ≡ Some (before ++ added) →
-    (d ≡ false → IsCourse v (makes turns) × IsQuiet turns × Q (view_from v (makes turns))) → Extends before v new Q
+    (d ≡ false → IsCourse v (makes turns) × IsQuiet turns × TakesAlong new.origin before v (makes turns) × Q (view_from v (makes turns))) → Extends before v new Q
 extends-by before turns added v new Q true true n_is a l step = nothing-extends before v new Q (l ∙ ap (λ t. Some (before ++ t)) a ∙ ap Some (append-nil before)) (λ e. absurd (let h : true ≡ false = sym n_is ∙ e in cc))
 extends-by before turns added v new Q true false n_is a l step = absurd a
 extends-by before turns added v new Q false true n_is a l step =
@@ -110,6 +111,7 @@ extends-by before turns added v new Q false true n_is a l step =
       moves = makes added;
       log_is = rw turns_of-makes l;
       lawful = course-prefix v (makes added) (makes a.0) (rw e at s.0);
+      takes = takes-prefix new.origin before v (makes added) (makes a.0) (rw e at s.2);
       quiet = rw turns_of-makes (quiet-prefix added a.0 (rw a.1 at s.1));
       owed = λ e. absurd (let h : true ≡ false = sym n_is ∙ e in cc);
     }
@@ -119,8 +121,9 @@ extends-by before turns added v new Q false false n_is a l step =
       moves = makes turns;
       log_is = rw (turns_of-makes, ← a) l;
       lawful = s.0;
+      takes = s.2;
       quiet = rw turns_of-makes s.1;
-      owed = λ e. s.2;
+      owed = λ e. s.3;
     }
 
 still-by : (before : List Turn) (old new : Observed) → old.log ≡ Some before → (d n : Bool) → (turns added : List Turn) → d ≡ true → Added d n turns added → new.log ≡ Some (before ++ added) → new.log ≡ old.log
@@ -128,17 +131,18 @@ still-by before old new e true true turns added t a l = rw (e, l, a, append-nil)
 still-by before old new e true false turns added t a l = absurd a
 still-by before old new e false n turns added t a l = absurd (cc)
 
-grows-still : (old new : Observed) (Call : List Turn → Type 0) → Grows old new Call → (o : Option (List Turn)) → old.log ≡ o → old.dark ≡ true → new.log ≡ old.log
+grows-still : (old new : Observed) (Call : List Turn → List Turn → Type 0) → GrowsAfter old new Call → (o : Option (List Turn)) → old.log ≡ o → old.dark ≡ true → new.log ≡ old.log
 grows-still old new Call grows None e d = grows.unobserved e ∙ sym e
 grows-still old new Call grows (Some before) e d = let x = grows.observed before e in still-by before old new e old.dark new.dark x.0 x.1 d x.3 x.4
 
 -- a single call of a site, where each of its turns is allowed
-pub call-triple : (old new : Observed) (Call : List Turn → Type 0) (P Q : View → Type 0) → Grows old new Call →
-    ((before : List Turn) (v : View) → old.log ≡ Some before → Stands before v → P v → Leads Call v Q) → Triple old new P Q
+pub call-triple : (old new : Observed) (Call : List Turn → List Turn → Type 0) (P Q : View → Type 0) → GrowsAfter old new Call →
+    ((before : List Turn) (v : View) → old.log ≡ Some before → Stands before v → P v → Leads old.origin before (Call before) v Q) → Triple old new P Q
 call-triple old new Call P Q grows step = record {
   observed = λ before v e stands p.
       let x = grows.observed before e in
-      extends-by before x.0 x.1 v new Q old.dark new.dark refl x.3 x.4 (λ d. (step before v e stands (p d)).each x.0 x.2);
+      let leads = λ (d : old.dark ≡ false). (step before v e stands (p d)).each x.0 x.2 in
+      extends-by before x.0 x.1 v new Q old.dark new.dark refl x.3 x.4 (λ d. ((leads d).0, (leads d).1, subst (λ origin. TakesAlong origin before v (makes x.0)) (sym grows.origin) (leads d).2, (leads d).3));
   unobserved = grows.unobserved;
   stays = grows.stays;
   still = λ d. grows-still old new Call grows old.log refl d;
@@ -147,12 +151,17 @@ call-triple old new Call P Q grows step = record {
 
 -- ---- moves that make no call
 
+takes-nothing : (origin : Origin) (before : List Turn) (v : View) (move : Move) → turns_of (move ∷ []) ≡ [] → TakesAlong origin before v (move ∷ [])
+takes-nothing origin before v Begin none = tt
+takes-nothing origin before v (Read as_read) none = tt
+takes-nothing origin before v (Make turn) none = absurd (let h : turn ∷ [] ≡ [] = none in cc)
+
 quiet-observed : (s : Observed) (P : View → Type 0) (move : Move) (Q : View → Type 0) → ((v : View) → P v → Allowed v move × Q (after v move)) → turns_of (move ∷ []) ≡ [] →
     (d : Bool) → s.dark ≡ d → (before : List Turn) (v : View) → s.log ≡ Some before → (s.dark ≡ false → P v) → Extends before v s Q
 quiet-observed s P move Q step none true d before v e p = nothing-extends before v s Q e (λ f. absurd (let h : true ≡ false = sym d ∙ f in cc))
 quiet-observed s P move Q step none false d before v e p =
     let b = step v (p d) in
-    record { moves = move ∷ []; log_is = rw none (rw append-nil e); lawful = (b.0, tt); quiet = rw none tt; owed = λ f. b.1 }
+    record { moves = move ∷ []; log_is = rw none (rw append-nil e); lawful = (b.0, tt); takes = takes-nothing s.origin before v move none; quiet = rw none tt; owed = λ f. b.1 }
 
 -- a move that makes no turn
 pub quiet-triple : (s : Observed) (P : View → Type 0) (move : Move) (Q : View → Type 0) → ((v : View) → P v → Allowed v move × Q (after v move)) → turns_of (move ∷ []) ≡ [] → Triple s s P Q

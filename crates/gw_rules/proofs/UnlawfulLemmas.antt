@@ -52,7 +52,7 @@ take-owed v call turn turns next x = by_moves x.moves x.turns_are x.lawful
     by_moves (Make first ∷ moves) e h = split-make v first turn moves turns e h.0 h.1
 
 -- where an item may begin and the next turn may not come, the item begins
-begin-next : (v : View) (turn : Turn) (turns : List Turn) → may_begin v.scene v.items ≡ true → (AllowedTurn v turn → ⊥) → Along v (turn ∷ turns) → Along (after v Begin) (turn ∷ turns)
+pub begin-next : (v : View) (turn : Turn) (turns : List Turn) → may_begin v.scene v.items ≡ true → (AllowedTurn v turn → ⊥) → Along v (turn ∷ turns) → Along (after v Begin) (turn ∷ turns)
 begin-next v turn turns begins refused x = by_moves x.moves x.turns_are x.lawful
   where
     by_moves : (moves : List Move) → turns_of moves ≡ turn ∷ turns → IsCourse v moves → Along (after v Begin) (turn ∷ turns)
@@ -101,13 +101,13 @@ no-send v till bytes true none ok = no-call v.calls (SendTill till ok.0) none ok
 no-send v till bytes false none ok = no-call v.calls (SendTill till ok.0) none ok.1
 
 -- no poll where something is owed
-no-poll-call : (v : View) (now : ℤ) (call : OwedCall) → first_call v.calls ≡ Some call → AllowedTurn v (Polled now) → ⊥
+pub no-poll-call : (v : View) (now : ℤ) (call : OwedCall) → first_call v.calls ≡ Some call → AllowedTurn v (Polled now) → ⊥
 no-poll-call v now call next ok = no-call v.calls call ok.calls next
 
 no-poll-message : (v : View) (now : ℤ) (bytes : List ℕ) → first_message v.items ≡ Some bytes → AllowedTurn v (Polled now) → ⊥
 no-poll-message v now bytes message ok = let n : None ≡ Some bytes = sym (ap first_message ok.items) ∙ message in cc
 
-no-poll-item : (v : View) (now : ℤ) → may_begin v.scene v.items ≡ true → AllowedTurn v (Polled now) → ⊥
+pub no-poll-item : (v : View) (now : ℤ) → may_begin v.scene v.items ≡ true → AllowedTurn v (Polled now) → ⊥
 no-poll-item v now begins ok = no-true (sym (ap (may_begin v.scene) ok.items) ∙ begins)
 
 opened-along : (turns : List Turn) → IsLawful (opened_log ++ turns) → Along (view_from at_first (makes opened_log)) turns

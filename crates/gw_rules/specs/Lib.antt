@@ -1,4 +1,10 @@
 -- The definitions of lawful logs: what is owed after each turn, and which turn may come next.
+pub mod CauseExample
+pub mod ChunkExample
+pub mod ChunkLaws
+pub mod CutCauses
+pub mod CutExample
+pub mod DialogueLaws
 pub mod Example
 pub mod JournalFiles
 pub mod Lawful
@@ -8,7 +14,9 @@ pub mod LinkLaws
 pub mod Opening
 pub mod RowExample
 pub mod Scene
+pub mod SilenceLaws
 pub mod Stage
 pub mod TerminalLogExample
+pub mod TranscriptLaws
 pub mod Triple
 pub mod View

@@ -1,30 +1,63 @@
 -- The contract of whatever drives a site: a triple over the view, from before its calls to after them.
 use Rattle.std.specs.Prelude.{◌≡◌, ◌⊎◌, ℕ, ℤ, map, Result, Ok, Err, true, false, List, [], ◌∷◌, ◌++◌, Some, None}
 use Rattle.gw_base.specs.declared.setup.Setup.{Setup}
-use Rattle.gw_site.specs.Observed.{Observed}
+use Rattle.gw_site.specs.Observed.{Observed, Origin}
 use Rattle.gw_site.specs.declared.turn.Turn.{Turn}
-use Rattle.gw_site.specs.declared.turn.Turn.TheVariants.{Start, OpenFailed, Polled, Linked, LinkFailed, SentTill, SentPt, CutPt, Crash}
-use Rattle.gw_site.specs.Turns.{event_turns, IsPromised}
+use Rattle.gw_site.specs.declared.turn.Turn.TheVariants.{Start, OpenFailed, Polled, Opened, HeardTill, Closed, HeardPt, Lost, Stopped, Linked, LinkFailed, SentTill, SentPt, CutTill as TurnCutTill, CutPt, Wrote, Synced, DiskFailed, Crash}
+use Rattle.gw_site.specs.Turns.{event_turns, IsPromised, IsTaken}
 use Rattle.gw_site.specs.declared.site.What.{What}
-use Rattle.gw_owes.specs.Calls.{OwedCall, CutTill, CutPt as OwedCutPt}
+use Rattle.gw_owes.specs.Calls.{OwedCall, Sending, SendTill, SendPt, CutTill, CutPt as OwedCutPt, sending_bytes}
+use Rattle.gw_owes.specs.Reply.{ReplyValue, reply_value_bytes}
 use Rattle.gw_owes.specs.Core.{new_core}
 use Rattle.gw_owes.specs.Items.{RoundItem}
 use Rattle.gw_owes.specs.Row.{Row}
-use Rattle.gw_rules.specs.Lawful.{IsCourse, turns_of, Stands, IsClear}
+use Rattle.gw_rules.specs.Lawful.{IsCourse, IsNext, turns_of, Stands, IsClear}
 use Rattle.gw_rules.specs.Scene.{Scene, link_made_at, link_lost_at}
 use Rattle.gw_rules.specs.Stage.{Opening}
 use Rattle.gw_site.specs.Sorts.{IsQuiet}
-use Rattle.gw_rules.specs.View.{View, Move, Make, view_from, called}
+use Rattle.gw_rules.specs.View.{View, Move, Begin, Read, Make, after, after_turn, view_from, called}
 
--- Inner: the log goes on from this view by allowed moves, none of which begins a run or fails the power; where the site isn't dark then, Q holds of the view
+-- after this log, where the turn is that of a send that failed, what it has taken of the bytes owed is what the origin says
+abbrev pub TakesOwed : Origin → List Turn → View → Turn → Type 0
+TakesOwed origin before v (Start setup) = Unit {0}
+TakesOwed origin before v OpenFailed = Unit {0}
+TakesOwed origin before v (Polled now) = Unit {0}
+TakesOwed origin before v (Opened till) = Unit {0}
+TakesOwed origin before v (HeardTill till bytes) = Unit {0}
+TakesOwed origin before v (Closed till) = Unit {0}
+TakesOwed origin before v (HeardPt pt bytes) = Unit {0}
+TakesOwed origin before v (Lost pt) = Unit {0}
+TakesOwed origin before v Stopped = Unit {0}
+TakesOwed origin before v (Linked pt) = Unit {0}
+TakesOwed origin before v (LinkFailed pt) = Unit {0}
+TakesOwed origin before v (SentTill till bytes true) = Unit {0}
+TakesOwed origin before v (SentTill till bytes false) = (reply : ReplyValue) × IsNext v (SendTill till reply) × IsTaken (origin.till_limit before till) (reply_value_bytes reply) bytes
+TakesOwed origin before v (SentPt pt bytes true) = Unit {0}
+TakesOwed origin before v (SentPt pt bytes false) = (sending : Sending) × IsNext v (SendPt pt sending) × IsTaken (origin.pt_limit before pt) (sending_bytes sending) bytes
+TakesOwed origin before v (TurnCutTill till) = Unit {0}
+TakesOwed origin before v (CutPt pt) = Unit {0}
+TakesOwed origin before v (Wrote offset bytes) = Unit {0}
+TakesOwed origin before v Synced = Unit {0}
+TakesOwed origin before v DiskFailed = Unit {0}
+TakesOwed origin before v (Crash file) = Unit {0}
+
+-- along the moves, which go on from this log and view, each send that failed has taken what the origin says
+abbrev pub TakesAlong : Origin → List Turn → View → List Move → Type 0
+TakesAlong origin before v [] = Unit {0}
+TakesAlong origin before v (Begin ∷ moves) = TakesAlong origin before (after v Begin) moves
+TakesAlong origin before v (Read as_read ∷ moves) = TakesAlong origin before (after v (Read as_read)) moves
+TakesAlong origin before v (Make turn ∷ moves) = TakesOwed origin before v turn × TakesAlong origin (before ++ turn ∷ []) (after_turn v turn) moves
+
+-- the log goes on from this view by allowed moves, none of which begins a run or fails the power, and in which each send that failed has taken what the origin says; where the site isn't dark then, Q holds of the view
 pub record Extends (before : List Turn) (v : View) (new : Observed) (Q : View → Type 0) : Type 0 where
   pub moves : List Move
   pub log_is : new.log ≡ Some (before ++ turns_of moves)
   pub lawful : IsCourse v moves
+  pub takes : TakesAlong new.origin before v moves
   pub quiet : IsQuiet (turns_of moves)
   pub owed : new.dark ≡ false → Q (view_from v moves)
 
--- Inner: Where a lawful log is observed, and P holds of its view unless the site is dark, the log goes on lawfully, and Q holds of the view then unless the site is dark. A dark site adds nothing and stays dark.
+-- Where a lawful log is observed, and P holds of its view unless the site is dark, the log goes on lawfully, and Q holds of the view then unless the site is dark. A dark site adds nothing and stays dark.
 pub record Triple (old new : Observed) (P Q : View → Type 0) : Type 0 where
   pub observed : (before : List Turn) (v : View) → old.log ≡ Some before → Stands before v → (old.dark ≡ false → P v) → Extends before v new Q
   pub unobserved : old.log ≡ None → new.log ≡ None
@@ -32,7 +65,7 @@ pub record Triple (old new : Observed) (P Q : View → Type 0) : Type 0 where
   pub still : old.dark ≡ true → new.log ≡ old.log
   pub origin : new.origin ≡ old.origin
 
--- Inner: the view has this scene, these calls and these items
+-- the view has this scene, these calls and these items
 abbrev pub Owing : Scene → List OwedCall → List RoundItem → View → Type 0
 Owing scene calls items v = v ≡ record { scene = scene; calls = calls; items = items }
 
@@ -67,7 +100,7 @@ event_view scene now what buf = view_from (record { scene = scene; calls = []; i
 abbrev pub AtEvent : Scene → ℤ → What → List ℕ → View → Type 0
 AtEvent scene now what buf v = (v ≡ event_view scene now what buf) × IsPromised scene.outside what
 
--- Inner: a run with this setup has just begun
+-- a run with this setup has just begun
 pub record IsNewRun (setup : Setup) (scene : Scene) : Type 0 where
   pub setup_is : scene.setup ≡ Some setup
   pub stage : scene.stage ≡ Opening false
@@ -76,7 +109,7 @@ pub record IsNewRun (setup : Setup) (scene : Scene) : Type 0 where
   pub polls : scene.polls ≡ 0
   pub core_is : scene.core ≡ new_core setup
 
--- Inner: and nothing is owed yet
+-- and nothing is owed yet
 abbrev pub JustBegun : Setup → View → Type 0
 JustBegun setup v = (scene : Scene) × Owing scene [] [] v × IsNewRun setup scene
 
@@ -100,18 +133,18 @@ IsBegun setup turns = (turns ≡ []) ⊎ IsStarted setup turns
 abbrev pub IsRun : Setup → List Turn → Type 0
 IsRun setup turns = (turns ≡ []) ⊎ ((turns ≡ OpenFailed ∷ []) ⊎ IsStarted setup turns)
 
--- the log goes on from before by turns of this shape, and is lawful; where there are none the site is dark, and where it isn't, Q holds of the view
-pub record Ran (before : List Turn) (new : Observed) (Shape : List Turn → Type 0) (Q : View → Type 0) : Type 0 where
-  pub view : View
-  pub added : List Turn
-  pub log_is : new.log ≡ Some (before ++ added)
-  pub lawful : Stands (before ++ added) view
-  pub shape : Shape added
-  pub none : added ≡ [] → new.dark ≡ true
-  pub owed : new.dark ≡ false → Q view
+-- the log goes on from this view by allowed moves, with turns of this shape, and each send that failed has taken what the origin says; where there are none the site is dark, and where it isn't, Q holds of the view
+pub record Ran (before : List Turn) (v : View) (new : Observed) (Shape : List Turn → Type 0) (Q : View → Type 0) : Type 0 where
+  pub moves : List Move
+  pub log_is : new.log ≡ Some (before ++ turns_of moves)
+  pub lawful : IsCourse v moves
+  pub takes : TakesAlong new.origin before v moves
+  pub shape : Shape (turns_of moves)
+  pub none : turns_of moves ≡ [] → new.dark ≡ true
+  pub owed : new.dark ≡ false → Q (view_from v moves)
 
 -- Where a lawful and clear log is observed, one run at most is added to it, lawfully.
 pub record RunTriple (old new : Observed) (Shape : List Turn → Type 0) (Q : View → Type 0) : Type 0 where
-  pub observed : (before : List Turn) (v : View) → old.log ≡ Some before → Stands before v → IsClear v → Ran before new Shape Q
+  pub observed : (before : List Turn) (v : View) → old.log ≡ Some before → Stands before v → IsClear v → Ran before v new Shape Q
   pub unobserved : old.log ≡ None → new.log ≡ None
   pub origin : new.origin ≡ old.origin

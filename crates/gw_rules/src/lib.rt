@@ -4,9 +4,17 @@
 ghost use Rattle.gw_rules.specs.Example.{BadFrameIsLawful, CrashLeavesNoOther, CrashedIsLawful, CrowdedIsLawful, DiskFailureEnds, FailedSendIsLawful, GateEndsLooking, LooksMayFail, NoRunWhereNotOpened, NothingToLookAt, NothingToLookAtLater, PollBeforeCut, PollBeforeReply, PollEndsLooking, PollWhileCrowded, RefusedIsNotPolled, RestartedIsLawful, SilentIsLawful, StatusIsLawful, UnaskedReply};
 ghost use Rattle.gw_rules.specs.JournalFiles.{EachHasJournalFiles, KeepingHasJournal, KeepingLeavesJournals, KeptFileIsJournal, OpenedHasJournal, OpeningHasJournal, OpeningLeavesJournalFiles};
 ghost use Rattle.gw_rules.specs.RowExample.{BothAreItems, ClosedGateDrops, FailedSendCutsLink, FailedSyncCrashes, GateIsInFlight, GoneTillIsForgotten, LinkIsDueAgain, LinkRegisters, LostEndOfDayReplies, LostIsDue, LostTransactionKeepsAsker, OpenGateKeeps, PollBeforeUnframedCut, RowItemsComeFirst, SendingsAreSpelled, StartLeavesFlight, SyncKeeps, UnframedIsLawful, UnlinkedIsLawful, WaitsByDeadline};
+ghost use Rattle.gw_rules.specs.CauseExample.{OutsideIsCause, OutsideIsCut, PollBeforeOutsideCut, PollBeforeTooLongCut, SplitReport, TooLongIsCause, TooLongIsCut};
+ghost use Rattle.gw_rules.specs.ChunkExample.{PollBeforeSplitEnquiry, SplitIsEnquired};
+ghost use Rattle.gw_rules.specs.ChunkLaws.{DoneAtOnceIsEnquired};
+ghost use Rattle.gw_rules.specs.CutCauses.{EachPtCutHasCause, FailedSendCuts};
+ghost use Rattle.gw_rules.specs.DialogueLaws.{DoneRegistrationIsEnquired, ReportMakesReady};
+ghost use Rattle.gw_rules.specs.CutExample.{BothAreCut, BothAreLinkedAgain, EnquiryUnacknowledged, OtherIsNotCutFirst, PollBeforeOtherCut, UnacknowledgedDoneIsCut};
 ghost use Rattle.gw_rules.specs.LinkLaws.{DueIsTried, EachUsesLinks, EnquiryFollowsRegistration, LinkedRegisters, OutsideCuts, SilentEnquiryIsCut, SilentRegistrationIsCut, TriedOnceRested, UnfinishedRegistrationIsCut};
+ghost use Rattle.gw_rules.specs.SilenceLaws.{SilentDialogueIsCut};
 ghost use Rattle.gw_rules.specs.TerminalLogExample.{DeclinedIsLawful, DoneIsEnquired, DoneThenSilentIsCut, DueAgainIsLawful, EnquiryAfterCut, EnquiryBeforeRegistration, LinkTooEarly, PollBeforeEnquiry, PollBeforeLink, PollBeforeSilentCut, ReadyIsLawful, SilentEnquiryIsLawful, SilentRegistrationIsLawful, UnacknowledgedIsLawful, UnfinishedIsCut};
 ghost use Rattle.gw_rules.specs.Laws.{BadFrameCuts, CallsEndInOne, CrowdedCuts, EachHasOneLeanCourse, EachHeardIsBytes, PrefixIsLawful, PtBytesBring, RestartIsLawful, SetupIsWithinLimits, TillBytesBring};
+ghost use Rattle.gw_rules.specs.TranscriptLaws.{EachCommandWasSent, EachLogFollowsTranscript, EachMessageWasSaid, EachPollFollowsTranscript, ExampleLogTranscript};
 
 /// Along each lawful log there is exactly one course in which nothing begins unless a turn of its run follows.
 pub fn law_one_course()
@@ -53,7 +61,8 @@ pub fn law_crowded_cuts()
 {}
 
 /// In a lawful log a terminal is sent something, or cut, only while it is linked, and linked only while it isn't. The next turn
-/// after the one that links it sends it its registration, by the run's setup, unless the run ends there.
+/// after the one that links it sends it its registration, by the run's setup, or where that send fails a prefix of it, unless the run
+/// ends there.
 pub fn law_links()
     ensures used { EachUsesLinks }
     ensures registers { LinkedRegisters }
@@ -65,6 +74,16 @@ pub fn law_outside_cuts()
     ensures cuts { OutsideCuts }
 {}
 
+/// In a lawful log a terminal is cut only for these causes: the turn right before is a send to it that has failed; with the bytes that
+/// began the round it has said an APDU outside the grammar, begun one above the limit, or said a message that leaves its dialogue unclear
+/// or declines its registration or enquiry; or the deadline of its dialogue has come. Of these four each is an item that begins right
+/// before the cut, and owes it alone. After a send to it that has failed the next turn
+/// cuts it, unless the run ends there.
+pub fn law_cut_causes()
+    ensures causes { EachPtCutHasCause }
+    ensures failed_send { FailedSendCuts }
+{}
+
 /// In a lawful log, a terminal of the run's setup that isn't linked as a poll comes is linked before the next one, or can't be,
 /// where five seconds have passed since its link last ended or couldn't be made in the run. Before that it isn't tried.
 pub fn law_due_is_tried()
@@ -74,20 +93,59 @@ pub fn law_due_is_tried()
 
 /// In a lawful log, a terminal of which nothing was heard since it was linked, and so since its registration was sent, is cut before
 /// the next poll, once a poll comes that brings nothing of it and is later than the link by the seconds that its settings give it
-/// to acknowledge a command; so is one that has acknowledged its registration and said nothing more, by the seconds that they give
-/// it from one message to the next; and one that was enquired and said nothing more, again by those for a command.
+/// to acknowledge a command; so is one of which nothing but `80 00 00`, in a chunk of its own, was heard on its link, by the seconds
+/// that they give it from one message to the next; and one of which that and then `06 0F 00`, in a chunk of its own, and nothing else
+/// was heard, and that was enquired, by those for a command. `law_silent_dialogue_cuts` says it of every dialogue, along courses.
 pub fn law_silent_cuts()
     ensures registration { SilentRegistrationIsCut }
     ensures unfinished { UnfinishedRegistrationIsCut }
     ensures enquiry { SilentEnquiryIsCut }
 {}
 
-/// In a lawful log, after a terminal that has acknowledged its registration says that it is done, the next turn acknowledges that,
-/// and the one after it enquires the terminal of its last transaction, by the run's setup, unless the run ends there or the
-/// acknowledgement can't be sent.
+/// In a lawful log, after a terminal of which `80 00 00` and then `06 0F 00` were heard, each in a chunk of its own and nothing else on
+/// the link, the next turn acknowledges that, and the one after it sends its enquiry, by the run's setup, or a prefix of it where that
+/// send fails, unless the run ends there or the acknowledgement can't be sent. `law_dialogue_ends` says it of any chunks.
 pub fn law_registered_is_enquired()
     ensures enquired { EnquiryFollowsRegistration }
 {}
+
+/// In a lawful log, a terminal of the run's setup that was linked and has said no whole APDU, and then with the bytes that begin a round
+/// says APDUs that end its registration as done, as where they bring its Ack and its Completion at once, is sent its enquiry before the
+/// next poll, unless its link ends before. So it is, in an example, where the first byte comes alone: no poll comes before the enquiry.
+pub fn law_done_at_once()
+    ensures enquired { DoneAtOnceIsEnquired }
+    ensures example { SplitIsEnquired }
+    ensures poll_before { PollBeforeSplitEnquiry }
+{}
+
+/// Along each lawful course, a terminal that registers or is enquired, completes no APDU and begins none above the limit, is cut before the
+/// next poll, unless its link ends before, once a poll comes that brings nothing of it and is at its dialogue's deadline or later: bytes of
+/// earlier polls that complete no APDU don't put the deadline off.
+pub fn law_silent_dialogue_cuts()
+    ensures cuts { SilentDialogueIsCut }
+{}
+
+/// Along each lawful course, a terminal that registers, and with newly heard bytes says APDUs that end its registration as done, is sent its
+/// enquiry before the next poll; and one that is enquired, and so reports a trace number, is ready with that number when the next poll may
+/// come. So it is unless its link ends before, and however the bytes split the APDUs.
+pub fn law_dialogue_ends()
+    ensures enquired { DoneRegistrationIsEnquired }
+    ensures ready { ReportMakesReady }
+{}
+
+/// After each lawful log, each terminal's dialogue, how many Acks and Nacks it awaits, and its standing, but for the moment at which one
+/// that isn't linked is due, are those of a flat list: the commands that were sent to it and the messages that were taken of it since it
+/// was linked. A command that is owed to it counts as sent; and where its cut is owed nothing is said. While it is linked these commands
+/// are all that the log says were sent to it since; and each of the messages it said in some round of the log, at that moment.
+pub fn law_standing_transcript()
+    ensures logs { EachLogFollowsTranscript }
+    ensures polls { EachPollFollowsTranscript }
+    ensures sent { EachCommandWasSent }
+    ensures said { EachMessageWasSaid }
+    ensures example { ExampleLogTranscript }
+{
+    gw_owes::law_transcript();
+}
 
 /// After each lawful log the file, that of the last sync, and whatever a power failure leaves are files that a journal can have
 /// left; and so after each turn of a lawful course from where a journal is to be opened, or a record to be kept in one. An
@@ -179,6 +237,30 @@ pub fn law_terminal_logs()
     ensures link_too_early { LinkTooEarly }
     ensures early_enquiry { EnquiryBeforeRegistration }
     ensures sent_after_cut { EnquiryAfterCut }
+{}
+
+/// Two terminals whose deadlines come at one moment are both cut then, in the order of the setup: the other not before the first, and
+/// no poll comes between. Five seconds later both are due, and are linked and registered in that order again. A terminal to which the
+/// acknowledgement that its registration is done can't be sent is cut, and not enquired.
+pub fn law_cut_examples()
+    ensures both_cut { BothAreCut }
+    ensures both_linked { BothAreLinkedAgain }
+    ensures order { OtherIsNotCutFirst }
+    ensures poll_between { PollBeforeOtherCut }
+    ensures unacknowledged { UnacknowledgedDoneIsCut }
+    ensures no_enquiry { EnquiryUnacknowledged }
+{}
+
+/// A terminal that has said an APDU outside the grammar, and one that has begun an APDU above the limit, are cut, and no poll comes
+/// before; and a terminal whose enquiry is ended by the second part of a Completion, with the report that came before, is ready.
+pub fn law_cause_examples()
+    ensures outside { OutsideIsCut }
+    ensures outside_cause { OutsideIsCause }
+    ensures poll_before_outside { PollBeforeOutsideCut }
+    ensures too_long { TooLongIsCut }
+    ensures too_long_cause { TooLongIsCause }
+    ensures poll_before_too_long { PollBeforeTooLongCut }
+    ensures report { SplitReport }
 {}
 
 /// A record is in flight once its gate is written, and kept once that is synced. A start leaves it in flight; a power failure

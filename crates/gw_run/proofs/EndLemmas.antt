@@ -1,15 +1,21 @@
--- How a lawful log ends, and how many polls it has.
-use Rattle.std.proofs.Common.{◌≡◌, ◌+◌, ◌≤◌, List, [], ◌∷◌, length, refl, sym, ◌∙◌, ap, subst, arith, inl, inr, true, false}
+-- How a lawful log ends, how many polls it has, and what its course is after its start.
+use Rattle.std.proofs.Common.{◌≡◌, ◌+◌, ◌≤◌, List, [], ◌∷◌, ◌++◌, length, refl, sym, ◌∙◌, ap, subst, arith, inl, inr, true, false}
 use Rattle.std.specs.Prelude.{◌⊎◌, Some, None}
+use Rattle.gw_base.specs.declared.setup.Setup.{Setup}
+use Rattle.gw_site.specs.Observed.{Origin}
+use Rattle.gw_site.specs.Sorts.{is_between, IsQuiet}
 use Rattle.gw_site.specs.declared.turn.Turn.{Turn}
 use Rattle.gw_site.specs.declared.turn.Turn.TheVariants.{Start, OpenFailed, Polled, Opened, HeardTill, Closed, HeardPt, Lost, Stopped, Linked, LinkFailed, SentTill, SentPt, CutTill, CutPt, Wrote, Synced, DiskFailed, Crash}
 use Rattle.gw_owes.specs.Calls.{OwedCall}
 use Rattle.gw_owes.specs.Items.{RoundItem}
+use Rattle.gw_owes.specs.ReadAs.{ReadAs}
+use Rattle.gw_script.specs.site.ByLines.{IsRunToStop}
 use Rattle.gw_rules.specs.Scene.{Scene}
-use Rattle.gw_rules.specs.Stage.{Stage, Resting, Opening, Looking, AtPoll, Handling, Over, Broken, is_round, busy, stage_synced, stage_wrote}
+use Rattle.gw_rules.specs.Stage.{Stage, Resting, Opening, Looking, AtPoll, Handling, Over, Broken, is_round, is_running, is_looking, busy, stage_synced, stage_wrote}
+use Rattle.gw_rules.specs.Triple.{TakesAlong}
 use Rattle.gw_rules.specs.View.{View, Move, Begin, Read, Make, begin, after, after_turn, view_from, at_first}
 use Rattle.gw_rules.specs.Lawful.{AllowedTurn, IsIdle, IsCourse, turns_of, Stands, IsNext, first_call}
-use Rattle.gw_run.specs.ScriptLog.{IsStopped}
+use Rattle.gw_run.specs.ScriptLog.{IsLawfulWith, IsStopped}
 
 polls-turn : (v : View) (turn : Turn) → (after_turn v turn).scene.polls ≤ v.scene.polls + 1
 polls-turn v (Start setup) = omega arith
@@ -133,3 +139,128 @@ over-from v (Make turn ∷ moves) calm h e = elim (over-from (after_turn v turn)
 pub over-ends : (log : List Turn) (v : View) → Stands log v → v.scene.stage ≡ Over → IsStopped log
 over-ends log v s e = subst IsStopped s.log_is (elim (over-from at_first s.course (λ o. absurd (let h : Resting ≡ Over = o in cc)) s.lawful (ap (λ (w : View). w.scene.stage) s.view_is ∙ e))
     [ inl o ↦ absurd (let h : Resting ≡ Over = o.0 in cc) | inr ends ↦ ends ])
+
+-- ---- where the run is over
+
+-- no call is owed, and the turn is the outcome of one
+pub idle-next : (v : View) (call : OwedCall) → v.calls ≡ [] → IsNext v call → ⊥
+idle-next v call idle next = let h : None ≡ Some call = sym (ap first_call idle) ∙ next in cc
+
+over-poll : (s : Stage) → s ≡ Over → s ≡ AtPoll → ⊥
+over-poll s e f = let h : Over ≡ AtPoll = sym e ∙ f in cc
+
+over-runs : (s : Stage) → s ≡ Over → is_running s ≡ true → ⊥
+over-runs s e running = let h : false ≡ true = sym (ap is_running e) ∙ running in cc
+
+over-looks : (s : Stage) → s ≡ Over → is_looking s ≡ true → ⊥
+over-looks s e looking = let h : false ≡ true = sym (ap is_looking e) ∙ looking in cc
+
+-- where the run is over, no turn of a run may come
+over-last : (v : View) (turn : Turn) → OverCalm v → v.scene.stage ≡ Over → AllowedTurn v turn → is_between turn ≡ false → ⊥
+over-last v (Start setup) calm over ok quiet = (let h : true ≡ false = quiet in cc)
+over-last v OpenFailed calm over ok quiet = (let h : true ≡ false = quiet in cc)
+over-last v (Polled now) calm over ok quiet = over-runs v.scene.stage over ok.running
+over-last v (Opened till) calm over ok quiet = over-poll v.scene.stage over ok.0
+over-last v (HeardTill till bytes) calm over ok quiet = over-poll v.scene.stage over ok.0.polled
+over-last v (Closed till) calm over ok quiet = over-poll v.scene.stage over ok.polled
+over-last v (HeardPt pt bytes) calm over ok quiet = over-poll v.scene.stage over ok.0.polled
+over-last v (Lost pt) calm over ok quiet = over-poll v.scene.stage over ok.polled
+over-last v Stopped calm over ok quiet = over-poll v.scene.stage over ok
+over-last v (Linked pt) calm over ok quiet = idle-next v _ (calm over) ok
+over-last v (LinkFailed pt) calm over ok quiet = idle-next v _ (calm over) ok
+over-last v (SentTill till bytes true) calm over ok quiet = idle-next v _ (calm over) ok.1
+over-last v (SentTill till bytes false) calm over ok quiet = idle-next v _ (calm over) ok.1
+over-last v (SentPt pt bytes true) calm over ok quiet = idle-next v _ (calm over) ok.1
+over-last v (SentPt pt bytes false) calm over ok quiet = idle-next v _ (calm over) ok.1
+over-last v (CutTill till) calm over ok quiet = idle-next v _ (calm over) ok
+over-last v (CutPt pt) calm over ok quiet = idle-next v _ (calm over) ok
+over-last v (Wrote offset bytes) calm over ok quiet = idle-next v _ (calm over) ok.1
+over-last v Synced calm over ok quiet = idle-next v _ (calm over) ok
+over-last v DiskFailed calm over (inl next) quiet = idle-next v _ (calm over) next
+over-last v DiskFailed calm over (inr looking) quiet = over-looks v.scene.stage over looking
+over-last v (Crash file) calm over ok quiet = (let h : true ≡ false = quiet in cc)
+
+-- nothing follows where the run is over
+pub over-rest : (v : View) (moves : List Move) → OverCalm v → v.scene.stage ≡ Over → IsCourse v moves → IsQuiet (turns_of moves) → turns_of moves ≡ []
+over-rest v [] calm over h quiet = refl
+over-rest v (Begin ∷ moves) calm over h quiet = absurd (idle-over v h.0.idle over)
+over-rest v (Read as_read ∷ moves) calm over h quiet = absurd (idle-over v h.0.idle over)
+over-rest v (Make turn ∷ moves) calm over h quiet = absurd (over-last v turn calm over h.0 quiet.0)
+
+pub calm-begin : (v : View) → IsIdle v → OverCalm (after v Begin)
+calm-begin v idle e = absurd (begin-over v idle e)
+
+pub calm-read : (v : View) (as_read : ReadAs) → IsIdle v → OverCalm (after v (Read as_read))
+calm-read v as_read idle e = absurd (idle-over v idle (busy-over v.scene.stage e))
+
+pub calm-turn : (v : View) (turn : Turn) → OverCalm v → AllowedTurn v turn → OverCalm (after_turn v turn)
+calm-turn v turn calm ok e = (over-turn v turn calm ok e).1
+
+-- ---- the course after a start
+
+-- the log starts with this setup, and goes on along these moves
+pub record StartsOn (origin : Origin) (setup : Setup) (log : List Turn) : Type 0 where
+  pub moves : List Move
+  pub log_is : log ≡ Start setup ∷ turns_of moves
+  pub lawful : IsCourse (after_turn at_first (Start setup)) moves
+  pub takes : TakesAlong origin (Start setup ∷ []) (after_turn at_first (Start setup)) moves
+
+starts-from : (origin : Origin) (setup : Setup) (course : List Move) (run log : List Turn) → turns_of course ≡ log → log ≡ Start setup ∷ run → IsCourse at_first course → TakesAlong origin [] at_first course → StartsOn origin setup log
+starts-from origin setup [] run log e f h t = absurd (let n : [] ≡ Start setup ∷ run = e ∙ f in cc)
+starts-from origin setup (Begin ∷ moves) run log e f h t = absurd (let n : false ≡ true = h.0.idle.round in cc)
+starts-from origin setup (Read as_read ∷ moves) run log e f h t = absurd (let n : false ≡ true = h.0.idle.round in cc)
+starts-from origin setup (Make turn ∷ moves) run log e f h t =
+    let n : turn ∷ turns_of moves ≡ Start setup ∷ run = e ∙ f in
+    let heads : turn ≡ Start setup = cc in
+    record {
+      moves = moves;
+      log_is = sym e ∙ ap (λ first. first ∷ turns_of moves) heads;
+      lawful = subst (λ first. IsCourse (after_turn at_first first) moves) heads h.1;
+      takes = subst (λ first. TakesAlong origin (first ∷ []) (after_turn at_first first) moves) heads t.1;
+    }
+
+pub starts-on : (origin : Origin) (setup : Setup) (run log : List Turn) → IsLawfulWith origin log → log ≡ Start setup ∷ run → StartsOn origin setup log
+starts-on origin setup run log lawful e = starts-from origin setup lawful.course run log lawful.log_is e lawful.lawful lawful.takes
+
+pub start-calm : (setup : Setup) → OverCalm (after_turn at_first (Start setup))
+start-calm setup e = refl
+
+pub stops-later : (turn : Turn) (turns : List Turn) → (turn ≡ Stopped → ⊥) → IsStopped (turn ∷ turns) → IsStopped turns
+stops-later turn turns other ([], e) = absurd (other (let n : turn ∷ turns ≡ Stopped ∷ [] = e in cc))
+stops-later turn turns other (first ∷ prefix, e) = (prefix, let n : turn ∷ turns ≡ first ∷ (prefix ++ Stopped ∷ []) = e in cc)
+
+-- some turn comes before the stop, or it is the stop
+run-on : (turn : Turn) (turns : List Turn) → is_between turn ≡ false → (turn ≡ Stopped → turns ≡ []) → ((turn ≡ Stopped → ⊥) → IsRunToStop turns) → IsRunToStop (turn ∷ turns)
+run-on (Start setup) turns quiet last more = absurd (let h : true ≡ false = quiet in cc)
+run-on OpenFailed turns quiet last more = absurd (let h : true ≡ false = quiet in cc)
+run-on (Polled now) turns quiet last more = more (λ e. cc)
+run-on (Opened till) turns quiet last more = more (λ e. cc)
+run-on (HeardTill till bytes) turns quiet last more = more (λ e. cc)
+run-on (Closed till) turns quiet last more = more (λ e. cc)
+run-on (HeardPt pt bytes) turns quiet last more = more (λ e. cc)
+run-on (Lost pt) turns quiet last more = more (λ e. cc)
+run-on Stopped turns quiet last more = last refl
+run-on (Linked pt) turns quiet last more = more (λ e. cc)
+run-on (LinkFailed pt) turns quiet last more = more (λ e. cc)
+run-on (SentTill till bytes ok) turns quiet last more = more (λ e. cc)
+run-on (SentPt pt bytes ok) turns quiet last more = more (λ e. cc)
+run-on (CutTill till) turns quiet last more = more (λ e. cc)
+run-on (CutPt pt) turns quiet last more = more (λ e. cc)
+run-on (Wrote offset bytes) turns quiet last more = more (λ e. cc)
+run-on Synced turns quiet last more = more (λ e. cc)
+run-on DiskFailed turns quiet last more = more (λ e. cc)
+run-on (Crash file) turns quiet last more = absurd (let h : true ≡ false = quiet in cc)
+
+none-stops : (prefix : List Turn) → [] ≡ prefix ++ Stopped ∷ [] → ⊥
+none-stops [] e = cc
+none-stops (turn ∷ prefix) e = cc
+
+-- a course of one run that ends with the stop has no other
+pub run-to-stop : (v : View) (moves : List Move) → OverCalm v → IsCourse v moves → IsQuiet (turns_of moves) → IsStopped (turns_of moves) → IsRunToStop (turns_of moves)
+run-to-stop v [] calm h quiet (prefix, e) = absurd (none-stops prefix e)
+run-to-stop v (Begin ∷ moves) calm h quiet ends = run-to-stop (after v Begin) moves (calm-begin v h.0.idle) h.1 quiet ends
+run-to-stop v (Read as_read ∷ moves) calm h quiet ends = run-to-stop (after v (Read as_read)) moves (calm-read v as_read h.0.idle) h.1 quiet ends
+run-to-stop v (Make turn ∷ moves) calm h quiet ends =
+    let calm2 = calm-turn v turn calm h.0 in
+    run-on turn (turns_of moves) quiet.0 (λ e. over-rest (after_turn v turn) moves calm2 (subst (λ last. (after_turn v last).scene.stage ≡ Over) (sym e) refl) h.1 quiet.1)
+    (λ other. run-to-stop (after_turn v turn) moves calm2 h.1 quiet.1 (stops-later turn (turns_of moves) other ends))

@@ -2,15 +2,10 @@
 pub mod ByLinesLemmas
 pub mod EndLemmas
 pub mod ExampleLemmas
-pub mod LineLemmas
-pub mod NumberLemmas
 pub mod OneLogLemmas
-pub mod PlayLemmas
+pub mod OneLogPlayLemmas
 pub mod PlayedLemmas
-pub mod PlayerLemmas
-pub mod PlayerTillLemmas
 pub mod ReplayLemmas
-pub mod ScriptLemmas
-pub mod SplitLemmas
+pub mod ServedLemmas
 pub mod TextLemmas
 pub mod TopLemmas

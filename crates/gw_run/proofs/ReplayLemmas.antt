@@ -1,10 +1,10 @@
 -- What a replay has printed, and why it ended so.
-use Rattle.std.proofs.Common.{◌≡◌, ℕ, ◌≤◌, List, length, refl, sym, ◌∙◌, ap, arith, inl, inr}
+use Rattle.std.proofs.Common.{◌≡◌, ℕ, List, refl, sym, ◌∙◌, ap, subst, arith, inl, inr}
 use Rattle.std.specs.Prelude.{◌⊎◌, Option, Some, None, Ok, Err}
 use Rattle.gw_bytes.specs.Bytes.{IsPrefix}
-use Rattle.gw_script.specs.Decode.{Script, script_limit, script_of}
-use Rattle.gw_run.specs.Top.{Stream, Cause, HasRisen, IfBytesObserved, IsAccepted, IsReadWhole, IsScript, IsScriptLeft, Prints, PrintsPrefix, Printed, status_of, tail_of}
-use Rattle.gw_run.specs.Replay.{IsInputFault, IsInputRead, IsPlayEnd, WritesTail, IsReportedEnd}
+use Rattle.gw_run.specs.Served.{served_script}
+use Rattle.gw_run.specs.Top.{Stream, Cause, HasRisen, IfBytesObserved, IsAccepted, IsReadWhole, IsScript, IsScriptLeft, IsWrongAt, Prints, PrintsPrefix, Printed, status_of, tail_of}
+use Rattle.gw_run.specs.Replay.{IsInputFault, IsInputRead, IsPlayEnd, IsReportedEnd, IsTextEnd, IsTextFault, PlayPrinted, TextPrinted, WritesTail}
 use Rattle.gw_run.specs.declared.ending.Ending.{Ending}
 use Rattle.gw_run.specs.declared.ending.Ending.TheVariants.{Played, Words, Long, Line as AtLine, Input, Memory, OutputFailed}
 
@@ -32,15 +32,13 @@ fault-prefix : (Could : Ending → Type 0) (ending : Ending) (input : Option (Li
     → IsFault ending → Could ending → IsPrefix added (tail_of ending) → PrintsPrefix Could input added
 fault-prefix Could ending input added h could prefix = record { ending = ending; whole = tail_of ending; could = could; prints = fault-lines ending input h; prefix = prefix }
 
--- the lines of a fault that words accepted may meet, in full or in part
-pub fault-printed : (ending result : Ending) (words : List (List ℕ)) (input out : Stream) (added : List ℕ)
-    → IsFault ending → IsAccepted words → Cause ending words input out → WritesTail ending result added → Printed (λ other. Cause other words input out) input.before result added
-fault-printed ending result words input out added h acc cause (inl (same, all)) = rw (same, all) (inl (fault-lines ending input.before h))
-fault-printed ending result words input out added h acc cause (inr (inl (m, names, a))) = rw m (inl (inl a))
-fault-printed ending result words input out added h acc cause (inr (inr (failed, (observed, inl same, prefix)))) =
-    inr (failed, fault-prefix (λ other. Cause other words input out) ending input.before added h cause (rw same at prefix))
-fault-printed ending result words input out added h acc cause (inr (inr (failed, (observed, inr other, prefix)))) =
-    inr (failed, fault-prefix (λ other. Cause other words input out) Memory input.before added tt acc (rw other.0 at prefix))
+-- the lines of a fault, in full or in part
+pub fault-printed : (Could : Ending → Type 0) (ending result : Ending) (input : Option (List ℕ)) (added : List ℕ)
+    → IsFault ending → Could Memory → Could ending → WritesTail ending result added → Printed Could input result added
+fault-printed Could ending result input added h memory could (inl (same, all)) = rw (same, all) (inl (fault-lines ending input h))
+fault-printed Could ending result input added h memory could (inr (inl (m, names, a))) = rw m (inl (inl a))
+fault-printed Could ending result input added h memory could (inr (inr (failed, (observed, inl same, prefix)))) = inr (failed, fault-prefix Could ending input added h could (rw same at prefix))
+fault-printed Could ending result input added h memory could (inr (inr (failed, (observed, inr other, prefix)))) = inr (failed, fault-prefix Could Memory input added tt memory (rw other.0 at prefix))
 
 -- the cause of the end that is reported is that of the end, or no memory, or a failed write
 pub observed-cause : (ending result : Ending) (words : List (List ℕ)) (input out : Stream)
@@ -49,45 +47,89 @@ observed-cause ending result words input out acc cause failed (inl same) = rw sa
 observed-cause ending result words input out acc cause failed (inr (inl (memory, names))) = rw memory acc
 observed-cause ending result words input out acc cause failed (inr (inr e)) = rw e (failed e)
 
--- a text that was read as a script is one
-pub is-script : (text all : List ℕ) (script : Script) → text ≡ all → length all ≤ script_limit → script_of text ≡ Ok script → IsScript all
-is-script text all script e few reads = (few, (script, ap script_of (sym e) ∙ reads))
+-- what was printed by ends that could have come, where others could then
+printed-as : (Could Other : Ending → Type 0) (result : Ending) (input : Option (List ℕ)) (text : List ℕ)
+    → ((ending : Ending) (whole : List ℕ) → Could ending → Prints ending input whole → Other ending) → Printed Could input result text → Printed Other input result text
+printed-as Could Other result input text could (inl all) = inl all
+printed-as Could Other result input text could (inr (failed, w)) =
+    inr (failed, record { ending = w.ending; whole = w.whole; could = could w.ending w.whole w.could w.prints; prints = w.prints; prefix = w.prefix })
 
--- the cause of a play's end
-pub play-cause : (result : Ending) (words : List (List ℕ)) (input out : Stream)
-    → IsAccepted words → IsReadWhole input IsScript → (result ≡ OutputFailed → HasRisen out) → IsPlayEnd result → Cause result words input out
-play-cause Played words input out acc read failed end = (acc, read)
-play-cause Memory words input out acc read failed end = acc
-play-cause OutputFailed words input out acc read failed end = failed refl
-play-cause Words words input out acc read failed end = absurd end
-play-cause Long words input out acc read failed end = absurd end
-play-cause (AtLine line) words input out acc read failed end = absurd end
-play-cause Input words input out acc read failed end = absurd end
+-- ---- a text within the limit
 
-prefix-cause : (ending : Ending) (words : List (List ℕ)) (input out : Stream) (text : List ℕ)
-    → IsAccepted words → IsReadWhole input IsScript → IsPlayEnd ending → Prints ending input.before text → Cause ending words input out
-prefix-cause Played words input out text acc read end w = (acc, read)
-prefix-cause Memory words input out text acc read end w = acc
-prefix-cause OutputFailed words input out text acc read end w = absurd w
-prefix-cause Words words input out text acc read end w = absurd end
-prefix-cause Long words input out text acc read end w = absurd end
-prefix-cause (AtLine line) words input out text acc read end w = absurd end
-prefix-cause Input words input out text acc read end w = absurd end
+-- the end of a play is one of its text, which is a script
+pub play-end : (text : List ℕ) (result : Ending) → IsScript text → IsPlayEnd result → IsTextEnd text result
+play-end text Played script end = script
+play-end text Memory script end = tt
+play-end text OutputFailed script end = tt
+play-end text Words script end = absurd end
+play-end text Long script end = absurd end
+play-end text (AtLine line) script end = absurd end
+play-end text Input script end = absurd end
 
--- what a replay prints in a play
-pub play-printed : (result : Ending) (words : List (List ℕ)) (input out : Stream) (text : List ℕ)
-    → IsAccepted words → IsReadWhole input IsScript → Printed IsPlayEnd input.before result text → Printed (λ other. Cause other words input out) input.before result text
-play-printed result words input out text acc read (inl all) = inl all
-play-printed result words input out text acc read (inr (failed, w)) = inr (
-  failed,
-  record {
-    ending = w.ending;
-    whole = w.whole;
-    could = prefix-cause w.ending words input out w.whole acc read w.could w.prints;
-    prints = w.prints;
-    prefix = w.prefix;
-  },
-)
+-- and what it prints is printed of the text
+pub play-printed : (text : List ℕ) (result : Ending) (added : List ℕ) → IsScript text → PlayPrinted text result added → TextPrinted text result added
+play-printed text result added script printed = λ input i. printed-as IsPlayEnd (IsTextEnd text) result input added (λ ending whole end w. play-end text ending script end) (printed input i)
+
+-- a fault of a text has its lines alone
+text-fault : (text : List ℕ) (fault : Ending) → IsTextFault text fault → IsFault fault
+text-fault text (AtLine line) h = tt
+text-fault text Memory h = tt
+text-fault text Played h = absurd h
+text-fault text Words h = absurd h
+text-fault text Long h = absurd h
+text-fault text Input h = absurd h
+text-fault text OutputFailed h = absurd h
+
+fault-end : (text : List ℕ) (fault : Ending) → IsTextFault text fault → IsTextEnd text fault
+fault-end text (AtLine line) h = h
+fault-end text Memory h = tt
+fault-end text Played h = absurd h
+fault-end text Words h = absurd h
+fault-end text Long h = absurd h
+fault-end text Input h = absurd h
+fault-end text OutputFailed h = absurd h
+
+-- what is reported of a text that isn't played
+pub text-fault-end : (text : List ℕ) (fault result : Ending) → IsTextFault text fault → IsReportedEnd fault result → IsTextEnd text result
+text-fault-end text fault result h (inl same) = rw same (fault-end text fault h)
+text-fault-end text fault result h (inr (inl (memory, names))) = rw memory tt
+text-fault-end text fault result h (inr (inr e)) = rw e tt
+
+-- and printed
+pub text-fault-printed : (text : List ℕ) (fault result : Ending) (added : List ℕ) → IsTextFault text fault → WritesTail fault result added → TextPrinted text result added
+text-fault-printed text fault result added h w = λ input i. fault-printed (IsTextEnd text) fault result input added (text-fault text fault h) tt (fault-end text fault h) w
+
+-- ---- a replay
+
+-- the cause of the end of a text's replay
+pub text-cause : (result : Ending) (words : List (List ℕ)) (input out : Stream) (text : List ℕ)
+    → IsAccepted words → IsReadWhole input (λ all. text ≡ all) → (result ≡ OutputFailed → HasRisen out) → IsTextEnd text result → Cause result words input out
+text-cause Played words input out text acc read failed end = (acc, λ all e. let x = read all e in (x.0, subst IsScript x.1 end))
+text-cause (AtLine line) words input out text acc read failed end = (acc, λ all e. let x = read all e in (x.0, subst (IsWrongAt line) x.1 end))
+text-cause Memory words input out text acc read failed end = acc
+text-cause OutputFailed words input out text acc read failed end = failed refl
+text-cause Words words input out text acc read failed end = absurd end
+text-cause Long words input out text acc read failed end = absurd end
+text-cause Input words input out text acc read failed end = absurd end
+
+-- what a replay prints of a text
+pub text-printed : (result : Ending) (words : List (List ℕ)) (input out : Stream) (text added : List ℕ)
+    → IsAccepted words → IsReadWhole input (λ all. text ≡ all) → TextPrinted text result added → Printed (λ other. Cause other words input out) input.before result added
+text-printed result words input out text added acc read printed =
+    printed-as (IsTextEnd text) (λ other. Cause other words input out) result input.before added
+    (λ ending whole end w. text-cause ending words input out text acc read (λ e. absurd (subst (λ other. Prints other input.before whole) e w)) end)
+    (printed input.before (λ all e. (read all e).1))
+
+-- where the text is a script its replay ends as a play
+pub text-complete : (result : Ending) (input : Option (List ℕ)) (text : List ℕ) → IsScriptLeft input → IfBytesObserved input (λ all. text ≡ all) → IsTextEnd text result → IsPlayEnd result
+text-complete Played input text script read end = tt
+text-complete Memory input text script read end = tt
+text-complete OutputFailed input text script read end = tt
+text-complete (AtLine line) None text script read end = absurd script
+text-complete (AtLine line) (Some bytes) text script read end = absurd (let n : Ok script.1.0 ≡ Err line = sym script.1.1 ∙ sym (ap served_script (read bytes refl)) ∙ end.1 in cc)
+text-complete Words input text script read end = absurd end
+text-complete Long input text script read end = absurd end
+text-complete Input input text script read end = absurd end
 
 -- a fault of the reading has its lines alone
 pub input-fault : (fault : Ending) → IsInputFault fault → IsFault fault
@@ -110,10 +152,10 @@ input-cause Words words input out acc h rose long = absurd h
 input-cause (AtLine line) words input out acc h rose long = absurd h
 input-cause OutputFailed words input out acc h rose long = absurd h
 
-play-end : (ending result : Ending) → IsPlayEnd ending → IsReportedEnd ending result → IsPlayEnd result
-play-end ending result h (inl same) = rw same h
-play-end ending result h (inr (inl (memory, names))) = rw memory tt
-play-end ending result h (inr (inr e)) = rw e tt
+reported-end : (ending result : Ending) → IsPlayEnd ending → IsReportedEnd ending result → IsPlayEnd result
+reported-end ending result h (inl same) = rw same h
+reported-end ending result h (inr (inl (memory, names))) = rw memory tt
+reported-end ending result h (inr (inr e)) = rw e tt
 
 -- where the input is a script and no reading failed, the reading can only want memory
 pub input-complete : (fault result : Ending) (input left : Option (List ℕ)) (input_rose : Type 0)
@@ -121,7 +163,7 @@ pub input-complete : (fault result : Ending) (input left : Option (List ℕ)) (i
 input-complete Long result None left input_rose h rose long script calm observed = absurd script
 input-complete Long result (Some bytes) left input_rose h rose long script calm observed = absurd (let a = (long bytes refl).long in let b = script.0 in omega arith)
 input-complete Input result input left input_rose h rose long script calm observed = absurd (calm (rose refl))
-input-complete Memory result input left input_rose h rose long script calm observed = play-end Memory result tt observed
+input-complete Memory result input left input_rose h rose long script calm observed = reported-end Memory result tt observed
 input-complete Played result input left input_rose h rose long script calm observed = absurd h
 input-complete Words result input left input_rose h rose long script calm observed = absurd h
 input-complete (AtLine line) result input left input_rose h rose long script calm observed = absurd h

@@ -2,11 +2,7 @@
 pub mod Example
 pub mod Laws
 pub mod LogWritten
-pub mod Player
-pub mod PlayerMet
-pub mod PlayerTills
-pub mod PlaysProp
 pub mod Replay
 pub mod ScriptLog
-pub mod ScriptRead
+pub mod Served
 pub mod Top

@@ -1,14 +1,15 @@
 -- Inner: how a replay and a play end, and what they print.
-use Rattle.std.specs.Prelude.{◌≡◌, ◌⊎◌, ℕ, ◌≤◌, List, [], Bool, true, false, Option, Some, Result, Ok, Err, length}
+use Rattle.std.specs.Prelude.{◌≡◌, ◌⊎◌, ℕ, ◌<◌, ◌≤◌, List, [], Bool, true, false, Option, Some, Result, Ok, Err, length}
 use Rattle.std.specs.Global.{Vec}
 use Rattle.gw_bytes.specs.Bytes.{IsPrefix}
 use Rattle.gw_site.specs.Observed.{Observed}
 use Rattle.gw_site.specs.declared.turn.Turn.{Turn}
-use Rattle.gw_rules.specs.Lawful.{IsLawful}
-use Rattle.gw_script.specs.Decode.{PlayedLine, script_of, script_limit}
-use Rattle.gw_script.specs.Plays.{Plays}
-use Rattle.gw_run.specs.ScriptLog.{IsStopped}
-use Rattle.gw_run.specs.Top.{Stream, Cause, Printed, IsAccepted, IsAtMostOneRun, IsInput, IsReadWithin, IsScriptTooLong, tail_of}
+use Rattle.gw_script.specs.Decode.{script_limit}
+use Rattle.gw_script.specs.site.Limits.{script_origin}
+use Rattle.gw_script.specs.site.ScriptLine.{Script, setup_of}
+use Rattle.gw_rules.specs.Triple.{IsRun}
+use Rattle.gw_run.specs.ScriptLog.{IsLawfulWith, IsStopped, PlaysServed}
+use Rattle.gw_run.specs.Top.{Stream, Cause, Printed, IsAccepted, IsAtMostOneRun, IsInput, IsReadWithin, IsScript, IsScriptTooLong, IsWrongAt, tail_of}
 use Rattle.gw_run.specs.declared.ending.Ending.{Ending}
 use Rattle.gw_run.specs.declared.ending.Ending.TheVariants.{Played, Words, Long, Line as AtLine, Input, Memory, OutputFailed}
 
@@ -34,19 +35,45 @@ IsPlayEnd OutputFailed = Unit {0}
 abbrev pub PlayPrinted : List ℕ → Ending → List ℕ → Type 0
 PlayPrinted script ending text = (input : Option (List ℕ)) → IsInput input script → Printed IsPlayEnd input ending text
 
--- the text is a script that gives this name, or none
-abbrev pub GivesName : List ℕ → Option (List ℕ) → Type 0
-GivesName text name = (lines : List PlayedLine) × (script_of text ≡ Ok (record { name = name; lines = lines }))
+-- how a replay of a text within the limit ends
+abbrev pub IsTextEnd : List ℕ → Ending → Type 0
+IsTextEnd text Played = IsScript text
+IsTextEnd text Words = ⊥
+IsTextEnd text Long = ⊥
+IsTextEnd text (AtLine line) = IsWrongAt line text
+IsTextEnd text Input = ⊥
+IsTextEnd text Memory = Unit {0}
+IsTextEnd text OutputFailed = Unit {0}
+
+-- why nothing is played of a text within the limit
+abbrev pub IsTextFault : List ℕ → Ending → Type 0
+IsTextFault text Played = ⊥
+IsTextFault text Words = ⊥
+IsTextFault text Long = ⊥
+IsTextFault text (AtLine line) = IsWrongAt line text
+IsTextFault text Input = ⊥
+IsTextFault text Memory = Unit {0}
+IsTextFault text OutputFailed = ⊥
+
+-- what was printed of a replay of this text by its end
+abbrev pub TextPrinted : List ℕ → Ending → List ℕ → Type 0
+TextPrinted script ending text = (input : Option (List ℕ)) → IsInput input script → Printed (IsTextEnd script) input ending text
 
 -- nothing was played of the script, and no call has failed
 abbrev pub IsFresh : Observed → List ℕ → Type 0
-IsFresh observed script = observed ≡ record { log = Some []; faults = 0; dark = false; origin = script }
+IsFresh observed text = observed ≡ record { log = Some []; faults = 0; dark = false; origin = script_origin text }
+
+-- what one run of the engine over the site of a served script has led to: a lawful log, which ends with the stop where the run came to its end, as no log has so many turns
+pub record HasRun (text : List ℕ) (script : Script) (whole : Bool) (log : List Turn) : Type 0 where
+  pub lawful : IsLawfulWith (script_origin text) log
+  pub run : IsRun (setup_of script.given) log
+  pub stopped : whole ≡ true → length log < 18446744073709551615 → IsStopped log
 
 -- the log is lawful, and plays a prefix of the script in one run at most; or all of it, in one run
-pub record IsPlayOf (script : List ℕ) (whole : Bool) (log : List Turn) : Type 0 where
-  pub lawful : IsLawful log
-  pub plays : Plays script log
-  pub one_run : IsAtMostOneRun script log
+pub record IsPlayOf (text : List ℕ) (whole : Bool) (log : List Turn) : Type 0 where
+  pub script : Script
+  pub played : PlaysServed text script log
+  pub one_run : IsAtMostOneRun (setup_of script.given) log
   pub stopped : whole ≡ true → IsStopped log
 
 -- an end whose fault line names a line of the script

@@ -1,13 +1,14 @@
 -- How the top call ends, and what it prints.
 use Rattle.std.specs.Prelude.{◌≡◌, ◌⊎◌, ℕ, ◌+◌, ◌<◌, ◌≤◌, List, [], ◌∷◌, ◌++◌, Option, Some, None, Ok, Err, codes, length}
 use Rattle.std.specs.Fmt.{decimal}
+use Rattle.gw_base.specs.declared.setup.Setup.{Setup}
 use Rattle.gw_site.specs.Failures.{Rose}
 use Rattle.gw_bytes.specs.Bytes.{IsPrefix}
 use Rattle.gw_site.specs.declared.turn.Turn.{Turn}
-use Rattle.gw_rules.specs.Lawful.{IsLawful}
-use Rattle.gw_script.specs.Decode.{Script, script_of, script_limit}
-use Rattle.gw_script.specs.Plays.{Plays}
-use Rattle.gw_run.specs.ScriptLog.{IsLogOf, IsOneRun}
+use Rattle.gw_script.specs.Decode.{script_limit}
+use Rattle.gw_script.specs.site.ScriptLine.{Script, setup_of}
+use Rattle.gw_run.specs.ScriptLog.{IsLogOf, IsRunWith, PlaysServed}
+use Rattle.gw_run.specs.Served.{served_script}
 use Rattle.gw_script.specs.LogText.{log_text}
 use Rattle.gw_run.specs.declared.ending.Ending.{Ending}
 use Rattle.gw_run.specs.declared.ending.Ending.TheVariants.{Played, Words, Long, Line as AtLine, Input, Memory, OutputFailed}
@@ -59,13 +60,13 @@ HasRisen stream = Rose stream.faults_before stream.faults_after
 abbrev pub IfBytesObserved : Option (List ℕ) → (List ℕ → Type 0) → Type 0
 IfBytesObserved observed P = (bytes : List ℕ) → observed ≡ Some bytes → P bytes
 
--- a script of the grammar
+-- a script of the grammar whose lines are served
 abbrev pub IsScript : List ℕ → Type 0
-IsScript text = (length text ≤ script_limit) × ((script : Script) × (script_of text ≡ Ok script))
+IsScript text = (length text ≤ script_limit) × ((script : Script) × (served_script text ≡ Ok script))
 
--- the text has a line of another form, this one first
+-- the text has this line as its first that is of another form or isn't served
 abbrev pub IsWrongAt : ℕ → List ℕ → Type 0
-IsWrongAt line text = (length text ≤ script_limit) × (script_of text ≡ Err line)
+IsWrongAt line text = (length text ≤ script_limit) × (served_script text ≡ Err line)
 
 -- what was read of the text is above the limit, and no further than a chunk beyond it
 pub record IsScriptTooLong (text : List ℕ) (left : Option (List ℕ)) : Type 0 where
@@ -108,18 +109,18 @@ pub record IsPlayedWhole (input : Option (List ℕ)) (text : List ℕ) : Type 0 
   pub log_is : IsLogOf script log
   pub is : text ≡ log_text log ++ tail_of Played
 
--- a log with one run with the script's setup, or none
-abbrev pub IsAtMostOneRun : List ℕ → List Turn → Type 0
-IsAtMostOneRun script log = (log ≡ []) ⊎ IsOneRun script log
+-- a log with one run with this setup, or none
+abbrev pub IsAtMostOneRun : Setup → List Turn → Type 0
+IsAtMostOneRun setup log = (log ≡ []) ⊎ IsRunWith setup log
 
 -- the text of a lawful log that plays a prefix of the script that was read, before memory was refused
 pub record IsPlayedInPart (input : Option (List ℕ)) (text : List ℕ) : Type 0 where
-  pub script : List ℕ
+  pub script_text : List ℕ
+  pub script : Script
   pub log : List Turn
-  pub input_is : IsInput input script
-  pub lawful : IsLawful log
-  pub plays : Plays script log
-  pub one_run : IsAtMostOneRun script log
+  pub input_is : IsInput input script_text
+  pub played : PlaysServed script_text script log
+  pub one_run : IsAtMostOneRun (setup_of script.given) log
   pub is : text ≡ log_text log ++ tail_of Memory
 
 -- the table of what is printed: what a call that ends so prints, if no write fails

@@ -1,18 +1,18 @@
 //! Laws of the logs of scripts.
-ghost use Rattle.gw_run.specs.Example.{LinkedIsOfLines, StatusHasText, StatusIsOfScript};
-ghost use Rattle.gw_run.specs.Laws.{LogGoesByLines, LogHasEvents, LogHasScript, OneLog, OneLogOfLines};
+ghost use Rattle.gw_run.specs.Example.{LinksHasText, LinksIsOfScript, StatusHasText, StatusIsOfScript};
+ghost use Rattle.gw_run.specs.Laws.{LogGoesByLines, LogHasEvents, LogHasScript, OneLog};
 
-/// At most one lawful log plays a script in one run to its end; and so for its lines with any setup, in which terminals are
-/// linked as they are due.
+/// At most one log plays a script in one run to its end: it is lawful, and each send that fails takes as many bytes as the
+/// script's line says.
 pub fn law_one_log()
     ensures one { OneLog }
-    ensures lines { OneLogOfLines }
-    ensures terminal { LinkedIsOfLines }
 {}
 
-/// The log of a script is a lawful log that goes by the script's lines, in their order: each is skipped where it names a
-/// till that isn't there, or opens a number that isn't above those before, and else gives a poll at the moment of the last
-/// `at` line and its event; after the last line comes the stop.
+/// Where no line makes a call fail, a log is the script's exactly where it is lawful, one run with the script's setup, and goes by
+/// the script's lines, in their order: each is skipped where it names a till or a terminal that isn't there, or opens a number
+/// that isn't above those before, and else gives a poll at the moment of the last `at` line and its event; after the last line
+/// comes the stop. Whatever fails, the polls and events of the log are those of some of its lines, in
+/// their order. Only a served script has a log.
 pub fn law_plays()
     ensures lines { LogGoesByLines }
     ensures events { LogHasEvents }
@@ -23,4 +23,11 @@ pub fn law_plays()
 pub fn law_status()
     ensures script { StatusIsOfScript }
     ensures text { StatusHasText }
+{}
+
+/// A script in which a link is lost, a send to its terminal fails after three bytes, and then the link itself fails, has this
+/// log, with this text.
+pub fn law_failing_calls()
+    ensures script { LinksIsOfScript }
+    ensures text { LinksHasText }
 {}

@@ -1,17 +1,24 @@
 //! The mode `replay`, from its words to its last line.
-ghost use Rattle.std.specs.Prelude.{◌≡◌, ◌≢◌, ◌⊎◌, ◌≤◌, ◌++◌, List, ℕ, Some, Ok, IsTrue, ◌↔◌, IfOk, IfErr, IsErrOf, map, string_bytes};
+ghost use Rattle.std.specs.Prelude.{◌≡◌, ◌≢◌, ◌⊎◌, ◌≤◌, ◌++◌, List, ℕ, Some, Ok, Err, false, IsTrue, ◌↔◌, IfOk, IfErr, IsErrOf, length, map, string_bytes};
 ghost use Rattle.gw_site.specs.Failures.{Rose};
+ghost use Rattle.gw_script.specs.Decode.{script_limit};
+ghost use Rattle.gw_script.specs.site.Decode.{script_of};
+ghost use Rattle.gw_script.specs.site.ScriptLine.{Script};
 ghost use Rattle.gw_run.specs.LogWritten.{Adds};
-ghost use Rattle.gw_run.specs.Replay.{IsInputRead, IsInputFault, IsPlayEnd, ReplayCause, ReplayPrinted};
+ghost use Rattle.gw_run.specs.Replay.{IsFresh, IsInputRead, IsInputFault, IsPlayEnd, IsTextEnd, IsTextFault, ReplayCause, ReplayPrinted, TextPrinted};
+ghost use Rattle.gw_run.specs.Served.{is_served, served_script};
 ghost use Rattle.gw_run.specs.Top.{IsAccepted, IfBytesObserved, IsEnded, IsScriptLeft, stream_observed};
+ghost use Rattle.sim_site.specs.Sites.{played_script, sim_observed};
 
 use crate::ending::Ending;
 use crate::last_lines::write_last_lines;
 use crate::replay::play;
-use crate::script::{ScriptFault, read_script};
+use crate::served::{first_unserved, is_served};
 use gw_base::Text;
 use gw_bytes::{LONGEST_CHUNK, LONGEST_SCRIPT};
 use gw_site::{Failed, Sink, Site, Source};
+use sim_script::ScriptFault;
+use sim_site::SimSite;
 use std::alloc::{AllocError, Global};
 
 /// Whether the words are accepted.
@@ -27,6 +34,7 @@ fn is_replay(words: &[Text]) -> bool
 /// The input, read to its end, or until it is above the limit and then no further.
 fn read_input<I: Source>(alloc: Global, input: &mut I) -> Result<Vec<u8>, Ending>
     ensures bytes { IfBytesObserved (I.left input.old) (λ all. IsInputRead result all (I.left input.new)) }
+    ensures within { IfOk result (λ bytes. length bytes.items ≤ script_limit) }
     ensures fault { IfErr result IsInputFault }
     ensures failed { IsErrOf result Ending.Input → Rose (I.faults input.old) (I.faults input.new) }
     ensures later { I.faults input.old ≤ I.faults input.new }
@@ -47,6 +55,65 @@ fn read_input<I: Source>(alloc: Global, input: &mut I) -> Result<Vec<u8>, Ending
     Err(Ending::Long)
 }
 
+/// What is reported of a script with a line that isn't served.
+fn unserved(alloc: Global, text: &[u8]) -> Ending
+    requires within { length text.now ≤ script_limit }
+    requires other { (script : Script) × (script_of text.now ≡ Ok script) × (is_served script ≡ false) }
+    ensures { IsTextFault text.now result }
+{
+    match first_unserved(alloc, text) {
+        Ok(line) => Ending::Line(line),
+        Err(AllocError) => Ending::Memory,
+    }
+}
+
+/// What is reported of a text in which this line is the first of another form: that line, or one before it that isn't served.
+fn wrong_line(alloc: Global, text: &[u8], line: u32) -> Ending
+    requires within { length text.now ≤ script_limit }
+    requires wrong { script_of text.now ≡ Err line }
+    ensures { IsTextFault text.now result }
+{
+    match first_unserved(alloc, text) {
+        Ok(first) => Ending::Line(first.min(line)),
+        Err(AllocError) => Ending::Memory,
+    }
+}
+
+/// The site that plays the script of this text, where all of it is served; else what is reported of the text.
+fn site_of(alloc: Global, text: &[u8]) -> Result<SimSite, Ending>
+    requires within { length text.now ≤ script_limit }
+    ensures fresh { IfOk result (λ site. IsFresh (sim_observed site) text.now) }
+    ensures served { IfOk result (λ site. served_script text.now ≡ Ok (played_script site)) }
+    ensures fault { IfErr result (IsTextFault text.now) }
+{
+    match SimSite::from_script(alloc, text) {
+        Ok(site) => {
+            if is_served(site.script()) {
+                Ok(site)
+            } else {
+                Err(unserved(alloc, text))
+            }
+        }
+        Err(ScriptFault::Long) => Err(Ending::Long),
+        Err(ScriptFault::Line { line }) => Err(wrong_line(alloc, text, line)),
+        Err(ScriptFault::Memory) => Err(Ending::Memory),
+    }
+}
+
+/// Plays the script of this text, or reports what is wrong with it.
+fn play_text<O: Sink>(alloc: Global, text: &[u8], out: &mut O) -> Ending
+    requires within { length text.now ≤ script_limit }
+    ensures printed { Adds (O.written out.old) (O.written out.new) (TextPrinted text.now result) }
+    ensures end { IsTextEnd text.now result }
+    ensures output_failed { result ≡ Ending.OutputFailed → Rose (O.faults out.old) (O.faults out.new) }
+    ensures later { O.faults out.old ≤ O.faults out.new }
+{
+    match site_of(alloc, text) {
+        Ok(mut site) => play(alloc, text, &mut site, out),
+        Err(fault) => write_last_lines(alloc, fault, out),
+    }
+}
+
 /// The mode `replay`.
 fn replay<I: Source, O: Sink>(alloc: Global, input: &mut I, out: &mut O) -> Ending
     ensures printed { Adds (O.written out.old) (O.written out.new) (ReplayPrinted
@@ -61,12 +128,7 @@ fn replay<I: Source, O: Sink>(alloc: Global, input: &mut I, out: &mut O) -> Endi
     ensures out_later { O.faults out.old ≤ O.faults out.new }
 {
     match read_input(alloc, input) {
-        Ok(text) => match read_script(alloc, &text) {
-            Ok(script) => play(alloc, &text, script, out),
-            Err(ScriptFault::Long) => write_last_lines(alloc, Ending::Long, out),
-            Err(ScriptFault::Line { line }) => write_last_lines(alloc, Ending::Line(line), out),
-            Err(ScriptFault::Memory) => write_last_lines(alloc, Ending::Memory, out),
-        },
+        Ok(text) => play_text(alloc, &text, out),
         Err(fault) => write_last_lines(alloc, fault, out),
     }
 }
@@ -77,7 +139,8 @@ fn replay<I: Source, O: Sink>(alloc: Global, input: &mut I, out: &mut O) -> Endi
 /// The last line that it writes is `status N`, and before that is a line with the fault where there is one. The statuses are:
 /// - 0: the script was played to its end;
 /// - 64: the words are none, or others (`words`);
-/// - 65: the input is no script (`script N` with the number of the first wrong line, or `script long`);
+/// - 65: the input is no script, or has a line that isn't served yet (`script N` with the number of the first such line, or
+///   `script long`);
 /// - 66: the input could not be read (`input`);
 /// - 71: memory was refused (`memory`);
 /// - 73: the output could not be written, whose last line may be incomplete.

@@ -1,55 +1,39 @@
 //! The play of a script, and what it writes.
-ghost use Rattle.std.specs.Prelude.{◌≡◌, ◌≢◌, ◌⊎◌, ◌≤◌, true, List, ℕ, Ok, IsTrue};
+ghost use Rattle.std.specs.Prelude.{◌≡◌, ◌≢◌, ◌⊎◌, ◌≤◌, not, true, List, ℕ, Ok};
 ghost use Rattle.gw_site.specs.Failures.{Rose};
 ghost use Rattle.gw_site.specs.Observed.{IfObserved};
-ghost use Rattle.gw_script.specs.Decode.{default_name, script_of, script_setup};
+ghost use Rattle.gw_script.specs.site.ScriptLine.{Script};
 ghost use Rattle.gw_run.specs.LogWritten.{Adds};
-ghost use Rattle.gw_run.specs.Player.{player_observed};
-ghost use Rattle.gw_run.specs.Replay.{GivesName, IsFresh, IsPlayEnd, IsPlayOf, PlayPrinted};
-ghost use Rattle.gw_run.specs.ScriptRead.{script_value};
+ghost use Rattle.gw_run.specs.Replay.{HasRun, IsFresh, IsPlayEnd, IsPlayOf, PlayPrinted};
+ghost use Rattle.gw_run.specs.Served.{served_script};
+ghost use Rattle.sim_site.specs.Sites.{sim_observed};
 
 use crate::ending::Ending;
 use crate::last_lines::write_last_lines;
-use crate::line::Script;
-use crate::player::Player;
 use crate::text::{Unwritten, write_log};
-use gw_base::{Ident, Pts, Setup, Text};
-use gw_bytes::MOST_SLOTS;
 use gw_dispatch::{Ended, run};
 use gw_site::{Sink, Turn};
-use std::alloc::Global;
+use sim_site::SimSite;
+use std::alloc::{AllocError, Global};
 
-/// The gateway's name where a script doesn't give it.
-fn default_name() -> Ident<40>
-    ensures { result ≡ default_name }
+/// Whether the site has not gone dark: its log could grow, and the power is there.
+fn is_lit(site: &SimSite) -> bool
+    ensures { result ≡ not (sim_observed site.now).dark }
 {
-    Ident::of(b"GATEWAY").unwrap()
+    !site.short() && !site.crashed()
 }
 
-/// The setup with which a script is played that gives this name: the default one but for the name, without terminals.
-fn script_setup(alloc: Global, name: Option<Ident<40>>) -> Setup
-    ensures { result ≡ script_setup name }
+/// Runs the engine over the site of a script, of which nothing was played. False where memory was refused.
+fn run_script(alloc: Global, site: &mut SimSite) -> bool
+    ensures run { (text : List ℕ) (script : Script) → served_script text ≡ Ok script → IsFresh (sim_observed site.old) text → IfObserved (sim_observed site.new) (HasRun text script result) }
+    ensures origin { (sim_observed site.new).origin ≡ (sim_observed site.old).origin }
 {
-    Setup {
-        name: name.unwrap_or(default_name()),
-        listen: Text::new(String::new(alloc)),
-        journal: Text::new(String::new(alloc)),
-        line: 0,
-        wait: 60,
-        slots: MOST_SLOTS,
-        terminals: Pts::new(Vec::new(alloc)),
-    }
-}
-
-/// Plays a script that gives this name from its first line. False where memory was refused.
-fn run_script(alloc: Global, name: Option<Ident<40>>, player: &mut Player) -> bool
-    ensures log { (script : List ℕ) → GivesName script name → IsFresh (player_observed player.old) script → IfObserved (player_observed player.new) (IsPlayOf script result) }
-{
-    let setup = script_setup(alloc, name);
-    let ended = run(alloc, &setup, player, u64::MAX);
-    player.played();
-    match ended {
-        Ended::Done => !player.is_dark(),
+    let setup = match site.setup(alloc) {
+        Ok(setup) => setup,
+        Err(AllocError) => return false,
+    };
+    match run(alloc, &setup, site, u64::MAX) {
+        Ended::Done => is_lit(site),
         Ended::NotOpened | Ended::NoMemory => false,
     }
 }
@@ -82,16 +66,15 @@ fn write_play<O: Sink>(alloc: Global, log: &[Turn], whole: bool, out: &mut O) ->
     }
 }
 
-/// Plays a script, which the text was read as, and writes its log.
-pub(crate) fn play<O: Sink>(alloc: Global, text: &[u8], script: Script, out: &mut O) -> Ending
-    requires { script_of text.now ≡ Ok (script_value script) }
+/// Plays the script of a site, which has this text, and writes its log.
+pub(crate) fn play<O: Sink>(alloc: Global, text: &[u8], site: &mut SimSite, out: &mut O) -> Ending
+    requires fresh { IsFresh (sim_observed site.old) text.now }
+    requires served { (script : Script) × (served_script text.now ≡ Ok script) }
     ensures printed { Adds (O.written out.old) (O.written out.new) (PlayPrinted text.now result) }
     ensures end { IsPlayEnd result }
     ensures output_failed { result ≡ Ending.OutputFailed → Rose (O.faults out.old) (O.faults out.new) }
     ensures later { O.faults out.old ≤ O.faults out.new }
 {
-    let name = script.name;
-    let mut player = Player::new(alloc, text, script);
-    let whole = run_script(alloc, name, &mut player);
-    write_play(alloc, player.log(), whole, out)
+    let whole = run_script(alloc, site);
+    write_play(alloc, site.log().as_slice(), whole, out)
 }

@@ -107,21 +107,30 @@ fn lines_of_another_form(rt: HostRuntime) -> Result<(), Fail> {
         "say 1",
         "say 1 ",
         "say 01 x",
-        "line 0",
-        "wait 60",
-        "slots 2",
-        "terminal T1 EUR 123456 186 131",
-        "pt 0 00",
-        "lost 0",
-        "fail open",
-        "fail link 0",
-        "fail send-till 1 0",
-        "fail send-pt 0 0",
-        "fail write",
-        "fail sync",
-        "fail length",
-        "fail read",
-        "power 0 new",
+        "line 9",
+        "tick\nline 0",
+        "wait 0",
+        "wait 3601",
+        "slots 1",
+        "slots 1000001",
+        "terminal T1 EUR 123456 186",
+        "terminal T1 EUR 123456 186 131 5",
+        "terminal T1 XXX 123456 186 131",
+        "terminal T1 EUR 12345 186 131",
+        "terminal T1 EUR 123456 256 131",
+        "terminal T1 EUR 123456 186 131\nterminal T1 EUR 123456 186 131",
+        "pt 0",
+        "pt 65536 00",
+        "lost",
+        "lost 65536",
+        "fail",
+        "fail power",
+        "fail link",
+        "fail send-till 1",
+        "fail send-pt 0 -",
+        "power 0",
+        "power 0 junk",
+        "power 0 junk 0",
         " # no comment",
     ];
     for row in rows {
@@ -135,6 +144,109 @@ fn lines_of_another_form(rt: HostRuntime) -> Result<(), Fail> {
     let (status, written) = played(rt.alloc(), b"tick\n# \xff\n")?;
     assert_eq!(rt; written.as_slice(), b"script 2\nstatus 65\n".as_slice());
     assert_eq!(rt; status, 65);
+    Ok(())
+}
+
+#[test]
+fn lines_of_a_terminal_and_failing_calls(rt: HostRuntime) -> Result<(), Fail> {
+    let rows = [
+        (
+            "name A\npt 0 00\nlost 0\nfail send-pt 0 0\nfail link 0\n",
+            "at 0\n",
+        ),
+        ("terminal T1 EUR 123456 186 131\n", "at 0\n"),
+        (
+            "terminal T1 EUR 123456 186 131\ntick\n",
+            "at 0\nlink 0\npt 0 out 060006123456ba0978\nat 0\n",
+        ),
+        (
+            "terminal T1 EUR 123456 186 131\nat 1741342264\nopen 1\npt 0 800000\npt 0 060F00\npt 0 800000\npt 0 061e0183\n",
+            "at 1741342264\nopen 1\nlink 0\npt 0 out 060006123456ba0978\n\
+            at 1741342264\npt 0 in 800000\n\
+            at 1741342264\npt 0 in 060f00\npt 0 out 800000\npt 0 out 062003123456\n\
+            at 1741342264\npt 0 in 800000\n\
+            at 1741342264\npt 0 in 061e0183\npt 0 out 800000\nat 1741342264\n",
+        ),
+        (
+            "terminal T1 EUR 123456 186 131\ntick\nlost 0\npt 0 00\nat 4\ntick\nat 5\ntick\n",
+            "at 0\nlink 0\npt 0 out 060006123456ba0978\nat 0\nlost 0\nat 4\n\
+            at 5\nlink 0\npt 0 out 060006123456ba0978\nat 5\n",
+        ),
+        (
+            "terminal T1 EUR 123456 186 131\nfail link 0\ntick\nat 4\ntick\nat 5\ntick\n",
+            "at 0\nlink 0 failed\nat 4\nat 5\nlink 0\npt 0 out 060006123456ba0978\nat 5\n",
+        ),
+        (
+            "terminal T1 EUR 123456 186 131\ntick\nfail send-pt 0 1\npt 0 800000\npt 0 060f00\npt 0 00\n",
+            "at 0\nlink 0\npt 0 out 060006123456ba0978\nat 0\npt 0 in 800000\n\
+            at 0\npt 0 in 060f00\npt 0 out 80 failed\npt 0 cut\nat 0\n",
+        ),
+        (
+            "terminal T1 EUR 123456 186 131\ntick\nfail send-pt 0 9\npt 0 040f00\n",
+            "at 0\nlink 0\npt 0 out 060006123456ba0978\n\
+            at 0\npt 0 in 040f00\npt 0 out 800000 failed\npt 0 cut\nat 0\n",
+        ),
+        (
+            "open 1\nfail send-till 1 9\nfail send-till 1 0\ntill 1 000000027b7d\ntill 1 00\n",
+            "at 0\nopen 1\nat 0\ntill 1 in '{}\ntill 1 out - failed\ntill 1 cut\nat 0\n",
+        ),
+        (
+            "open 1\nfail send-till 1 5\ntill 1 000000027b7d\n",
+            "at 0\nopen 1\nat 0\ntill 1 in '{}\ntill 1 out 000001287b failed\ntill 1 cut\nat 0\n",
+        ),
+        (
+            "terminal T1 EUR 123456 186 131\nfail send-pt 0 0\ntick\n",
+            "at 0\nlink 0\npt 0 out 060006123456ba0978\nat 0\n",
+        ),
+    ];
+    for (script, log) in rows {
+        let (status, written) = played(rt.alloc(), script.as_bytes())?;
+        let output = format!(in rt.alloc(); "start\n{log}stop\nstatus 0\n")?;
+        assert_eq!(rt;
+            str::from_utf8(written.as_slice())?,
+            output.as_str(),
+            "of {script:?}"
+        );
+        assert_eq!(rt; status, 0, "of {script:?}");
+    }
+    Ok(())
+}
+
+#[test]
+fn unserved_lines_are_refused_with_their_number(rt: HostRuntime) -> Result<(), Fail> {
+    let rows = [
+        ("fail open", 1),
+        ("fail write", 1),
+        ("fail sync", 1),
+        ("fail length", 1),
+        ("fail read", 1),
+        ("power 0 new", 1),
+        ("power 18446744073709551615 junk Ff", 1),
+        (
+            "terminal T1 EUR 123456 186 131\nterminal T2 EUR 123456 186 131",
+            2,
+        ),
+        (
+            "terminal T1 EUR 123456 186 131\n# two\n\nfail link 0\ntick\npower 1 old",
+            6,
+        ),
+        ("tick\nfail sync\nfail open", 2),
+        ("name A\nline 0", 2),
+        ("wait 60", 1),
+        ("slots 2", 1),
+        ("tick\nfail open\nsya 1 x", 2),
+        ("tick\nsya 1 x\nfail open", 2),
+    ];
+    for (script, line) in rows {
+        let (status, written) = played(rt.alloc(), script.as_bytes())?;
+        let output = format!(in rt.alloc(); "script {line}\nstatus 65\n")?;
+        assert_eq!(rt;
+            str::from_utf8(written.as_slice())?,
+            output.as_str(),
+            "of {script:?}"
+        );
+        assert_eq!(rt; status, 65, "of {script:?}");
+    }
     Ok(())
 }
 

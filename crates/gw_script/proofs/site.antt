@@ -1,9 +1,11 @@
 -- The laws of the whole script.
 pub mod ByLinesLemmas
 pub mod CallLemmas
+pub mod EventLemmas
 pub mod ExactLemmas
 pub mod FormLemmas
 pub mod LeadsLemmas
+pub mod LimitLemmas
 pub mod LinesLemmas
 pub mod ScriptLemmas
 pub mod WordLemmas

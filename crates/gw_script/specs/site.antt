@@ -3,10 +3,12 @@ pub mod ByLines
 pub mod CallExample
 pub mod Calls
 pub mod Decode
+pub mod Events
 pub mod Example
 pub mod Grammar
 pub mod Hazards
 pub mod Laws
+pub mod Limits
 pub mod Playing
 pub mod Runs
 pub mod ScriptLine

@@ -1,32 +1,19 @@
 //! The script: its grammar, and which logs play it; and the text of a log.
 #![tactic(auto)]
 
-ghost use Rattle.gw_script.specs.Example.{EachFormIsRead, TextOfMessage, TextOfPrefix, SecondNameIsWrong, UnknownWordIsWrong};
-ghost use Rattle.gw_script.specs.Grammar.{ReadsScripts};
+ghost use Rattle.gw_script.specs.Example.{TextOfMessage, TextOfPrefix};
 ghost use Rattle.gw_script.specs.Laws.{TextOfBytes, TextOfFrame};
-ghost use Rattle.gw_script.specs.site.ByLines.{PlainLinesGoOn};
-ghost use Rattle.gw_script.specs.site.CallExample.{LooksAndWrites, OtherSetupIsNotItsOwn, PollReachesPower, SendsTakeExactly, SendsTakeNoFewer, StartsWithItsOwn};
+ghost use Rattle.gw_script.specs.site.ByLines.{GoingByLinesPlays, PlainLinesGoOn};
+ghost use Rattle.gw_script.specs.site.CallExample.{LimitIsArmed, LimitIsUnknown, LooksAndWrites, OtherSetupIsNotItsOwn, PollReachesPower, SendsTakeExactly, SendsTakeNoFewer, StartsWithItsOwn};
+ghost use Rattle.gw_script.specs.site.Events.{RunHasEvents};
 ghost use Rattle.gw_script.specs.site.Example.{AllFormsAreRead, DefaultsHold, EarlyLinesFail, MisplacedAreReported, NumbersRise, PowerFailsAfterTwo, PowerFailsAtOnce, PowerFailsNoLater, SendsFail, SyncMustFail, TwiceIsReported, WritesFail, WrongLinesAreReported};
-ghost use Rattle.gw_script.specs.site.Laws.{CallsGoOn, CallsPlay, OneLogOfCalls, PlaysOn, PowerGoesOn, PrefixesPlay, ReadsSiteScripts, SendsAreCut, SendsTakeTheirs, SplitsLines};
-
-/// A text is read as the script that its lines make, and exactly where they make none the first wrong line is reported.
-pub fn law_scripts()
-    ensures reads { ReadsScripts }
-{}
+ghost use Rattle.gw_script.specs.site.Laws.{CallsGoOn, CallsPlay, LimitsAreArmed, OneLogOfCalls, PlaysOn, PowerGoesOn, PrefixesPlay, ReadsSiteScripts, SendsAreCut, SendsTakeTheirs, SplitsLines};
 
 /// In the text of a log a frame whose message is printable ASCII is written as `'` and the message, and other bytes in
-/// hexadecimal.
+/// hexadecimal; so a printable message is, and a frame that is incomplete.
 pub fn law_log_text()
     ensures framed { TextOfFrame }
     ensures other { TextOfBytes }
-{}
-
-/// A script with a line of each form is read so; a second name is a wrong line, and so is a line that begins with a word of
-/// no form; a printable message is written as it is, and a frame that is incomplete in hexadecimal.
-pub fn law_forms()
-    ensures script { EachFormIsRead }
-    ensures second_name { SecondNameIsWrong }
-    ensures unknown_word { UnknownWordIsWrong }
     ensures printable { TextOfMessage }
     ensures incomplete { TextOfPrefix }
 {}
@@ -66,12 +53,15 @@ pub fn law_site_plays()
 {}
 
 /// A log that plays a script goes on with each turn that fits, and each of its prefixes plays the script. What a send takes
-/// fits. Where no line makes a call or the power fail, the log of one run goes by the script line by line.
+/// fits. Where no line makes a call or the power fail, the log of one run goes by the script line by line, and a log that goes
+/// so plays the script. Whatever fails, the events and polls of a run that plays the script to its end are those of its lines.
 pub fn law_site_logs()
     ensures plays_on { PlaysOn }
     ensures prefixes { PrefixesPlay }
     ensures sends { SendsTakeTheirs }
     ensures by_lines { PlainLinesGoOn }
+    ensures lines_play { GoingByLinesPlays }
+    ensures events { RunHasEvents }
 {}
 
 /// The calls on a site and its power failures determine the log, which plays the script. A send that fails takes exactly the
@@ -88,4 +78,12 @@ pub fn law_site_calls()
     ensures power { PollReachesPower }
     ensures own { StartsWithItsOwn }
     ensures other { OtherSetupIsNotItsOwn }
+{}
+
+/// How many bytes a send that fails takes at most is what fail lines have armed at the place up to which the script is played,
+/// where no disk and no power has failed. Closed logs show it.
+pub fn law_site_limits()
+    ensures armed { LimitsAreArmed }
+    ensures known { LimitIsArmed }
+    ensures unknown { LimitIsUnknown }
 {}

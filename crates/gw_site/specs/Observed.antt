@@ -3,12 +3,25 @@ use Rattle.std.specs.Prelude.{◌≡◌, ◌⊎◌, ℕ, Bool, true, false, List
 use Rattle.gw_bytes.specs.Bytes.{IsPrefix}
 use Rattle.gw_site.specs.declared.turn.Turn.{Turn}
 
--- what a proof may see of a site: what went in and out, oldest first, where that is observed; how often a call has failed; whether it is dark; and the bytes that determine what it plays, none for sockets
+-- what determines what a site plays
+pub record Origin : Type 0 where
+  -- the bytes of its script
+  pub script : List ℕ
+  -- how many bytes a send to this till takes at most if it fails after this log, where that is known
+  pub till_limit : List Turn → ℕ → Option ℕ
+  -- how many bytes a send to this terminal takes at most if it fails after this log, where that is known
+  pub pt_limit : List Turn → ℕ → Option ℕ
+
+-- the origin of a site of which nothing of the kind is known, as of sockets
+abbrev pub no_origin : Origin
+no_origin = record { script = []; till_limit = λ log till. None; pt_limit = λ log pt. None }
+
+-- what a proof may see of a site: what went in and out, oldest first, where that is observed; how often a call has failed; whether it is dark; and what determines what it plays
 pub record Observed : Type 0 where
   pub log : Option (List Turn)
   pub faults : ℕ
   pub dark : Bool
-  pub origin : List ℕ
+  pub origin : Origin
 
 -- what a call adds to the log, by whether the site was dark before and is dark after it: all of its turns; a prefix of them in the call in which it goes dark; nothing where it was dark
 abbrev pub Added : Bool → Bool → List Turn → List Turn → Type 0
@@ -38,6 +51,10 @@ pub record GrowsBy (Add : Bool → Bool → List Turn → List Turn → Type 0) 
 -- a call has these turns, whatever the log before it
 abbrev pub Grows : Observed → Observed → (List Turn → Type 0) → Type 0
 Grows old new Call = GrowsBy Added old new (λ before. Call)
+
+-- a call has turns that depend on the log before it
+abbrev pub GrowsAfter : Observed → Observed → (List Turn → List Turn → Type 0) → Type 0
+GrowsAfter old new Call = GrowsBy Added old new Call
 
 -- opening has all of its turns or none
 abbrev pub GrowsWhole : Observed → Observed → (List Turn → List Turn → Type 0) → Type 0

@@ -3,7 +3,7 @@ ghost use Rattle.std.specs.Prelude.{◌≡◌, ◌≤◌, true, length, IsErr, I
 ghost use Rattle.gw_base.specs.Setup.{IsSetup};
 ghost use Rattle.gw_site.specs.Failures.{HasCause};
 ghost use Rattle.gw_site.specs.Outside.{outside_of, file_part};
-ghost use Rattle.gw_site.specs.Observed.{Observed, Grows, GrowsWhole, IfObserved};
+ghost use Rattle.gw_site.specs.Observed.{Observed, Grows, GrowsAfter, GrowsWhole, IfObserved};
 ghost use Rattle.gw_site.specs.Turns.{OpenTurns, PolledTurns, IsPromised, IsWithinBuf, SentTillTurns, SentPtTurns, LinkTurns, DiskTurns, WroteTurns, SyncedTurns, IsTurn};
 ghost use Rattle.gw_site.specs.declared.turn.Turn.TheVariants.{CutTill, CutPt};
 
@@ -38,7 +38,7 @@ pub struct Polled {
 /// memory where its own log could not grow. A dark site stays dark and appends nothing; in the call in which it goes dark
 /// it appends a prefix of its turns.
 pub trait Site {
-    /// The log, the count of failures, whether the site is dark, and the bytes that determine what it plays.
+    /// The log, the count of failures, whether the site is dark, and what determines what it plays.
     ghost observed: { Self → Observed };
 
     /// Begins a run with this setup. No connection is open.
@@ -59,13 +59,13 @@ pub trait Site {
 
     /// Sends all of the bytes to the till, or fails after a prefix of them.
     fn send_till(&mut self, till: u64, bytes: &[u8]) -> Result<(), Failed>
-        ensures turns { Grows (observed self.old) (observed self.new) (SentTillTurns till bytes.now result) }
+        ensures turns { GrowsAfter (observed self.old) (observed self.new) (SentTillTurns (observed self.old).origin till bytes.now result) }
         ensures cause { HasCause (observed self.old).faults (observed self.new).faults result }
         ensures dark { (observed self.old).dark ≡ true → IsErr result };
 
     /// Sends all of the bytes to the terminal, or fails after a prefix of them.
     fn send_pt(&mut self, pt: u16, bytes: &[u8]) -> Result<(), Failed>
-        ensures turns { Grows (observed self.old) (observed self.new) (SentPtTurns pt bytes.now result) }
+        ensures turns { GrowsAfter (observed self.old) (observed self.new) (SentPtTurns (observed self.old).origin pt bytes.now result) }
         ensures cause { HasCause (observed self.old).faults (observed self.new).faults result }
         ensures dark { (observed self.old).dark ≡ true → IsErr result };
 

@@ -4,7 +4,13 @@ use sim_script::ImageKind;
 use std::test::Fail;
 
 /// When the power fails.
-const FAILURES: [Row; 10] = [
+const FAILURES: [Row; 11] = [
+    // Of two lines for one call both are used up.
+    (
+        "fail read\nfail read\nfail write\ntick\nfail write\ntick",
+        "open read:0 read:0 poll poll write:0:61 write:1:62 sync",
+        "start\ndisk failed\n= failed\n= 00000000\nat 0\nat 0\nwrote 0 61\ndisk failed\n= failed\nwrote 1 62\nsynced\n",
+    ),
     // At once, in the first poll.
     (
         "power 0 junk 41\nopen 1",

@@ -188,6 +188,7 @@ const WRONG: &str = "\
     terminal T1\n\
     terminal T1 EUR 12345 0 0\n\
     terminal T1 EUR 123456 256 0\n\
+    terminal T1 EUR 123456 0 256\n\
     terminal T1 XXX 123456 0 0\n\
     terminal T1 EUR 123456 0";
 

@@ -9,7 +9,7 @@ use Rattle.sim_script.specs.declared.reader.ReadEntry.TheVariants.{Blank as Read
 use Rattle.sim_script.specs.declared.fault.ScriptFault.{ScriptFault}
 use Rattle.sim_script.specs.declared.fault.ScriptFault.TheVariants.{Long, Line as AtNumber, Memory}
 
--- Inner: what one line of the text is, as the grammar sees it
+-- what one line of the text is, as the grammar sees it
 abbrev pub read_line_value : ReadEntry → Entry
 read_line_value ReadBlank = Blank
 read_line_value (ReadSetting line) = Setting (setting_value line)

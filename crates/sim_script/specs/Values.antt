@@ -14,7 +14,7 @@ use Rattle.sim_script.specs.declared.line.FailingCall.TheVariants.{Open as OpenF
 use Rattle.sim_script.specs.declared.line.ImageKind.{ImageKind as ReadImageKind}
 use Rattle.sim_script.specs.declared.line.ImageKind.TheVariants.{Old as ReadOld, New as ReadNew, Junk as ReadJunk}
 
--- Inner: a setup line, as the grammar sees it
+-- a setup line, as the grammar sees it
 abbrev pub setting_value : ReadSetupLine → SetupLine
 setting_value (ReadName name) = Name name
 setting_value (ReadQueue n) = Queue n

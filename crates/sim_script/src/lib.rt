@@ -9,5 +9,5 @@ mod setup_line;
 mod word;
 
 pub use fault::ScriptFault;
-pub use line::{Chunk, FailingCall, Given, ImageKind, Script, ScriptEvent, ScriptLine};
-pub use reader::read_script;
+pub use line::{Chunk, FailingCall, Given, ImageKind, Script, ScriptEvent, ScriptLine, SetupLine};
+pub use reader::{ReadEntry, entry_of, first_text, read_script};

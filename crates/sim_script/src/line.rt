@@ -28,7 +28,7 @@ pub struct Given {
 
 /// A setup line.
 #[derive(Debug, Drop)]
-pub(crate) enum SetupLine {
+pub enum SetupLine {
     Name(Ident<40>),
     Queue(u8),
     Wait(u32),

@@ -19,7 +19,7 @@ use std::str;
 
 /// What one line of the text is.
 #[derive(Drop)]
-pub(crate) enum ReadEntry {
+pub enum ReadEntry {
     /// An empty line or a comment.
     Blank,
     Setting(SetupLine),
@@ -151,8 +151,8 @@ fn spelled(alloc: Global, text: &str) -> Result<Option<ReadEntry>, AllocError>
     }
 }
 
-/// The line that these bytes spell.
-fn entry_of(alloc: Global, text: &[u8]) -> Result<Option<ReadEntry>, AllocError>
+/// The line that these bytes spell; none where they spell none of the grammar.
+pub fn entry_of(alloc: Global, text: &[u8]) -> Result<Option<ReadEntry>, AllocError>
     ensures { IfOk result (λ entry. option_map read_line_value entry ≡ entry_of text.now) }
 {
     match str::from_utf8(text) {
@@ -211,7 +211,7 @@ fn line_end(bytes: &[u8]) -> Option<usize>
 }
 
 /// The first text, and the bytes after its line end.
-fn first_text(bytes: &[u8]) -> (&[u8], &[u8])
+pub fn first_text(bytes: &[u8]) -> (&[u8], &[u8])
     requires { 0 < length bytes.now }
     ensures texts { split_lines bytes.now ≡ result.0.now ∷ split_lines result.1.now }
     ensures shorter { length result.1.now < length bytes.now }

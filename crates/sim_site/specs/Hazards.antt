@@ -1,18 +1,20 @@
 -- What fail and power lines have armed, as the play of a script sees it.
-use Rattle.std.specs.Prelude.{List, map, option_map}
-use Rattle.gw_script.specs.site.Hazards.{Armed, FailingSend, Hazard}
+use Rattle.std.specs.Prelude.{ℕ, Bool, Option, option_map}
+use Rattle.std.specs.BTreeMap.{BTreeMap, get}
+use Rattle.std.specs.BTreeSet.{BTreeSet, contains}
+use Rattle.std.specs.Ordering.{nat_cmp}
+use Rattle.gw_script.specs.site.Hazards.{Armed, Hazard}
 use Rattle.sim_script.specs.Values.{image_value}
 use Rattle.sim_site.specs.declared.hazard.Armed.{Armed as HeldArmed}
-use Rattle.sim_site.specs.declared.hazard.FailingSend.{FailingSend as HeldSend}
 use Rattle.sim_site.specs.declared.hazard.Hazard.{Hazard as HeldHazard}
 
--- a failing send
-abbrev pub send_value : HeldSend → FailingSend
-send_value send = record { number = send.number; most = send.most }
+-- failing links, by the terminal's number
+abbrev pub links_value : BTreeSet ℕ → ℕ → Bool
+links_value links pt = contains nat_cmp links pt
 
--- failing sends
-abbrev pub sends_value : List HeldSend → List FailingSend
-sends_value sends = map send_value sends
+-- failing sends, by the connection's number
+abbrev pub sends_value : BTreeMap ℕ ℕ → ℕ → Option ℕ
+sends_value sends number = get nat_cmp sends number
 
 -- when the power fails
 abbrev pub armed_value : HeldArmed → Armed
@@ -22,9 +24,9 @@ armed_value armed = record { calls = armed.calls; kind = image_value armed.kind 
 abbrev pub hazard_value : HeldHazard → Hazard
 hazard_value hazard = record {
   fail_open = hazard.open;
-  fail_links = hazard.links.items;
-  fail_tills = sends_value hazard.tills.items;
-  fail_pts = sends_value hazard.pts.items;
+  fail_links = links_value hazard.links;
+  fail_tills = sends_value hazard.tills;
+  fail_pts = sends_value hazard.pts;
   fail_write = hazard.write;
   fail_sync = hazard.sync;
   fail_length = hazard.length;

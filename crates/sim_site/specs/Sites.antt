@@ -1,14 +1,15 @@
 -- What can be said of a site in memory.
-use Rattle.std.specs.Prelude.{◌≡◌, ℕ, Bool, false, not, ◌&&◌, if◌then◌else◌, List, [], ◌∷◌, ◌++◌, Some, Ok, is_some}
+use Rattle.std.specs.Prelude.{◌≡◌, ℕ, Bool, false, not, ◌&&◌, if◌then◌else◌, List, [], ◌∷◌, ◌++◌, Some, Ok, is_some, true, ◌||◌, Result, IsOk, IsErr}
 use Rattle.gw_base.specs.declared.setup.Setup.{Setup}
 use Rattle.gw_site.specs.Image.{Image}
-use Rattle.gw_site.specs.Observed.{Observed}
+use Rattle.gw_site.specs.Observed.{Observed, Origin, no_origin}
 use Rattle.gw_site.specs.Outside.{Outside, outside_of}
 use Rattle.gw_site.specs.declared.turn.Turn.{Turn}
 use Rattle.gw_site.specs.declared.turn.Turn.TheVariants.{Crash}
 use Rattle.gw_script.specs.site.Calls.{IsPlayedTo, SiteCall, call_turns, place_after}
 use Rattle.gw_script.specs.site.Decode.{script_of}
 use Rattle.gw_script.specs.site.Hazards.{crash_file}
+use Rattle.gw_script.specs.site.Limits.{script_origin}
 use Rattle.gw_script.specs.site.Playing.{Play, PlaysLines, restarted}
 use Rattle.gw_script.specs.site.ScriptLine.{ImageKind, Script, setup_of}
 use Rattle.sim_script.specs.Values.{whole_script_value}
@@ -17,11 +18,11 @@ use Rattle.sim_site.specs.Places.{place_value}
 use Rattle.sim_site.specs.declared.played.Played.{Played}
 use Rattle.sim_site.specs.declared.site.SimSite.{SimSite}
 
--- the text that determines what is played; one that no script has, where the power was set to fail or a file was put on the disk beside the script
-abbrev pub origin_of : Played → List ℕ
-origin_of played = if played.scripted then played.text else 255 ∷ []
+-- what determines what is played: the text; one that no script has, where the power was set to fail or a file was put on the disk beside the script
+abbrev pub origin_of : Played → Origin
+origin_of played = if played.scripted then script_origin played.text else record no_origin { script = 255 ∷ [] }
 
--- the log that has played the script, how often a call has failed, whether the site is dark, and the text that determines what is played
+-- the log that has played the script, how often a call has failed, whether the site is dark, and what determines what is played
 abbrev pub observed_with : ℕ → Played → Observed
 observed_with faults played = record { log = Some played.log; faults = faults; dark = is_dark played; origin = origin_of played }
 
@@ -61,6 +62,20 @@ pub record GoesOn (old new : SimSite) (call : SiteCall) : Type 0 where
 -- so it was, where the site wasn't dark and its log could grow
 abbrev pub IsCalled : SimSite → SimSite → SiteCall → Type 0
 IsCalled old new call = (sim_observed old).dark ≡ false → is_log_full new ≡ false → GoesOn old new call
+
+-- a failure, or Ok
+abbrev pub IsReturned : {T E : Type 0} → Bool → Result T E → Type 0
+IsReturned true result = IsErr result
+IsReturned false result = IsOk result
+
+-- what a call returns on a site that wasn't dark: a failure exactly where it is to fail or the log could not grow; else Ok, also where the power fails with it
+abbrev pub IsResult : {T E : Type 0} → SimSite → SimSite → Bool → Result T E → Type 0
+IsResult old new fails result = (sim_observed old).dark ≡ false → IsReturned (fails || is_log_full new) result
+
+-- nothing was played, and nothing appended
+pub record IsStill (old new : SimSite) : Type 0 where
+  pub log : log_of new ≡ log_of old
+  pub place : place_of new ≡ place_of old
 
 -- the power is there again: the log has its failure with the image that the script says, and the script goes on in the next run
 pub record IsRestarted (old new : SimSite) : Type 0 where

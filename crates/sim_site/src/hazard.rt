@@ -1,19 +1,12 @@
 //! What fail and power lines have armed.
-ghost use Rattle.std.specs.Prelude.{◌≡◌, ◌==◌, ◌++◌, ◌∷◌, [], not, filter, map, IfOk, OnOk, List};
-ghost use Rattle.gw_script.specs.site.Hazards.{armed, is_failing, kept_by_crash, least, links_without, no_hazard, sends_without, takes_most};
-ghost use Rattle.gw_script.specs.site.Hazards.{FailingSend as SpecSend};
+ghost use Rattle.std.specs.Prelude.{◌≡◌, IfOk, OnOk};
+ghost use Rattle.gw_script.specs.site.Hazards.{armed, is_failing, kept_by_crash, least, links_with, links_without, no_hazard, sends_with, sends_without, takes_most};
 ghost use Rattle.sim_script.specs.Values.{failing_value};
-ghost use Rattle.sim_site.specs.Hazards.{hazard_value, send_value, sends_value};
+ghost use Rattle.sim_site.specs.Hazards.{hazard_value, links_value, sends_value};
 
 use sim_script::{FailingCall, ImageKind};
 use std::alloc::{AllocError, Global};
-
-/// A send on the connection of this number fails, and takes at most so many bytes.
-#[derive(Clone, Copy, Debug)]
-pub(crate) struct FailingSend {
-    pub(crate) number: u64,
-    pub(crate) most: u64,
-}
+use std::collections::{BTreeMap, BTreeSet};
 
 /// The power fails after so many more calls, at least one, and leaves this.
 #[derive(Clone, Copy, Debug)]
@@ -27,9 +20,11 @@ pub(crate) struct Armed {
 pub(crate) struct Hazard {
     pub(crate) open: bool,
     /// Of these terminals.
-    pub(crate) links: Vec<u16>,
-    pub(crate) tills: Vec<FailingSend>,
-    pub(crate) pts: Vec<FailingSend>,
+    pub(crate) links: BTreeSet<u16>,
+    /// By the till's number, how many bytes a send takes at most.
+    pub(crate) tills: BTreeMap<u64, u64>,
+    /// By the terminal's number.
+    pub(crate) pts: BTreeMap<u64, u64>,
     pub(crate) write: bool,
     pub(crate) sync: bool,
     pub(crate) length: bool,
@@ -38,27 +33,27 @@ pub(crate) struct Hazard {
 }
 
 /// How many bytes the next send on the connection of this number takes, where it fails: the least number of all lines for it.
-pub(crate) fn takes_most(sends: &[FailingSend], number: u64) -> Option<u64>
+pub(crate) fn takes_most(sends: &BTreeMap<u64, u64>, number: u64) -> Option<u64>
     ensures { result ≡ takes_most (sends_value sends.now) number }
 {
-    let mut least = None;
-    let mut at = sends.len();
-    while at > 0 {
-        at -= 1;
-        least = least_with(least, sends[at], number);
-    }
-    least
+    sends.get(&number).copied()
 }
 
-/// The least number of the lines for the connection of this number, with one line more.
-fn least_with(least: Option<u64>, send: FailingSend, number: u64) -> Option<u64>
-    ensures { (sends : List SpecSend) → least ≡ takes_most sends number → result ≡ takes_most (send_value send ∷ sends) number }
+/// One more fail line for sends on the connection of this number: of two lines for it the lesser number holds.
+fn add_send(sends: &mut BTreeMap<u64, u64>, number: u64, most: u64) -> Result<(), AllocError>
+    ensures { OnOk result (sends_value sends.new ≡ sends_with (sends_value sends.old) number most) }
 {
-    if send.number == number {
-        Some(lesser(least, send.most))
-    } else {
-        least
-    }
+    let least = lesser(takes_most(sends, number), most);
+    sends.insert(number, least)?;
+    Ok(())
+}
+
+/// One more fail line for the link of this terminal.
+fn add_link(links: &mut BTreeSet<u16>, pt: u16) -> Result<(), AllocError>
+    ensures { OnOk result (links_value links.new ≡ links_with (links_value links.old) pt) }
+{
+    links.insert(pt)?;
+    Ok(())
 }
 
 /// The lesser of these numbers, where there are two.
@@ -72,24 +67,24 @@ fn lesser(other: Option<u64>, most: u64) -> u64
 }
 
 /// All fail lines for sends on the connection of this number are used up.
-pub(crate) fn drop_sends(sends: &mut Vec<FailingSend>, number: u64)
-    ensures { sends_value sends.new.items ≡ sends_without (sends_value sends.old.items) number }
+pub(crate) fn drop_sends(sends: &mut BTreeMap<u64, u64>, number: u64)
+    ensures { sends_value sends.new ≡ sends_without (sends_value sends.old) number }
 {
-    sends.retain(|send| send.number != number);
+    sends.remove(&number);
 }
 
 /// All fail lines for the link of this terminal are used up.
-pub(crate) fn drop_links(links: &mut Vec<u16>, pt: u16)
-    ensures { links.new.items ≡ links_without links.old.items pt }
+pub(crate) fn drop_links(links: &mut BTreeSet<u16>, pt: u16)
+    ensures { links_value links.new ≡ links_without (links_value links.old) pt }
 {
-    links.retain(|link| *link != pt);
+    links.remove(&pt);
 }
 
 /// Whether the link of this terminal fails.
-pub(crate) fn is_failing(links: &[u16], pt: u16) -> bool
-    ensures { result ≡ is_failing links.now pt }
+pub(crate) fn is_failing(links: &BTreeSet<u16>, pt: u16) -> bool
+    ensures { result ≡ is_failing (links_value links.now) pt }
 {
-    links.iter().any(|link| *link == pt)
+    links.contains(&pt)
 }
 
 impl Hazard {
@@ -99,9 +94,9 @@ impl Hazard {
     {
         Hazard {
             open: false,
-            links: Vec::new(alloc),
-            tills: Vec::new(alloc),
-            pts: Vec::new(alloc),
+            links: BTreeSet::new(alloc),
+            tills: BTreeMap::new(alloc),
+            pts: BTreeMap::new(alloc),
             write: false,
             sync: false,
             length: false,
@@ -116,12 +111,9 @@ impl Hazard {
     {
         match failing {
             FailingCall::Open => self.open = true,
-            FailingCall::Link(pt) => self.links.push(pt)?,
-            FailingCall::SendTill(number, most) => self.tills.push(FailingSend { number, most })?,
-            FailingCall::SendPt(pt, most) => self.pts.push(FailingSend {
-                number: u64::from(pt),
-                most,
-            })?,
+            FailingCall::Link(pt) => add_link(&mut self.links, pt)?,
+            FailingCall::SendTill(till, most) => add_send(&mut self.tills, till, most)?,
+            FailingCall::SendPt(pt, most) => add_send(&mut self.pts, u64::from(pt), most)?,
             FailingCall::Write => self.write = true,
             FailingCall::Sync => self.sync = true,
             FailingCall::Length => self.length = true,

@@ -11,4 +11,5 @@ mod polled;
 mod site;
 mod sought;
 
+pub use sim_script::{ImageKind, ScriptFault};
 pub use site::SimSite;

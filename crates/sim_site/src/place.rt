@@ -9,7 +9,7 @@ ghost use Rattle.gw_script.specs.site.Playing.{begins, counted, early_lines, res
 ghost use Rattle.sim_script.specs.Values.{image_value, lines_value, script_line_value};
 ghost use Rattle.sim_site.specs.Early.{is_early_line};
 ghost use Rattle.sim_script.specs.declared.line.ScriptLine.{ScriptLine};
-ghost use Rattle.sim_site.specs.Hazards.{sends_value};
+ghost use Rattle.sim_site.specs.Hazards.{links_value, sends_value};
 
 use crate::hazard::{Armed, Hazard, drop_links, drop_sends, is_failing, takes_most};
 use crate::sought::{early_hazard, is_early};
@@ -128,7 +128,7 @@ impl Place {
 
     /// Bytes are sent to a till. How many it takes, where the send fails.
     pub(crate) fn send_till(&mut self, till: u64) -> Option<u64>
-        ensures most { result ≡ takes_most (sends_value self.old.hazard.tills.items) till }
+        ensures most { result ≡ takes_most (sends_value self.old.hazard.tills) till }
         ensures moves { (bytes : List ℕ) → Moves self.old self.new (SendTillCall till bytes) }
     {
         let most = takes_most(&self.hazard.tills, till);
@@ -139,7 +139,7 @@ impl Place {
 
     /// Bytes are sent to a terminal. How many it takes, where the send fails.
     pub(crate) fn send_pt(&mut self, pt: u16) -> Option<u64>
-        ensures most { result ≡ takes_most (sends_value self.old.hazard.pts.items) pt }
+        ensures most { result ≡ takes_most (sends_value self.old.hazard.pts) pt }
         ensures moves { (bytes : List ℕ) → Moves self.old self.new (SendPtCall pt bytes) }
     {
         let number = u64::from(pt);
@@ -151,7 +151,7 @@ impl Place {
 
     /// A terminal is linked. True where this fails.
     pub(crate) fn link(&mut self, pt: u16) -> bool
-        ensures fails { result ≡ is_failing self.old.hazard.links.items pt }
+        ensures fails { result ≡ is_failing (links_value self.old.hazard.links) pt }
         ensures moves { Moves self.old self.new (LinkCall pt) }
     {
         let fails = is_failing(&self.hazard.links, pt);

@@ -161,7 +161,7 @@ impl Played {
     ghost use Rattle.std.specs.Prelude.{IsSome};
     ghost use Rattle.gw_site.specs.Turns.{IsPromised, IsWithinBuf};
     ghost use Rattle.gw_script.specs.site.Calls.{CutPtCall, CutTillCall, LengthCall, LinkCall, OpenCall, PollCall, ReadCall, SendPtCall, SendTillCall, SyncCall, WriteCall};
-    ghost use Rattle.sim_site.specs.Hazards.{sends_value};
+    ghost use Rattle.sim_site.specs.Hazards.{links_value, sends_value};
     ghost use Rattle.sim_site.specs.Dark.{is_dark};
     ghost use Rattle.sim_site.specs.Made.{IsLit, IsCallMade, IsUnplayed, IsPollRefused, IsPollMade, IsRefused, IsSameScript, IsUnchanged, IsWriteRefused, outside_at, play_at};
 
@@ -306,7 +306,7 @@ impl Played {
     ) -> Result<bool, AllocError>
         requires { IsLit self.old }
         ensures made { OnOk result (IsCallMade self.old self.new (SendTillCall till bytes.now)) }
-        ensures fails { IfOk result (λ fails. fails ≡ is_some (takes_most (sends_value self.old.place.hazard.tills.items) till)) }
+        ensures fails { IfOk result (λ fails. fails ≡ is_some (takes_most (sends_value self.old.place.hazard.tills) till)) }
         ensures refused { OnErr result (IsRefused self.old self.new) }
         ensures same { IsSameScript self.old self.new }
     {
@@ -332,7 +332,7 @@ impl Played {
     ) -> Result<bool, AllocError>
         requires { IsLit self.old }
         ensures made { OnOk result (IsCallMade self.old self.new (SendPtCall pt bytes.now)) }
-        ensures fails { IfOk result (λ fails. fails ≡ is_some (takes_most (sends_value self.old.place.hazard.pts.items) pt)) }
+        ensures fails { IfOk result (λ fails. fails ≡ is_some (takes_most (sends_value self.old.place.hazard.pts) pt)) }
         ensures refused { OnErr result (IsRefused self.old self.new) }
         ensures same { IsSameScript self.old self.new }
     {
@@ -353,7 +353,7 @@ impl Played {
     pub(crate) fn link(&mut self, pt: u16) -> Result<bool, AllocError>
         requires { IsLit self.old }
         ensures made { OnOk result (IsCallMade self.old self.new (LinkCall pt)) }
-        ensures fails { IfOk result (λ fails. fails ≡ is_failing self.old.place.hazard.links.items pt) }
+        ensures fails { IfOk result (λ fails. fails ≡ is_failing (links_value self.old.place.hazard.links) pt) }
         ensures refused { OnErr result (IsRefused self.old self.new) }
         ensures same { IsSameScript self.old self.new }
     {

@@ -2,13 +2,14 @@
 ghost use Rattle.std.specs.Prelude.{◌≡◌, ◌≤◌, ◌<◌, ◌⊎◌, ◌↔◌, ◌∷◌, ◌||◌, ◌==◌, ℕ, [], length, Some, Ok, true, false, IfOk, IfErr, OnOk, OnErr, IsErr, IsErrOf};
 ghost use Rattle.gw_base.specs.Setup.{IsSetup};
 ghost use Rattle.gw_site.specs.Failures.{HasCause, Rose};
-ghost use Rattle.gw_site.specs.Observed.{Grows, GrowsWhole, IfObserved};
+ghost use Rattle.gw_site.specs.Observed.{Grows, GrowsAfter, GrowsWhole, IfObserved};
 ghost use Rattle.gw_site.specs.Outside.{file_part, outside_of};
 ghost use Rattle.gw_site.specs.Turns.{DiskTurns, IsPromised, IsTurn, IsWithinBuf, LinkTurns, OpenTurns, PolledTurns, SentPtTurns, SentTillTurns, SyncedTurns, WroteTurns};
 ghost use Rattle.gw_site.specs.declared.turn.Turn.TheVariants.{Crash, CutPt, CutTill};
 ghost use Rattle.gw_script.specs.Decode.{is_empty, script_limit};
 ghost use Rattle.gw_script.specs.site.Calls.{CutPtCall, CutTillCall, LengthCall, LinkCall, OpenCall, PollCall, ReadCall, SendPtCall, SendTillCall, SyncCall, WriteCall};
 ghost use Rattle.gw_script.specs.site.Decode.{script_of};
+ghost use Rattle.gw_script.specs.site.Limits.{script_origin};
 ghost use Rattle.gw_script.specs.site.Playing.{begins};
 ghost use Rattle.gw_script.specs.site.ScriptLine.{setup_of};
 ghost use Rattle.sim_script.specs.Read.{IsScriptFault};
@@ -48,7 +49,7 @@ impl SimSite {
 
     /// A site that plays the script of these bytes.
     pub fn from_script(alloc: Global, bytes: &[u8]) -> Result<SimSite, ScriptFault>
-        ensures site { IfOk result (λ site. sim_observed site ≡ record { log = Some []; faults = 0; dark = false; origin = bytes.now }) }
+        ensures site { IfOk result (λ site. sim_observed site ≡ record { log = Some []; faults = 0; dark = false; origin = script_origin bytes.now }) }
         ensures log { IfOk result (λ site. log_of site ≡ []) }
         ensures script { IfOk result (λ site. script_of bytes.now ≡ Ok (played_script site)) }
         ensures place { IfOk result (λ site. place_of site ≡ begins (played_script site).lines) }
@@ -72,7 +73,7 @@ impl SimSite {
     /// A site that plays the script that was read.
     fn of(alloc: Global, bytes: &[u8], script: Script) -> Result<SimSite, AllocError>
         requires { script_of bytes.now ≡ Ok (whole_script_value script) }
-        ensures site { IfOk result (λ site. sim_observed site ≡ record { log = Some []; faults = 0; dark = false; origin = bytes.now }) }
+        ensures site { IfOk result (λ site. sim_observed site ≡ record { log = Some []; faults = 0; dark = false; origin = script_origin bytes.now }) }
         ensures log { IfOk result (λ site. log_of site ≡ []) }
         ensures script { IfOk result (λ site. script_of bytes.now ≡ Ok (played_script site)) }
         ensures place { IfOk result (λ site. place_of site ≡ begins (played_script site).lines) }
@@ -126,6 +127,13 @@ impl SimSite {
         self.played.stop_after(calls, image);
     }
 
+    /// The script that is played.
+    pub fn script(&self) -> &Script
+        ensures { whole_script_value result.now ≡ played_script self.now }
+    {
+        &self.played.script
+    }
+
     /// Whether the script was read to its end: no line is left.
     pub fn ended(&self) -> bool
         ensures { result ≡ is_empty (place_of self.now).lines }
@@ -153,7 +161,7 @@ impl SimSite {
     /// A copy of the setup with which the next run starts.
     pub fn setup(&self, alloc: Global) -> Result<Setup, AllocError>
         ensures given { IfOk result (λ setup. setup ≡ setup_of (played_script self.now).given) }
-        ensures own { IfOk result (λ setup. IsOriginSetup (sim_observed self.now).origin setup) }
+        ensures own { IfOk result (λ setup. IsOriginSetup (sim_observed self.now).origin.script setup) }
         ensures limits { IfOk result IsSetup }
     {
         self.played.script.given.setup(alloc)
@@ -163,8 +171,8 @@ impl SimSite {
     /// was called.
     pub fn log(&self) -> &Turns
         ensures log { result.now ≡ log_of self.now }
-        ensures plays { PlaysOrigin (sim_observed self.now).origin result.now }
-        ensures calls { is_log_full self.now ≡ false → IsOriginPlayedTo (sim_observed self.now).origin result.now (place_of self.now) }
+        ensures plays { PlaysOrigin (sim_observed self.now).origin.script result.now }
+        ensures calls { is_log_full self.now ≡ false → IsOriginPlayedTo (sim_observed self.now).origin.script result.now (place_of self.now) }
     {
         &self.played.log
     }
@@ -203,7 +211,9 @@ impl SimSite {
 }
 
 impl Site for SimSite {
-    ghost use Rattle.sim_site.specs.Sites.{IsCalled, sim_observed};
+    ghost use Rattle.std.specs.Prelude.{is_some};
+    ghost use Rattle.gw_script.specs.site.Hazards.{is_failing, takes_most};
+    ghost use Rattle.sim_site.specs.Sites.{IsCalled, IsResult, IsStill, place_of, sim_observed};
 
     ghost observed = { sim_observed };
 
@@ -212,6 +222,8 @@ impl Site for SimSite {
         ensures cause { HasCause (sim_observed self.old).faults (sim_observed self.new).faults result }
         ensures dark { (sim_observed self.old).dark ≡ true → IsErr result }
         ensures call { IsCalled self.old self.new (OpenCall setup.now) }
+        ensures result { IsResult self.old self.new ((place_of self.old).hazard.fail_open) result }
+        ensures still { (sim_observed self.old).dark ≡ true → IsStill self.old self.new }
     {
         if self.played.is_dark() {
             return Err(self.fail());
@@ -228,6 +240,8 @@ impl Site for SimSite {
         ensures cause { (sim_observed self.old).faults ≤ (sim_observed self.new).faults }
         ensures dark { (sim_observed self.old).dark ≡ true → result.what ≡ What.Stopped }
         ensures call { IsCalled self.old self.new PollCall }
+        ensures stops { (sim_observed self.new).dark ≡ true → result.what ≡ What.Stopped }
+        ensures still { (sim_observed self.old).dark ≡ true → IsStill self.old self.new }
     {
         if self.played.is_dark() {
             return self.stopped();
@@ -242,10 +256,12 @@ impl Site for SimSite {
     }
 
     fn send_till(&mut self, till: u64, bytes: &[u8]) -> Result<(), Failed>
-        ensures turns { Grows (sim_observed self.old) (sim_observed self.new) (SentTillTurns till bytes.now result) }
+        ensures turns { GrowsAfter (sim_observed self.old) (sim_observed self.new) (SentTillTurns (sim_observed self.old).origin till bytes.now result) }
         ensures cause { HasCause (sim_observed self.old).faults (sim_observed self.new).faults result }
         ensures dark { (sim_observed self.old).dark ≡ true → IsErr result }
         ensures call { IsCalled self.old self.new (SendTillCall till bytes.now) }
+        ensures result { IsResult self.old self.new (is_some (takes_most (place_of self.old).hazard.fail_tills till)) result }
+        ensures still { (sim_observed self.old).dark ≡ true → IsStill self.old self.new }
     {
         if self.played.is_dark() {
             return Err(self.fail());
@@ -255,10 +271,12 @@ impl Site for SimSite {
     }
 
     fn send_pt(&mut self, pt: u16, bytes: &[u8]) -> Result<(), Failed>
-        ensures turns { Grows (sim_observed self.old) (sim_observed self.new) (SentPtTurns pt bytes.now result) }
+        ensures turns { GrowsAfter (sim_observed self.old) (sim_observed self.new) (SentPtTurns (sim_observed self.old).origin pt bytes.now result) }
         ensures cause { HasCause (sim_observed self.old).faults (sim_observed self.new).faults result }
         ensures dark { (sim_observed self.old).dark ≡ true → IsErr result }
         ensures call { IsCalled self.old self.new (SendPtCall pt bytes.now) }
+        ensures result { IsResult self.old self.new (is_some (takes_most (place_of self.old).hazard.fail_pts pt)) result }
+        ensures still { (sim_observed self.old).dark ≡ true → IsStill self.old self.new }
     {
         if self.played.is_dark() {
             return Err(self.fail());
@@ -272,6 +290,8 @@ impl Site for SimSite {
         ensures cause { HasCause (sim_observed self.old).faults (sim_observed self.new).faults result }
         ensures dark { (sim_observed self.old).dark ≡ true → IsErr result }
         ensures call { IsCalled self.old self.new (LinkCall pt) }
+        ensures result { IsResult self.old self.new (is_failing (place_of self.old).hazard.fail_links pt) result }
+        ensures still { (sim_observed self.old).dark ≡ true → IsStill self.old self.new }
     {
         if self.played.is_dark() {
             return Err(self.fail());
@@ -284,6 +304,7 @@ impl Site for SimSite {
         ensures turns { Grows (sim_observed self.old) (sim_observed self.new) (IsTurn (CutTill till)) }
         ensures cause { (sim_observed self.old).faults ≤ (sim_observed self.new).faults }
         ensures call { IsCalled self.old self.new (CutTillCall till) }
+        ensures still { (sim_observed self.old).dark ≡ true → IsStill self.old self.new }
     {
         if self.played.is_dark() {
             return;
@@ -295,6 +316,7 @@ impl Site for SimSite {
         ensures turns { Grows (sim_observed self.old) (sim_observed self.new) (IsTurn (CutPt pt)) }
         ensures cause { (sim_observed self.old).faults ≤ (sim_observed self.new).faults }
         ensures call { IsCalled self.old self.new (CutPtCall pt) }
+        ensures still { (sim_observed self.old).dark ≡ true → IsStill self.old self.new }
     {
         if self.played.is_dark() {
             return;
@@ -308,6 +330,8 @@ impl Site for SimSite {
         ensures cause { HasCause (sim_observed self.old).faults (sim_observed self.new).faults result }
         ensures dark { (sim_observed self.old).dark ≡ true → IsErr result }
         ensures call { IsCalled self.old self.new LengthCall }
+        ensures result { IsResult self.old self.new ((place_of self.old).hazard.fail_length) result }
+        ensures still { (sim_observed self.old).dark ≡ true → IsStill self.old self.new }
     {
         if self.played.is_dark() {
             return Err(self.fail());
@@ -325,6 +349,8 @@ impl Site for SimSite {
         ensures cause { HasCause (sim_observed self.old).faults (sim_observed self.new).faults result }
         ensures dark { (sim_observed self.old).dark ≡ true → IsErr result }
         ensures call { IsCalled self.old self.new (ReadCall offset (length buf.old)) }
+        ensures result { IsResult self.old self.new ((place_of self.old).hazard.fail_read) result }
+        ensures still { (sim_observed self.old).dark ≡ true → IsStill self.old self.new }
     {
         if self.played.is_dark() {
             return Err(self.fail());
@@ -344,6 +370,8 @@ impl Site for SimSite {
         ensures cause { HasCause (sim_observed self.old).faults (sim_observed self.new).faults result }
         ensures dark { (sim_observed self.old).dark ≡ true → IsErr result }
         ensures call { IsCalled self.old self.new (WriteCall offset bytes.now) }
+        ensures result { IsResult self.old self.new ((place_of self.old).hazard.fail_write) result }
+        ensures still { (sim_observed self.old).dark ≡ true → IsStill self.old self.new }
     {
         if self.played.is_dark() {
             return Err(self.fail());
@@ -357,6 +385,8 @@ impl Site for SimSite {
         ensures cause { HasCause (sim_observed self.old).faults (sim_observed self.new).faults result }
         ensures dark { (sim_observed self.old).dark ≡ true → IsErr result }
         ensures call { IsCalled self.old self.new SyncCall }
+        ensures result { IsResult self.old self.new ((place_of self.old).hazard.fail_sync) result }
+        ensures still { (sim_observed self.old).dark ≡ true → IsStill self.old self.new }
     {
         if self.played.is_dark() {
             return Err(self.fail());

@@ -1,4 +1,4 @@
--- A log of one run that plays lines without failing calls and power failures goes by them, line by line.
+-- A log of one run that plays lines without failing calls and power failures goes by them, line by line; and one that goes by lines plays them.
 use Rattle.std.proofs.Common.{◌≡◌, ℕ, zero, suc, ◌≤◌, List, [], ◌∷◌, ◌++◌, length, refl, sym, ◌∙◌, ap, subst, arith, inl, inr, true, false}
 use Rattle.std.proofs.lemmas.Bool.Decides.{nat_tests}
 use Rattle.std.specs.List.{AllByRecursion}
@@ -6,12 +6,12 @@ use Rattle.std.specs.Prelude.{◌⊎◌, ℤ, pos, Bool}
 use Rattle.gw_site.specs.Outside.{Outside, outside_after, outside_from, nothing_yet}
 use Rattle.gw_site.specs.declared.turn.Turn.{Turn}
 use Rattle.gw_site.specs.declared.turn.Turn.TheVariants.{Start, OpenFailed, Polled, Opened, HeardTill, Closed, HeardPt, Lost, Stopped, Linked, LinkFailed, SentTill, SentPt, CutTill, CutPt, Wrote, Synced, DiskFailed, Crash}
-use Rattle.gw_script.specs.site.ByLines.{GoesBy, IsCall, HasNoFailures, IsPlayed, IsRunToStop, IsSkipped, PlainLinesGoOn}
+use Rattle.gw_script.specs.site.ByLines.{GoesBy, GoingByLinesPlays, IsCall, HasNoFailures, IsPlayed, IsRunToStop, IsSkipped, PlainLinesGoOn}
 use Rattle.gw_script.specs.site.Hazards.{Hazard, no_hazard}
 use Rattle.gw_script.specs.site.ScriptLine.{Event, Open, Close, FromTill, FromPt, Lose, Tick, PlayedLine, At, Poll, Fail, Power}
 use Rattle.gw_script.specs.site.Playing.{DiskCall, Write, Sync, Length, Read, Fits, Leads, Play, applies, begins, brings, counted, early_hazard, early_lines, met, play_after, rests}
 
-by_value : (b : Bool) → (b ≡ true) ⊎ (b ≡ false)
+pub by_value : (b : Bool) → (b ≡ true) ⊎ (b ≡ false)
 by_value true = inl refl
 by_value false = inr refl
 
@@ -20,14 +20,14 @@ false_true e = absurd (cc)
 
 -- ---- an event that is due
 
-none_due : {A : Type 0} (p : Play) (event : Turn) → p.due ≡ [] → p.due ≡ event ∷ [] → A
+pub none_due : {A : Type 0} (p : Play) (event : Turn) → p.due ≡ [] → p.due ≡ event ∷ [] → A
 none_due p event none due = absurd (let h : [] ≡ event ∷ [] = sym none ∙ due in cc)
 
 one_due : (p : Play) (turn event : Turn) → p.due ≡ turn ∷ [] → p.due ≡ event ∷ [] → turn ≡ event
 one_due p turn event is due = let h : turn ∷ [] ≡ event ∷ [] = sym is ∙ due in cc
 
 -- where an event is due no other turn fits
-only_due : (o : Outside) (call : DiskCall) (p : Play) (turn event : Turn) → p.due ≡ event ∷ [] → Fits o call p turn → turn ≡ event
+pub only_due : (o : Outside) (call : DiskCall) (p : Play) (turn event : Turn) → p.due ≡ event ∷ [] → Fits o call p turn → turn ≡ event
 only_due o call p (Start setup) event due f = none_due p event f.0.no_event due
 only_due o call p OpenFailed event due f = none_due p event f.0.no_event due
 only_due o call p (Polled now) event due f = none_due p event f.0.no_event due
@@ -51,7 +51,7 @@ only_due o Length p DiskFailed event due f = none_due p event f.0.no_event due
 only_due o Read p DiskFailed event due f = none_due p event f.0.no_event due
 only_due o call p (Crash file) event due f = none_due p event f.no_event due
 
-the_stop : (o : Outside) (p : Play) (turns : List Turn) (q : Play) → p.due ≡ Stopped ∷ [] → Leads o p turns q → IsRunToStop turns → turns ≡ Stopped ∷ []
+pub the_stop : (o : Outside) (p : Play) (turns : List Turn) (q : Play) → p.due ≡ Stopped ∷ [] → Leads o p turns q → IsRunToStop turns → turns ≡ Stopped ∷ []
 the_stop o p [] q due leads run = absurd run
 the_stop o p (turn ∷ turns) q due (c, f, leads) run =
     let same = only_due o c p turn Stopped due f in
@@ -216,9 +216,148 @@ calls_then (suc n) o moment lines (DiskFailed ∷ turns) q le plain (Length, f, 
 calls_then (suc n) o moment lines (DiskFailed ∷ turns) q le plain (Read, f, leads) run = false_true f.1
 calls_then (suc n) o moment lines (Crash file ∷ turns) q le plain leads run = absurd run
 
+begins_calm : (lines : List PlayedLine) → HasNoFailures lines → begins lines ≡ calm lines (pos 0)
+begins_calm lines plain = ap (λ ls. rests ls (pos 0) (early_hazard no_hazard lines)) (plain_lines lines plain) ∙ ap (rests lines (pos 0)) (plain_hazard no_hazard lines plain)
+
 pub plain-lines-go-on : PlainLinesGoOn
 plain-lines-go-on lines setup turns plain run (q, (c, f, leads)) =
-    let from : begins lines ≡ calm lines (pos 0) = ap (λ ls. rests ls (pos 0) (early_hazard no_hazard lines)) (plain_lines lines plain) ∙ ap (rests lines (pos 0)) (plain_hazard no_hazard lines plain) in
-    let l : Leads (outside_after nothing_yet (Start setup)) (calm lines (pos 0)) turns q = subst (λ p. Leads (outside_after nothing_yet (Start setup)) (counted p) turns q) from leads in
+    let l : Leads (outside_after nothing_yet (Start setup)) (calm lines (pos 0)) turns q = subst (λ p. Leads (outside_after nothing_yet (Start setup)) (counted p) turns q) (begins_calm lines plain) leads in
     let x = calls_then (length turns) (outside_after nothing_yet (Start setup)) (pos 0) lines turns q (omega arith) plain l run in
     record { setup = setup; calls = x.calls; later = x.later; are_calls = x.are; log_is = ap (λ ts. Start setup ∷ ts) x.is; goes_on = x.goes }
+
+-- ---- from the lines to the play
+
+skips : (o : Outside) (event : Event) → IsSkipped o event → applies o event ≡ false
+skips o event is = elim (by_value (applies o event)) [
+  | inl e ↦ absurd (not_skipped o event e is)
+  | inr e ↦ e
+]
+
+plays_it : (o : Outside) (event : Event) → ¬ IsSkipped o event → applies o event ≡ true
+plays_it o event kept = elim (by_value (applies o event)) [
+  | inl e ↦ e
+  | inr e ↦ absurd (kept (skipped o event e))
+]
+
+-- where lines go by turns none of them makes a call or the power fail
+goes_plain : (lines : List PlayedLine) (o : Outside) (moment : ℤ) (turns : List Turn) → GoesBy o moment lines turns → HasNoFailures lines
+goes_plain [] o moment turns goes = tt
+goes_plain (At now ∷ lines) o moment turns goes = goes_plain lines o now turns goes
+goes_plain (Poll event ∷ lines) o moment turns (inl (is, goes)) = goes_plain lines o moment turns goes
+goes_plain (Poll event ∷ lines) o moment turns (inr x) = goes_plain lines (outside_from o (Polled moment ∷ (brings event ++ x.calls))) moment x.later x.goes_on
+goes_plain (Fail failing ∷ lines) o moment turns goes = absurd goes
+goes_plain (Power calls kind ∷ lines) o moment turns goes = absurd goes
+
+-- a call leads from between two calls to there again
+record Stays (o : Outside) (lines : List PlayedLine) (moment : ℤ) (turn : Turn) : Type 0 where
+  fits : Fits o Sync (calm lines moment) turn
+  place : play_after o Sync (calm lines moment) turn ≡ calm lines moment
+
+call_stays : (o : Outside) (lines : List PlayedLine) (moment : ℤ) (turn : Turn) → IsCall turn → Stays o lines moment turn
+call_stays o lines moment (Start setup) is = absurd is
+call_stays o lines moment OpenFailed is = absurd is
+call_stays o lines moment (Polled now) is = absurd is
+call_stays o lines moment (Opened till) is = absurd is
+call_stays o lines moment (HeardTill till bytes) is = absurd is
+call_stays o lines moment (Closed till) is = absurd is
+call_stays o lines moment (HeardPt pt bytes) is = absurd is
+call_stays o lines moment (Lost pt) is = absurd is
+call_stays o lines moment Stopped is = absurd is
+call_stays o lines moment (Linked pt) is = record { fits = (record { no_event = refl; no_failure = refl; power = refl }, refl); place = refl }
+call_stays o lines moment (LinkFailed pt) is = absurd is
+call_stays o lines moment (SentTill till bytes true) is = record { fits = (record { no_event = refl; no_failure = refl; power = refl }, tt); place = refl }
+call_stays o lines moment (SentTill till bytes false) is = false_true is
+call_stays o lines moment (SentPt pt bytes true) is = record { fits = (record { no_event = refl; no_failure = refl; power = refl }, tt); place = refl }
+call_stays o lines moment (SentPt pt bytes false) is = false_true is
+call_stays o lines moment (CutTill till) is = record { fits = record { no_event = refl; no_failure = refl; power = refl }; place = refl }
+call_stays o lines moment (CutPt pt) is = record { fits = record { no_event = refl; no_failure = refl; power = refl }; place = refl }
+call_stays o lines moment (Wrote offset bytes) is = record { fits = record { no_event = refl; no_failure = refl; power = refl }; place = refl }
+call_stays o lines moment Synced is = record { fits = (record { no_event = refl; no_failure = refl; power = refl }, refl); place = refl }
+call_stays o lines moment DiskFailed is = absurd is
+call_stays o lines moment (Crash file) is = absurd is
+
+-- the turns lead somewhere
+abbrev LeadsOn : Outside → Play → List Turn → Type 0
+LeadsOn o p turns = (q : Play) × Leads o p turns q
+
+calls_lead : (calls later : List Turn) (o : Outside) (lines : List PlayedLine) (moment : ℤ) → AllByRecursion IsCall calls → LeadsOn (outside_from o calls) (calm lines moment) later → LeadsOn o (calm lines moment) (calls ++ later)
+calls_lead [] later o lines moment are leads = leads
+calls_lead (call ∷ calls) later o lines moment are leads =
+    let s = call_stays o lines moment call are.0 in
+    let (q, rest) = calls_lead calls later (outside_after o call) lines moment are.1 leads in
+    (q, (Sync, s.fits, subst (λ p. Leads (outside_after o call) p (calls ++ later) q) (sym s.place) rest))
+
+event_leads : (event : Event) (later : List Turn) (o : Outside) (lines : List PlayedLine) (moment : ℤ) → LeadsOn (outside_from o (brings event)) (calm lines moment) later → LeadsOn o (met_event lines moment event) (brings event ++ later)
+event_leads (Open till) later o lines moment (q, leads) = (q, (Sync, refl, leads))
+event_leads (Close till) later o lines moment (q, leads) = (q, (Sync, refl, leads))
+event_leads (FromTill till bytes) later o lines moment (q, leads) = (q, (Sync, refl, leads))
+event_leads (FromPt pt bytes) later o lines moment (q, leads) = (q, (Sync, refl, leads))
+event_leads (Lose pt) later o lines moment (q, leads) = (q, (Sync, refl, leads))
+event_leads Tick later o lines moment leads = leads
+
+outside_brought : (event : Event) (calls : List Turn) (o : Outside) → outside_from o (brings event ++ calls) ≡ outside_from (outside_from o (brings event)) calls
+outside_brought (Open till) calls o = refl
+outside_brought (Close till) calls o = refl
+outside_brought (FromTill till bytes) calls o = refl
+outside_brought (FromPt pt bytes) calls o = refl
+outside_brought (Lose pt) calls o = refl
+outside_brought Tick calls o = refl
+
+-- the turns begin with a poll at which these lines are met, and lead on from there
+record PollLeads (o : Outside) (all : List PlayedLine) (moment : ℤ) (lines : List PlayedLine) (turns : List Turn) : Type 0 where
+  now : ℤ
+  rest : List Turn
+  turns_are : turns ≡ Polled now ∷ rest
+  now_is : now ≡ (met o (calm all moment) lines).moment
+  leads : LeadsOn (outside_after o (Polled now)) (met o (calm all moment) lines) rest
+
+-- they lead from before that poll
+poll_leads : (o : Outside) (moment : ℤ) (lines : List PlayedLine) (turns : List Turn) → HasNoFailures lines → PollLeads o lines moment lines turns → LeadsOn o (calm lines moment) turns
+poll_leads o moment lines turns plain p =
+    let (q, leads) = p.leads in (
+      q,
+      subst (λ ts. Leads o (calm lines moment) ts q) (sym p.turns_are)
+          (Sync, (record { no_event = refl; no_failure = refl; power = refl }, stays_on o (calm lines moment) lines plain, p.now_is), leads),
+    )
+
+-- a line that is passed leaves what is met
+same_met : (o : Outside) (all : List PlayedLine) (moment : ℤ) (line : PlayedLine) (lines : List PlayedLine) (turns : List Turn) → met o (calm all moment) (line ∷ lines) ≡ met o (calm all moment) lines → PollLeads o all moment lines turns → PollLeads o all moment (line ∷ lines) turns
+same_met o all moment line lines turns same p =
+    record { now = p.now; rest = p.rest; turns_are = p.turns_are; now_is = p.now_is ∙ ap (λ (q : Play). q.moment) (sym same); leads = subst (λ q. LeadsOn (outside_after o (Polled p.now)) q p.rest) (sym same) p.leads }
+
+played_leads : (o : Outside) (all : List PlayedLine) (moment : ℤ) (event : Event) (lines : List PlayedLine) (turns : List Turn) → (x : Played o moment event lines turns)
+    → LeadsOn (outside_from o (Polled moment ∷ (brings event ++ x.calls))) (calm lines moment) x.later → PollLeads o all moment (Poll event ∷ lines) turns
+played_leads o all moment event lines turns x later =
+    let test = plays_it o event x.not_skipped in
+    let met_is : met o (calm all moment) (Poll event ∷ lines) ≡ met_event lines moment event = rw test refl in
+    let there = outside_after o (Polled moment) in
+    let calls = calls_lead x.calls x.later (outside_from there (brings event)) lines moment x.are_calls (subst (λ after. LeadsOn after (calm lines moment) x.later) (outside_brought event x.calls there) later) in
+    record {
+      now = moment;
+      rest = brings event ++ (x.calls ++ x.later);
+      turns_are = x.turns_are;
+      now_is = ap (λ (q : Play). q.moment) (sym met_is);
+      leads = subst (λ q. LeadsOn there q (brings event ++ (x.calls ++ x.later))) (sym met_is) (event_leads event (x.calls ++ x.later) there lines moment calls);
+    }
+
+goes_lead : (lines : List PlayedLine) (o : Outside) (all : List PlayedLine) (moment : ℤ) (turns : List Turn) → GoesBy o moment lines turns → PollLeads o all moment lines turns
+goes_lead [] o all moment turns goes = record { now = moment; rest = Stopped ∷ []; turns_are = goes; now_is = refl; leads = (_, (Sync, refl, refl)) }
+goes_lead (At now ∷ lines) o all moment turns goes =
+    let p = goes_lead lines o all now turns goes in
+    record { now = p.now; rest = p.rest; turns_are = p.turns_are; now_is = p.now_is; leads = p.leads }
+goes_lead (Poll event ∷ lines) o all moment turns (inl (is, goes)) =
+    same_met o all moment (Poll event) lines turns (rw (skips o event is) refl) (goes_lead lines o all moment turns goes)
+goes_lead (Poll event ∷ lines) o all moment turns (inr x) =
+    let there = outside_from o (Polled moment ∷ (brings event ++ x.calls)) in
+    played_leads o all moment event lines turns x (poll_leads there moment lines x.later (goes_plain lines there moment x.later x.goes_on) (goes_lead lines there lines moment x.later x.goes_on))
+goes_lead (Fail failing ∷ lines) o all moment turns goes = absurd goes
+goes_lead (Power calls kind ∷ lines) o all moment turns goes = absurd goes
+
+pub going-by-lines-plays : GoingByLinesPlays
+going-by-lines-plays lines log g =
+    let there = outside_after nothing_yet (Start g.setup) in
+    let here = outside_from there g.calls in
+    let plain = goes_plain lines here (pos 0) g.later g.goes_on in
+    let (q, leads) = calls_lead g.calls g.later there lines (pos 0) g.are_calls (poll_leads here (pos 0) lines g.later plain (goes_lead lines here lines (pos 0) g.later g.goes_on)) in
+    let start : Leads nothing_yet (calm lines (pos 0)) (Start g.setup ∷ (g.calls ++ g.later)) q = (Sync, (record { no_event = refl; no_failure = refl; power = refl }, refl), leads) in
+    (q, subst (λ p. Leads nothing_yet p log q) (sym (begins_calm lines plain)) (subst (λ turns. Leads nothing_yet (calm lines (pos 0)) turns q) (sym g.log_is) start))

@@ -105,11 +105,11 @@ sync_goes o p false e idle = one_goes o p Sync Synced (idle, e) (counted_quiet p
 -- ---- polls
 
 -- the turn is that of an event: it comes where it is due, and then nothing is due
-abbrev IsEvent : Turn → Type 0
+abbrev pub IsEvent : Turn → Type 0
 IsEvent turn = (o : Outside) (p : Play) → p.due ≡ turn ∷ [] → Fits o Sync p turn × (play_after o Sync p turn ≡ brought p)
 
 -- at most one turn, which is that of an event
-abbrev AreEvent : List Turn → Type 0
+abbrev pub AreEvent : List Turn → Type 0
 AreEvent [] = Unit {0}
 AreEvent (turn ∷ turns) = IsEvent turn × (turns ≡ [])
 
@@ -135,7 +135,7 @@ passed_failing o failing p = by_test (is_reached o failing)
     by_test true = refl
     by_test false = refl
 
-met_event : (o : Outside) (p : Play) (lines : List PlayedLine) → p.due ≡ [] → AreEvent (met o p lines).due
+pub met_event : (o : Outside) (p : Play) (lines : List PlayedLine) → p.due ≡ [] → AreEvent (met o p lines).due
 met_event o p [] none = (λ o p due. (due, refl), refl)
 met_event o p (At now ∷ lines) none = met_event o (record p { moment = now }) lines none
 met_event o p (Poll event ∷ lines) none = by_test (applies o event) (met_event o p lines none)

@@ -99,3 +99,7 @@ pub record GoesByLines (lines : List PlayedLine) (log : List Turn) : Type 0 wher
 -- a log of one run that plays lines without failing calls and power failures to the end goes by them
 abbrev pub PlainLinesGoOn : Type 0
 PlainLinesGoOn = (lines : List PlayedLine) (setup : Setup) (turns : List Turn) → HasNoFailures lines → IsRunToStop turns → PlaysLines lines (Start setup ∷ turns) → GoesByLines lines (Start setup ∷ turns)
+
+-- and a log that goes by lines plays them
+abbrev pub GoingByLinesPlays : Type 0
+GoingByLinesPlays = (lines : List PlayedLine) (log : List Turn) → GoesByLines lines log → PlaysLines lines log

@@ -1,14 +1,8 @@
 -- What fail and power lines have armed: which calls fail, and when the power fails.
-use Rattle.std.specs.Prelude.{ℕ, Bool, true, false, not, min, ◌==◌, if◌then◌else◌, List, [], ◌∷◌, ◌++◌, Option, Some, None, filter, take}
-use Rattle.std.specs.List.{list_any}
+use Rattle.std.specs.Prelude.{ℕ, Bool, true, false, min, ◌==◌, if◌then◌else◌, List, Option, Some, None, take}
 use Rattle.gw_site.specs.Image.{junked}
 use Rattle.gw_site.specs.Outside.{Outside, is_connected}
 use Rattle.gw_script.specs.site.ScriptLine.{Failing, FailOpen, FailLink, FailSendTill, FailSendPt, FailWrite, FailSync, FailLength, FailRead, ImageKind, Old, New, Junk}
-
--- a send on the connection of this number fails, and takes at most so many bytes
-pub record FailingSend : Type 0 where
-  pub number : ℕ
-  pub most : ℕ
 
 -- the power fails after so many more calls, at least one, and leaves this
 pub record Armed : Type 0 where
@@ -18,10 +12,11 @@ pub record Armed : Type 0 where
 -- the next calls of these kinds fail
 pub record Hazard : Type 0 where
   pub fail_open : Bool
-  -- of these terminals
-  pub fail_links : List ℕ
-  pub fail_tills : List FailingSend
-  pub fail_pts : List FailingSend
+  -- by the terminal's number
+  pub fail_links : ℕ → Bool
+  -- by the connection's number, how many bytes it takes at most
+  pub fail_tills : ℕ → Option ℕ
+  pub fail_pts : ℕ → Option ℕ
   pub fail_write : Bool
   pub fail_sync : Bool
   pub fail_length : Bool
@@ -30,14 +25,27 @@ pub record Hazard : Type 0 where
 
 -- no call fails
 abbrev pub no_hazard : Hazard
-no_hazard = record { fail_open = false; fail_links = []; fail_tills = []; fail_pts = []; fail_write = false; fail_sync = false; fail_length = false; fail_read = false; power = None }
+no_hazard = record { fail_open = false; fail_links = λ _. false; fail_tills = λ _. None; fail_pts = λ _. None; fail_write = false; fail_sync = false; fail_length = false; fail_read = false; power = None }
+
+-- the lesser of these numbers, where there are two
+abbrev pub least : Option ℕ → ℕ → ℕ
+least None most = most
+least (Some other) most = min other most
+
+-- with one more fail line for the link of this terminal
+abbrev pub links_with : (ℕ → Bool) → ℕ → ℕ → Bool
+links_with links pt = λ other. if other == pt then true else links other
+
+-- with one more fail line for sends on the connection of this number: of two lines for it the lesser number holds
+abbrev pub sends_with : (ℕ → Option ℕ) → ℕ → ℕ → ℕ → Option ℕ
+sends_with sends number most = λ other. if other == number then Some (least (sends number) most) else sends other
 
 -- with one more fail line
 abbrev pub armed : Failing → Hazard → Hazard
 armed FailOpen h = record h { fail_open = true }
-armed (FailLink pt) h = record h { fail_links = h.fail_links ++ pt ∷ [] }
-armed (FailSendTill till most) h = record h { fail_tills = h.fail_tills ++ record { number = till; most = most } ∷ [] }
-armed (FailSendPt pt most) h = record h { fail_pts = h.fail_pts ++ record { number = pt; most = most } ∷ [] }
+armed (FailLink pt) h = record h { fail_links = links_with h.fail_links pt }
+armed (FailSendTill till most) h = record h { fail_tills = sends_with h.fail_tills till most }
+armed (FailSendPt pt most) h = record h { fail_pts = sends_with h.fail_pts pt most }
 armed FailWrite h = record h { fail_write = true }
 armed FailSync h = record h { fail_sync = true }
 armed FailLength h = record h { fail_length = true }
@@ -55,22 +63,16 @@ is_reached o FailLength = true
 is_reached o FailRead = true
 
 -- the link of this terminal fails
-abbrev pub is_failing : List ℕ → ℕ → Bool
-is_failing links pt = list_any (λ link. link == pt) links
+abbrev pub is_failing : (ℕ → Bool) → ℕ → Bool
+is_failing links pt = links pt
 
 -- all fail lines for the link of this terminal are used up
-abbrev pub links_without : List ℕ → ℕ → List ℕ
-links_without links pt = filter (λ link. not (link == pt)) links
-
--- the lesser of these numbers, where there are two
-abbrev pub least : Option ℕ → ℕ → ℕ
-least None most = most
-least (Some other) most = min other most
+abbrev pub links_without : (ℕ → Bool) → ℕ → ℕ → Bool
+links_without links pt = λ other. if other == pt then false else links other
 
 -- how many bytes the next send on the connection of this number takes, where it fails: the least number of all lines for it
-abbrev pub takes_most : List FailingSend → ℕ → Option ℕ
-takes_most [] number = None
-takes_most (send ∷ sends) number = if send.number == number then Some (least (takes_most sends number) send.most) else takes_most sends number
+abbrev pub takes_most : (ℕ → Option ℕ) → ℕ → Option ℕ
+takes_most sends number = sends number
 
 -- what the next send takes of these bytes: all, or where it fails the first so many
 abbrev pub sent_of : Option ℕ → List ℕ → List ℕ
@@ -78,8 +80,8 @@ sent_of None bytes = bytes
 sent_of (Some most) bytes = take most bytes
 
 -- all fail lines for sends on the connection of this number are used up
-abbrev pub sends_without : List FailingSend → ℕ → List FailingSend
-sends_without sends number = filter (λ (send : FailingSend). not (send.number == number)) sends
+abbrev pub sends_without : (ℕ → Option ℕ) → ℕ → ℕ → Option ℕ
+sends_without sends number = λ other. if other == number then None else sends other
 
 -- what a power failure keeps: a failing open, length or read still waits for its call, and everything else is forgotten
 abbrev pub kept_by_crash : Hazard → Hazard

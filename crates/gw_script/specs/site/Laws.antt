@@ -1,5 +1,5 @@
 -- The laws of the whole script: of its grammar, and of the logs that play it.
-use Rattle.std.specs.Prelude.{◌≡◌, ◌↔◌, ℕ, not, min, length, false, List, [], ◌∷◌, ◌++◌, Option, Some, is_some, Ok, Err}
+use Rattle.std.specs.Prelude.{◌≡◌, ◌↔◌, ℕ, not, min, length, true, false, List, [], ◌∷◌, ◌++◌, Option, Some, None, is_some, Ok, Err}
 use Rattle.gw_bytes.specs.Bytes.{IsPrefix}
 use Rattle.gw_site.specs.Outside.{Outside, outside_of}
 use Rattle.gw_site.specs.declared.turn.Turn.{Turn}
@@ -7,6 +7,7 @@ use Rattle.gw_site.specs.declared.turn.Turn.TheVariants.{SentTill, SentPt, Crash
 use Rattle.gw_script.specs.Decode.{split_lines}
 use Rattle.gw_script.specs.site.Calls.{CallFits, IsPlayedTo, PlaysBy, SendPtCall, SendTillCall, SiteCall, SiteStep, place_after}
 use Rattle.gw_script.specs.site.Hazards.{crash_file, sent_of, takes_most}
+use Rattle.gw_script.specs.site.Limits.{are_known, hazard_after}
 use Rattle.gw_script.specs.site.ScriptLine.{ImageKind, PlayedLine, Script}
 use Rattle.gw_script.specs.site.Grammar.{AreLinesOf, HasFirstWrong, SpellsScript}
 use Rattle.gw_script.specs.site.Decode.{script_of}
@@ -63,3 +64,7 @@ CallsGoOn = (lines : List PlayedLine) (log : List Turn) (place : Play) (call : S
 abbrev pub PowerGoesOn : Type 0
 PowerGoesOn = (lines : List PlayedLine) (log : List Turn) (place : Play) (kind : ImageKind) → IsPlayedTo lines log place → place.off ≡ Some kind
     → IsPlayedTo lines (log ++ Crash (crash_file kind (outside_of log)) ∷ []) (restarted place)
+
+-- where the power is there, and no disk or power has failed in the log, what is armed by the log is what is armed at the place up to which calls and power failures have played the lines
+abbrev pub LimitsAreArmed : Type 0
+LimitsAreArmed = (lines : List PlayedLine) (log : List Turn) (place : Play) → IsPlayedTo lines log place → are_known log ≡ true → place.off ≡ None → hazard_after lines log ≡ place.hazard

@@ -1,12 +1,12 @@
 -- Proof of the contract of `rounds`.
 use Rattle.std.proofs.Common.{◌∙◌, refl, sym, arith, inl}
 use Rattle.gw_rules.proofs.TripleLemmas.{triple-refl, triple-then, triple-after}
-use Rattle.gw_dispatch.proofs.RoundLemmas.{no-memory, begun-rest, all-polled}
+use Rattle.gw_dispatch.proofs.RoundLemmas.{no-memory, all-polled}
 use Rattle.gw_dispatch.proofs.engine.rounds.Goals as goal
 
 pub loop-made-init : goal.loop-made-init
 loop-made-init g c = record {
-  kept = triple-after _ _ _ _ _ (triple-refl _ _) (begun-rest c.args.setup.now c.in-Ok.dispatch c.in-Ok.ensures.tills c.in-Ok.ensures.core);
+  kept = triple-after _ _ _ _ _ (triple-refl _ _) c.in-Ok.ensures.begun;
   ready = c.in-Ok.ensures.ready;
   name = c.in-Ok.ensures.name;
   buf = refl;
@@ -20,8 +20,8 @@ returns-in-Ok-Stopped-clause-triple g c = triple-then _ _ _ _ _ _ c.loop-made.in
 pub returns-in-Err-clause-triple : goal.returns-in-Err-clause-triple
 returns-in-Err-clause-triple g c = no-memory _ _
 
-pub returns-in-Err-round-clause-triple : goal.returns-in-Err-round-clause-triple
-returns-in-Err-round-clause-triple g c = triple-then _ _ _ _ _ _ c.loop-made.invariant.kept (c.in-Err-round.ensures.triple c.args.setup.now c.loop-made.made (sym c.loop-made.invariant.name))
+pub returns-in-Err-turn-clause-triple : goal.returns-in-Err-turn-clause-triple
+returns-in-Err-turn-clause-triple g c = triple-then _ _ _ _ _ _ c.loop-made.invariant.kept (c.in-Err-turn.ensures.triple c.args.setup.now c.loop-made.made (sym c.loop-made.invariant.name))
 
 pub loop-made-preserved : goal.loop-made-preserved
 loop-made-preserved g c = record {

@@ -10,14 +10,14 @@ use Rattle.gw_dispatch.proofs.perform.on_late.Goals as goal
 
 pub perform-requires-clause-no_link : goal.perform-requires-clause-no_link
 perform-requires-clause-no_link g c =
-    let is : IsRowOf c.args.core.now (moment_of c.args.now) (λ known. late_row known c.args.pt) c.args.core.now c.on_silence-wanted.result = simp (to_z-of_z, c.ranges.now) at c.on_silence-wanted.ensures.row in
-    keeps-no-link c.args.core.now c.args.core.now (moment_of c.args.now) (λ known. late_row known c.args.pt) c.on_silence-wanted.result (λ known. late-keeps known c.args.pt) is
+    let is : IsRowOf c.args.core.now (moment_of c.args.now) (λ known. late_row known c.args.pt) c.args.core.now c.on_moment-wanted.result = simp (to_z-of_z, c.ranges.now) at c.on_moment-wanted.ensures.row in
+    keeps-no-link c.args.core.now c.args.core.now (moment_of c.args.now) (λ known. late_row known c.args.pt) c.on_moment-wanted.result (λ known. late-keeps known c.args.pt) is
 
 pub perform-requires-clause-unserved : goal.perform-requires-clause-unserved
 perform-requires-clause-unserved g c = all-serve-nothing c.args.core.now c.args.pt c.requires.dialogues
 
 pub returns-clause-triple : goal.returns-clause-triple
 returns-clause-triple g c =
-    let is : IsRowOf c.args.core.now (moment_of c.args.now) (λ known. late_row known c.args.pt) c.args.core.now c.on_silence-wanted.result = simp (to_z-of_z, c.ranges.now) at c.on_silence-wanted.ensures.row in
-    let performs : Performs (g.S.Site.observed c.args.site.now) (g.S.Site.observed c.perform.new.site) c.args.core.now c.perform.new.core c.args.now (calls_wanted c.on_silence-wanted.result) = simp (to_z-of_z, c.ranges.now) at c.perform.ensures.triple in
-    silenced _ _ c.args.core.now c.perform.new.core c.args.now c.args.pt c.on_silence-wanted.result is performs
+    let is : IsRowOf c.args.core.now (moment_of c.args.now) (λ known. late_row known c.args.pt) c.args.core.now c.on_moment-wanted.result = simp (to_z-of_z, c.ranges.now) at c.on_moment-wanted.ensures.row in
+    let performs : Performs (g.S.Site.observed c.args.site.now) (g.S.Site.observed c.perform.new.site) c.args.core.now c.perform.new.core c.args.now (calls_wanted c.on_moment-wanted.result) = simp (to_z-of_z, c.ranges.now) at c.perform.ensures.triple in
+    silenced _ _ c.args.core.now c.perform.new.core c.args.now c.args.pt c.on_moment-wanted.result is performs

@@ -1,5 +1,6 @@
 -- Proof of the contract of `law_plays`.
-use Rattle.gw_run.proofs.ByLinesLemmas.{log-by-lines, log-has-events, log-has-script}
+use Rattle.gw_run.proofs.ByLinesLemmas.{log-by-lines, log-has-events}
+use Rattle.gw_run.proofs.OneLogLemmas.{log-has-script}
 use Rattle.gw_run.proofs.laws.law_plays.Goals as goal
 
 pub returns-clause-lines : goal.returns-clause-lines

@@ -1,16 +1,24 @@
 -- Proof of the contract of `run_script`.
-use Rattle.std.proofs.Common.{◌≡◌, ◌<◌, length, sym, arith}
-use Rattle.gw_run.proofs.PlayedLemmas.{ran-play, ran-whole}
+use Rattle.std.proofs.Common.{◌∙◌, ap, refl}
+use Rattle.gw_script.specs.site.Decode.{script_of}
+use Rattle.gw_site.specs.Observed.{Observed}
+use Rattle.gw_run.proofs.PlayedLemmas.{done-run, part-run}
+use Rattle.gw_run.proofs.ServedLemmas.{script-read}
 use Rattle.gw_run.proofs.replay.run_script.Goals as goal
 
 pub returns-in-Done : goal.returns-in-Done
 returns-in-Done c = record {
-  log = λ script gives fresh log e.
-      let items = c.run-ended.new.site.play.log in
-      let few : length items.items < 18446744073709551615 = (let a = items.ok in let b = items.small in omega arith) in
-      let few_log : length log < 18446744073709551615 = rw (let n : items.items ≡ log = cc in sym n) few in
-      ran-whole _ _ script c.args.name gives log _ fresh (rw (c.script_setup-setup.ensures, c.in-Done.is) at c.run-ended.ensures.lawful) e (c.played.ensures log e) few_log c.is_dark.result c.is_dark.ensures;
+  run = λ text script served fresh log e.
+      let own = c.in-Ok.ensures.own script (ap (λ (o : Observed). script_of o.origin.script) fresh ∙ script-read text script served) in
+      let runs = rw (own, c.in-Done.is) at c.run.ensures.lawful in
+      rw c.is_lit.ensures (done-run _ _ text script fresh runs _ refl log e);
+  origin = c.run.ensures.lawful.origin;
 }
 
 pub returns : goal.returns
-returns c = record { log = λ script gives fresh log e. ran-play _ _ script c.args.name gives log _ fresh (rw c.script_setup-setup.ensures at c.run-ended.ensures.lawful) e (c.played.ensures log e) }
+returns c = record {
+  run = λ text script served fresh log e.
+      let own = c.in-Ok.ensures.own script (ap (λ (o : Observed). script_of o.origin.script) fresh ∙ script-read text script served) in
+      part-run _ _ text script _ fresh (rw own at c.run.ensures.lawful) log e;
+  origin = c.run.ensures.lawful.origin;
+}

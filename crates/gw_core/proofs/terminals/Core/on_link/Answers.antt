@@ -1,13 +1,15 @@
 -- Proof of the contract of `on_link`.
-use Rattle.std.proofs.Common.{ap, sym, ◌≡◌, [], refl, rules, tests}
+use Rattle.std.proofs.Common.{ℕ, ap, sym, subst, ◌≡◌, ◌∙◌, [], refl, rules, tests, to_z, of_z, w64}
 use Rattle.std.specs.Prelude.{slice_get, Some}
 use Rattle.std.proofs.lemmas.Int.{to_z-of_z}
 use Rattle.std.proofs.lemmas.List.{length-set}
 use Rattle.gw_base.specs.Moment.{moment_of}
 use Rattle.gw_owes.specs.Core.{Core as CoreValue}
+use Rattle.gw_owes.specs.Terminals.{after_command}
+use Rattle.gw_owes.specs.declared.terminal.Standing.TheVariants.{Registering}
 use Rattle.gw_owes.specs.declared.terminal.Terminal.{Terminal}
 use Rattle.gw_core.specs.IsRow.{known_with}
-use Rattle.gw_core.proofs.CoreLemmas.{settings-stay, found-at, serves-at, made-row, lost-row, registration-writable}
+use Rattle.gw_core.proofs.CoreLemmas.{moment-stays, settings-stay, found-at, serves-at, made-row, lost-row, registration-writable}
 use Rattle.gw_core.proofs.terminals.Core.on_link.Goals as goal
 
 pub returns-then-up-clause-row : goal.returns-then-up-clause-row
@@ -15,9 +17,11 @@ returns-then-up-clause-row c = λ setup kept.
     let core : CoreValue = record { terminals = c.self.inside.terminals.items; waits = []; logged_out = []; device_requests = 0 } in
     let terminal : Terminal = c.index_mut-terminal.result.now in
     let found : slice_get core.terminals c.args.pt ≡ Some terminal = found-at core.terminals c.args.self.now c.args.pt c.from.result terminal (sym (ap (λ (held : CoreValue). held.terminals) c.self.view_is)) c.requires.there c.from.ensures c.index_mut-terminal.ensures.value in
+    let taken : moment_of (to_z w64 (of_z w64 c.to_moment-now.result)) ≡ moment_of c.args.now =
+    moment-stays c.args.now _ (to_z-of_z w64 c.to_moment-now.result (assumption (c.to_moment-now.type_inv)) ∙ simp (to_z-of_z, c.ranges.now) at c.to_moment-now.ensures.value) in
     rw (← c.self.view_is, c.from.ensures, c.if-up.true)
     (made-row (known_with setup kept core (moment_of c.args.now)) c.args.pt terminal c.ask.new.terminal c.registration-command.result c.ask.result found c.registration-command.ensures
-    (simp (to_z-of_z, c.ranges.now) at c.ask.ensures.asked) c.ask.ensures.act)
+    (subst (λ (moment : ℕ). c.ask.new.terminal ≡ after_command (record terminal { awaited = 0 }) c.registration-command.result Registering moment) taken c.ask.ensures.asked) c.ask.ensures.act)
 
 pub returns-then-up-clause-wanted : goal.returns-then-up-clause-wanted
 returns-then-up-clause-wanted c =

@@ -1,5 +1,5 @@
 -- Proof of the contract of `on_pt`.
-use Rattle.std.proofs.Common.{◌≡◌, ◌<◌, ℕ, ℤ, w64, [], length, sym, subst, ap}
+use Rattle.std.proofs.Common.{◌≡◌, ◌<◌, ◌∙◌, ℕ, w64, to_z, of_z, [], length, sym, subst, ap}
 use Rattle.std.specs.Prelude.{get_or, slice_get, Some}
 use Rattle.std.proofs.lemmas.Int.{to_z-of_z}
 use Rattle.std.proofs.lemmas.List.{length-set}
@@ -12,7 +12,7 @@ use Rattle.gw_owes.specs.Links.{is_linked}
 use Rattle.gw_owes.specs.Terminals.{terminal_becomes}
 use Rattle.gw_owes.specs.declared.terminal.Terminal.{Terminal}
 use Rattle.gw_core.specs.IsRow.{calls_wanted, known_with}
-use Rattle.gw_core.proofs.CoreLemmas.{found-at, settings-stay, new-serves}
+use Rattle.gw_core.proofs.CoreLemmas.{moment-stays, found-at, settings-stay, new-serves}
 use Rattle.gw_core.proofs.HandlingLemmas.{pt-row}
 use Rattle.gw_core.proofs.terminals.Core.on_pt.Goals as goal
 
@@ -29,11 +29,13 @@ returns-clause-row c = λ setup kept.
     let inside : c.args.pt < length core.terminals = subst (λ (held : CoreValue). c.args.pt < length held.terminals) (sym c.self.view_is) c.requires.there in
     let is : c.index_mut-terminal.result.now ≡ get_or core.terminals c.args.pt c.index_mut-terminal.result.now =
     subst (λ (at : ℕ). c.index_mut-terminal.result.now ≡ get_or core.terminals at c.index_mut-terminal.result.now) c.from.ensures c.index_mut-terminal.ensures.value in
+    let taken : moment_of (to_z w64 (of_z w64 c.to_moment-now.result)) ≡ moment_of c.args.now =
+    moment-stays c.args.now _ (to_z-of_z w64 c.to_moment-now.result (assumption (c.to_moment-now.type_inv)) ∙ simp (to_z-of_z, c.ranges.now) at c.to_moment-now.ensures.value) in
     rw (← c.self.view_is, c.from.ensures)
     (pt-row (known_with setup kept core (moment_of c.args.now)) c.args.pt c.index_mut-terminal.result.now c.handle.new.terminal (value_of c.args.message.now) c.handle.result inside is
-    (λ found. subst (λ (now : ℤ). owing_where (is_linked c.index_mut-terminal.result.now.standing) (known_with setup kept core (moment_of now))
-    (handle_message (known_with setup kept core (moment_of now)) c.args.pt c.index_mut-terminal.result.now (value_of c.args.message.now))
-    ≡ terminal_becomes (known_with setup kept core (moment_of now)) c.args.pt c.handle.new.terminal (calls_wanted c.handle.result)) (to_z-of_z w64 c.args.now c.ranges.now) (c.handle.ensures.row setup kept core found)))
+    (λ found. subst (λ (moment : ℕ). owing_where (is_linked c.index_mut-terminal.result.now.standing) (known_with setup kept core moment)
+    (handle_message (known_with setup kept core moment) c.args.pt c.index_mut-terminal.result.now (value_of c.args.message.now))
+    ≡ terminal_becomes (known_with setup kept core moment) c.args.pt c.handle.new.terminal (calls_wanted c.handle.result)) taken (c.handle.ensures.row setup kept core found)))
 
 pub returns-clause-unserved : goal.returns-clause-unserved
 returns-clause-unserved c =

@@ -6,6 +6,7 @@ use Rattle.gw_site.specs.declared.turn.Turn.TheVariants.{Linked, LinkFailed}
 use Rattle.gw_script.specs.site.Calls.{LinkCall}
 use Rattle.gw_script.specs.site.Hazards.{is_failing}
 use Rattle.sim_script.specs.Values.{lines_value}
+use Rattle.sim_site.specs.Hazards.{links_value}
 use Rattle.sim_site.specs.Places.{place_value}
 use Rattle.sim_site.proofs.PlayedLemmas.{connections_there, disk_stays, link_leaves, never, plays_same, plays_stood, stands_made}
 use Rattle.sim_site.proofs.played.Played.link.Goals as goal
@@ -20,7 +21,7 @@ invariant_of-self-2 c =
     let s = c.args.self.now in
     let lines = s.script.lines.items in
     let o = outside_of s.log in
-    let fails : c.is_failing-fails.result ≡ is_failing s.place.hazard.links.items c.args.pt = c.is_failing-fails.ensures ∙ ap (λ links. is_failing links c.args.pt) c.deref.ensures.value in
+    let fails : c.is_failing-fails.result ≡ is_failing (links_value s.place.hazard.links) c.args.pt = c.is_failing-fails.ensures in
     let turns = c.in_ok-push.ensures.ok ∙ ap (λ turns. s.log ++ turns) c.link_turn.ensures in
     let grown = turns ∙ ap (λ b. s.log ++ (if b then LinkFailed c.args.pt ∷ [] else Linked c.args.pt ∷ [])) fails in
     let stands = λ (own : s.scripted ≡ true). stands_made lines s.log c.push.new.self s.place c.link-2.new.self (LinkCall c.args.pt) c.requires.power grown (c.link-2.ensures.moves o lines) (s.stands own c.requires.whole) in

@@ -20,7 +20,7 @@ invariant_of-self-2 c =
     let s = c.args.self.now in
     let lines = s.script.lines.items in
     let o = outside_of s.log in
-    let grown = c.in_ok-push.ensures.ok ∙ pt_turn s.log c.args.pt c.in_ok-sent.sent c.args.bytes.now c.is_none.result c.takes_most-most.result (takes_most (sends_value s.place.hazard.pts.items) c.args.pt) (c.in_ok-sent.ensures ∙ c.taken.ensures) c.is_none.ensures (c.takes_most-most.ensures ∙ ap (λ sends. takes_most (sends_value sends) c.from.result) c.deref.ensures.value ∙ ap (takes_most (sends_value s.place.hazard.pts.items)) c.from.ensures) in
+    let grown = c.in_ok-push.ensures.ok ∙ pt_turn s.log c.args.pt c.in_ok-sent.sent c.args.bytes.now c.is_none.result c.takes_most-most.result (takes_most (sends_value s.place.hazard.pts) c.args.pt) (c.in_ok-sent.ensures ∙ c.taken.ensures) c.is_none.ensures (c.takes_most-most.ensures ∙ ap (takes_most (sends_value s.place.hazard.pts)) c.from.ensures) in
     let stands = λ (own : s.scripted ≡ true). stands_made lines s.log c.push.new.self s.place c.send_pt.new.self (SendPtCall c.args.pt c.args.bytes.now) c.requires.power grown (c.send_pt.ensures.moves c.args.bytes.now o lines) (s.stands own c.requires.whole) in
     record {
       read_is = s.read_is;
@@ -33,4 +33,4 @@ invariant_of-self-2 c =
 pub returns-clause-made : goal.returns-clause-made
 returns-clause-made c =
     let s = c.args.self.now in
-    record { whole = refl; log = c.in_ok-push.ensures.ok ∙ pt_turn s.log c.args.pt c.in_ok-sent.sent c.args.bytes.now c.is_none.result c.takes_most-most.result (takes_most (sends_value s.place.hazard.pts.items) c.args.pt) (c.in_ok-sent.ensures ∙ c.taken.ensures) c.is_none.ensures (c.takes_most-most.ensures ∙ ap (λ sends. takes_most (sends_value sends) c.from.result) c.deref.ensures.value ∙ ap (takes_most (sends_value s.place.hazard.pts.items)) c.from.ensures); place = c.send_pt.ensures.moves c.args.bytes.now (outside_of s.log) s.script.lines.items }
+    record { whole = refl; log = c.in_ok-push.ensures.ok ∙ pt_turn s.log c.args.pt c.in_ok-sent.sent c.args.bytes.now c.is_none.result c.takes_most-most.result (takes_most (sends_value s.place.hazard.pts) c.args.pt) (c.in_ok-sent.ensures ∙ c.taken.ensures) c.is_none.ensures (c.takes_most-most.ensures ∙ ap (takes_most (sends_value s.place.hazard.pts)) c.from.ensures); place = c.send_pt.ensures.moves c.args.bytes.now (outside_of s.log) s.script.lines.items }

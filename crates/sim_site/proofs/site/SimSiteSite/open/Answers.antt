@@ -8,7 +8,7 @@ use Rattle.gw_site.specs.declared.turn.Turn.TheVariants.{OpenFailed, Start}
 use Rattle.gw_script.specs.site.Calls.{OpenCall}
 use Rattle.sim_site.specs.Sites.{observed_with}
 use Rattle.sim_site.specs.declared.played.Played.{Played}
-use Rattle.sim_site.proofs.SiteLemmas.{reported_opens}
+use Rattle.sim_site.proofs.SiteLemmas.{reported_opens, returned, short_there}
 use Rattle.sim_site.proofs.site.SimSiteSite.open.Goals as goal
 
 pub returns-clause-turns : goal.returns-clause-turns
@@ -19,3 +19,8 @@ returns-clause-turns c =
     (reported_opens (λ (r : Result (Unit {0}) Failed). OpenTurns c.args.setup.now r) s.faults c.report.new.self.faults s.played c.open-made.new.self (OpenCall c.args.setup.now) test (OpenFailed ∷ []) c.open-made.result c.report.result (c.is_dark.ensures.lit c.if-is_dark.false)
     c.open-made.ensures.made c.open-made.ensures.fails c.open-made.ensures.refused c.open-made.ensures.same c.report.ensures.reported
     (λ e done. inl (ap (λ b. if b then OpenFailed ∷ [] else Start c.args.setup.now ∷ []) e)) (λ e error. ap (λ b. if b then OpenFailed ∷ [] else Start c.args.setup.now ∷ []) e) (λ error before. refl))
+
+pub returns-clause-result : goal.returns-clause-result
+returns-clause-result c = λ lit.
+    let s = c.args.self.now in
+    returned s.played c.open-made.new.self c.report.new.self.played (OpenCall c.args.setup.now) (s.played.place.hazard.open) c.open-made.result c.report.result c.report.ensures.played c.open-made.ensures.made c.open-made.ensures.fails (short_there s.played c.open-made.new.self c.open-made.result c.open-made.ensures.refused) c.report.ensures.reported

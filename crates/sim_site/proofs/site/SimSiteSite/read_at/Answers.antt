@@ -1,6 +1,6 @@
 -- Proof of the contract of `read_at`.
 use Rattle.std.proofs.Common.{◌∷◌, [], ◌∙◌, refl, sym, ap, subst}
-use Rattle.std.specs.Prelude.{if◌then◌else◌, Result, length}
+use Rattle.std.specs.Prelude.{if◌then◌else◌, length, Result, ◌||◌}
 use Rattle.gw_site.specs.Observed.{Grows}
 use Rattle.gw_site.specs.Turns.{DiskTurns}
 use Rattle.gw_site.specs.Outside.{file_part, outside_of}
@@ -9,7 +9,7 @@ use Rattle.gw_site.specs.declared.turn.Turn.TheVariants.{DiskFailed}
 use Rattle.gw_script.specs.site.Calls.{ReadCall}
 use Rattle.sim_site.specs.Sites.{observed_with}
 use Rattle.sim_site.specs.declared.played.Played.{Played}
-use Rattle.sim_site.proofs.SiteLemmas.{goes_on, looked, on_ok, reported_grows, short_there, some_same, was_made}
+use Rattle.sim_site.proofs.SiteLemmas.{goes_on, looked, on_ok, reported_grows, returned, returned_err, returned_ok, short_there, some_same, was_made}
 use Rattle.sim_site.proofs.site.SimSiteSite.read_at.Goals as goal
 
 pub returns-in-Ok-clause-turns : goal.returns-in-Ok-clause-turns
@@ -47,3 +47,13 @@ returns-in-Ok-clause-bytes c = λ log e.
     let made = on_ok c.read-made.result (λ made. made c.args.offset (length c.args.buf.now)) c.read-made.ensures.made in
     let held = looked s.played c.read-made.new.self call s.played.place.hazard.read c.read-made.result c.report.result _ made c.read-made.ensures.fails c.report.ensures.reported c.in-Ok.is (λ f. ap (λ b. if b then DiskFailed ∷ [] else []) f) in
     c.read_part.ensures ∙ ap (λ file. file_part file c.args.offset (length c.args.buf.now)) (c.deref.ensures.value ∙ ap (λ (p : Played). p.disk.file.items) c.report.ensures.played ∙ sym held ∙ ap (λ l. (outside_of l).file) (some_same s.played.log log e))
+
+pub returns-in-Ok-clause-result : goal.returns-in-Ok-clause-result
+returns-in-Ok-clause-result c = λ lit.
+    let s = c.args.self.now in
+    returned_ok (s.played.place.hazard.read || c.report.new.self.played.short) c.report.result _ _ c.in-Ok.is (returned s.played c.read-made.new.self c.report.new.self.played (ReadCall c.args.offset (length c.args.buf.now)) (s.played.place.hazard.read) c.read-made.result c.report.result c.report.ensures.played (on_ok c.read-made.result (λ made. made c.args.offset (length c.args.buf.now)) c.read-made.ensures.made) c.read-made.ensures.fails (short_there s.played c.read-made.new.self c.read-made.result c.read-made.ensures.refused) c.report.ensures.reported)
+
+pub returns-in-Err-clause-result : goal.returns-in-Err-clause-result
+returns-in-Err-clause-result c = λ lit.
+    let s = c.args.self.now in
+    returned_err _ (s.played.place.hazard.read || c.report.new.self.played.short) c.report.result _ c.in-Err.is (returned s.played c.read-made.new.self c.report.new.self.played (ReadCall c.args.offset (length c.args.buf.now)) (s.played.place.hazard.read) c.read-made.result c.report.result c.report.ensures.played (on_ok c.read-made.result (λ made. made c.args.offset (length c.args.buf.now)) c.read-made.ensures.made) c.read-made.ensures.fails (short_there s.played c.read-made.new.self c.read-made.result c.read-made.ensures.refused) c.report.ensures.reported)

@@ -8,7 +8,7 @@ use Rattle.gw_site.specs.declared.turn.Turn.TheVariants.{DiskFailed, Synced}
 use Rattle.gw_script.specs.site.Calls.{SyncCall}
 use Rattle.sim_site.specs.Sites.{observed_with}
 use Rattle.sim_site.specs.declared.played.Played.{Played}
-use Rattle.sim_site.proofs.SiteLemmas.{reported_grows}
+use Rattle.sim_site.proofs.SiteLemmas.{reported_grows, returned, short_there}
 use Rattle.sim_site.proofs.site.SimSiteSite.sync.Goals as goal
 
 pub returns-clause-turns : goal.returns-clause-turns
@@ -19,3 +19,8 @@ returns-clause-turns c =
     (reported_grows (λ (r : Result (Unit {0}) Failed). SyncedTurns r) s.faults c.report.new.self.faults s.played c.sync-made.new.self SyncCall test (DiskFailed ∷ []) c.sync-made.result c.report.result (c.is_dark.ensures.lit c.if-is_dark.false)
     c.sync-made.ensures.made c.sync-made.ensures.fails c.sync-made.ensures.refused c.sync-made.ensures.same c.report.ensures.reported
     (λ e done. ap (λ b. if b then DiskFailed ∷ [] else Synced ∷ []) e) (λ e error. ap (λ b. if b then DiskFailed ∷ [] else Synced ∷ []) e) (λ error. refl))
+
+pub returns-clause-result : goal.returns-clause-result
+returns-clause-result c = λ lit.
+    let s = c.args.self.now in
+    returned s.played c.sync-made.new.self c.report.new.self.played (SyncCall) (s.played.place.hazard.sync) c.sync-made.result c.report.result c.report.ensures.played c.sync-made.ensures.made c.sync-made.ensures.fails (short_there s.played c.sync-made.new.self c.sync-made.result c.sync-made.ensures.refused) c.report.ensures.reported

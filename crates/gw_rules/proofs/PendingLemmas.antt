@@ -1,0 +1,424 @@
+-- A terminal to which the bytes that begin a round bring the end of its dialogue: it is handed it before the next poll.
+use Rattle.std.proofs.Common.{◌≡◌, ℕ, List, [], ◌∷◌, ◌++◌, refl, sym, ◌∙◌, ap, subst, true, false, inl, inr, append_assoc}
+use Rattle.std.proofs.lemmas.Bool.{and_parts}
+use Rattle.std.specs.Prelude.{Bool, ◌⊎◌, not, if◌then◌else◌, slice_get, Option, Some, None, Ok}
+use Rattle.std.specs.List.{flat_map}
+use Rattle.std.specs.Option.{option_map}
+use Rattle.gw_base.specs.declared.setup.Pt.{Pt}
+use Rattle.gw_base.specs.declared.setup.Setup.{Setup}
+use Rattle.gw_bytes.specs.Bytes.{AreBytes}
+use Rattle.gw_site.specs.Outside.{Outside, heard_on}
+use Rattle.gw_site.specs.Sorts.{is_sort_of_round, sort_of}
+use Rattle.gw_site.specs.declared.turn.Turn.{Turn}
+use Rattle.gw_site.specs.declared.turn.Turn.TheVariants.{Start, OpenFailed, Polled, Opened, HeardTill, Closed, HeardPt, Lost, Stopped, Linked, LinkFailed, SentTill, SentPt, CutTill, CutPt, Wrote, Synced, DiskFailed, Crash}
+use Rattle.zvt_apdu.specs.Grammar.{ApduValue}
+use Rattle.zvt_msg.specs.Message.{MessageValue}
+use Rattle.zvt_msg.specs.MessageDecode.{decode_pt_message}
+use Rattle.zvt_talk.specs.Came.{is_taken}
+use Rattle.zvt_talk.specs.Talk.{is_end}
+use Rattle.zvt_talk.specs.declared.meaning.Heard.{Heard}
+use Rattle.gw_owes.specs.Calls.{LinkPt, CutPt as OwedCutPt}
+use Rattle.gw_owes.specs.Core.{Core}
+use Rattle.gw_owes.specs.Events.{apdu_items, items_due}
+use Rattle.gw_owes.specs.Handling.{meaning_at, taking, staying, consequence, handle_row}
+use Rattle.gw_owes.specs.Items.{RoundItem, Crowded, Message, Asked, Unframed, Gone, Greet, Handle, NextWaiting, Oversized, LinkLost, Late, Overdue, Due}
+use Rattle.gw_owes.specs.Links.{is_linked}
+use Rattle.gw_owes.specs.ReadAs.{ReadAs}
+use Rattle.gw_owes.specs.Row.{Known, Row, owing_where}
+use Rattle.gw_owes.specs.Rows.{row_of}
+use Rattle.gw_owes.specs.declared.terminal.Standing.{Standing}
+use Rattle.gw_owes.specs.declared.terminal.Terminal.{Terminal}
+use Rattle.gw_owes.proofs.ApduLemmas.{pt-bytes-give}
+use Rattle.gw_owes.proofs.HandlingLemmas.{handled-is}
+use Rattle.gw_owes.proofs.SetLemmas.{new-is-there}
+use Rattle.gw_rules.specs.Lawful.{Begins, IsRead, AllowedTurn, Stands}
+use Rattle.gw_rules.specs.DialogueLaws.{with_message, EndsWith, EndsAlong}
+use Rattle.gw_rules.specs.LinkLaws.{EndsLink, HasSaid}
+use Rattle.gw_rules.specs.Scene.{known_in, row_in, row_at}
+use Rattle.gw_rules.specs.Stage.{Handling, busy, stage_wrote, stage_synced}
+use Rattle.gw_rules.specs.View.{View, Move, Begin, Read, read_first, after, after_turn, at_first}
+use Rattle.gw_rules.proofs.CourseLemmas.{begin-outside, begin-stage, after-outside, stands-outside}
+use Rattle.gw_rules.proofs.CutLemmas.{is_dead}
+use Rattle.gw_rules.proofs.HeardLemmas.{heard-bytes, bytes-append, stands-bytes}
+use Rattle.gw_rules.proofs.KeptLemmas.{kept_in, without_asker, changes, at-kept, made-kept, lost-kept, without-kept, other-number, by-equal, BeginsFirst, begins-first}
+use Rattle.gw_rules.proofs.LinkStateLemmas.{On, state_of, state_in, loses}
+use Rattle.gw_rules.proofs.LinkedLemmas.{Agrees, Settled, OrLost, lose_none, settled-turn, begin-agrees, event-settled, read-settled, call-setup, made-at-turns, lost-at-turns, turn-agrees, move-agrees, course-agrees, first-agrees, round-setup}
+use Rattle.gw_rules.proofs.OutsideCutLemmas.{no-link, same-rest}
+use Rattle.gw_rules.proofs.RoundLemmas.{turn-moment}
+use Rattle.gw_rules.proofs.SetupLemmas.{HasSetup}
+use Rattle.gw_rules.proofs.SilenceLemmas.{found-kept}
+use Rattle.gw_rules.proofs.StageLemmas.{no-true, not-true, handling-not-polled, round-busy}
+
+-- ---- what is to come
+
+-- these items, begun one after the other at this moment, hand the terminal's dialogue such an end
+abbrev pub WillEnd : (Heard → Type 0) → ℕ → ℕ → Terminal → List RoundItem → Type 0
+WillEnd IsSuch pt moment terminal [] = ⊥
+WillEnd IsSuch pt moment terminal (Crowded till ∷ items) = WillEnd IsSuch pt moment terminal items
+WillEnd IsSuch pt moment terminal (Message till bytes ∷ items) = WillEnd IsSuch pt moment terminal items
+WillEnd IsSuch pt moment terminal (Asked till as_read ∷ items) = WillEnd IsSuch pt moment terminal items
+WillEnd IsSuch pt moment terminal (Unframed till ∷ items) = WillEnd IsSuch pt moment terminal items
+WillEnd IsSuch pt moment terminal (Gone till ∷ items) = WillEnd IsSuch pt moment terminal items
+WillEnd IsSuch pt moment terminal (Greet other apdu ∷ items) = WillEnd IsSuch pt moment terminal items
+WillEnd IsSuch pt moment terminal (Handle other apdu ∷ items) =
+    (other ≡ pt) × (message : MessageValue) × (decode_pt_message apdu ≡ Ok message)
+    × (IsSuch (meaning_at terminal message) ⊎ ((is_end (meaning_at terminal message) ≡ false) × WillEnd IsSuch pt moment (with_message terminal message moment) items))
+WillEnd IsSuch pt moment terminal (NextWaiting other ∷ items) = WillEnd IsSuch pt moment terminal items
+WillEnd IsSuch pt moment terminal (Oversized other ∷ items) = WillEnd IsSuch pt moment terminal items
+WillEnd IsSuch pt moment terminal (LinkLost other ∷ items) = ⊥
+WillEnd IsSuch pt moment terminal (Late other ∷ items) = WillEnd IsSuch pt moment terminal items
+WillEnd IsSuch pt moment terminal (Overdue key ∷ items) = WillEnd IsSuch pt moment terminal items
+WillEnd IsSuch pt moment terminal (Due other ∷ items) = WillEnd IsSuch pt moment terminal items
+
+-- the till that asked makes no difference
+ends-kept : (IsSuch : Heard → Type 0) (terminal : Terminal) (moment : ℕ) (apdus : List ApduValue) → EndsWith IsSuch terminal moment apdus → EndsWith IsSuch (without_asker terminal) moment apdus
+ends-kept IsSuch terminal moment [] none = absurd none
+ends-kept IsSuch terminal moment (apdu ∷ apdus) (message, is, inl such) = (message, is, inl such)
+ends-kept IsSuch terminal moment (apdu ∷ apdus) (message, is, inr (goes, more)) =
+    (message, is, inr (goes, subst (λ t. EndsWith IsSuch t moment apdus) (by_taken (is_taken message)) (ends-kept IsSuch (with_message terminal message moment) moment apdus more)))
+  where
+    by_taken : (test : Bool) → without_asker (if test then taking terminal message moment else terminal) ≡ (if test then taking (without_asker terminal) message moment else without_asker terminal)
+    by_taken true = refl
+    by_taken false = refl
+
+-- nor back
+pub ends-own : (IsSuch : Heard → Type 0) (terminal : Terminal) (moment : ℕ) (apdus : List ApduValue) → EndsWith IsSuch (without_asker terminal) moment apdus → EndsWith IsSuch terminal moment apdus
+ends-own IsSuch terminal moment [] none = absurd none
+ends-own IsSuch terminal moment (apdu ∷ apdus) (message, is, inl such) = (message, is, inl such)
+ends-own IsSuch terminal moment (apdu ∷ apdus) (message, is, inr (goes, more)) =
+    (message, is, inr (goes, ends-own IsSuch (with_message terminal message moment) moment apdus (subst (λ t. EndsWith IsSuch t moment apdus) (by_taken (is_taken message)) more)))
+  where
+    by_taken : (test : Bool) → (if test then taking (without_asker terminal) message moment else without_asker terminal) ≡ without_asker (if test then taking terminal message moment else terminal)
+    by_taken true = refl
+    by_taken false = refl
+
+apdus-end : (IsSuch : Heard → Type 0) (pt moment : ℕ) (terminal : Terminal) (apdus : List ApduValue) (rest : List RoundItem) → EndsWith IsSuch terminal moment apdus → WillEnd IsSuch pt moment terminal (flat_map (apdu_items pt) apdus ++ rest)
+apdus-end IsSuch pt moment terminal [] rest none = absurd none
+apdus-end IsSuch pt moment terminal (apdu ∷ apdus) rest (message, is, inl such) = (refl, message, is, inl such)
+apdus-end IsSuch pt moment terminal (apdu ∷ apdus) rest (message, is, inr (goes, more)) = (refl, message, is, inr (goes, apdus-end IsSuch pt moment (with_message terminal message moment) apdus rest more))
+
+read-ends : (IsSuch : Heard → Type 0) (pt moment : ℕ) (terminal : Terminal) (as_read : ReadAs) (items : List RoundItem) → WillEnd IsSuch pt moment terminal items → WillEnd IsSuch pt moment terminal (read_first as_read items)
+read-ends IsSuch pt moment terminal as_read [] h = h
+read-ends IsSuch pt moment terminal as_read (Crowded till ∷ items) h = h
+read-ends IsSuch pt moment terminal as_read (Message till bytes ∷ items) h = h
+read-ends IsSuch pt moment terminal as_read (Asked till other ∷ items) h = h
+read-ends IsSuch pt moment terminal as_read (Unframed till ∷ items) h = h
+read-ends IsSuch pt moment terminal as_read (Gone till ∷ items) h = h
+read-ends IsSuch pt moment terminal as_read (Greet other apdu ∷ items) h = h
+read-ends IsSuch pt moment terminal as_read (Handle other apdu ∷ items) h = h
+read-ends IsSuch pt moment terminal as_read (NextWaiting other ∷ items) h = h
+read-ends IsSuch pt moment terminal as_read (Oversized other ∷ items) h = h
+read-ends IsSuch pt moment terminal as_read (LinkLost other ∷ items) h = h
+read-ends IsSuch pt moment terminal as_read (Late other ∷ items) h = h
+read-ends IsSuch pt moment terminal as_read (Overdue key ∷ items) h = h
+read-ends IsSuch pt moment terminal as_read (Due other ∷ items) h = h
+
+-- ---- in the round
+
+-- where the dialogue of this standing goes on, a message leaves the terminal as it has become
+pub record GoesOnIn (standing : Standing) : Type 0 where
+  pub linked : is_linked standing ≡ true
+  pub on : (terminal : Terminal) → terminal.standing ≡ standing → state_of (Some terminal) ≡ On
+  pub stays : (known : Known) (pt : ℕ) (terminal : Terminal) (meant : Heard) → is_end meant ≡ false → consequence known pt terminal meant standing ≡ staying known pt terminal
+
+-- in the round this is kept of the terminal, whose dialogue will be handed such an end
+pub record Pending (IsSuch : Heard → Type 0) (standing : Standing) (settings : Pt) (pt moment : ℕ) (v : View) : Type 0 where
+  pub agrees : Agrees v
+  pub settled : Settled v
+  pub stage : v.scene.stage ≡ Handling
+  pub moment_is : v.scene.outside.moment ≡ moment
+  pub terminal : Terminal
+  pub kept : kept_in v.scene.core pt ≡ Some terminal
+  pub standing_is : terminal.standing ≡ standing
+  pub settings_are : terminal.pt ≡ settings
+  pub will : WillEnd IsSuch pt moment terminal v.items
+
+-- the item that began handed it that end
+pub record Ended (IsSuch : Heard → Type 0) (standing : Standing) (settings : Pt) (pt moment : ℕ) (w : View) : Type 0 where
+  pub agrees : Agrees w
+  pub settled : Settled w
+  pub stage : w.scene.stage ≡ Handling
+  pub moment_is : w.scene.outside.moment ≡ moment
+  pub known : Known
+  pub own : Terminal
+  pub found : slice_get known.core.terminals pt ≡ Some own
+  pub standing_is : own.standing ≡ standing
+  pub settings_are : own.pt ≡ settings
+  pub apdu : ApduValue
+  pub message : MessageValue
+  pub decoded : decode_pt_message apdu ≡ Ok message
+  pub means : IsSuch (meaning_at own message)
+  pub core_is : w.scene.core ≡ (handle_row known pt apdu).core
+  pub calls_are : w.calls ≡ (handle_row known pt apdu).calls
+
+message-kept : (standing : Standing) → GoesOnIn standing → (known : Known) (pt : ℕ) (apdu : ApduValue) (own : Terminal) (message : MessageValue) → slice_get known.core.terminals pt ≡ Some own → own.standing ≡ standing → decode_pt_message apdu ≡ Ok message
+    → is_end (meaning_at own message) ≡ false → kept_in (handle_row known pt apdu).core pt ≡ Some (with_message (without_asker own) message known.moment)
+message-kept standing goes_on known pt apdu own message found standing_is is goes =
+    ap (λ (r : Row). kept_in r.core pt) (handled-is known pt apdu own message found (ap is_linked standing_is ∙ goes_on.linked) is) ∙ by_taken (is_taken message)
+  where
+    taken : Terminal
+    taken = taking own message known.moment
+
+    row_is : consequence known pt taken (meaning_at own message) own.standing ≡ staying known pt taken
+    row_is = ap (consequence known pt taken (meaning_at own message)) standing_is ∙ goes_on.stays known pt taken (meaning_at own message) goes
+
+    by_taken : (test : Bool) → kept_in (owing_where test known (consequence known pt taken (meaning_at own message) own.standing)).core pt ≡ Some (if test then taking (without_asker own) message known.moment else without_asker own)
+    by_taken true = ap (λ (r : Row). kept_in r.core pt) row_is ∙ ap (option_map without_asker) (new-is-there known.core.terminals pt own taken found)
+    by_taken false = ap (option_map without_asker) found
+
+pub begin-pending : (IsSuch : Heard → Type 0) (standing : Standing) (settings : Pt) (pt moment : ℕ) (v : View) → GoesOnIn standing → Pending IsSuch standing settings pt moment v → Begins v
+    → Pending IsSuch standing settings pt moment (after v Begin) ⊎ Ended IsSuch standing settings pt moment (after v Begin)
+begin-pending IsSuch standing settings pt moment v goes_on p b = by_item first.item core calls none (subst (WillEnd IsSuch pt moment p.terminal) first.items_are p.will)
+  where
+    w : View
+    w = after v Begin
+
+    first : BeginsFirst v
+    first = begins-first v p.agrees b
+
+    run : HasSetup v.scene
+    run = round-setup v p.agrees.run b.idle.round
+
+    known : Known
+    known = known_in v.scene run.setup
+
+    none : loses first.item ≡ false
+    none = not-true (loses first.item) (and_parts (not (loses first.item)) (lose_none first.rest) (subst (λ l. lose_none l ≡ true) first.items_are p.settled.none)).0
+
+    core : w.scene.core ≡ (row_at v.scene first.item).core
+    core = ap (λ l. (after (record v { items = l }) Begin).scene.core) first.items_are
+
+    calls : w.calls ≡ (row_at v.scene first.item).calls
+    calls = ap (λ l. (after (record v { items = l }) Begin).calls) first.items_are
+
+    row_is : (item : RoundItem) → row_at v.scene item ≡ row_of v.scene.outside.tills known item
+    row_is item = ap (λ (o : Option Setup). row_in v.scene (λ known. row_of v.scene.outside.tills known item) o) run.setup_is
+
+    agrees : Agrees w
+    agrees = move-agrees v Begin p.agrees b
+
+    settled : Settled w
+    settled = (begin-agrees v p.agrees b).1
+
+    stage : w.scene.stage ≡ Handling
+    stage = begin-stage v.scene v.items ∙ round-busy v.scene.stage b.idle.round
+
+    moment_is : w.scene.outside.moment ≡ moment
+    moment_is = ap (λ (o : Outside). o.moment) (begin-outside v.scene v.items) ∙ p.moment_is
+
+    pending : (terminal : Terminal) → kept_in w.scene.core pt ≡ Some terminal → terminal.standing ≡ standing → terminal.pt ≡ settings → WillEnd IsSuch pt moment terminal first.rest → Pending IsSuch standing settings pt moment w
+    pending terminal kept is are will = record {
+      agrees = agrees;
+      settled = settled;
+      stage = stage;
+      moment_is = moment_is;
+      terminal = terminal;
+      kept = kept;
+      standing_is = is;
+      settings_are = are;
+      will = subst (WillEnd IsSuch pt moment terminal) (sym first.left) will;
+    }
+
+    Next : Type 0
+    Next = Pending IsSuch standing settings pt moment w ⊎ Ended IsSuch standing settings pt moment w
+
+    same : (item : RoundItem) → w.scene.core ≡ (row_at v.scene item).core → changes pt item ≡ false → WillEnd IsSuch pt moment p.terminal first.rest → Next
+    same item core unchanged will = inl (pending p.terminal (ap (λ c. kept_in c pt) core ∙ at-kept v.scene item pt unchanged ∙ p.kept) p.standing_is p.settings_are will)
+
+    found : (own : Terminal) × (slice_get known.core.terminals pt ≡ Some own) × (without_asker own ≡ p.terminal)
+    found = found-kept (slice_get v.scene.core.terminals pt) p.terminal p.kept
+
+    own_standing : found.0.standing ≡ standing
+    own_standing = ap (λ (t : Terminal). t.standing) found.2 ∙ p.standing_is
+
+    handle : (apdu : ApduValue) → w.scene.core ≡ (handle_row known pt apdu).core → w.calls ≡ (handle_row known pt apdu).calls → WillEnd IsSuch pt moment p.terminal (Handle pt apdu ∷ first.rest) → Next
+    handle apdu core calls (is, message, decoded, inl such) = inr (record {
+      agrees = agrees;
+      settled = settled;
+      stage = stage;
+      moment_is = moment_is;
+      known = known;
+      own = found.0;
+      found = found.1;
+      standing_is = own_standing;
+      settings_are = ap (λ (t : Terminal). t.pt) found.2 ∙ p.settings_are;
+      apdu = apdu;
+      message = message;
+      decoded = decoded;
+      means = subst (λ (t : Terminal). IsSuch (meaning_at t message)) (sym found.2) such;
+      core_is = core;
+      calls_are = calls;
+    })
+    handle apdu core calls (is, message, decoded, inr (goes, more)) =
+        let own_goes : is_end (meaning_at found.0 message) ≡ false = ap (λ (t : Terminal). is_end (meaning_at t message)) found.2 ∙ goes in
+        let next : kept_in (handle_row known pt apdu).core pt ≡ Some (with_message p.terminal message moment) =
+        message-kept standing goes_on known pt apdu found.0 message found.1 own_standing decoded own_goes ∙ ap (λ (t : Terminal). Some (with_message t message known.moment)) found.2 ∙ ap (λ m. Some (with_message p.terminal message m)) p.moment_is in
+        inl (pending (with_message p.terminal message moment) (ap (λ c. kept_in c pt) core ∙ next) (still (is_taken message)) (still_pt (is_taken message)) more)
+      where
+        still : (test : Bool) → (if test then taking p.terminal message moment else p.terminal).standing ≡ standing
+        still true = p.standing_is
+        still false = p.standing_is
+
+        still_pt : (test : Bool) → (if test then taking p.terminal message moment else p.terminal).pt ≡ settings
+        still_pt true = p.settings_are
+        still_pt false = p.settings_are
+
+    by_item : (item : RoundItem) → w.scene.core ≡ (row_at v.scene item).core → w.calls ≡ (row_at v.scene item).calls → loses item ≡ false → WillEnd IsSuch pt moment p.terminal (item ∷ first.rest) → Next
+    by_item (Crowded till) core calls none will = same (Crowded till) core refl will
+    by_item (Message till bytes) core calls none will = same (Message till bytes) core refl will
+    by_item (Asked till as_read) core calls none will = same (Asked till as_read) core refl will
+    by_item (Unframed till) core calls none will = same (Unframed till) core refl will
+    by_item (Gone till) core calls none will = same (Gone till) core refl will
+    by_item (Greet other apdu) core calls none will = same (Greet other apdu) core refl will
+    by_item (Handle other apdu) core calls none will =
+        let row : row_at v.scene (Handle other apdu) ≡ handle_row known pt apdu = ap (λ n. row_at v.scene (Handle n apdu)) will.0 ∙ row_is (Handle pt apdu) in
+        handle apdu (core ∙ ap (λ (r : Row). r.core) row) (calls ∙ ap (λ (r : Row). r.calls) row) (refl, will.1, will.2, will.3)
+    by_item (NextWaiting other) core calls none will = same (NextWaiting other) core refl will
+    by_item (Oversized other) core calls none will = same (Oversized other) core refl will
+    by_item (LinkLost other) core calls none will = no-true (sym none)
+    by_item (Late other) core calls none will = same (Late other) core refl will
+    by_item (Overdue key) core calls none will = same (Overdue key) core refl will
+    by_item (Due other) core calls none will = same (Due other) core refl will
+
+-- ---- turns
+
+-- a turn of the round that isn't of this terminal's link leaves the terminal as it was
+pub turn-core : (v : View) (turn : Turn) (pt : ℕ) → Agrees v → state_in v.scene.core pt ≡ On → Settled v → AllowedTurn v turn → is_sort_of_round (sort_of turn) ≡ true → (EndsLink pt turn → ⊥) → kept_in (after_turn v turn).scene.core pt ≡ kept_in v.scene.core pt
+turn-core v (Start setup) pt a on s ok e lasts = no-true e
+turn-core v OpenFailed pt a on s ok e lasts = no-true e
+turn-core v (Polled now) pt a on s ok e lasts = no-true e
+turn-core v (Opened till) pt a on s ok e lasts = refl
+turn-core v (HeardTill till bytes) pt a on s ok e lasts = refl
+turn-core v (Closed till) pt a on s ok e lasts = refl
+turn-core v (HeardPt other bytes) pt a on s ok e lasts = refl
+turn-core v (Lost other) pt a on s ok e lasts = refl
+turn-core v Stopped pt a on s ok e lasts = refl
+turn-core v (Linked other) pt a on s ok e lasts = by-equal pt other (λ is. no-link other v s (ap (state_in v.scene.core) is ∙ on) ok) (λ differs. made-kept v.scene other pt (other-number pt other differs))
+turn-core v (LinkFailed other) pt a on s ok e lasts = by-equal pt other (λ is. absurd (lasts (inr (inr (ap LinkFailed is))))) (λ differs. lost-kept v.scene other pt (other-number pt other differs))
+turn-core v (SentTill till bytes true) pt a on s ok e lasts = refl
+turn-core v (SentTill till bytes false) pt a on s ok e lasts = refl
+turn-core v (SentPt other bytes true) pt a on s ok e lasts = refl
+turn-core v (SentPt other bytes false) pt a on s ok e lasts = refl
+turn-core v (CutTill till) pt a on s ok e lasts = without-kept till v.scene.core.terminals pt
+turn-core v (CutPt other) pt a on s ok e lasts = by-equal pt other (λ is. absurd (lasts (inr (inl (ap CutPt is))))) (λ differs. lost-kept v.scene other pt (other-number pt other differs))
+turn-core v (Wrote offset bytes) pt a on s ok e lasts = refl
+turn-core v Synced pt a on s ok e lasts = refl
+turn-core v DiskFailed pt a on s ok e lasts = refl
+turn-core v (Crash file) pt a on s ok e lasts = no-true e
+
+-- and the items that are to come, or the run has ended
+abbrev pub SameItems : View → Turn → Type 0
+SameItems v turn = (((after_turn v turn).items ≡ v.items) × ((after_turn v turn).scene.stage ≡ Handling)) ⊎ (is_dead (after_turn v turn).scene.stage ≡ true)
+
+pub turn-items : (v : View) (turn : Turn) → Agrees v → v.scene.stage ≡ Handling → AllowedTurn v turn → is_sort_of_round (sort_of turn) ≡ true → SameItems v turn
+turn-items v (Start setup) a at ok e = no-true e
+turn-items v OpenFailed a at ok e = no-true e
+turn-items v (Polled now) a at ok e = no-true e
+turn-items v (Opened till) a at ok e = handling-not-polled (sym at ∙ ok.0)
+turn-items v (HeardTill till bytes) a at ok e = handling-not-polled (sym at ∙ ok.0.polled)
+turn-items v (Closed till) a at ok e = handling-not-polled (sym at ∙ ok.polled)
+turn-items v (HeardPt other bytes) a at ok e = handling-not-polled (sym at ∙ ok.0.polled)
+turn-items v (Lost other) a at ok e = handling-not-polled (sym at ∙ ok.polled)
+turn-items v Stopped a at ok e = handling-not-polled (sym at ∙ ok)
+turn-items v (Linked other) a at ok e = let known = call-setup v (LinkPt other) a.run ok in inl (ap (λ l. l ++ v.items) (made-at-turns v.scene other known.setup known.setup_is).items, ap busy at)
+turn-items v (LinkFailed other) a at ok e = let known = call-setup v (LinkPt other) a.run ok in inl (ap (λ l. l ++ v.items) (lost-at-turns v.scene other known.setup known.setup_is).items, ap busy at)
+turn-items v (SentTill till bytes true) a at ok e = inl (refl, ap busy at)
+turn-items v (SentTill till bytes false) a at ok e = inl (refl, ap busy at)
+turn-items v (SentPt other bytes true) a at ok e = inl (refl, ap busy at)
+turn-items v (SentPt other bytes false) a at ok e = inl (refl, ap busy at)
+turn-items v (CutTill till) a at ok e = inl (refl, ap busy at)
+turn-items v (CutPt other) a at ok e = let known = call-setup v (OwedCutPt other) a.run ok in inl (ap (λ l. l ++ v.items) (lost-at-turns v.scene other known.setup known.setup_is).items, ap busy at)
+turn-items v (Wrote offset bytes) a at ok e = inl (refl, ap stage_wrote at)
+turn-items v Synced a at ok e = inl (refl, ap stage_synced at)
+turn-items v DiskFailed a at ok e = inr refl
+turn-items v (Crash file) a at ok e = no-true e
+
+-- a terminal that is ready or being enquired is linked
+pub kept-linked : (core : Core) (pt : ℕ) (terminal : Terminal) → kept_in core pt ≡ Some terminal → state_of (Some terminal) ≡ On → state_in core pt ≡ On
+kept-linked core pt terminal kept on = by_found (slice_get core.terminals pt) kept
+  where
+    by_found : (found : Option Terminal) → option_map without_asker found ≡ Some terminal → state_of found ≡ On
+    by_found None e = absurd (let n : None ≡ Some terminal = e in cc)
+    by_found (Some own) e = let same : without_asker own ≡ terminal = (let n : Some (without_asker own) ≡ Some terminal = e in cc) in ap (λ (t : Terminal). state_of (Some t)) same ∙ on
+
+-- no link is lost within the round
+pub round-settled : (v : View) (turn : Turn) → Agrees v → Settled v → v.scene.stage ≡ Handling → AllowedTurn v turn → Settled (after_turn v turn)
+round-settled v turn a s at ok = by_turn (settled-turn v turn a.run a.ends s ok)
+  where
+    by_turn : Settled (after_turn v turn) ⊎ OrLost v turn → Settled (after_turn v turn)
+    by_turn (inl settled) = settled
+    by_turn (inr lost) = let allowed : AllowedTurn v (Lost lost.0) = subst (AllowedTurn v) lost.1 ok in handling-not-polled (sym at ∙ allowed.polled)
+
+-- a turn of the round, unless the terminal's link ends with it
+pub turn-pending : (IsSuch : Heard → Type 0) (standing : Standing) (settings : Pt) (pt moment : ℕ) (v : View) (turn : Turn) → GoesOnIn standing → Pending IsSuch standing settings pt moment v → AllowedTurn v turn → is_sort_of_round (sort_of turn) ≡ true → (EndsLink pt turn → ⊥)
+    → Pending IsSuch standing settings pt moment (after_turn v turn) ⊎ (is_dead (after_turn v turn).scene.stage ≡ true)
+turn-pending IsSuch standing settings pt moment v turn goes_on p ok e lasts = by_items (turn-items v turn p.agrees p.stage ok e)
+  where
+    core : kept_in (after_turn v turn).scene.core pt ≡ kept_in v.scene.core pt
+    core = turn-core v turn pt p.agrees (kept-linked v.scene.core pt p.terminal p.kept (goes_on.on p.terminal p.standing_is)) p.settled ok e lasts
+
+    by_items : SameItems v turn → Pending IsSuch standing settings pt moment (after_turn v turn) ⊎ (is_dead (after_turn v turn).scene.stage ≡ true)
+    by_items (inr dead) = inr dead
+    by_items (inl (items, at)) = inl (record {
+      agrees = turn-agrees v turn p.agrees ok;
+      settled = round-settled v turn p.agrees p.settled p.stage ok;
+      stage = at;
+      moment_is = ap (λ (o : Outside). o.moment) (after-outside v turn) ∙ turn-moment v.scene.outside turn e ∙ p.moment_is;
+      terminal = p.terminal;
+      kept = core ∙ p.kept;
+      standing_is = p.standing_is;
+      settings_are = p.settings_are;
+      will = subst (WillEnd IsSuch pt moment p.terminal) (sym items) p.will;
+    })
+
+-- a message that is read
+pub read-pending : (IsSuch : Heard → Type 0) (standing : Standing) (settings : Pt) (pt moment : ℕ) (v : View) (as_read : ReadAs) → Pending IsSuch standing settings pt moment v → IsRead v as_read → Pending IsSuch standing settings pt moment (after v (Read as_read))
+read-pending IsSuch standing settings pt moment v as_read p r = record {
+  agrees = move-agrees v (Read as_read) p.agrees r;
+  settled = read-settled v as_read p.settled;
+  stage = round-busy v.scene.stage r.idle.round;
+  moment_is = p.moment_is;
+  terminal = p.terminal;
+  kept = p.kept;
+  standing_is = p.standing_is;
+  settings_are = p.settings_are;
+  will = read-ends IsSuch pt moment p.terminal as_read v.items p.will;
+}
+
+-- ---- as the bytes come
+
+stands-agrees : (log : List Turn) (v : View) → Stands log v → Agrees v
+stands-agrees log v s = subst Agrees s.view_is (course-agrees at_first s.course first-agrees s.lawful)
+
+pub heard-pending : (IsSuch : Heard → Type 0) (standing : Standing) (log : List Turn) (v : View) (moves : List Move) (pt : ℕ) (terminal : Terminal) (e : EndsAlong IsSuch log v moves pt terminal standing)
+    → Pending IsSuch standing terminal.pt pt v.scene.outside.moment (after_turn v (HeardPt pt e.chunk))
+heard-pending IsSuch standing log v moves pt terminal e =
+    let o = sym (stands-outside log v e.before) in
+    let agrees = stands-agrees log v e.before in
+    let ok : AllowedTurn v (HeardPt pt e.chunk) = e.lawful.0 in
+    let heard : List ℕ = heard_on v.scene.outside.links pt in
+    let said = subst (λ (p : Outside). HasSaid p pt e.chunk e.new e.left) o e.said in
+    let small : AreBytes (heard ++ e.chunk) = bytes-append heard e.chunk (heard-bytes v.scene.outside.links pt (stands-bytes log v e.before).links) ok.1.bytes in
+    let brings = pt-bytes-give pt heard e.chunk said.before (said.before ++ e.new) said.rest e.left small said.spelled said.all in
+    let same : e.new ≡ brings.new = same-rest said.before e.new brings.new brings.completed in
+    let moment : ℕ = v.scene.outside.moment in
+    let kept : Terminal = without_asker terminal in
+    let ends : EndsWith IsSuch kept moment brings.new =
+    subst (λ l. EndsWith IsSuch kept moment l) same (ends-kept IsSuch terminal moment e.new (subst (λ (p : Outside). EndsWith IsSuch terminal p.moment e.new) o e.ends)) in
+    let will : WillEnd IsSuch pt moment kept ((flat_map (apdu_items pt) brings.new ++ brings.last) ++ items_due v.scene.core) =
+    subst (WillEnd IsSuch pt moment kept) (sym (append_assoc (flat_map (apdu_items pt) brings.new) brings.last (items_due v.scene.core))) (apdus-end IsSuch pt moment kept brings.new (brings.last ++ items_due v.scene.core) ends) in
+    record {
+      agrees = turn-agrees v (HeardPt pt e.chunk) agrees ok;
+      settled = by_turn e.chunk (settled-turn v (HeardPt pt e.chunk) agrees.run agrees.ends (event-settled v agrees ok.0.polled) ok);
+      stage = refl;
+      moment_is = refl;
+      terminal = kept;
+      kept = ap (option_map without_asker) e.found;
+      standing_is = e.standing_is;
+      settings_are = refl;
+      will = subst (λ l. WillEnd IsSuch pt moment kept (l ++ items_due v.scene.core)) (sym brings.items_are) will;
+    }
+  where
+    by_turn : (chunk : List ℕ) → Settled (after_turn v (HeardPt pt chunk)) ⊎ OrLost v (HeardPt pt chunk) → Settled (after_turn v (HeardPt pt chunk))
+    by_turn chunk (inl s) = s
+    by_turn chunk (inr lost) = absurd (let n : HeardPt pt chunk ≡ Lost lost.0 = lost.1 in cc)

@@ -1,0 +1,657 @@
+-- Along each lawful course what is remembered of a terminal is what the transcript of its link says.
+use Rattle.std.proofs.Common.{◌≡◌, ◌≢◌, ℕ, zero, suc, List, [], ◌∷◌, ◌++◌, refl, sym, ◌∙◌, ap, subst, true, false, inl, inr, eqb-true, append-nil}
+use Rattle.std.proofs.lemmas.Bool.{eq-eqb}
+use Rattle.std.specs.Prelude.{Bool, ◌==◌, if◌then◌else◌, map, slice_get, Option, Some, None, Result, Ok, Err}
+use Rattle.gw_base.specs.declared.setup.Pt.{Pt}
+use Rattle.gw_base.specs.declared.setup.Setup.{Setup}
+use Rattle.gw_site.specs.Outside.{Connection, is_connected}
+use Rattle.gw_site.specs.declared.turn.Turn.{Turn}
+use Rattle.gw_site.specs.declared.turn.Turn.TheVariants.{Start, OpenFailed, Polled, Opened, HeardTill, Closed, HeardPt, Lost, Stopped, Linked, LinkFailed, SentTill, SentPt, CutTill, CutPt, Wrote, Synced, DiskFailed, Crash}
+use Rattle.zvt_apdu.specs.DecodeStream.{decode_apdus, decode_apdus_within}
+use Rattle.zvt_apdu.specs.Grammar.{ApduValue}
+use Rattle.zvt_msg.specs.Message.{MessageValue, Ack, Nack, Intermediate, Line, Block, Status, Completion, Abort, Other}
+use Rattle.zvt_msg.specs.MessageDecode.{decode_pt_message}
+use Rattle.zvt_msg.specs.declared.fault.PtFault.{PtFault}
+use Rattle.zvt_talk.specs.declared.meaning.Heard.{Heard}
+use Rattle.zvt_talk.specs.declared.meaning.Heard.TheVariants as heard
+use Rattle.jrn_record.specs.declared.records.Record.{Record}
+use Rattle.gw_owes.specs.Calls.{OwedCall, SendTill, LinkPt, WriteBody, WriteGate, WriteFirstGate, Sync, write_turn, SendPt as OwedSendPt, CutTill as OwedCutTill, CutPt as OwedCutPt}
+use Rattle.gw_owes.specs.Core.{Core, new_terminal}
+use Rattle.gw_owes.specs.Deadlines.{is_late, is_due, late_row, due_row}
+use Rattle.gw_owes.specs.Greeting.{greeting, sending_calls, greet_decoded, oversized_row}
+use Rattle.gw_owes.specs.Handling.{taking, meaning_at, registering, enquiring, serving, consequence, handle_row}
+use Rattle.gw_owes.specs.Items.{RoundItem, Crowded, Message, Asked, Unframed, Gone, Greet, Handle, NextWaiting, Oversized, LinkLost, Late, Overdue, Due}
+use Rattle.gw_owes.specs.Links.{cutting, LinkEvent, LinkIsMade, LinkHasFailed, LinkIsLost, link_row}
+use Rattle.gw_owes.specs.Reply.{ReplyValue}
+use Rattle.gw_owes.specs.Requests.{reply_to}
+use Rattle.gw_owes.specs.Row.{Known, Row, owing}
+use Rattle.gw_owes.specs.Rows.{asked_row, row_of}
+use Rattle.gw_owes.specs.TerminalLaws.{settings_of, owes_cut}
+use Rattle.gw_owes.specs.TerminalRows.{terminal_of, terminal_row}
+use Rattle.gw_owes.specs.Terminals.{terminal_at, registers, reply_calls_to, reply_to_lost, unlinks, link_made, link_lost, forgets_till, core_without}
+use Rattle.gw_owes.specs.Transcript.{Carried, commanded, commanded_by, took_by, transcript_grown, is_link_lost, is_number, FollowsTranscript, EachRowFollowsTranscript}
+use Rattle.gw_owes.specs.declared.terminal.Standing.{Standing}
+use Rattle.gw_owes.specs.declared.terminal.Standing.TheVariants.{Unlinked, Registering, Enquiring, Ready, Serving, Aside}
+use Rattle.gw_owes.specs.declared.terminal.Terminal.{Terminal}
+use Rattle.gw_owes.proofs.HandlingLemmas.{by-where, each-terminal, each-linked, each-handled}
+use Rattle.gw_owes.proofs.SetLemmas.{same-some}
+use Rattle.gw_owes.proofs.TerminalLemmas.{link-changes-alone, row-changes-alone}
+use Rattle.gw_owes.proofs.TranscriptLemmas.{new-follows, links-begin}
+use Rattle.gw_rules.specs.JournalFiles.{is_on_disk}
+use Rattle.gw_rules.specs.Lawful.{first_call, may_begin, Begins, Allowed, AllowedTurn, IsCourse}
+use Rattle.gw_rules.specs.Scene.{Scene, known_in, row_in, link_made_at, link_lost_at}
+use Rattle.gw_rules.specs.Stage.{Stage, Resting, Opening, Looking, AtPoll, Handling, Over, Broken, busy, is_looking}
+use Rattle.gw_rules.specs.TranscriptLaws.{command_to, command_owed, cuts_terminal, cut_owed, transcript_with, transcript_in, transcript_begun, transcript_made, transcript_moved, transcript_from, EachLogFollowsTranscript, EachPollFollowsTranscript, ExampleLogTranscript}
+use Rattle.gw_rules.specs.View.{View, Move, Begin, Read, Make, later, after, after_turn, view_from, at_first}
+use Rattle.gw_rules.proofs.CourseLemmas.{begin-stage}
+use Rattle.gw_rules.proofs.LinkStateLemmas.{apart, without-settings}
+use Rattle.gw_rules.proofs.LinkedLemmas.{Agrees, first-agrees, move-agrees, round-setup, call-setup}
+use Rattle.gw_rules.proofs.OpeningLemmas.{OwesDisk, first-owes-disk, course-disk, other-not-looking}
+use Rattle.gw_rules.proofs.StageLemmas.{no-true, handling-not-polled, round-busy}
+
+-- ---- terminals that are there
+
+image-there : {A B : Type 0} → (f : A → B) (all : List A) (at : ℕ) (image : B) → slice_get (map f all) at ≡ Some image → (one : A) × (slice_get all at ≡ Some one)
+image-there f [] at image found = absurd cc
+image-there f (first ∷ rest) zero image found = (first, refl)
+image-there f (first ∷ rest) (suc at) image found = image-there f rest at image found
+
+there-image : {A B : Type 0} → (f : A → B) (all : List A) (at : ℕ) (one : A) → slice_get all at ≡ Some one → slice_get (map f all) at ≡ Some (f one)
+there-image f [] at one found = absurd cc
+there-image f (first ∷ rest) zero one found = ap (λ a. Some (f a)) (same-some first one found)
+there-image f (first ∷ rest) (suc at) one found = there-image f rest at one found
+
+-- a terminal that is there was there before, where the settings are the same
+there-before : (old new : Core) (pt : ℕ) (terminal : Terminal) → settings_of new ≡ settings_of old → slice_get new.terminals pt ≡ Some terminal → (before : Terminal) × (slice_get old.terminals pt ≡ Some before)
+there-before old new pt terminal same found =
+    image-there (λ (t : Terminal). t.pt) old.terminals pt terminal.pt
+    (ap (λ (pts : List Pt). slice_get pts pt) (sym same) ∙ there-image (λ (t : Terminal). t.pt) new.terminals pt terminal found)
+
+-- a terminal that stays as it was keeps its transcript, whatever is kept
+same-follows : (kept other : List Record) (pt : ℕ) (transcript : List Carried) (old new : Core) → slice_get new.terminals pt ≡ slice_get old.terminals pt → FollowsTranscript kept pt transcript old → FollowsTranscript other pt transcript new
+same-follows kept other pt transcript old new same has =
+    record { terminal = has.terminal; found = same ∙ has.found; talk_is = has.talk_is; awaited_is = has.awaited_is; standing_is = has.standing_is }
+
+-- so does one of which a till is forgotten
+gone-follows : (kept : List Record) (pt till : ℕ) (transcript : List Carried) (core : Core) → FollowsTranscript kept pt transcript core → FollowsTranscript kept pt transcript (core_without core till)
+gone-follows kept pt till transcript core has = record {
+  terminal = forgets_till till has.terminal;
+  found = there-image (forgets_till till) core.terminals pt has.terminal has.found;
+  talk_is = has.talk_is;
+  awaited_is = has.awaited_is;
+  standing_is = has.standing_is;
+}
+
+-- ---- calls
+
+-- a call that a row of this terminal, or of none, may owe: none on the disk yet
+abbrev IsCallOf : Option ℕ → OwedCall → Type 0
+IsCallOf of (SendTill till reply) = Unit {0}
+IsCallOf of (OwedSendPt number sending) = of ≡ Some number
+IsCallOf of (OwedCutTill till) = Unit {0}
+IsCallOf of (OwedCutPt number) = of ≡ Some number
+IsCallOf of (LinkPt number) = Unit {0}
+IsCallOf of (WriteBody slot the_record) = ⊥
+IsCallOf of (WriteGate slot the_record) = ⊥
+IsCallOf of WriteFirstGate = ⊥
+IsCallOf of Sync = ⊥
+
+-- one at most
+abbrev AreCallsOf : Option ℕ → List OwedCall → Type 0
+AreCallsOf of [] = Unit {0}
+AreCallsOf of (call ∷ calls) = IsCallOf of call × (calls ≡ [])
+
+-- one call at most, and none on the disk
+abbrev AreOne : List OwedCall → Type 0
+AreOne [] = Unit {0}
+AreOne (call ∷ calls) = (is_on_disk call ≡ false) × (calls ≡ [])
+
+call-off-disk : (of : Option ℕ) (call : OwedCall) → IsCallOf of call → is_on_disk call ≡ false
+call-off-disk of (SendTill till reply) is = refl
+call-off-disk of (OwedSendPt number sending) is = refl
+call-off-disk of (OwedCutTill till) is = refl
+call-off-disk of (OwedCutPt number) is = refl
+call-off-disk of (LinkPt number) is = refl
+call-off-disk of (WriteBody slot the_record) is = absurd is
+call-off-disk of (WriteGate slot the_record) is = absurd is
+call-off-disk of WriteFirstGate is = absurd is
+call-off-disk of Sync is = absurd is
+
+calls-one : (of : Option ℕ) (calls : List OwedCall) → AreCallsOf of calls → AreOne calls
+calls-one of [] are = tt
+calls-one of (call ∷ calls) are = (call-off-disk of call are.0, are.1)
+
+later-none : (calls : List OwedCall) → AreOne calls → later calls ≡ []
+later-none [] one = refl
+later-none (call ∷ calls) one = one.1
+
+not-number : (number pt : ℕ) → number ≢ pt → (number == pt) ≡ false
+not-number number pt differs = by_test (number == pt) refl
+  where
+    by_test : (test : Bool) → (number == pt) ≡ test → test ≡ false
+    by_test true e = absurd (differs (eqb-true number pt e))
+    by_test false e = refl
+
+-- another terminal is owed nothing
+other-owed : (of : Option ℕ) (pt moment : ℕ) (calls : List OwedCall) → AreCallsOf of calls → (of ≡ Some pt → ⊥) → (command_owed pt moment calls ≡ []) × (cut_owed pt calls ≡ false)
+other-owed of pt moment [] are differs = (refl, refl)
+other-owed of pt moment (SendTill till reply ∷ calls) are differs = (refl, refl)
+other-owed of pt moment (OwedSendPt number sending ∷ calls) are differs = (rw (not-number number pt (λ same. differs (are.0 ∙ ap Some same))) refl, refl)
+other-owed of pt moment (OwedCutTill till ∷ calls) are differs = (refl, refl)
+other-owed of pt moment (OwedCutPt number ∷ calls) are differs = (refl, not-number number pt (λ same. differs (are.0 ∙ ap Some same)))
+other-owed of pt moment (LinkPt number ∷ calls) are differs = (refl, refl)
+other-owed of pt moment (WriteBody slot the_record ∷ calls) are differs = absurd are.0
+other-owed of pt moment (WriteGate slot the_record ∷ calls) are differs = absurd are.0
+other-owed of pt moment (WriteFirstGate ∷ calls) are differs = absurd are.0
+other-owed of pt moment (Sync ∷ calls) are differs = absurd are.0
+
+-- the terminal is owed all of it
+own-owed : (pt moment : ℕ) (calls : List OwedCall) → AreCallsOf (Some pt) calls → (command_owed pt moment calls ≡ commanded_by moment calls) × (cut_owed pt calls ≡ owes_cut calls)
+own-owed pt moment [] are = (refl, refl)
+own-owed pt moment (SendTill till reply ∷ calls) are = (sym (ap (commanded_by moment) are.1), sym (ap owes_cut are.1))
+own-owed pt moment (OwedSendPt number sending ∷ calls) are =
+    let same : number ≡ pt = sym (same-some pt number are.0) in
+    (ap (λ (b : Bool). if b then commanded moment sending else []) (eq-eqb number pt same) ∙ sym (ap (λ c. commanded_by moment c ++ commanded moment sending) are.1), sym (ap owes_cut are.1))
+own-owed pt moment (OwedCutTill till ∷ calls) are = (sym (ap (commanded_by moment) are.1), sym (ap owes_cut are.1))
+own-owed pt moment (OwedCutPt number ∷ calls) are = (sym (ap (commanded_by moment) are.1), eq-eqb number pt (sym (same-some pt number are.0)))
+own-owed pt moment (LinkPt number ∷ calls) are = (sym (ap (commanded_by moment) are.1), sym (ap owes_cut are.1))
+own-owed pt moment (WriteBody slot the_record ∷ calls) are = absurd are.0
+own-owed pt moment (WriteGate slot the_record ∷ calls) are = absurd are.0
+own-owed pt moment (WriteFirstGate ∷ calls) are = absurd are.0
+own-owed pt moment (Sync ∷ calls) are = absurd are.0
+
+-- where this call is owed first
+first-owed : (pt moment : ℕ) (calls : List OwedCall) (call : OwedCall) → first_call calls ≡ Some call → (command_owed pt moment calls ≡ command_to pt moment call) × (cut_owed pt calls ≡ cuts_terminal pt call)
+first-owed pt moment [] call e = absurd (let n : None ≡ Some call = e in cc)
+first-owed pt moment (first ∷ calls) call e = let same : first ≡ call = (let n : Some first ≡ Some call = e in cc) in (ap (command_to pt moment) same, ap (cuts_terminal pt) same)
+
+none-owed : (pt moment : ℕ) (calls : List OwedCall) → calls ≡ [] → (command_owed pt moment calls ≡ []) × (cut_owed pt calls ≡ false)
+none-owed pt moment calls e = (ap (command_owed pt moment) e, ap (cut_owed pt) e)
+
+written-owed : (pt moment : ℕ) (call : OwedCall) (turn : Turn) → write_turn call ≡ Some turn → (command_to pt moment call ≡ []) × (cuts_terminal pt call ≡ false)
+written-owed pt moment (SendTill till reply) turn e = (refl, refl)
+written-owed pt moment (OwedSendPt number sending) turn e = absurd (let n : None ≡ Some turn = e in cc)
+written-owed pt moment (OwedCutTill till) turn e = (refl, refl)
+written-owed pt moment (OwedCutPt number) turn e = absurd (let n : None ≡ Some turn = e in cc)
+written-owed pt moment (LinkPt number) turn e = (refl, refl)
+written-owed pt moment (WriteBody slot the_record) turn e = (refl, refl)
+written-owed pt moment (WriteGate slot the_record) turn e = (refl, refl)
+written-owed pt moment WriteFirstGate turn e = (refl, refl)
+written-owed pt moment Sync turn e = (refl, refl)
+
+-- ---- the calls of rows
+
+reply-of : (of : Option ℕ) (asker : Option ℕ) (reply : Option ReplyValue) → AreCallsOf of (reply_calls_to asker reply)
+reply-of of None reply = tt
+reply-of of (Some till) None = tt
+reply-of of (Some till) (Some reply) = (tt, refl)
+
+greeting-of : (number : ℕ) (message : MessageValue) → AreCallsOf (Some number) (sending_calls number (greeting message))
+greeting-of number Ack = tt
+greeting-of number (Nack error_code) = tt
+greeting-of number (Intermediate intermediate_status) = (refl, refl)
+greeting-of number (Line text) = (refl, refl)
+greeting-of number (Block objects) = (refl, refl)
+greeting-of number (Status fields) = (refl, refl)
+greeting-of number Completion = (refl, refl)
+greeting-of number (Abort result_code) = (refl, refl)
+greeting-of number Other = (refl, refl)
+
+abbrev IsRowOf : ℕ → Row → Type 0
+IsRowOf number row = AreCallsOf (Some number) row.calls
+
+outside-of : (known : Known) (number : ℕ) → IsRowOf number (oversized_row known number)
+outside-of known number = each-linked (IsRowOf number) known number (λ terminal. cutting known number) tt (λ terminal found linked. (refl, refl))
+
+greet-of : (known : Known) (number : ℕ) (decoded : Result MessageValue PtFault) → IsRowOf number (greet_decoded known number decoded)
+greet-of known number (Ok message) = each-linked (IsRowOf number) known number (λ terminal. owing known (sending_calls number (greeting message))) tt (λ terminal found linked. greeting-of number message)
+greet-of known number (Err fault) = outside-of known number
+
+registering-of : (known : Known) (number : ℕ) (terminal : Terminal) (meant : Heard) → IsRowOf number (registering known number terminal meant)
+registering-of known number terminal (heard.Begun stop) = tt
+registering-of known number terminal (heard.Note intermediate_status) = tt
+registering-of known number terminal heard.Line = tt
+registering-of known number terminal heard.Block = tt
+registering-of known number terminal heard.Seen = tt
+registering-of known number terminal (heard.Approved figures) = tt
+registering-of known number terminal heard.Done = (refl, refl)
+registering-of known number terminal (heard.Told reported approved result_code) = tt
+registering-of known number terminal (heard.Declined result_code reported) = (refl, refl)
+registering-of known number terminal heard.Unclear = (refl, refl)
+registering-of known number terminal heard.Stray = tt
+
+enquiring-of : (known : Known) (number : ℕ) (terminal : Terminal) (meant : Heard) → IsRowOf number (enquiring known number terminal meant)
+enquiring-of known number terminal (heard.Begun stop) = tt
+enquiring-of known number terminal (heard.Note intermediate_status) = tt
+enquiring-of known number terminal heard.Line = tt
+enquiring-of known number terminal heard.Block = tt
+enquiring-of known number terminal heard.Seen = tt
+enquiring-of known number terminal (heard.Approved figures) = tt
+enquiring-of known number terminal heard.Done = tt
+enquiring-of known number terminal (heard.Told reported approved result_code) = tt
+enquiring-of known number terminal (heard.Declined result_code reported) = (refl, refl)
+enquiring-of known number terminal heard.Unclear = (refl, refl)
+enquiring-of known number terminal heard.Stray = tt
+
+serving-of : (known : Known) (number : ℕ) (terminal : Terminal) (meant : Heard) → IsRowOf number (serving known number terminal meant)
+serving-of known number terminal (heard.Begun true) = (refl, refl)
+serving-of known number terminal (heard.Begun false) = tt
+serving-of known number terminal (heard.Note intermediate_status) = tt
+serving-of known number terminal heard.Line = tt
+serving-of known number terminal heard.Block = tt
+serving-of known number terminal heard.Seen = tt
+serving-of known number terminal (heard.Approved figures) = tt
+serving-of known number terminal heard.Done = tt
+serving-of known number terminal (heard.Told reported approved result_code) = tt
+serving-of known number terminal (heard.Declined result_code reported) = tt
+serving-of known number terminal heard.Unclear = (refl, refl)
+serving-of known number terminal heard.Stray = tt
+
+consequence-of : (known : Known) (number : ℕ) (terminal : Terminal) (meant : Heard) (standing : Standing) → IsRowOf number (consequence known number terminal meant standing)
+consequence-of known number terminal meant (Unlinked due) = tt
+consequence-of known number terminal meant Registering = registering-of known number terminal meant
+consequence-of known number terminal meant Enquiring = enquiring-of known number terminal meant
+consequence-of known number terminal meant (Ready last) = tt
+consequence-of known number terminal meant (Serving service last) = serving-of known number terminal meant
+consequence-of known number terminal meant (Aside before reported) = tt
+
+handle-of : (known : Known) (number : ℕ) (apdu : ApduValue) → IsRowOf number (handle_row known number apdu)
+handle-of known number apdu = each-handled (IsRowOf number) known number apdu tt (λ terminal message found linked is taken. consequence-of known number (taking terminal message known.moment) (meaning_at terminal message) terminal.standing)
+
+late-of : (known : Known) (number : ℕ) → IsRowOf number (late_row known number)
+late-of known number = each-terminal (IsRowOf number) known number _ tt (λ terminal found. by-where (IsRowOf number) known (cutting known number) (is_late known.moment terminal.talk) tt (λ late. (refl, refl)))
+
+due-of : (known : Known) (number : ℕ) → IsRowOf number (due_row known number)
+due-of known number = each-terminal (IsRowOf number) known number _ tt (λ terminal found. by-where (IsRowOf number) known (owing known (LinkPt number ∷ [])) (is_due known.moment terminal.standing) tt (λ due. (tt, refl)))
+
+lost-of : (known : Known) (number : ℕ) → IsRowOf number (link_lost known number)
+lost-of known number = each-terminal (IsRowOf number) known number (unlinks known number) tt (λ terminal found. reply-of (Some number) terminal.asker (reply_to_lost terminal.standing))
+
+link-of : (known : Known) (number : ℕ) (event : LinkEvent) → IsRowOf number (link_row known number event)
+link-of known number LinkIsMade = each-terminal (IsRowOf number) known number (registers known number) tt (λ terminal found. (refl, refl))
+link-of known number LinkHasFailed = lost-of known number
+link-of known number LinkIsLost = lost-of known number
+
+rows-of : (tills : List Connection) (known : Known) (item : RoundItem) → AreCallsOf (terminal_of item) (row_of tills known item).calls
+rows-of tills known (Crowded till) = (tt, refl)
+rows-of tills known (Message till bytes) = tt
+rows-of tills known (Asked till as_read) = by-where (λ (row : Row). AreCallsOf None row.calls) known (asked_row known till as_read) (is_connected tills till) tt (λ there. reply-of None (Some till) (reply_to known as_read))
+rows-of tills known (Unframed till) = by-where (λ (row : Row). AreCallsOf None row.calls) known (owing known (OwedCutTill till ∷ [])) (is_connected tills till) tt (λ there. (tt, refl))
+rows-of tills known (Gone till) = tt
+rows-of tills known (Greet number apdu) = greet-of known number (decode_pt_message apdu)
+rows-of tills known (Handle number apdu) = handle-of known number apdu
+rows-of tills known (NextWaiting number) = tt
+rows-of tills known (Oversized number) = outside-of known number
+rows-of tills known (LinkLost number) = lost-of known number
+rows-of tills known (Late number) = late-of known number
+rows-of tills known (Overdue key) = tt
+rows-of tills known (Due number) = due-of known number
+
+-- the settings stay
+rows-settings : (tills : List Connection) (known : Known) (item : RoundItem) → settings_of (row_of tills known item).core ≡ settings_of known.core
+rows-settings tills known (Crowded till) = refl
+rows-settings tills known (Message till bytes) = refl
+rows-settings tills known (Asked till as_read) = by-where (λ (row : Row). settings_of row.core ≡ settings_of known.core) known (asked_row known till as_read) (is_connected tills till) refl (λ there. refl)
+rows-settings tills known (Unframed till) = by-where (λ (row : Row). settings_of row.core ≡ settings_of known.core) known (owing known (OwedCutTill till ∷ [])) (is_connected tills till) refl (λ there. refl)
+rows-settings tills known (Gone till) = without-settings till known.core.terminals
+rows-settings tills known (Greet number apdu) = (row-changes-alone known (Greet number apdu) number refl).settings
+rows-settings tills known (Handle number apdu) = (row-changes-alone known (Handle number apdu) number refl).settings
+rows-settings tills known (NextWaiting number) = refl
+rows-settings tills known (Oversized number) = (row-changes-alone known (Oversized number) number refl).settings
+rows-settings tills known (LinkLost number) = (row-changes-alone known (LinkLost number) number refl).settings
+rows-settings tills known (Late number) = (row-changes-alone known (Late number) number refl).settings
+rows-settings tills known (Overdue key) = refl
+rows-settings tills known (Due number) = (row-changes-alone known (Due number) number refl).settings
+
+-- ---- what a row leaves
+
+-- what is remembered of the terminal after a row is what this transcript says, with the command that the row owes it
+abbrev RowFollows : Known → ℕ → List Carried → Row → Type 0
+RowFollows known pt transcript row = FollowsTranscript known.kept pt (command_owed pt known.moment row.calls ++ transcript) row.core
+
+-- a row of a terminal, by what it leaves of that terminal
+by-number : (known : Known) (number pt : ℕ) (old new : List Carried) (row : Row) → IsRowOf number row → ((other : ℕ) → other ≢ number → slice_get row.core.terminals other ≡ slice_get known.core.terminals other)
+    → (number ≡ pt → RowFollows known pt new row) → (number ≢ pt → FollowsTranscript known.kept pt old known.core) → RowFollows known pt (if number == pt then new else old) row
+by-number known number pt old new row of others own has = by_test (number == pt) refl
+  where
+    by_test : (test : Bool) → (number == pt) ≡ test → RowFollows known pt (if test then new else old) row
+    by_test true e = own (eqb-true number pt e)
+    by_test false e =
+        let differs : number ≢ pt = apart number pt e in
+        subst (λ (l : List Carried). FollowsTranscript known.kept pt (l ++ old) row.core) (sym (other-owed (Some number) pt known.moment row.calls of (λ same. differs (same-some number pt same))).0)
+        (same-follows known.kept known.kept pt old known.core row.core (others pt (λ same. differs (sym same))) (has differs))
+
+-- an event of a link begins the transcript anew
+link-own : (known : Known) (number : ℕ) (event : LinkEvent) (terminal : Terminal) → terminal_at known number ≡ Some terminal → RowFollows known number [] (link_row known number event)
+link-own known number event terminal found =
+    subst (λ (l : List Carried). FollowsTranscript known.kept number l (link_row known number event).core)
+    (sym (own-owed number known.moment (link_row known number event).calls (link-of known number event)).0 ∙ sym (append-nil (command_owed number known.moment (link_row known number event).calls)))
+    (links-begin known number event terminal found)
+
+link-follows : (known : Known) (number : ℕ) (event : LinkEvent) (pt : ℕ) (transcript : List Carried) (terminal : Terminal) → slice_get (link_row known number event).core.terminals pt ≡ Some terminal
+    → (number ≢ pt → FollowsTranscript known.kept pt transcript known.core) → RowFollows known pt (if number == pt then [] else transcript) (link_row known number event)
+link-follows known number event pt transcript terminal found has =
+    let alone = link-changes-alone known number event in
+    let before = there-before known.core (link_row known number event).core pt terminal alone.settings found in
+    by-number known number pt transcript [] (link_row known number event) (link-of known number event) alone.others
+    (λ same. subst (λ n. RowFollows known n [] (link_row known number event)) same (link-own known number event before.0 (ap (terminal_at known) same ∙ before.1))) has
+
+-- an item that isn't the loss of a link
+own-row : EachRowFollowsTranscript → (known : Known) (item : RoundItem) (number : ℕ) (transcript : List Carried) → terminal_of item ≡ Some number → is_link_lost item ≡ false → IsRowOf number (terminal_row known item)
+    → FollowsTranscript known.kept number transcript known.core → cut_owed number (terminal_row known item).calls ≡ false → RowFollows known number (took_by known item ++ transcript) (terminal_row known item)
+own-row rows known item number transcript is lasts of has no_cut =
+    let own = own-owed number known.moment (terminal_row known item).calls of in
+    subst (λ (l : List Carried). FollowsTranscript known.kept number (l ++ (took_by known item ++ transcript)) (terminal_row known item).core) (sym own.0)
+    (subst (λ (b : Bool). FollowsTranscript known.kept number (if b then [] else transcript_grown known item transcript) (terminal_row known item).core) lasts
+    (rows known item number transcript is has (sym own.1 ∙ no_cut)))
+
+row-follows : EachRowFollowsTranscript → (known : Known) (item : RoundItem) (number pt : ℕ) (transcript : List Carried) → terminal_of item ≡ Some number → is_link_lost item ≡ false → IsRowOf number (terminal_row known item)
+    → FollowsTranscript known.kept pt transcript known.core → cut_owed pt (terminal_row known item).calls ≡ false → RowFollows known pt (if number == pt then took_by known item ++ transcript else transcript) (terminal_row known item)
+row-follows rows known item number pt transcript is lasts of has no_cut =
+    by-number known number pt transcript (took_by known item ++ transcript) (terminal_row known item) of (row-changes-alone known item number is).others
+    (λ same. own-row rows known item pt transcript (is ∙ ap Some same) lasts (subst (λ n. IsRowOf n (terminal_row known item)) same of) has no_cut)
+    (λ differs. has)
+
+-- the transcript by an item
+abbrev ItemFollows : List Connection → Known → RoundItem → ℕ → List Carried → Type 0
+ItemFollows tills known item pt transcript = RowFollows known pt (if is_number pt (terminal_of item) then transcript_with known item transcript else transcript) (row_of tills known item)
+
+-- a row of a till
+till-follows : (known : Known) (pt : ℕ) (transcript : List Carried) (calls : List OwedCall) → AreCallsOf None calls → FollowsTranscript known.kept pt transcript known.core → RowFollows known pt transcript (owing known calls)
+till-follows known pt transcript calls of has =
+    subst (λ (l : List Carried). FollowsTranscript known.kept pt (l ++ transcript) known.core) (sym (other-owed None pt known.moment calls of (λ same. let n : None ≡ Some pt = same in cc)).0) has
+
+item-follows : EachRowFollowsTranscript → (tills : List Connection) (known : Known) (item : RoundItem) (pt : ℕ) (transcript : List Carried) (terminal : Terminal) → slice_get (row_of tills known item).core.terminals pt ≡ Some terminal
+    → FollowsTranscript known.kept pt transcript known.core → cut_owed pt (row_of tills known item).calls ≡ false → ItemFollows tills known item pt transcript
+item-follows rows tills known (Crowded till) pt transcript terminal found has no_cut = has
+item-follows rows tills known (Message till bytes) pt transcript terminal found has no_cut = has
+item-follows rows tills known (Asked till as_read) pt transcript terminal found has no_cut =
+    by-where (RowFollows known pt transcript) known (asked_row known till as_read) (is_connected tills till) has (λ there. till-follows known pt transcript _ (reply-of None (Some till) (reply_to known as_read)) has)
+item-follows rows tills known (Unframed till) pt transcript terminal found has no_cut =
+    by-where (RowFollows known pt transcript) known (owing known (OwedCutTill till ∷ [])) (is_connected tills till) has (λ there. has)
+item-follows rows tills known (Gone till) pt transcript terminal found has no_cut = gone-follows known.kept pt till transcript known.core has
+item-follows rows tills known (Greet number apdu) pt transcript terminal found has no_cut = row-follows rows known (Greet number apdu) number pt transcript refl refl (greet-of known number (decode_pt_message apdu)) has no_cut
+item-follows rows tills known (Handle number apdu) pt transcript terminal found has no_cut = row-follows rows known (Handle number apdu) number pt transcript refl refl (handle-of known number apdu) has no_cut
+item-follows rows tills known (NextWaiting number) pt transcript terminal found has no_cut = row-follows rows known (NextWaiting number) number pt transcript refl refl tt has no_cut
+item-follows rows tills known (Oversized number) pt transcript terminal found has no_cut = row-follows rows known (Oversized number) number pt transcript refl refl (outside-of known number) has no_cut
+item-follows rows tills known (LinkLost number) pt transcript terminal found has no_cut = link-follows known number LinkIsLost pt transcript terminal found (λ differs. has)
+item-follows rows tills known (Late number) pt transcript terminal found has no_cut = row-follows rows known (Late number) number pt transcript refl refl (late-of known number) has no_cut
+item-follows rows tills known (Overdue key) pt transcript terminal found has no_cut = has
+item-follows rows tills known (Due number) pt transcript terminal found has no_cut = row-follows rows known (Due number) number pt transcript refl refl (due-of known number) has no_cut
+
+-- ---- what holds along a course
+
+-- what is remembered of the terminal is what the transcript says, with the command that is owed to it next, but where its cut is
+record IsTranscribed (pt : ℕ) (transcript : List Carried) (v : View) : Type 0 where
+  follows : (terminal : Terminal) → slice_get v.scene.core.terminals pt ≡ Some terminal → cut_owed pt v.calls ≡ false → FollowsTranscript v.scene.kept pt (command_owed pt v.scene.outside.moment v.calls ++ transcript) v.scene.core
+
+-- one call is owed at once at most, and none where an event may come
+record OwesOne (v : View) : Type 0 where
+  one : AreOne v.calls
+  polled : v.scene.stage ≡ AtPoll → v.calls ≡ []
+
+never-polled : {A : Type 0} (stage : Stage) → busy stage ≡ AtPoll → A
+never-polled Resting e = absurd (let n : Resting ≡ AtPoll = e in cc)
+never-polled (Opening refused) e = absurd (let n : Opening refused ≡ AtPoll = e in cc)
+never-polled (Looking refused) e = absurd (let n : Looking refused ≡ AtPoll = e in cc)
+never-polled AtPoll e = absurd (let n : Handling ≡ AtPoll = e in cc)
+never-polled Handling e = absurd (let n : Handling ≡ AtPoll = e in cc)
+never-polled Over e = absurd (let n : Over ≡ AtPoll = e in cc)
+never-polled Broken e = absurd (let n : Broken ≡ AtPoll = e in cc)
+
+-- ---- one call
+
+in-one : (scene : Scene) (row : Known → Row) (setup : Option Setup) → ((known : Known) → AreOne (row known).calls) → AreOne (row_in scene row setup).calls
+in-one scene row None each = tt
+in-one scene row (Some setup) each = each (known_in scene setup)
+
+row-then : (calls more : List OwedCall) → more ≡ [] → AreOne calls → AreOne (calls ++ more)
+row-then calls more none one = subst (λ l. AreOne (calls ++ l)) (sym none) (subst AreOne (sym (append-nil calls)) one)
+
+made-one : (scene : Scene) (number : ℕ) → AreOne (link_made_at scene number).calls
+made-one scene number = in-one scene (λ known. link_made known number) scene.setup (λ known. calls-one (Some number) (link_made known number).calls (link-of known number LinkIsMade))
+
+lost-one : (scene : Scene) (number : ℕ) → AreOne (link_lost_at scene number).calls
+lost-one scene number = in-one scene (λ known. link_lost known number) scene.setup (λ known. calls-one (Some number) (link_lost known number).calls (lost-of known number))
+
+later-one : (calls : List OwedCall) → AreOne calls → AreOne (later calls)
+later-one calls one = subst AreOne (sym (later-none calls one)) tt
+
+begin-one : (v : View) → Begins v → OwesOne (after v Begin)
+begin-one v b = record { one = by_items v.items; polled = λ e. handling-not-polled (sym (begin-stage v.scene v.items ∙ round-busy v.scene.stage b.idle.round) ∙ e) }
+  where
+    by_items : (items : List RoundItem) → AreOne (after (record v { items = items }) Begin).calls
+    by_items [] = tt
+    by_items (item ∷ items) = in-one v.scene (λ known. row_of v.scene.outside.tills known item) v.scene.setup (λ known. calls-one (terminal_of item) (row_of v.scene.outside.tills known item).calls (rows-of v.scene.outside.tills known item))
+
+turn-one : (v : View) (turn : Turn) → OwesOne v → OwesOne (after_turn v turn)
+turn-one v (Start setup) o = record { one = tt; polled = λ e. refl }
+turn-one v OpenFailed o = record { one = tt; polled = λ e. refl }
+turn-one v (Polled now) o = record { one = tt; polled = λ e. refl }
+turn-one v (Opened till) o = record { one = tt; polled = λ e. refl }
+turn-one v (HeardTill till bytes) o = record { one = tt; polled = λ e. refl }
+turn-one v (Closed till) o = record { one = tt; polled = λ e. refl }
+turn-one v (HeardPt number bytes) o = record { one = tt; polled = λ e. refl }
+turn-one v (Lost number) o = record { one = tt; polled = λ e. refl }
+turn-one v Stopped o = record { one = tt; polled = λ e. refl }
+turn-one v (Linked number) o = record { one = row-then (link_made_at v.scene number).calls (later v.calls) (later-none v.calls o.one) (made-one v.scene number); polled = λ e. never-polled v.scene.stage e }
+turn-one v (LinkFailed number) o = record { one = row-then (link_lost_at v.scene number).calls [] refl (lost-one v.scene number); polled = λ e. never-polled v.scene.stage e }
+turn-one v (SentTill till bytes true) o = record { one = later-one v.calls o.one; polled = λ e. later-none v.calls o.one }
+turn-one v (SentTill till bytes false) o = record { one = (refl, refl); polled = λ e. never-polled v.scene.stage e }
+turn-one v (SentPt number bytes true) o = record { one = later-one v.calls o.one; polled = λ e. later-none v.calls o.one }
+turn-one v (SentPt number bytes false) o = record { one = (refl, refl); polled = λ e. never-polled v.scene.stage e }
+turn-one v (CutTill till) o = record { one = later-one v.calls o.one; polled = λ e. later-none v.calls o.one }
+turn-one v (CutPt number) o = record { one = row-then (link_lost_at v.scene number).calls (later v.calls) (later-none v.calls o.one) (lost-one v.scene number); polled = λ e. never-polled v.scene.stage e }
+turn-one v (Wrote offset bytes) o = record { one = later-one v.calls o.one; polled = λ e. later-none v.calls o.one }
+turn-one v Synced o = record { one = later-one v.calls o.one; polled = λ e. later-none v.calls o.one }
+turn-one v DiskFailed o = record { one = tt; polled = λ e. refl }
+turn-one v (Crash file) o = record { one = tt; polled = λ e. refl }
+
+-- ---- items that begin
+
+begin-transcribed : EachRowFollowsTranscript → (pt : ℕ) (transcript : List Carried) (v : View) → Agrees v → Begins v → IsTranscribed pt transcript v → IsTranscribed pt (transcript_begun pt v.scene v.items transcript) (after v Begin)
+begin-transcribed rows pt transcript v a b t = by_items v.items refl
+  where
+    before : (terminal : Terminal) → slice_get v.scene.core.terminals pt ≡ Some terminal → FollowsTranscript v.scene.kept pt transcript v.scene.core
+    before terminal found =
+        let none = none-owed pt v.scene.outside.moment v.calls b.idle.calls in
+        subst (λ (l : List Carried). FollowsTranscript v.scene.kept pt (l ++ transcript) v.scene.core) none.0 (t.follows terminal found none.1)
+
+    by_items : (items : List RoundItem) → v.items ≡ items → IsTranscribed pt (transcript_begun pt v.scene v.items transcript) (after v Begin)
+    by_items [] e = no-true (sym (ap (may_begin v.scene) e) ∙ b.first)
+    by_items (item ∷ rest) e =
+        subst (λ l. IsTranscribed pt (transcript_begun pt v.scene l transcript) (after (record v { items = l }) Begin)) (sym e) (record { follows = by_row })
+      where
+        Begun : Option Setup → Type 0
+        Begun setup =
+            (terminal : Terminal) → slice_get (row_in v.scene (λ known. row_of v.scene.outside.tills known item) setup).core.terminals pt ≡ Some terminal
+            → cut_owed pt (row_in v.scene (λ known. row_of v.scene.outside.tills known item) setup).calls ≡ false
+            → FollowsTranscript v.scene.kept pt (command_owed pt v.scene.outside.moment (row_in v.scene (λ known. row_of v.scene.outside.tills known item) setup).calls ++ transcript_in pt v.scene item transcript setup)
+            (row_in v.scene (λ known. row_of v.scene.outside.tills known item) setup).core
+
+        by_row : Begun v.scene.setup
+        by_row =
+            let known = round-setup v a.run b.idle.round in
+            subst Begun (sym known.setup_is) (λ terminal found no_cut.
+            let there = there-before v.scene.core (row_of v.scene.outside.tills (known_in v.scene known.setup) item).core pt terminal (rows-settings v.scene.outside.tills (known_in v.scene known.setup) item) found in
+            item-follows rows v.scene.outside.tills (known_in v.scene known.setup) item pt transcript terminal found (before there.0 there.1) no_cut)
+
+-- ---- turns
+
+-- the same is remembered, and with what is owed the same was sent
+same-transcribed : (pt : ℕ) (old new : List Carried) (v w : View) → IsTranscribed pt old v → w.scene.core ≡ v.scene.core
+    → (cut_owed pt w.calls ≡ false → (cut_owed pt v.calls ≡ false) × (command_owed pt w.scene.outside.moment w.calls ++ new ≡ command_owed pt v.scene.outside.moment v.calls ++ old)) → IsTranscribed pt new w
+same-transcribed pt old new v w t core same = record {
+  follows = λ terminal found no_cut.
+      let s = same no_cut in
+      subst (λ (l : List Carried). FollowsTranscript w.scene.kept pt l w.scene.core) (sym s.1)
+      (same-follows v.scene.kept w.scene.kept pt _ v.scene.core w.scene.core (ap (λ (c : Core). slice_get c.terminals pt) core)
+      (t.follows terminal (ap (λ (c : Core). slice_get c.terminals pt) (sym core) ∙ found) s.0));
+}
+
+-- nothing was owed, and nothing is
+quiet-transcribed : (pt : ℕ) (transcript : List Carried) (v w : View) → IsTranscribed pt transcript v → w.scene.core ≡ v.scene.core → v.calls ≡ [] → w.calls ≡ [] → IsTranscribed pt transcript w
+quiet-transcribed pt transcript v w t core before none = same-transcribed pt transcript transcript v w t core (λ no_cut.
+    let b = none-owed pt v.scene.outside.moment v.calls before in
+    let n = none-owed pt w.scene.outside.moment w.calls none in
+    (b.1, ap (λ l. l ++ transcript) (n.0 ∙ sym b.0)))
+
+-- this call was owed, which is none to this terminal, and nothing is
+call-transcribed : (pt : ℕ) (transcript : List Carried) (v w : View) (call : OwedCall) → IsTranscribed pt transcript v → w.scene.core ≡ v.scene.core → first_call v.calls ≡ Some call
+    → (command_to pt v.scene.outside.moment call ≡ []) × (cuts_terminal pt call ≡ false) → w.calls ≡ [] → IsTranscribed pt transcript w
+call-transcribed pt transcript v w call t core next other none = same-transcribed pt transcript transcript v w t core (λ no_cut.
+    let b = first-owed pt v.scene.outside.moment v.calls call next in
+    let n = none-owed pt w.scene.outside.moment w.calls none in
+    (b.1 ∙ other.1, ap (λ l. l ++ transcript) (n.0 ∙ sym (b.0 ∙ other.0))))
+
+-- an event of a link, whose calls are the only ones
+link-transcribed : (pt : ℕ) (transcript : List Carried) (v w : View) (number : ℕ) (event : LinkEvent) (setup : Setup) (call : OwedCall) → IsTranscribed pt transcript v → first_call v.calls ≡ Some call
+    → (command_to pt v.scene.outside.moment call ≡ []) → (number ≢ pt → cuts_terminal pt call ≡ false) → w.scene.core ≡ (link_row (known_in v.scene setup) number event).core
+    → w.calls ≡ (link_row (known_in v.scene setup) number event).calls → w.scene.outside.moment ≡ v.scene.outside.moment → IsTranscribed pt (if number == pt then [] else transcript) w
+link-transcribed pt transcript v w number event setup call t next none other core calls moment = record {
+  follows = λ terminal found no_cut.
+      let known : Known = known_in v.scene setup in
+      let b = first-owed pt v.scene.outside.moment v.calls call next in
+      let there = ap (λ (c : Core). slice_get c.terminals pt) (sym core) ∙ found in
+      let row = link_follows_at known terminal there (λ before found differs.
+      subst (λ (l : List Carried). FollowsTranscript v.scene.kept pt (l ++ transcript) v.scene.core) (b.0 ∙ none) (t.follows before found (b.1 ∙ other differs))) in
+      subst (λ (l : List OwedCall). FollowsTranscript w.scene.kept pt (command_owed pt w.scene.outside.moment l ++ (if number == pt then [] else transcript)) w.scene.core) (sym calls)
+      (subst (λ m. FollowsTranscript w.scene.kept pt (command_owed pt m (link_row known number event).calls ++ (if number == pt then [] else transcript)) w.scene.core) (sym moment)
+      (same-follows v.scene.kept w.scene.kept pt _ (link_row known number event).core w.scene.core (ap (λ (c : Core). slice_get c.terminals pt) core) row));
+}
+  where
+    link_follows_at : (known : Known) (terminal : Terminal) → slice_get (link_row known number event).core.terminals pt ≡ Some terminal
+        → ((before : Terminal) → slice_get known.core.terminals pt ≡ Some before → number ≢ pt → FollowsTranscript known.kept pt transcript known.core) → RowFollows known pt (if number == pt then [] else transcript) (link_row known number event)
+    link_follows_at known terminal found has =
+        let before = there-before known.core (link_row known number event).core pt terminal (link-changes-alone known number event).settings found in
+        link-follows known number event pt transcript terminal found (has before.0 before.1)
+
+-- the row of an event of a link in a scene
+made-at : (scene : Scene) (number : ℕ) (setup : Setup) → scene.setup ≡ Some setup → link_made_at scene number ≡ link_row (known_in scene setup) number LinkIsMade
+made-at scene number setup is = ap (λ o. row_in scene (λ known. link_made known number) o) is
+
+lost-at : (scene : Scene) (number : ℕ) (setup : Setup) → scene.setup ≡ Some setup → link_lost_at scene number ≡ link_row (known_in scene setup) number LinkIsLost
+lost-at scene number setup is = ap (λ o. row_in scene (λ known. link_lost known number) o) is
+
+then-none : (row other : Row) (more : List OwedCall) → row ≡ other → more ≡ [] → row.calls ++ more ≡ other.calls
+then-none row other more is none = ap (λ l. row.calls ++ l) none ∙ append-nil row.calls ∙ ap (λ (r : Row). r.calls) is
+
+start-transcribed : (pt : ℕ) (v : View) (setup : Setup) → IsTranscribed pt [] (after_turn v (Start setup))
+start-transcribed pt v setup = record {
+  follows = λ terminal found no_cut. let one = image-there new_terminal setup.terminals pt terminal found in new-follows setup v.scene.kept pt one.0 one.1;
+}
+
+-- no terminal is remembered
+nobody-transcribed : (pt : ℕ) (transcript : List Carried) (w : View) → w.scene.core.terminals ≡ [] → IsTranscribed pt transcript w
+nobody-transcribed pt transcript w none = record { follows = λ terminal found no_cut. absurd (nobody terminal (ap (λ l. slice_get l pt) (sym none) ∙ found)) }
+  where
+    nobody : (terminal : Terminal) → slice_get [] pt ≡ Some terminal → ⊥
+    nobody terminal found = cc
+
+busy-looking : (stage : Stage) → is_looking stage ≡ true → is_looking (busy stage) ≡ true
+busy-looking Resting e = e
+busy-looking (Opening refused) e = e
+busy-looking (Looking refused) e = e
+busy-looking AtPoll e = no-true e
+busy-looking Handling e = e
+busy-looking Over e = e
+busy-looking Broken e = e
+
+-- while the file is looked at nothing but the disk is owed, and so nothing
+looking-none : (v : View) → OwesDisk v → OwesOne v → is_looking v.scene.stage ≡ true → v.calls ≡ []
+looking-none v d o looking = by_calls v.calls refl
+  where
+    by_calls : (calls : List OwedCall) → v.calls ≡ calls → v.calls ≡ []
+    by_calls [] e = e
+    by_calls (call ∷ calls) e = other-not-looking v call d (ap first_call e) (subst AreOne e o.one).0 (busy-looking v.scene.stage looking)
+
+turn-transcribed : (pt : ℕ) (transcript : List Carried) (v : View) (turn : Turn) → Agrees v → OwesDisk v → OwesOne v → AllowedTurn v turn → IsTranscribed pt transcript v → IsTranscribed pt (transcript_made pt v turn transcript) (after_turn v turn)
+turn-transcribed pt transcript v (Start setup) a d o ok t = start-transcribed pt v setup
+turn-transcribed pt transcript v OpenFailed a d o ok t = nobody-transcribed pt [] (after_turn v OpenFailed) refl
+turn-transcribed pt transcript v (Polled now) a d o ok t = quiet-transcribed pt transcript v (after_turn v (Polled now)) t refl ok.calls refl
+turn-transcribed pt transcript v (Opened till) a d o ok t = quiet-transcribed pt transcript v (after_turn v (Opened till)) t refl (o.polled ok.0) refl
+turn-transcribed pt transcript v (HeardTill till bytes) a d o ok t = quiet-transcribed pt transcript v (after_turn v (HeardTill till bytes)) t refl (o.polled ok.0.polled) refl
+turn-transcribed pt transcript v (Closed till) a d o ok t = quiet-transcribed pt transcript v (after_turn v (Closed till)) t refl (o.polled ok.polled) refl
+turn-transcribed pt transcript v (HeardPt number bytes) a d o ok t = quiet-transcribed pt transcript v (after_turn v (HeardPt number bytes)) t refl (o.polled ok.0.polled) refl
+turn-transcribed pt transcript v (Lost number) a d o ok t = quiet-transcribed pt transcript v (after_turn v (Lost number)) t refl (o.polled ok.polled) refl
+turn-transcribed pt transcript v Stopped a d o ok t = quiet-transcribed pt transcript v (after_turn v Stopped) t refl (o.polled ok) refl
+turn-transcribed pt transcript v (Linked number) a d o ok t =
+    let k = call-setup v (LinkPt number) a.run ok in
+    let row = made-at v.scene number k.setup k.setup_is in
+    link-transcribed pt transcript v (after_turn v (Linked number)) number LinkIsMade k.setup (LinkPt number) t ok refl (λ differs. refl) (ap (λ (r : Row). r.core) row)
+    (then-none (link_made_at v.scene number) _ (later v.calls) row (later-none v.calls o.one)) refl
+turn-transcribed pt transcript v (LinkFailed number) a d o ok t =
+    let k = call-setup v (LinkPt number) a.run ok in
+    let row = lost-at v.scene number k.setup k.setup_is in
+    link-transcribed pt transcript v (after_turn v (LinkFailed number)) number LinkIsLost k.setup (LinkPt number) t ok refl (λ differs. refl) (ap (λ (r : Row). r.core) row)
+    (then-none (link_lost_at v.scene number) _ [] row refl) refl
+turn-transcribed pt transcript v (SentTill till bytes true) a d o ok t = call-transcribed pt transcript v (after_turn v (SentTill till bytes true)) (SendTill till ok.0) t refl ok.1 (refl, refl) (later-none v.calls o.one)
+turn-transcribed pt transcript v (SentTill till bytes false) a d o ok t =
+    same-transcribed pt transcript transcript v (after_turn v (SentTill till bytes false)) t refl (λ no_cut.
+    let b = first-owed pt v.scene.outside.moment v.calls (SendTill till ok.0) ok.1 in
+    (b.1, ap (λ l. l ++ transcript) (sym b.0)))
+turn-transcribed pt transcript v (SentPt number bytes true) a d o ok t =
+    same-transcribed pt transcript (command_owed pt v.scene.outside.moment v.calls ++ transcript) v (after_turn v (SentPt number bytes true)) t refl (λ no_cut. (
+      (first-owed pt v.scene.outside.moment v.calls (OwedSendPt number ok.0) ok.1).1,
+      ap (λ l. l ++ (command_owed pt v.scene.outside.moment v.calls ++ transcript)) (none-owed pt v.scene.outside.moment (later v.calls) (later-none v.calls o.one)).0,
+    ))
+turn-transcribed pt transcript v (SentPt number bytes false) a d o ok t =
+    same-transcribed pt transcript transcript v (after_turn v (SentPt number bytes false)) t refl (λ no_cut.
+    let b = first-owed pt v.scene.outside.moment v.calls (OwedSendPt number ok.0) ok.1 in
+    (b.1, ap (λ l. l ++ transcript) (sym (b.0 ∙ ap (λ (test : Bool). if test then commanded v.scene.outside.moment ok.0 else []) no_cut))))
+turn-transcribed pt transcript v (CutTill till) a d o ok t = record {
+  follows = λ terminal found no_cut.
+      let b = first-owed pt v.scene.outside.moment v.calls (OwedCutTill till) ok in
+      let before = there-before v.scene.core (core_without v.scene.core till) pt terminal (without-settings till v.scene.core.terminals) found in
+      subst (λ (l : List Carried). FollowsTranscript v.scene.kept pt (l ++ transcript) (core_without v.scene.core till)) (sym (none-owed pt v.scene.outside.moment (later v.calls) (later-none v.calls o.one)).0)
+      (gone-follows v.scene.kept pt till transcript v.scene.core
+      (subst (λ (l : List Carried). FollowsTranscript v.scene.kept pt (l ++ transcript) v.scene.core) b.0 (t.follows before.0 before.1 b.1)));
+}
+turn-transcribed pt transcript v (CutPt number) a d o ok t =
+    let k = call-setup v (OwedCutPt number) a.run ok in
+    let row = lost-at v.scene number k.setup k.setup_is in
+    link-transcribed pt transcript v (after_turn v (CutPt number)) number LinkIsLost k.setup (OwedCutPt number) t ok refl (λ differs. not-number number pt differs) (ap (λ (r : Row). r.core) row)
+    (then-none (link_lost_at v.scene number) _ (later v.calls) row (later-none v.calls o.one)) refl
+turn-transcribed pt transcript v (Wrote offset bytes) a d o ok t =
+    call-transcribed pt transcript v (after_turn v (Wrote offset bytes)) ok.0 t refl ok.1 (written-owed pt v.scene.outside.moment ok.0 (Wrote offset bytes) ok.2) (later-none v.calls o.one)
+turn-transcribed pt transcript v Synced a d o ok t = call-transcribed pt transcript v (after_turn v Synced) Sync t refl ok (refl, refl) (later-none v.calls o.one)
+turn-transcribed pt transcript v DiskFailed a d o (inl next) t = call-transcribed pt transcript v (after_turn v DiskFailed) Sync t refl next (refl, refl) refl
+turn-transcribed pt transcript v DiskFailed a d o (inr looking) t = quiet-transcribed pt transcript v (after_turn v DiskFailed) t refl (looking-none v d o looking) refl
+turn-transcribed pt transcript v (Crash file) a d o ok t = nobody-transcribed pt [] (after_turn v (Crash file)) refl
+
+-- ---- along a course
+
+move-one : (v : View) (move : Move) → OwesOne v → Allowed v move → OwesOne (after v move)
+move-one v Begin o ok = begin-one v ok
+move-one v (Read as_read) o ok = record { one = tt; polled = λ e. refl }
+move-one v (Make turn) o ok = turn-one v turn o
+
+move-transcribed : EachRowFollowsTranscript → (pt : ℕ) (transcript : List Carried) (v : View) (move : Move) → Agrees v → OwesDisk v → OwesOne v → Allowed v move → IsTranscribed pt transcript v
+    → IsTranscribed pt (transcript_moved pt v move transcript) (after v move)
+move-transcribed rows pt transcript v Begin a d o ok t = begin-transcribed rows pt transcript v a ok t
+move-transcribed rows pt transcript v (Read as_read) a d o ok t = quiet-transcribed pt transcript v (after v (Read as_read)) t refl ok.idle.calls refl
+move-transcribed rows pt transcript v (Make turn) a d o ok t = turn-transcribed pt transcript v turn a d o ok t
+
+course-transcribed : EachRowFollowsTranscript → (pt : ℕ) (transcript : List Carried) (v : View) (moves : List Move) → Agrees v → OwesDisk v → OwesOne v → IsCourse v moves → IsTranscribed pt transcript v
+    → IsTranscribed pt (transcript_from pt v transcript moves) (view_from v moves)
+course-transcribed rows pt transcript v [] a d o c t = t
+course-transcribed rows pt transcript v (move ∷ moves) a d o c t =
+    course-transcribed rows pt (transcript_moved pt v move transcript) (after v move) moves (move-agrees v move a c.0) (course-disk v (move ∷ []) d (c.0, tt)) (move-one v move o c.0) c.1
+    (move-transcribed rows pt transcript v move a d o c.0 t)
+
+pub logs-follow : EachRowFollowsTranscript → EachLogFollowsTranscript
+logs-follow rows log v s pt terminal found no_cut =
+    let first : OwesOne at_first = record { one = tt; polled = λ e. refl } in
+    let t = course-transcribed rows pt [] at_first s.course first-agrees first-owes-disk first s.lawful (nobody-transcribed pt [] at_first refl) in
+    (subst (IsTranscribed pt (transcript_from pt at_first [] s.course)) s.view_is t).follows terminal found no_cut
+
+pub polls-follow : EachRowFollowsTranscript → EachPollFollowsTranscript
+polls-follow rows log v s pt terminal may found =
+    let none = none-owed pt v.scene.outside.moment v.calls may.calls in
+    subst (λ (l : List Carried). FollowsTranscript v.scene.kept pt (l ++ transcript_from pt at_first [] s.course) v.scene.core) none.0 (logs-follow rows log v s pt terminal found none.1)
+
+-- ---- the example
+
+pub example-log-transcript : ExampleLogTranscript
+unfolding decode_apdus decode_apdus_within decode_pt_message
+example-log-transcript = record { linked = refl; enquired = refl; standing = refl; cut = refl }

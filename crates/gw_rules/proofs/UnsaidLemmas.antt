@@ -1,0 +1,164 @@
+-- A terminal that says no whole APDU stays as it is, and is cut at its deadline.
+use Rattle.std.proofs.Common.{◌≡◌, ℕ, List, [], ◌∷◌, ◌++◌, refl, sym, ◌∙◌, ap, subst, true, false, inl, inr, eqb-true}
+use Rattle.std.proofs.lemmas.Bool.{eq-eqb}
+use Rattle.std.specs.Prelude.{Bool, ◌==◌, Option}
+use Rattle.std.specs.List.{flat_map}
+use Rattle.std.specs.Option.{option_map}
+use Rattle.gw_bytes.specs.Bytes.{AreBytes}
+use Rattle.gw_site.specs.Outside.{Outside, heard_on}
+use Rattle.gw_site.specs.Sorts.{IsQuiet, is_between}
+use Rattle.gw_site.specs.declared.turn.Turn.{Turn}
+use Rattle.gw_site.specs.declared.turn.Turn.TheVariants.{Start, OpenFailed, Polled, Opened, HeardTill, Closed, HeardPt, Lost, Stopped, Linked, LinkFailed, SentTill, SentPt, CutTill, CutPt, Wrote, Synced, DiskFailed, Crash}
+use Rattle.zvt_talk.specs.Talk.{TalkFacts}
+use Rattle.gw_owes.specs.Events.{apdu_items, pt_bytes_items, items_due}
+use Rattle.gw_owes.specs.TerminalLaws.{IsBeforeReady, HasDialogueOnlyIn}
+use Rattle.gw_owes.specs.declared.terminal.Standing.{Standing}
+use Rattle.gw_owes.specs.declared.terminal.Terminal.{Terminal}
+use Rattle.gw_owes.proofs.ApduLemmas.{pt-bytes-give}
+use Rattle.gw_rules.specs.LinkLaws.{EndsLink, EndsNone, IsOfTerminal}
+use Rattle.gw_rules.specs.Lawful.{AllowedTurn, IsCourse, turns_of}
+use Rattle.gw_rules.specs.SilenceLaws.{CompletesNone, CompleteNone, SilentDialogueIsCut}
+use Rattle.gw_rules.specs.View.{View, Move, Begin, Read, Make, after, after_turn, view_from, at_first}
+use Rattle.gw_rules.proofs.CourseLemmas.{course-append, turns_of-append, begin-outside, after-outside, stands-outside, view_from-append}
+use Rattle.gw_rules.proofs.HeardLemmas.{HeardBytes, heard-bytes, bytes-append, turn-bytes, begin-bytes, stands-bytes}
+use Rattle.gw_rules.proofs.KeptLemmas.{Kept, without_asker, change_none, due-change-none, begin-kept, read-kept, turn-kept}
+use Rattle.gw_rules.proofs.LinkStateLemmas.{On, standing_state}
+use Rattle.gw_rules.proofs.LinkedLemmas.{Agrees, move-agrees, course-agrees, first-agrees}
+use Rattle.gw_rules.proofs.OutsideCutLemmas.{same-rest}
+use Rattle.gw_rules.proofs.SilenceLemmas.{late-before-poll}
+use Rattle.gw_rules.proofs.StageLemmas.{no-true}
+
+-- ---- bytes that complete nothing
+
+-- they bring no item
+none-brought : (v : View) (pt : ℕ) (chunk : List ℕ) → HeardBytes v.scene.outside → AllowedTurn v (HeardPt pt chunk) → CompletesNone v.scene.outside pt chunk → pt_bytes_items pt (heard_on v.scene.outside.links pt) chunk ≡ []
+none-brought v pt chunk bytes ok (left, said, incomplete) =
+    let heard : List ℕ = heard_on v.scene.outside.links pt in
+    let small : AreBytes (heard ++ chunk) = bytes-append heard chunk (heard-bytes v.scene.outside.links pt bytes.links) ok.1.bytes in
+    let brings = pt-bytes-give pt heard chunk said.before (said.before ++ []) said.rest left small said.spelled said.all in
+    let same : [] ≡ brings.new = same-rest said.before [] brings.new brings.completed in
+    brings.items_are ∙ ap (λ apdus. flat_map (apdu_items pt) apdus ++ brings.last) (sym same) ∙ brings.incomplete incomplete
+
+-- the turn brings bytes of the terminal
+abbrev brings_bytes : ℕ → Turn → Bool
+brings_bytes pt (Start setup) = false
+brings_bytes pt OpenFailed = false
+brings_bytes pt (Polled now) = false
+brings_bytes pt (Opened till) = false
+brings_bytes pt (HeardTill till bytes) = false
+brings_bytes pt (Closed till) = false
+brings_bytes pt (HeardPt other bytes) = other == pt
+brings_bytes pt (Lost other) = false
+brings_bytes pt Stopped = false
+brings_bytes pt (Linked other) = false
+brings_bytes pt (LinkFailed other) = false
+brings_bytes pt (SentTill till bytes sent) = false
+brings_bytes pt (SentPt other bytes sent) = false
+brings_bytes pt (CutTill till) = false
+brings_bytes pt (CutPt other) = false
+brings_bytes pt (Wrote offset bytes) = false
+brings_bytes pt Synced = false
+brings_bytes pt DiskFailed = false
+brings_bytes pt (Crash file) = false
+
+bytes-are : (pt : ℕ) (turn : Turn) → brings_bytes pt turn ≡ true → (chunk : List ℕ) × (turn ≡ HeardPt pt chunk)
+bytes-are pt (Start setup) e = no-true e
+bytes-are pt OpenFailed e = no-true e
+bytes-are pt (Polled now) e = no-true e
+bytes-are pt (Opened till) e = no-true e
+bytes-are pt (HeardTill till bytes) e = no-true e
+bytes-are pt (Closed till) e = no-true e
+bytes-are pt (HeardPt other bytes) e = (bytes, ap (λ n. HeardPt n bytes) (eqb-true other pt e))
+bytes-are pt (Lost other) e = no-true e
+bytes-are pt Stopped e = no-true e
+bytes-are pt (Linked other) e = no-true e
+bytes-are pt (LinkFailed other) e = no-true e
+bytes-are pt (SentTill till bytes sent) e = no-true e
+bytes-are pt (SentPt other bytes sent) e = no-true e
+bytes-are pt (CutTill till) e = no-true e
+bytes-are pt (CutPt other) e = no-true e
+bytes-are pt (Wrote offset bytes) e = no-true e
+bytes-are pt Synced e = no-true e
+bytes-are pt DiskFailed e = no-true e
+bytes-are pt (Crash file) e = no-true e
+
+not-of-terminal : (pt : ℕ) (turn : Turn) → brings_bytes pt turn ≡ false → (EndsLink pt turn → ⊥) → IsOfTerminal pt turn → ⊥
+not-of-terminal pt turn e lasts (inl (bytes, is)) = no-true (sym e ∙ ap (brings_bytes pt) is ∙ eq-eqb pt pt refl)
+not-of-terminal pt turn e lasts (inr lost) = lasts (inl lost)
+
+-- ---- along a course
+
+-- with what was heard on its link
+abbrev pub KeptHere : ℕ → Terminal → View → Type 0
+KeptHere pt terminal v = Kept pt terminal (heard_on v.scene.outside.links pt) v
+
+pub kept-here : (pt : ℕ) (terminal : Terminal) (heard : List ℕ) (v : View) → Kept pt terminal heard v → KeptHere pt terminal v
+kept-here pt terminal heard v k = record { kept = k.kept; linked = k.linked; items = k.items; heard_is = refl }
+
+turn-unsaid : (pt : ℕ) (terminal : Terminal) (v : View) (turn : Turn) → Agrees v → HeardBytes v.scene.outside → KeptHere pt terminal v → AllowedTurn v turn → is_between turn ≡ false → ((chunk : List ℕ) → turn ≡ HeardPt pt chunk → CompletesNone v.scene.outside pt chunk) → (EndsLink pt turn → ⊥)
+    → KeptHere pt terminal (after_turn v turn)
+turn-unsaid pt terminal v turn a bytes k ok quiet none lasts = by_test (brings_bytes pt turn) refl
+  where
+    with_bytes : (chunk : List ℕ) → AllowedTurn v (HeardPt pt chunk) → CompletesNone v.scene.outside pt chunk → KeptHere pt terminal (after_turn v (HeardPt pt chunk))
+    with_bytes chunk ok none = record {
+      kept = k.kept;
+      linked = k.linked;
+      items = ap (λ l. change_none pt (l ++ items_due v.scene.core)) (none-brought v pt chunk bytes ok none) ∙ due-change-none pt v.scene.core;
+      heard_is = refl;
+    }
+
+    by_test : (test : Bool) → brings_bytes pt turn ≡ test → KeptHere pt terminal (after_turn v turn)
+    by_test true e =
+        let is = bytes-are pt turn e in
+        subst (λ t. KeptHere pt terminal (after_turn v t)) (sym is.1) (with_bytes is.0 (subst (AllowedTurn v) is.1 ok) (none is.0 is.1))
+    by_test false e =
+        kept-here pt terminal (heard_on v.scene.outside.links pt) (after_turn v turn) (turn-kept pt terminal (heard_on v.scene.outside.links pt) v turn a k ok quiet (not-of-terminal pt turn e lasts) (λ cut. lasts (inr (inl cut))))
+
+pub moves-unsaid : (pt : ℕ) (terminal : Terminal) (v : View) (moves : List Move) → Agrees v → HeardBytes v.scene.outside → KeptHere pt terminal v → IsCourse v moves → IsQuiet (turns_of moves) → CompleteNone v.scene.outside pt (turns_of moves) → EndsNone pt (turns_of moves)
+    → KeptHere pt terminal (view_from v moves)
+moves-unsaid pt terminal v [] a bytes k c quiet none lasts = k
+moves-unsaid pt terminal v (Begin ∷ moves) a bytes k c quiet none lasts =
+    moves-unsaid pt terminal (after v Begin) moves (move-agrees v Begin a c.0) (begin-bytes v bytes) (kept-here pt terminal (heard_on v.scene.outside.links pt) (after v Begin) (begin-kept pt terminal (heard_on v.scene.outside.links pt) v a k c.0)) c.1 quiet
+    (subst (λ (o : Outside). CompleteNone o pt (turns_of moves)) (sym (begin-outside v.scene v.items)) none) lasts
+moves-unsaid pt terminal v (Read as_read ∷ moves) a bytes k c quiet none lasts =
+    moves-unsaid pt terminal (after v (Read as_read)) moves (move-agrees v (Read as_read) a c.0) bytes (read-kept pt terminal (heard_on v.scene.outside.links pt) v as_read k) c.1 quiet none lasts
+moves-unsaid pt terminal v (Make turn ∷ moves) a bytes k c quiet none lasts =
+    moves-unsaid pt terminal (after_turn v turn) moves (move-agrees v (Make turn) a c.0) (turn-bytes v turn bytes c.0) (turn-unsaid pt terminal v turn a bytes k c.0 quiet.0 none.0 lasts.0) c.1 quiet.1
+    (subst (λ (o : Outside). CompleteNone o pt (turns_of moves)) (sym (after-outside v turn)) none.1) lasts.1
+
+-- ---- the law
+
+course-rest : (v : View) (xs ys : List Move) → IsCourse v (xs ++ ys) → IsCourse v xs × IsCourse (view_from v xs) ys
+course-rest v [] ys h = (tt, h)
+course-rest v (x ∷ xs) ys h = let rest = course-rest (after v x) xs ys h.1 in ((h.0, rest.0), rest.1)
+
+-- a terminal that registers or is enquired is linked, and may have a dialogue
+before-ready-on : (standing : Standing) (talk : Option TalkFacts) → IsBeforeReady standing → standing_state standing talk ≡ On
+before-ready-on standing talk (inl is) = ap (λ s. standing_state s talk) is
+before-ready-on standing talk (inr is) = ap (λ s. standing_state s talk) is
+
+before-ready-talks : (standing : Standing) (talk : Option TalkFacts) → IsBeforeReady standing → HasDialogueOnlyIn standing talk
+before-ready-talks standing talk (inl is) = subst (λ s. HasDialogueOnlyIn s talk) (sym is) tt
+before-ready-talks standing talk (inr is) = subst (λ s. HasDialogueOnlyIn s talk) (sym is) tt
+
+pub silent-dialogue-is-cut : SilentDialogueIsCut
+silent-dialogue-is-cut log v first second now pt s =
+    let agrees : Agrees v = subst Agrees s.before.view_is (course-agrees at_first s.before.course first-agrees s.before.lawful) in
+    let o = sym (stands-outside log v s.before) in
+    let terminal : Terminal = without_asker s.terminal in
+    let kept : KeptHere pt terminal v = record {
+      kept = ap (option_map without_asker) s.found;
+      linked = before-ready-on s.terminal.standing s.terminal.talk s.standing_is;
+      items = ap (change_none pt) s.may_poll.items;
+      heard_is = refl;
+    } in
+    let course = course-rest v first (Make (Polled now) ∷ second) s.lawful in
+    let w : View = view_from v first in
+    let silent : KeptHere pt terminal w =
+    moves-unsaid pt terminal v first agrees (stands-bytes log v s.before) kept course.0 s.silent.quiet (subst (λ (p : Outside). CompleteNone p pt (turns_of first)) o s.silent.completes_none) s.silent.lasts in
+    let polled : View = after_turn w (Polled now) in
+    let ends = subst (λ u. AllowedTurn u (Polled now)) (view_from-append v first (Make (Polled now) ∷ second)) s.ends in
+    let onward = course-append polled second (Make (Polled now) ∷ []) course.1.1 (ends, tt) in
+    late-before-poll pt terminal (heard_on w.scene.outside.links pt) now now (turns_of second) [] w (course-agrees v first agrees course.0) silent course.1.0
+    (record { moves = second ++ Make (Polled now) ∷ []; turns_are = turns_of-append second (Make (Polled now) ∷ []); lawful = onward }) s.round s.nothing
+    (before-ready-talks s.terminal.standing s.terminal.talk s.standing_is) (s.facts, s.talk_is, s.late)

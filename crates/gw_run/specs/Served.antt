@@ -1,0 +1,76 @@
+-- Which lines of a script are served. A text with another line is refused, with the number of its first line that isn't served or is of another form.
+use Rattle.std.specs.Prelude.{ℕ, ◌+◌, min, nat_le, Bool, true, false, not, ◌&&◌, ◌||◌, if◌then◌else◌, List, [], ◌∷◌, length, Option, Some, None, is_none, Result, Ok, Err}
+use Rattle.std.specs.List.{list_all}
+use Rattle.gw_script.specs.Decode.{split_lines}
+use Rattle.gw_script.specs.site.Decode.{entry_of, script_of}
+use Rattle.gw_script.specs.site.ScriptLine.{SetupLine, Name, Queue, Wait, Slots, Terminal, Failing, FailOpen, FailLink, FailSendTill, FailSendPt, FailWrite, FailSync, FailLength, FailRead, PlayedLine, At, Poll, Fail, Power, Entry, Blank, Setting, Playing, Given, Script}
+
+-- links and sends may fail; openings and calls on the disk may not yet
+abbrev pub is_served_failing : Failing → Bool
+is_served_failing FailOpen = false
+is_served_failing (FailLink pt) = true
+is_served_failing (FailSendTill till most) = true
+is_served_failing (FailSendPt pt most) = true
+is_served_failing FailWrite = false
+is_served_failing FailSync = false
+is_served_failing FailLength = false
+is_served_failing FailRead = false
+
+-- the power may not fail yet
+abbrev pub is_served_line : PlayedLine → Bool
+is_served_line (At now) = true
+is_served_line (Poll event) = true
+is_served_line (Fail failing) = is_served_failing failing
+is_served_line (Power calls kind) = false
+
+-- the setup lines give no more than a name and one terminal
+abbrev pub is_served_given : Given → Bool
+is_served_given given = is_none given.queue && is_none given.wait && is_none given.slots && nat_le (length given.terminals) 1
+
+-- all lines of the script are served
+abbrev pub is_served : Script → Bool
+is_served script = is_served_given script.given && list_all is_served_line script.lines
+
+-- the setup line is served, where one that names a terminal came before it or not: no more than a name and one terminal are given
+abbrev pub is_served_setting : Bool → SetupLine → Bool
+is_served_setting named (Name name) = true
+is_served_setting named (Queue n) = false
+is_served_setting named (Wait n) = false
+is_served_setting named (Slots n) = false
+is_served_setting named (Terminal pt) = not named
+
+-- the setup line names a terminal
+abbrev pub is_terminal : SetupLine → Bool
+is_terminal (Name name) = false
+is_terminal (Queue n) = false
+is_terminal (Wait n) = false
+is_terminal (Slots n) = false
+is_terminal (Terminal pt) = true
+
+-- what a line is, where it is of the grammar, names a terminal
+abbrev pub names_terminal : Option Entry → Bool
+names_terminal None = false
+names_terminal (Some Blank) = false
+names_terminal (Some (Setting line)) = is_terminal line
+names_terminal (Some (Playing line)) = false
+
+-- the line is served, where one that names a terminal came before it or not; a line outside the grammar is no matter of this
+abbrev pub is_served_entry : Bool → Option Entry → Bool
+is_served_entry named None = true
+is_served_entry named (Some Blank) = true
+is_served_entry named (Some (Setting line)) = is_served_setting named line
+is_served_entry named (Some (Playing line)) = is_served_line line
+
+-- the number of the first of these lines that isn't served; where all are, that of the line after them
+abbrev pub first_unserved : Bool → ℕ → List (List ℕ) → ℕ
+first_unserved named number [] = number
+first_unserved named number (text ∷ texts) = if is_served_entry named (entry_of text) then first_unserved (named || names_terminal (entry_of text)) (number + 1) texts else number
+
+-- the script that was read of a text, where it is served, or the number of the first line that isn't served or is of another form
+abbrev pub served_of : List ℕ → Result Script ℕ → Result Script ℕ
+served_of text (Ok script) = if is_served script then Ok script else Err (first_unserved false 1 (split_lines text))
+served_of text (Err number) = Err (min (first_unserved false 1 (split_lines text)) number)
+
+-- the script of a text, or the number of the first line that isn't served or is of another form
+abbrev pub served_script : List ℕ → Result Script ℕ
+served_script text = served_of text (script_of text)
