@@ -9,6 +9,3 @@ mod till;
 
 pub use act::Act;
 pub use terminals::{Core, Timer};
-
-#[cfg(test)]
-mod tests;

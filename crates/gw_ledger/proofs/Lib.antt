@@ -17,6 +17,7 @@ pub mod OutcomeLemmas
 pub mod RecordLemmas
 pub mod SettledAfterLemmas
 pub mod SettledLemmas
+pub mod ShortLemmas
 pub mod SortedLemmas
 pub mod TableLemmas
 pub mod TieLemmas

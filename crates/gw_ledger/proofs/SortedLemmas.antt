@@ -35,7 +35,7 @@ module _ (P : List Record → Type 0) (step : (before : List Record) (the_record
   go before [] holds = rw (append-nil before) holds
   go before (the_record ∷ rest) holds = rw (← append_assoc before (the_record ∷ []) rest) (go (before ++ the_record ∷ []) rest (step before the_record holds))
 
-  one_by_one : P [] → (records : List Record) → P records
+  pub one_by_one : P [] → (records : List Record) → P records
   one_by_one none records = go [] records none
 
 is_less : (o : Ordering) → is_lt o ≡ true → o ≡ Less

@@ -16,7 +16,7 @@ use crate::blocks::Blocks;
 use crate::entry::{Entry, Found};
 use crate::fault::{BadRecord, LedgerFault};
 use crate::records::{key_of_intent, key_of_settled};
-use crate::sorted::{least_fall, slots_of, sorted_rows, tables_of};
+use crate::sorted::{SortedKeys, tables_of};
 use crate::tables::Tables;
 use crate::totals::{Tally, Totals};
 use gw_base::{Bodies, Currency, Ident, Key};
@@ -63,12 +63,12 @@ impl Ledger {
             Ok(tables) => tables,
             Err(_) => return Err(LedgerFault::Memory),
         };
-        let rows = match sorted_rows(alloc, &tables) {
-            Ok(rows) => rows,
+        let keys = match SortedKeys::of(alloc, &tables) {
+            Ok(keys) => keys,
             Err(_) => return Err(LedgerFault::Memory),
         };
         tables.law_folded();
-        match least_fall(&rows) {
+        match keys.least_fall() {
             Some(slot) => return Err(LedgerFault::BadRecord(BadRecord { slot })),
             None => {}
         }
@@ -76,19 +76,20 @@ impl Ledger {
             let slot = tables.count();
             return Err(LedgerFault::BadRecord(BadRecord { slot }));
         }
-        match Ledger::sorted(alloc, tables, &rows) {
+        match Ledger::sorted(alloc, tables, &keys) {
             Ok(ledger) => Ok(ledger),
             Err(_) => Err(LedgerFault::Memory),
         }
     }
 
-    /// The ledger of these tables, whose keys these rows have in their order.
-    fn sorted(alloc: Global, tables: Tables, rows: &[(Key, u32)]) -> Result<Ledger, AllocError>
-        requires table { IsTable key_cmp rows.now }
-        requires rows { AreKeyRows tables.records rows.now }
+    /// The ledger of these tables, whose keys these are in their order.
+    fn sorted(alloc: Global, tables: Tables, keys: &SortedKeys) -> Result<Ledger, AllocError>
+        requires table { IsTable key_cmp keys.now }
+        requires rows { AreKeyRows tables.records keys.now }
         ensures { IfOk result (λ ledger. ledger.records ≡ tables.records) }
     {
-        let mut slots = Blocks::of(alloc, &tables, &slots_of(alloc, rows)?)?;
+        let order = keys.slots(alloc)?;
+        let mut slots = Blocks::of(alloc, &tables, &order)?;
         tables.law_folded();
         slots.reserve(tables.spare())?;
         Ok(Ledger { tables, slots })

@@ -23,10 +23,3 @@ pub use laws::{
 };
 pub use ledger::Ledger;
 pub use totals::{Tally, Totals};
-
-#[cfg(test)]
-mod adding_tests;
-#[cfg(test)]
-mod block_tests;
-#[cfg(test)]
-mod tests;

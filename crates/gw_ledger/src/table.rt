@@ -4,7 +4,7 @@ ghost use Rattle.std.specs.Ordering.{is_eq};
 ghost use Rattle.gw_ledger.specs.Table.{IsGapFor, IsRowOf, IsTable, value_at};
 
 /// Where the key's row is, or where it would come.
-fn search<K: Ord + Copy, V: Copy>(rows: &[(K, V)], key: &K) -> Result<usize, usize>
+pub fn search<K: Ord + Copy, V: Copy>(rows: &[(K, V)], key: &K) -> Result<usize, usize>
     requires { IsTable K.cmp rows.now }
     ensures found { IfOk result (IsRowOf K.cmp rows.now key.now) }
     ensures absent { IfErr result (IsGapFor K.cmp rows.now key.now) }

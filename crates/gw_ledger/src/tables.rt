@@ -1,16 +1,18 @@
 //! The tables by slot and by terminal: what the ledger is, but for its keys.
-ghost use Rattle.std.specs.Prelude.{◌≡◌, ◌+◌, ◌<◌, ◌≤◌, ◌*◌, ◌^◌, [], ◌∷◌, ◌++◌, length, max, IsTrue, None, true, false, if◌then◌else◌, OnOk, OnErr, IfOk, IfErr, Some, IfSome, vec_len, vec_capacity, slice_get, option_and_then, ◌-◌};
+ghost use Rattle.std.specs.Prelude.{◌≡◌, ◌+◌, ◌<◌, ◌≤◌, ◌*◌, ◌^◌, ℕ, List, [], ◌∷◌, ◌++◌, length, max, IsTrue, None, true, false, if◌then◌else◌, OnOk, OnErr, IfOk, IfErr, Some, IfSome, vec_len, vec_capacity, slice_get, option_and_then, ◌-◌};
 ghost use Rattle.std.specs.declared.cmp.Ordering.{Ordering};
 ghost use Rattle.gw_base.specs.Key.{key_cmp};
 ghost use Rattle.jrn_record.specs.Limits.{IsIntent, IsOutcome, IsRecord, IsSettled};
 ghost use Rattle.gw_ledger.specs.Accounts.{is_settled, last_number_of};
 ghost use Rattle.gw_ledger.specs.Fold.{AreFoldedBesideKeys, IsBodyAdded, IsRefusedBesideKey, fits_beside_key, found_by, has_fitting_original, is_approved_payment, is_approved_with, last_entry, may_reverse, open_entry};
 ghost use Rattle.gw_ledger.specs.History.{same_text};
-ghost use Rattle.gw_ledger.specs.Keys.{intent_key, key_at, settled_key};
+ghost use Rattle.gw_ledger.specs.Keys.{intent_key, key_at, last_slot, settled_key};
+ghost use Rattle.gw_ledger.specs.Table.{IsTable, value_at};
 ghost use Rattle.gw_ledger.specs.KeyTable.{compare_record};
 ghost use Rattle.gw_ledger.specs.Slots.{asks_payment, entry_at, intent_at, is_reversed, outcome_at, settled_at};
 ghost use Rattle.gw_ledger.specs.Transaction.{is_named, named_of};
 ghost use Rattle.gw_ledger.specs.Sums.{open_count_of, tally_of, totals_of};
+ghost use Rattle.gw_ledger.specs.Tables.{pair_cmp};
 ghost use Rattle.gw_ledger.specs.Steps.{changed_at, ended_mark, marks_reversed, marks_with, reversed_mark, tally_with};
 
 use crate::account::{Desk, asked, closed, desk_in, ordinal_of, resolved, totals_at};
@@ -307,6 +309,23 @@ impl Tables {
         ensures { result ≡ self.now.spare }
     {
         self.spare
+    }
+
+    /// By till and terminal, the slot of the last Intent.
+    pub fn lasts(&self, alloc: Global) -> Result<Vec<((Ident<40>, Ident<40>), u32)>, AllocError>
+        ensures table { IfOk result (λ lasts. IsTable pair_cmp lasts.items) }
+        ensures values { IfOk result (λ lasts. (sale poi : List ℕ) → value_at pair_cmp lasts.items (sale, poi) ≡ last_slot self.now.records sale poi) }
+    {
+        let mut lasts = Vec::new(alloc);
+        lasts.extend_from_slice(&self.lasts)?;
+        Ok(lasts)
+    }
+
+    /// The Settled at this slot.
+    pub fn settled_at(&self, slot: u32) -> Option<Settled>
+        ensures { result ≡ settled_at self.now.records slot }
+    {
+        self.records.settled_at(slot)
     }
 
     /// The key of the record at this slot.

@@ -35,7 +35,7 @@ use Rattle.gw_owes.specs.Greeting.{greeting, sending_calls, greet_decoded, greet
 use Rattle.gw_owes.specs.Deadlines.{is_late, late_row, is_due, due_row}
 use Rattle.gw_owes.specs.TerminalLaws.{owes_cut, ChangesTerminalAlone}
 use Rattle.gw_owes.specs.TerminalRows.{terminal_of, terminal_row}
-use Rattle.gw_owes.specs.Transcript.{Carried, Took, TerminalStep, StepAt, HandlesItem, ChangesLink, awaited_by, dialogue_by, came_by, talk_going_on, talk_by, standing_enquired, standing_in_dialogue, standing_after, standing_by, without_due, FollowsTranscript, commanded_by, took_decoded, took_of, took_by, transcript_after, transcript_anew, core_with_cut, core_after, is_number, transcript_with_cut, transcript_after_step, known_before, known_after, core_along, transcript_along, known_new, NewCoreFollowsTranscript, EachRowFollowsTranscript, EachLinkBeginsTranscript, EachRunFollowsTranscript}
+use Rattle.gw_owes.specs.Transcript.{Carried, Took, TerminalStep, StepAt, HandlesItem, ChangesLink, awaited_by, dialogue_by, came_by, talk_going_on, talk_by, standing_enquired, standing_in_dialogue, standing_after, standing_by, without_due, FollowsTranscript, commanded_by, took_decoded, took_of, took_by, transcript_after, transcript_anew, core_with_cut, core_after, is_number, transcript_with_cut, transcript_after_step, known_before, known_after, core_along, transcript_along, known_new, NewCoreFollowsTranscript, EachRowFollowsTranscript, EachLinkBeginsTranscript, EachStepFollowsTranscript}
 use Rattle.gw_owes.specs.TranscriptExample.{ExampleTranscript}
 use Rattle.gw_owes.proofs.HandlingLemmas.{by-where, each-terminal, each-linked}
 use Rattle.gw_owes.proofs.SetLemmas.{new-is-there, same-some}
@@ -544,8 +544,8 @@ along-follows laws known (first ∷ rest) number transcript has =
     along-follows laws (known_after known first) rest number (transcript_after_step number (known_before known first) first.step transcript)
     (step-follows laws (known_before known first) first.step number transcript has)
 
-pub runs-follow : DialogueLaws → EachRunFollowsTranscript
-runs-follow laws setup kept steps number pt found = along-follows laws (known_new setup kept) steps number [] (new-follows setup kept number pt found)
+pub steps-follow : DialogueLaws → EachStepFollowsTranscript
+steps-follow laws setup kept steps number pt found = along-follows laws (known_new setup kept) steps number [] (new-follows setup kept number pt found)
 
 -- ---- the example
 

@@ -410,7 +410,7 @@ pub record ExampleComparedReports : Type 0 where
   pub above : standing_reported 123 124 ≡ Ready 124
   pub below : standing_reported 123 50 ≡ Aside 123 50
 
--- ---- 32 terminals
+-- ---- the most terminals
 
 -- so many terminals, whose POIIDs are single characters from this one on
 abbrev pub pts_from : ℕ → ℕ → List Pt
@@ -422,7 +422,7 @@ abbrev pub numbers_from : ℕ → ℕ → List ℕ
 numbers_from first zero = []
 numbers_from first (suc count) = first ∷ numbers_from (first + 1) count
 
--- a gateway with 32 terminals begins a run: `A` is the first POIID
+-- a gateway with 32 terminals, the most that a setup may have, begins a run: `A` is the first POIID
 abbrev pub many_known : Known
 many_known = new_known (pts_from 65 32)
 
@@ -430,7 +430,7 @@ many_known = new_known (pts_from 65 32)
 abbrev pub last_registered : List At
 last_registered = record { moment = 0; happening = Links 31 LinkIsMade } ∷ record { moment = 1; happening = Sends 31 (ack ++ completion) } ∷ []
 
--- The first round links all 32, in order. What the last one sends is owed to it alone, and leaves the others as they were: they are due to be linked.
+-- The core with 32 terminals: its first round links all of them, in order. What the last one sends is owed to it alone, and leaves the others as they were: they are due to be linked.
 pub record ExampleManyTerminals : Type 0 where
   pub all_linked : terminal_calls (happenings_row many_known (passes 0 ∷ [])) ≡ map Link (numbers_from 0 32)
   pub last_alone : terminal_calls (happenings_row many_known last_registered) ≡ Out 31 registration_sent ∷ Out 31 ack ∷ Out 31 enquiry_sent ∷ map Link (numbers_from 0 31)

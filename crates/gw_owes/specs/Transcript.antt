@@ -208,7 +208,7 @@ EachLinkBeginsTranscript =
     (known : Known) (number : ℕ) (event : LinkEvent) (terminal : Terminal) → terminal_at known number ≡ Some terminal
     → FollowsTranscript known.kept number (transcript_anew known number event) (link_row known number event).core
 
--- ---- along a run
+-- ---- after a list of steps
 
 -- what happens to terminals: an item is handled, with the cut that it owes, or a link is made, couldn't be made, or is lost
 pub data TerminalStep : Type 0 where
@@ -266,8 +266,8 @@ transcript_along number known transcript (first ∷ rest) = transcript_along num
 abbrev pub known_new : Setup → List Record → Known
 known_new setup kept = record { setup = setup; core = new_core setup; kept = kept; moment = 0 }
 
--- along every run, whatever the steps, each terminal's dialogue, what it awaits and its standing are those of the flat list of what was sent and taken on its link
-abbrev pub EachRunFollowsTranscript : Type 0
-EachRunFollowsTranscript =
+-- after every list of steps from where a run begins, whatever brings them, each terminal's dialogue, what it awaits and its standing are those of the flat list of what was sent and taken on its link
+abbrev pub EachStepFollowsTranscript : Type 0
+EachStepFollowsTranscript =
     (setup : Setup) (kept : List Record) (steps : List StepAt) (number : ℕ) (pt : Pt) → slice_get setup.terminals number ≡ Some pt
     → FollowsTranscript kept number (transcript_along number (known_new setup kept) [] steps) (core_along (known_new setup kept) steps)

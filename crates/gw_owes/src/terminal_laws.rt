@@ -2,7 +2,7 @@
 ghost use Rattle.gw_owes.specs.Dialogues.{EachLinkGivesDialogues, EachRowKeepsDialogues, NewCoreHasDialogues};
 ghost use Rattle.gw_owes.specs.TerminalExample.{ExampleAside, ExampleBecomesReady, ExampleComparedReports, ExampleDiagnosis, ExampleEnquiryFails, ExampleFailedSend, ExampleForeignCommand, ExampleLateStop, ExampleLinkFails, ExampleManyTerminals, ExampleOutside, ExampleRegistrationFails, ExampleReportsLast, ExampleSilence, ExampleStop, ExampleStrayMessages, ExampleUnlinked, ExampleUnserved};
 ghost use Rattle.gw_owes.specs.TerminalLaws.{AbsentIsOwedNothing, DueIsLinked, EachAckTakesOne, EachCauseCuts, EachCutHasCause, EachLinkChangesItsTerminal, EachLinkCountsAnew, EachMessageCounts, EachMessageIsGreeted, EachRowChangesItsTerminal, EnquiredIsReady, ForeignHasNoEffect, GreetingChangesNothing, GreetingsAreSpelled, LateNackIsUnclear, LinkedIsRegistered, NoLinkEventCuts, RegisteredIsEnquired, UnlinkedIsOwedNothing};
-ghost use Rattle.gw_owes.specs.Transcript.{EachLinkBeginsTranscript, EachRowFollowsTranscript, EachRunFollowsTranscript, NewCoreFollowsTranscript};
+ghost use Rattle.gw_owes.specs.Transcript.{EachLinkBeginsTranscript, EachRowFollowsTranscript, EachStepFollowsTranscript, NewCoreFollowsTranscript};
 ghost use Rattle.gw_owes.specs.TranscriptExample.{ExampleTranscript};
 
 /// An item of a terminal, and an event of its link, changes nothing that is remembered but this terminal, and never its
@@ -56,8 +56,8 @@ pub fn law_way_to_ready()
 {}
 
 /// Each terminal has the dialogue of its standing: a registration or an enquiry that goes on, with the Ack or Nack of its command
-/// awaited until it comes, or none, with nothing awaited. It has it as a run begins, after each item that cuts no connection,
-/// and after each event of a link.
+/// awaited until it comes, or none, with nothing awaited. It has it as a run begins, and each item that cuts no connection, and each
+/// event of a link, leaves it so.
 pub fn law_dialogues()
     ensures new { NewCoreHasDialogues }
     ensures rows { EachRowKeepsDialogues }
@@ -66,13 +66,13 @@ pub fn law_dialogues()
 
 /// What is remembered of a terminal is a few facts, which each item moves on. They are what the transcript of its link says, the
 /// flat list of all that was sent and taken on it: the dialogue that runs, how many Acks and Nacks are awaited, and the standing.
-/// So it is as a run begins, after each item of the terminal that cuts no connection, and after each event of its link; and so
-/// along each run, with the cuts in it.
+/// So it is as a run begins; each item of the terminal that cuts no connection, and each event of its link, leaves it so; and so it
+/// is after every list of such steps from there, with the cuts among them, whatever brings them.
 pub fn law_transcript()
     ensures new { NewCoreFollowsTranscript }
     ensures rows { EachRowFollowsTranscript }
     ensures links { EachLinkBeginsTranscript }
-    ensures runs { EachRunFollowsTranscript }
+    ensures steps { EachStepFollowsTranscript }
     ensures example { ExampleTranscript }
 {
     zvt_talk::law_talk_steps();
@@ -82,7 +82,7 @@ pub fn law_transcript()
 /// Examples, which are computed: a terminal that becomes ready, with and without a last transaction; registrations and
 /// enquiries that fail, and links; silence, and a message at the deadline; messages where no dialogue runs, and a
 /// command of the terminal's own; bytes outside the grammar; sends that fail; terminals that aren't linked, or are set aside;
-/// stops, and the late Nack of a stop; reports beside the records; 32 terminals; and what a Diagnosis, and a request that
+/// stops, and the late Nack of a stop; reports beside the records; 32 terminals, the most that there may be; and what a Diagnosis, and a request that
 /// isn't served, get.
 pub fn law_terminal_row_examples()
     ensures becomes_ready { ExampleBecomesReady }

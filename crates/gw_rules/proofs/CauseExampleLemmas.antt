@@ -66,10 +66,10 @@ poll-before-outside-cut = record {
 
 -- ---- an APDU above the limit
 
-abbrev begun : List ℕ
+abbrev pub begun : List ℕ
 begun = 0x06 ∷ 0xD1 ∷ 0xFF ∷ 0xE1 ∷ 0x2E ∷ []
 
-abbrev ack_apdu : ApduValue
+abbrev pub ack_apdu : ApduValue
 ack_apdu = record { class = 0x80; instr = 0x00; body = [] }
 
 pub too-long-cut : TooLongIsCut
@@ -79,11 +79,11 @@ too-long-cut = record {
   standing_is = refl;
 }
 
-too-long-said : HasSaid (outside_of (linked_log ++ Polled (pos 1) ∷ [])) 0 (ack ++ begun) (ack_apdu ∷ []) begun
+pub too-long-said : HasSaid (outside_of (linked_log ++ Polled (pos 1) ∷ [])) 0 (ack ++ begun) (ack_apdu ∷ []) begun
 unfolding decode_apdus decode_apdus_within
 too-long-said = record { before = []; rest = []; spelled = split_is [] tt; all = split_is (ack ++ begun) (bytes-tested (ack ++ begun) refl) }
 
-is-too-long : BeginsTooLongApdu begun 12001
+pub is-too-long : BeginsTooLongApdu begun 12001
 is-too-long = (0x06, 0xD1, 0xFF ∷ 0xE1 ∷ 0x2E ∷ [], [], inr (0xE1, 0x2E, refl, refl), omega arith, refl)
 
 pub too-long-cause : TooLongIsCause

@@ -11,11 +11,11 @@ use Rattle.zvt_msg.specs.Message.{Ack, Completion}
 use Rattle.zvt_msg.specs.MessageDecode.{decode_pt_message}
 use Rattle.gw_owes.specs.TerminalExample.{ack, completion, enquiry_sent}
 use Rattle.gw_rules.specs.ChunkExample.{split_log, split_course, SplitIsEnquired, PollBeforeSplitEnquiry}
-use Rattle.gw_rules.specs.ChunkLaws.{registering_terminal, linked_turns}
+use Rattle.gw_rules.specs.ChunkLaws.{registering_terminal}
 use Rattle.gw_rules.specs.DialogueLaws.{EndsWith, IsDone, IsEnquiredIn}
 use Rattle.gw_rules.specs.LinkLaws.{EndsLink, HasSaid}
 use Rattle.gw_rules.specs.RowExample.{example_pt, terminal_setup, register_bytes}
-use Rattle.gw_rules.specs.SilenceLaws.{CompletesNone, SaysNothingIn}
+use Rattle.gw_rules.specs.SilenceLaws.{CompletesNone, SaysNothingIn, linked_turns}
 use Rattle.gw_rules.specs.TerminalLogExample.{items_begin}
 use Rattle.gw_rules.specs.View.{Begin, Make}
 use Rattle.gw_rules.proofs.ChunkLemmas.{done-at-once-is-enquired}
@@ -38,13 +38,13 @@ said_first = SentPt 0 register_bytes true ∷ Polled (pos 1) ∷ HeardPt 0 (0x80
 abbrev rest_chunk : List ℕ
 rest_chunk = 0x00 ∷ 0x00 ∷ completion
 
-abbrev ack_apdu : ApduValue
+abbrev pub ack_apdu : ApduValue
 ack_apdu = record { class = 0x80; instr = 0x00; body = [] }
 
 abbrev done_apdu : ApduValue
 done_apdu = record { class = 0x06; instr = 0x0F; body = [] }
 
-one-byte : IsProperApduPrefix (0x80 ∷ [])
+pub one-byte : IsProperApduPrefix (0x80 ∷ [])
 one-byte = (0x00 ∷ 0x00 ∷ [], ack_apdu, (λ e. cc), record { length_bytes = 0x00 ∷ []; is_length = inl (omega arith, refl); within = omega arith; whole = refl })
 
 -- the first byte completes nothing
@@ -53,7 +53,7 @@ unfolding decode_apdus decode_apdus_within
 first-completes-none = (0x80 ∷ [], record { before = []; rest = []; spelled = split_is [] tt; all = split_is (0x80 ∷ []) (bytes-tested (0x80 ∷ []) refl) }, one-byte)
 
 -- the rest completes both
-rest-completes : HasSaid (outside_of (linked_turns [] terminal_setup (Polled (pos 0) ∷ []) 0 said_first)) 0 rest_chunk (ack_apdu ∷ done_apdu ∷ []) []
+pub rest-completes : HasSaid (outside_of (linked_turns [] terminal_setup (Polled (pos 0) ∷ []) 0 said_first)) 0 rest_chunk (ack_apdu ∷ done_apdu ∷ []) []
 unfolding decode_apdus decode_apdus_within
 rest-completes = record {
   before = [];
@@ -62,7 +62,7 @@ rest-completes = record {
   all = split_is (0x80 ∷ rest_chunk) (bytes-tested (0x80 ∷ rest_chunk) refl);
 }
 
-both-are-done : EndsWith IsDone (registering_terminal example_pt 0) 2 (ack_apdu ∷ done_apdu ∷ [])
+pub both-are-done : EndsWith IsDone (registering_terminal example_pt 0) 2 (ack_apdu ∷ done_apdu ∷ [])
 unfolding decode_pt_message
 both-are-done = (Ack, refl, inr (refl, (Completion, refl, inl refl)))
 
@@ -72,12 +72,12 @@ sent-lasts bytes (inl lost) = absurd (let n : SentPt 0 bytes true ≡ Lost 0 = l
 sent-lasts bytes (inr (inl cut)) = absurd (let n : SentPt 0 bytes true ≡ CutPt 0 = cut in cc)
 sent-lasts bytes (inr (inr failed)) = absurd (let n : SentPt 0 bytes true ≡ LinkFailed 0 = failed in cc)
 
-heard-lasts : (bytes : List ℕ) → EndsLink 0 (HeardPt 0 bytes) → ⊥
+pub heard-lasts : (bytes : List ℕ) → EndsLink 0 (HeardPt 0 bytes) → ⊥
 heard-lasts bytes (inl lost) = absurd (let n : HeardPt 0 bytes ≡ Lost 0 = lost in cc)
 heard-lasts bytes (inr (inl cut)) = absurd (let n : HeardPt 0 bytes ≡ CutPt 0 = cut in cc)
 heard-lasts bytes (inr (inr failed)) = absurd (let n : HeardPt 0 bytes ≡ LinkFailed 0 = failed in cc)
 
-first-silent : SaysNothingIn (outside_of (linked_turns [] terminal_setup (Polled (pos 0) ∷ []) 0 [])) 0 said_first
+pub first-silent : SaysNothingIn (outside_of (linked_turns [] terminal_setup (Polled (pos 0) ∷ []) 0 [])) 0 said_first
 first-silent = record {
   quiet = (refl, (refl, (refl, (refl, tt))));
   completes_none = (not_sent, (not_polled, (heard, (not_polled, tt))));

@@ -51,7 +51,7 @@ two-formed = record {
     other-formed = record { poi = ident-tested 40 other_pt.poi refl; password = pt-formed.password; config = pt-formed.config; none = pt-formed.none; answer = pt-formed.answer; command = pt-formed.command }
 
 -- a course of both from the start on
-from-two : (moves : List Move) → passes_course (after at_first (Make (Start two_setup))) moves ≡ true → IsCourse at_first (Make (Start two_setup) ∷ moves)
+pub from-two : (moves : List Move) → passes_course (after at_first (Make (Start two_setup))) moves ≡ true → IsCourse at_first (Make (Start two_setup) ∷ moves)
 from-two moves e = ((refl, two-formed), course-tested (after at_first (Make (Start two_setup))) moves e)
 
 pub both-are-cut : BothAreCut

@@ -344,6 +344,13 @@ turn-kept pt terminal heard v turn a k ok e none uncut = by_turn turn ok e none 
     by_turn DiskFailed ok e none uncut = same (after_turn v DiskFailed) refl refl refl
     by_turn (Crash file) ok e none uncut = absurd (let n : true ≡ false = e in cc)
 
+-- with what was heard on its link
+abbrev pub KeptHere : ℕ → Terminal → View → Type 0
+KeptHere pt terminal v = Kept pt terminal (heard_on v.scene.outside.links pt) v
+
+pub kept-here : (pt : ℕ) (terminal : Terminal) (heard : List ℕ) (v : View) → Kept pt terminal heard v → KeptHere pt terminal v
+kept-here pt terminal heard v k = record { kept = k.kept; linked = k.linked; items = k.items; heard_is = refl }
+
 -- along a course in which nothing is heard of the terminal and its link lasts
 pub moves-kept : (pt : ℕ) (terminal : Terminal) (heard : List ℕ) (v : View) (moves : List Move) → Agrees v → Kept pt terminal heard v → IsCourse v moves → IsQuiet (turns_of moves) → BringNothing pt (turns_of moves) → EndsNone pt (turns_of moves)
     → Kept pt terminal heard (view_from v moves)

@@ -1,4 +1,6 @@
 -- The lemmas of lawful logs, and the steps along one.
+pub mod AloneExampleLemmas
+pub mod AloneLemmas
 pub mod BusyLemmas
 pub mod CallLemmas
 pub mod CauseExampleLemmas
@@ -6,9 +8,11 @@ pub mod ChunkExampleLemmas
 pub mod ChunkLemmas
 pub mod CourseLemmas
 pub mod CrowdLemmas
+pub mod CutCauseExampleLemmas
 pub mod CutCauseLemmas
 pub mod CutExampleLemmas
 pub mod CutLemmas
+pub mod DoneExampleLemmas
 pub mod DoneLemmas
 pub mod DueLemmas
 pub mod EnquiryLemmas
@@ -20,6 +24,7 @@ pub mod LeanLemmas
 pub mod LinkLawLemmas
 pub mod LinkStateLemmas
 pub mod LinkedLemmas
+pub mod LinkedSilenceLemmas
 pub mod OpeningLemmas
 pub mod OutsideCutLemmas
 pub mod OwedLemmas
@@ -42,6 +47,7 @@ pub mod TerminalLogLemmas
 pub mod TestedLemmas
 pub mod TextLemmas
 pub mod TranscriptLogLemmas
+pub mod TrickleExampleLemmas
 pub mod TripleLemmas
 pub mod UnlawfulLemmas
 pub mod UnsaidLemmas

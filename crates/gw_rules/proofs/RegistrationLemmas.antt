@@ -1,15 +1,14 @@
--- A terminal that doesn't acknowledge its registration in time is cut before the next poll.
+-- What is remembered of a terminal that was linked in a run, and so registers.
 use Rattle.std.proofs.Common.{◌≡◌, ℕ, ◌+◌, ◌≤◌, List, [], ◌∷◌, ◌++◌, refl, sym, ◌∙◌, ap, subst, true, false}
 use Rattle.std.proofs.lemmas.Bool.{eq-eqb, le-leb}
 use Rattle.std.specs.Prelude.{Bool, ◌==◌, slice_get, Option, Some, None}
 use Rattle.std.specs.Option.{option_map}
-use Rattle.gw_base.specs.Moment.{moment_of}
 use Rattle.gw_base.specs.declared.setup.Pt.{Pt}
 use Rattle.gw_base.specs.declared.setup.Setup.{Setup}
 use Rattle.gw_site.specs.Outside.{Connection, Outside, without, heard_on, new_connection, outside_from, outside_of}
 use Rattle.gw_site.specs.Sorts.{IsQuiet}
 use Rattle.gw_site.specs.declared.turn.Turn.{Turn}
-use Rattle.gw_site.specs.declared.turn.Turn.TheVariants.{Start, Polled, Linked}
+use Rattle.gw_site.specs.declared.turn.Turn.TheVariants.{Start, Linked}
 use Rattle.gw_site.proofs.OutsideLemmas.{outside_of-append}
 use Rattle.gw_owes.specs.Calls.{LinkPt}
 use Rattle.gw_owes.specs.Row.{Known}
@@ -19,7 +18,7 @@ use Rattle.gw_owes.specs.declared.terminal.Standing.TheVariants.{Registering}
 use Rattle.gw_owes.specs.declared.terminal.Terminal.{Terminal}
 use Rattle.gw_owes.proofs.SetLemmas.{new-is-there}
 use Rattle.gw_rules.specs.Lawful.{AllowedTurn, IsLawful, Stands}
-use Rattle.gw_rules.specs.LinkLaws.{SilentRegistrationIsCut, IsSilentIn, BringNothing, EndsNone}
+use Rattle.gw_rules.specs.LinkLaws.{IsSilentIn, BringNothing, EndsNone}
 use Rattle.gw_rules.specs.Scene.{known_in, row_in, link_made_at}
 use Rattle.gw_rules.specs.View.{View, Make, after_turn, view_from, at_first}
 use Rattle.gw_rules.proofs.BusyLemmas.{linked-free}
@@ -28,7 +27,7 @@ use Rattle.gw_rules.proofs.KeptLemmas.{Kept, kept_in, without_asker, change_none
 use Rattle.gw_rules.proofs.LinkLawLemmas.{found-by, get-setting}
 use Rattle.gw_rules.proofs.LinkedLemmas.{Agrees, AreConfigured, call-settled, course-agrees, first-fits, made-at-turns, turn-agrees}
 use Rattle.gw_rules.proofs.PrefixLemmas.{Along}
-use Rattle.gw_rules.proofs.SilenceLemmas.{IsLateTalk, late-before-poll}
+use Rattle.gw_rules.proofs.SilenceLemmas.{IsLateTalk}
 use Rattle.gw_rules.proofs.SplitLemmas.{split-at, split-log, split-agrees, split-stands, moves-setup}
 
 -- ---- a terminal that registers
@@ -138,13 +137,7 @@ registers-silent before run silent rest setup settings pt turn lawful quiet sile
     let k = registers-linked before run (silent ++ turn ∷ rest) setup settings pt lawful quiet configured in
     kept-silent setup pt (registered settings (outside_of log).moment) [] (log ++ Linked pt ∷ []) silent rest turn k.view k.agrees k.setup_is k.kept (stands-outside (log ++ Linked pt ∷ []) k.view k.before) k.onward silence
 
--- ---- the law
+-- ---- its deadline
 
-registered-late : (settings : Pt) (sent moment : ℕ) → sent + settings.answer ≤ moment → IsLateTalk moment (registered settings sent).talk
+pub registered-late : (settings : Pt) (sent moment : ℕ) → sent + settings.answer ≤ moment → IsLateTalk moment (registered settings sent).talk
 registered-late settings sent moment late = (_, refl, le-leb (sent + settings.answer) moment late)
-
-pub silent-registration-is-cut : SilentRegistrationIsCut
-silent-registration-is-cut before run silent inside rest setup settings pt now later lawful quiet silence round nothing configured late =
-    let r = registers-silent before run silent (inside ++ Polled later ∷ rest) setup settings pt (Polled now) lawful quiet silence configured in
-    let sent : ℕ = (outside_of (before ++ Start setup ∷ run)).moment in
-    late-before-poll pt (registered settings sent) [] now later inside rest r.view r.agrees r.kept r.allowed r.onward round nothing tt (registered-late settings sent (moment_of now) late)

@@ -1,10 +1,10 @@
--- A terminal whose dialogue has a deadline that has come as a poll brings nothing of it is cut before the next poll.
+-- A terminal whose dialogue has a deadline that has come is cut before the next poll, where what the poll brings of it changes nothing.
 use Rattle.std.proofs.Common.{◌≡◌, ℕ, ◌+◌, zero, suc, List, [], ◌∷◌, ◌++◌, refl, sym, ◌∙◌, ap, subst, true, false, inl, inr, arith}
 use Rattle.std.proofs.lemmas.Bool.{eq-eqb}
 use Rattle.std.specs.Prelude.{Bool, ℤ, ◌⊎◌, ◌≢◌, pos, int_le, map, slice_get, Option, Some, None}
 use Rattle.std.specs.Option.{option_map}
 use Rattle.gw_base.specs.Moment.{moment_of}
-use Rattle.gw_site.specs.Outside.{Outside}
+use Rattle.gw_site.specs.Outside.{Outside, heard_on}
 use Rattle.gw_site.specs.Sorts.{AreOfRound, is_sort_of_round, sort_of, TurnSort, OpeningOutcome, Poll, Event, CallOutcome, PowerFailure, is_between, is_sort_between}
 use Rattle.gw_site.specs.declared.turn.Turn.{Turn}
 use Rattle.gw_site.specs.declared.turn.Turn.TheVariants.{Polled, HeardPt, Lost, CutPt}
@@ -27,7 +27,7 @@ use Rattle.gw_rules.specs.Stage.{Handling, is_round}
 use Rattle.gw_rules.specs.View.{View, Move, Begin, Read, Make, after, after_turn, read_first}
 use Rattle.gw_rules.proofs.CourseLemmas.{begin-outside, begin-stage, after-outside}
 use Rattle.gw_rules.proofs.CutLemmas.{IsAmong, has-after, has-before, is_dead, dead-round, dead-running, dead-turn, none-among}
-use Rattle.gw_rules.proofs.KeptLemmas.{Kept, kept_in, without_asker, begins-first, begin-kept, read-kept, turn-kept}
+use Rattle.gw_rules.proofs.KeptLemmas.{Kept, KeptHere, kept-here, kept_in, without_asker, begins-first, begin-kept, read-kept, turn-kept}
 use Rattle.gw_rules.proofs.LinkStateLemmas.{on-linked}
 use Rattle.gw_rules.proofs.LinkedLemmas.{Agrees, move-agrees, turn-agrees, round-setup}
 use Rattle.gw_rules.proofs.OutsideCutLemmas.{is_cut, cut-is, cut-makes, in-owes}
@@ -78,50 +78,67 @@ late-among core pt terminal kept =
 -- ---- in the round
 
 -- so the cut is owed, or will be
-pub record AwaitsCut (pt moment : ℕ) (terminal : Terminal) (heard : List ℕ) (v : View) : Type 0 where
+pub record AwaitsCut (pt moment : ℕ) (terminal : Terminal) (v : View) : Type 0 where
   pub agrees : Agrees v
-  pub kept : Kept pt terminal heard v
+  pub kept : KeptHere pt terminal v
   pub only : HasDialogueOnlyIn terminal.standing terminal.talk
   pub late : IsLateTalk moment terminal.talk
   pub moment_is : v.scene.outside.moment ≡ moment
   pub round : is_round v.scene.stage ≡ true
   pub owed : IsAmong (Late pt) v.items ⊎ ((v.scene.stage ≡ Handling) × (v.calls ≡ OwedCutPt pt ∷ []))
 
--- or the run has ended
-abbrev pub IsCutOrOver : ℕ → ℕ → Terminal → List ℕ → View → Type 0
-IsCutOrOver pt moment terminal heard v = AwaitsCut pt moment terminal heard v ⊎ (is_dead v.scene.stage ≡ true)
+-- while this holds of a view and of the turns that come, they leave what is remembered of the terminal as it is, unless they cut it
+pub record StaysBy (pt : ℕ) (terminal : Terminal) (P : View → List Turn → Type 0) : Type 0 where
+  pub begins : (v : View) (turns : List Turn) → P v turns → Begins v → P (after v Begin) turns
+  pub reads : (v : View) (as_read : ReadAs) (turns : List Turn) → P v turns → P (after v (Read as_read)) turns
+  pub turns : (v : View) (turn : Turn) (turns : List Turn) → P v (turn ∷ turns) → Agrees v → KeptHere pt terminal v → AllowedTurn v turn → is_between turn ≡ false → turn ≢ CutPt pt → KeptHere pt terminal (after_turn v turn) × P (after_turn v turn) turns
 
-late-begin : (pt moment : ℕ) (terminal : Terminal) (heard : List ℕ) (v : View) → IsCutOrOver pt moment terminal heard v → Begins v → IsCutOrOver pt moment terminal heard (after v Begin)
-late-begin pt moment terminal heard v (inr dead) b = dead-round v.scene.stage dead b.idle.round
-late-begin pt moment terminal heard v (inl w) b = by_owed w.owed
+-- where nothing of it comes
+unheard-stays : (pt : ℕ) (terminal : Terminal) → StaysBy pt terminal (λ v turns. BringNothing pt turns)
+unheard-stays pt terminal = record {
+  begins = λ v turns none b. none;
+  reads = λ v as_read turns none. none;
+  turns = λ v turn turns none a k ok quiet uncut. (kept-here pt terminal (heard_on v.scene.outside.links pt) (after_turn v turn) (turn-kept pt terminal (heard_on v.scene.outside.links pt) v turn a k ok quiet none.0 uncut), none.1);
+}
+
+-- or the run has ended
+abbrev pub IsCutOrOver : ℕ → ℕ → Terminal → (View → List Turn → Type 0) → View → List Turn → Type 0
+IsCutOrOver pt moment terminal P v turns = (AwaitsCut pt moment terminal v × P v turns) ⊎ (is_dead v.scene.stage ≡ true)
+
+late-begin : (pt moment : ℕ) (terminal : Terminal) (P : View → List Turn → Type 0) (v : View) (turns : List Turn) → StaysBy pt terminal P → IsCutOrOver pt moment terminal P v turns → Begins v → IsCutOrOver pt moment terminal P (after v Begin) turns
+late-begin pt moment terminal P v turns s (inr dead) b = dead-round v.scene.stage dead b.idle.round
+late-begin pt moment terminal P v turns s (inl (w, holds)) b = by_owed w.owed
   where
     at : (after v Begin).scene.stage ≡ Handling
     at = begin-stage v.scene v.items ∙ round-busy v.scene.stage b.idle.round
 
-    go_on : IsAmong (Late pt) (after v Begin).items ⊎ (((after v Begin).scene.stage ≡ Handling) × ((after v Begin).calls ≡ OwedCutPt pt ∷ [])) → IsCutOrOver pt moment terminal heard (after v Begin)
-    go_on owed = inl (record {
-      agrees = move-agrees v Begin w.agrees b;
-      kept = begin-kept pt terminal heard v w.agrees w.kept b;
-      only = w.only;
-      late = w.late;
-      moment_is = ap (λ (o : Outside). o.moment) (begin-outside v.scene v.items) ∙ w.moment_is;
-      round = ap is_round at;
-      owed = owed;
-    })
+    go_on : IsAmong (Late pt) (after v Begin).items ⊎ (((after v Begin).scene.stage ≡ Handling) × ((after v Begin).calls ≡ OwedCutPt pt ∷ [])) → IsCutOrOver pt moment terminal P (after v Begin) turns
+    go_on owed = inl (
+      record {
+        agrees = move-agrees v Begin w.agrees b;
+        kept = kept-here pt terminal (heard_on v.scene.outside.links pt) (after v Begin) (begin-kept pt terminal (heard_on v.scene.outside.links pt) v w.agrees w.kept b);
+        only = w.only;
+        late = w.late;
+        moment_is = ap (λ (o : Outside). o.moment) (begin-outside v.scene v.items) ∙ w.moment_is;
+        round = ap is_round at;
+        owed = owed;
+      },
+      s.begins v turns holds b,
+    )
 
     owes : (after (record v { items = Late pt ∷ [] }) Begin).calls ≡ OwedCutPt pt ∷ []
     owes =
         let known = round-setup v w.agrees.run b.idle.round in
-        in-owes v.scene known.setup (Late pt) (OwedCutPt pt ∷ []) known.setup_is (late-owes (known_in v.scene known.setup) pt terminal heard v w.kept refl w.only (subst (λ m. IsLateTalk m terminal.talk) (sym w.moment_is) w.late))
+        in-owes v.scene known.setup (Late pt) (OwedCutPt pt ∷ []) known.setup_is (late-owes (known_in v.scene known.setup) pt terminal (heard_on v.scene.outside.links pt) v w.kept refl w.only (subst (λ m. IsLateTalk m terminal.talk) (sym w.moment_is) w.late))
 
-    by_first : IsAmong (Late pt) v.items → IsCutOrOver pt moment terminal heard (after v Begin)
+    by_first : IsAmong (Late pt) v.items → IsCutOrOver pt moment terminal P (after v Begin) turns
     by_first ([], rest, e) = go_on (inr (at, ap (λ l. (after (record v { items = l }) Begin).calls) e ∙ owes))
     by_first (x ∷ before, rest, e) =
         let first = begins-first v w.agrees b in
         let tails : first.rest ≡ before ++ Late pt ∷ rest = (let n : first.item ∷ first.rest ≡ x ∷ (before ++ Late pt ∷ rest) = sym first.items_are ∙ e in cc) in
         go_on (inl (before, rest, first.left ∙ tails))
 
-    by_owed : IsAmong (Late pt) v.items ⊎ ((v.scene.stage ≡ Handling) × (v.calls ≡ OwedCutPt pt ∷ [])) → IsCutOrOver pt moment terminal heard (after v Begin)
+    by_owed : IsAmong (Late pt) v.items ⊎ ((v.scene.stage ≡ Handling) × (v.calls ≡ OwedCutPt pt ∷ [])) → IsCutOrOver pt moment terminal P (after v Begin) turns
     by_owed (inl among) = by_first among
     by_owed (inr owed) = absurd (let n : [] ≡ OwedCutPt pt ∷ [] = sym b.idle.calls ∙ owed.1 in cc)
 
@@ -144,21 +161,25 @@ read-late pt as_read (Late other ∷ items) h = h
 read-late pt as_read (Overdue key ∷ items) h = h
 read-late pt as_read (Due other ∷ items) h = h
 
-late-read : (pt moment : ℕ) (terminal : Terminal) (heard : List ℕ) (v : View) (as_read : ReadAs) → IsCutOrOver pt moment terminal heard v → IsRead v as_read → IsCutOrOver pt moment terminal heard (after v (Read as_read))
-late-read pt moment terminal heard v as_read (inr dead) r = dead-round v.scene.stage dead r.idle.round
-late-read pt moment terminal heard v as_read (inl w) r = by_owed w.owed
+late-read : (pt moment : ℕ) (terminal : Terminal) (P : View → List Turn → Type 0) (v : View) (as_read : ReadAs) (turns : List Turn) → StaysBy pt terminal P → IsCutOrOver pt moment terminal P v turns → IsRead v as_read
+    → IsCutOrOver pt moment terminal P (after v (Read as_read)) turns
+late-read pt moment terminal P v as_read turns s (inr dead) r = dead-round v.scene.stage dead r.idle.round
+late-read pt moment terminal P v as_read turns s (inl (w, holds)) r = by_owed w.owed
   where
-    by_owed : IsAmong (Late pt) v.items ⊎ ((v.scene.stage ≡ Handling) × (v.calls ≡ OwedCutPt pt ∷ [])) → IsCutOrOver pt moment terminal heard (after v (Read as_read))
+    by_owed : IsAmong (Late pt) v.items ⊎ ((v.scene.stage ≡ Handling) × (v.calls ≡ OwedCutPt pt ∷ [])) → IsCutOrOver pt moment terminal P (after v (Read as_read)) turns
     by_owed (inr owed) = absurd (let n : [] ≡ OwedCutPt pt ∷ [] = sym r.idle.calls ∙ owed.1 in cc)
-    by_owed (inl among) = inl (record {
-      agrees = move-agrees v (Read as_read) w.agrees r;
-      kept = read-kept pt terminal heard v as_read w.kept;
-      only = w.only;
-      late = w.late;
-      moment_is = w.moment_is;
-      round = ap is_round (round-busy v.scene.stage r.idle.round);
-      owed = inl (read-late pt as_read v.items among);
-    })
+    by_owed (inl among) = inl (
+      record {
+        agrees = move-agrees v (Read as_read) w.agrees r;
+        kept = read-kept pt terminal (heard_on v.scene.outside.links pt) v as_read w.kept;
+        only = w.only;
+        late = w.late;
+        moment_is = w.moment_is;
+        round = ap is_round (round-busy v.scene.stage r.idle.round);
+        owed = inl (read-late pt as_read v.items among);
+      },
+      s.reads v as_read turns holds,
+    )
 
 pub of-round-quiet : (turn : Turn) → is_sort_of_round (sort_of turn) ≡ true → is_between turn ≡ false
 of-round-quiet turn e = by_sort (sort_of turn) e
@@ -170,37 +191,42 @@ of-round-quiet turn e = by_sort (sort_of turn) e
     by_sort CallOutcome e = refl
     by_sort PowerFailure e = no-true e
 
-late-turn : (pt moment : ℕ) (terminal : Terminal) (heard : List ℕ) (v : View) (turn : Turn) → IsCutOrOver pt moment terminal heard v → AllowedTurn v turn → is_sort_of_round (sort_of turn) ≡ true → (IsOfTerminal pt turn → ⊥)
-    → (turn ≡ CutPt pt) ⊎ IsCutOrOver pt moment terminal heard (after_turn v turn)
-late-turn pt moment terminal heard v turn (inr dead) ok e none = inr (inr (dead-turn v turn dead ok e))
-late-turn pt moment terminal heard v turn (inl w) ok e none = by_cut (is_cut pt turn) refl
+late-turn : (pt moment : ℕ) (terminal : Terminal) (P : View → List Turn → Type 0) (v : View) (turn : Turn) (turns : List Turn) → StaysBy pt terminal P → IsCutOrOver pt moment terminal P v (turn ∷ turns) → AllowedTurn v turn → is_sort_of_round (sort_of turn) ≡ true
+    → (turn ≡ CutPt pt) ⊎ IsCutOrOver pt moment terminal P (after_turn v turn) turns
+late-turn pt moment terminal P v turn turns s (inr dead) ok e = inr (inr (dead-turn v turn dead ok e))
+late-turn pt moment terminal P v turn turns s (inl (w, holds)) ok e = by_cut (is_cut pt turn) refl
   where
-    go_on : (is_cut pt turn ≡ false) → is_round (after_turn v turn).scene.stage ≡ true → IsAmong (Late pt) (after_turn v turn).items → (turn ≡ CutPt pt) ⊎ IsCutOrOver pt moment terminal heard (after_turn v turn)
-    go_on uncut round among = inr (inl (record {
-      agrees = turn-agrees v turn w.agrees ok;
-      kept = turn-kept pt terminal heard v turn w.agrees w.kept ok (of-round-quiet turn e) none (λ cut. no-true (sym uncut ∙ ap (is_cut pt) cut ∙ eq-eqb pt pt refl));
-      only = w.only;
-      late = w.late;
-      moment_is = ap (λ (o : Outside). o.moment) (after-outside v turn) ∙ turn-moment v.scene.outside turn e ∙ w.moment_is;
-      round = round;
-      owed = inl among;
-    }))
+    go_on : (is_cut pt turn ≡ false) → is_round (after_turn v turn).scene.stage ≡ true → IsAmong (Late pt) (after_turn v turn).items → (turn ≡ CutPt pt) ⊎ IsCutOrOver pt moment terminal P (after_turn v turn) turns
+    go_on uncut round among =
+        let stays = s.turns v turn turns holds w.agrees w.kept ok (of-round-quiet turn e) (λ cut. no-true (sym uncut ∙ ap (is_cut pt) cut ∙ eq-eqb pt pt refl)) in
+        inr (inl (
+          record {
+            agrees = turn-agrees v turn w.agrees ok;
+            kept = stays.0;
+            only = w.only;
+            late = w.late;
+            moment_is = ap (λ (o : Outside). o.moment) (after-outside v turn) ∙ turn-moment v.scene.outside turn e ∙ w.moment_is;
+            round = round;
+            owed = inl among;
+          },
+          stays.1,
+        ))
 
-    by_owed : is_cut pt turn ≡ false → IsAmong (Late pt) v.items ⊎ ((v.scene.stage ≡ Handling) × (v.calls ≡ OwedCutPt pt ∷ [])) → Follows v turn → (turn ≡ CutPt pt) ⊎ IsCutOrOver pt moment terminal heard (after_turn v turn)
+    by_owed : is_cut pt turn ≡ false → IsAmong (Late pt) v.items ⊎ ((v.scene.stage ≡ Handling) × (v.calls ≡ OwedCutPt pt ∷ [])) → Follows v turn → (turn ≡ CutPt pt) ⊎ IsCutOrOver pt moment terminal P (after_turn v turn) turns
     by_owed uncut (inr owed) next = inl (cut-is pt turn (cut-makes pt v turn owed.0 (ap first_call owed.1) ok e))
     by_owed uncut (inl among) (inl (more, items, at)) = go_on uncut (ap is_round at) (subst (IsAmong (Late pt)) (sym items) (has-after (Late pt) more v.items among))
     by_owed uncut (inl among) (inr (inl (polled, more, items, at))) = go_on uncut (ap is_round at) (subst (IsAmong (Late pt)) (sym items) (has-after (Late pt) more (items_due v.scene.core) (late-among v.scene.core pt terminal w.kept.kept)))
     by_owed uncut (inl among) (inr (inr dead)) = inr (inr dead)
 
-    by_cut : (test : Bool) → is_cut pt turn ≡ test → (turn ≡ CutPt pt) ⊎ IsCutOrOver pt moment terminal heard (after_turn v turn)
+    by_cut : (test : Bool) → is_cut pt turn ≡ test → (turn ≡ CutPt pt) ⊎ IsCutOrOver pt moment terminal P (after_turn v turn) turns
     by_cut true cut = inl (cut-is pt turn cut)
     by_cut false uncut = by_owed uncut w.owed (follows v turn w.round ok e)
 
 -- ---- along the course
 
-late-polled : {A : Type 0} (pt moment : ℕ) (terminal : Terminal) (heard : List ℕ) (v : View) (now : ℤ) → IsCutOrOver pt moment terminal heard v → AllowedTurn v (Polled now) → A
-late-polled pt moment terminal heard v now (inr dead) ok = dead-running v.scene.stage dead ok.running
-late-polled {A} pt moment terminal heard v now (inl w) ok = by_owed w.owed
+late-polled : {A : Type 0} (pt moment : ℕ) (terminal : Terminal) (P : View → List Turn → Type 0) (v : View) (turns : List Turn) (now : ℤ) → IsCutOrOver pt moment terminal P v turns → AllowedTurn v (Polled now) → A
+late-polled pt moment terminal P v turns now (inr dead) ok = dead-running v.scene.stage dead ok.running
+late-polled {A} pt moment terminal P v turns now (inl (w, holds)) ok = by_owed w.owed
   where
     by_owed : IsAmong (Late pt) v.items ⊎ ((v.scene.stage ≡ Handling) × (v.calls ≡ OwedCutPt pt ∷ [])) → A
     by_owed (inl among) = none-among (Late pt) v.items among ok.items
@@ -209,39 +235,42 @@ late-polled {A} pt moment terminal heard v now (inl w) ok = by_owed w.owed
 cut-later : (pt : ℕ) (turn : Turn) (turns : List Turn) → IsPtCutIn pt turns → IsPtCutIn pt (turn ∷ turns)
 cut-later pt turn turns (first, rest, e) = (turn ∷ first, rest, ap (λ l. turn ∷ l) e)
 
-cut-before-poll : (pt moment : ℕ) (terminal : Terminal) (heard : List ℕ) (now : ℤ) (rest : List Turn) (v : View) (moves : List Move) (inside : List Turn) → IsCutOrOver pt moment terminal heard v → IsCourse v moves
-    → turns_of moves ≡ inside ++ Polled now ∷ rest → AreOfRound inside → BringNothing pt inside → IsPtCutIn pt inside
-cut-before-poll pt moment terminal heard now rest v [] [] h c e a none = absurd (let n : [] ≡ Polled now ∷ rest = e in cc)
-cut-before-poll pt moment terminal heard now rest v [] (turn ∷ inside) h c e a none = absurd (let n : [] ≡ turn ∷ (inside ++ Polled now ∷ rest) = e in cc)
-cut-before-poll pt moment terminal heard now rest v (Begin ∷ moves) inside h c e a none = cut-before-poll pt moment terminal heard now rest (after v Begin) moves inside (late-begin pt moment terminal heard v h c.0) c.1 e a none
-cut-before-poll pt moment terminal heard now rest v (Read as_read ∷ moves) inside h c e a none = cut-before-poll pt moment terminal heard now rest (after v (Read as_read)) moves inside (late-read pt moment terminal heard v as_read h c.0) c.1 e a none
-cut-before-poll pt moment terminal heard now rest v (Make turn ∷ moves) [] h c e a none =
+cut-before-poll : (pt moment : ℕ) (terminal : Terminal) (P : View → List Turn → Type 0) (now : ℤ) (rest : List Turn) (v : View) (moves : List Move) (inside : List Turn) → StaysBy pt terminal P → IsCutOrOver pt moment terminal P v inside → IsCourse v moves
+    → turns_of moves ≡ inside ++ Polled now ∷ rest → AreOfRound inside → IsPtCutIn pt inside
+cut-before-poll pt moment terminal P now rest v [] [] s h c e a = absurd (let n : [] ≡ Polled now ∷ rest = e in cc)
+cut-before-poll pt moment terminal P now rest v [] (turn ∷ inside) s h c e a = absurd (let n : [] ≡ turn ∷ (inside ++ Polled now ∷ rest) = e in cc)
+cut-before-poll pt moment terminal P now rest v (Begin ∷ moves) inside s h c e a = cut-before-poll pt moment terminal P now rest (after v Begin) moves inside s (late-begin pt moment terminal P v inside s h c.0) c.1 e a
+cut-before-poll pt moment terminal P now rest v (Read as_read ∷ moves) inside s h c e a = cut-before-poll pt moment terminal P now rest (after v (Read as_read)) moves inside s (late-read pt moment terminal P v as_read inside s h c.0) c.1 e a
+cut-before-poll pt moment terminal P now rest v (Make turn ∷ moves) [] s h c e a =
     let heads : turn ≡ Polled now = (let n : turn ∷ turns_of moves ≡ Polled now ∷ rest = e in cc) in
-    late-polled pt moment terminal heard v now h (subst (AllowedTurn v) heads c.0)
-cut-before-poll pt moment terminal heard now rest v (Make turn ∷ moves) (other ∷ inside) h c e a none =
+    late-polled pt moment terminal P v [] now h (subst (AllowedTurn v) heads c.0)
+cut-before-poll pt moment terminal P now rest v (Make turn ∷ moves) (other ∷ inside) s h c e a =
     let heads : turn ≡ other = (let n : turn ∷ turns_of moves ≡ other ∷ (inside ++ Polled now ∷ rest) = e in cc) in
     let tails : turns_of moves ≡ inside ++ Polled now ∷ rest = (let n : turn ∷ turns_of moves ≡ other ∷ (inside ++ Polled now ∷ rest) = e in cc) in
-    by_after (λ holds. cut-before-poll pt moment terminal heard now rest (after_turn v turn) moves inside holds c.1 tails a.1 none.1) heads
-    (late-turn pt moment terminal heard v turn h c.0 (ap (λ t. is_sort_of_round (sort_of t)) heads ∙ a.0) (λ is. none.0 (subst (IsOfTerminal pt) heads is)))
+    by_after (λ holds. cut-before-poll pt moment terminal P now rest (after_turn v turn) moves inside s holds c.1 tails a.1) heads
+    (late-turn pt moment terminal P v turn inside s (subst (λ t. IsCutOrOver pt moment terminal P v (t ∷ inside)) (sym heads) h) c.0 (ap (λ t. is_sort_of_round (sort_of t)) heads ∙ a.0))
   where
-    by_after : (IsCutOrOver pt moment terminal heard (after_turn v turn) → IsPtCutIn pt inside) → turn ≡ other → (turn ≡ CutPt pt) ⊎ IsCutOrOver pt moment terminal heard (after_turn v turn) → IsPtCutIn pt (other ∷ inside)
+    by_after : (IsCutOrOver pt moment terminal P (after_turn v turn) inside → IsPtCutIn pt inside) → turn ≡ other → (turn ≡ CutPt pt) ⊎ IsCutOrOver pt moment terminal P (after_turn v turn) inside → IsPtCutIn pt (other ∷ inside)
     by_after more heads (inl cut) = ([], inside, ap (λ t. t ∷ inside) (sym heads ∙ cut))
     by_after more heads (inr holds) = cut-later pt other inside (more holds)
 
 -- from a poll at which the deadline has come
-pub late-before-poll : (pt : ℕ) (terminal : Terminal) (heard : List ℕ) (now later : ℤ) (inside rest : List Turn) (v : View) → Agrees v → Kept pt terminal heard v → AllowedTurn v (Polled now) → Along (after_turn v (Polled now)) (inside ++ Polled later ∷ rest)
-    → AreOfRound inside → BringNothing pt inside → HasDialogueOnlyIn terminal.standing terminal.talk → IsLateTalk (moment_of now) terminal.talk → IsPtCutIn pt inside
-late-before-poll pt terminal heard now later inside rest v a k ok onward round nothing only late =
-    cut-before-poll pt (moment_of now) terminal heard later rest (after_turn v (Polled now)) onward.moves inside
-    (inl (record {
-      agrees = turn-agrees v (Polled now) a ok;
-      kept = turn-kept pt terminal heard v (Polled now) a k ok refl not_of not_cut;
-      only = only;
-      late = late;
-      moment_is = refl;
-      round = refl;
-      owed = inl (late-among v.scene.core pt terminal k.kept);
-    })) onward.lawful onward.turns_are round nothing
+pub stays-before-poll : (pt : ℕ) (terminal : Terminal) (P : View → List Turn → Type 0) (now later : ℤ) (inside rest : List Turn) (v : View) → StaysBy pt terminal P → Agrees v → KeptHere pt terminal v → AllowedTurn v (Polled now) → P (after_turn v (Polled now)) inside
+    → Along (after_turn v (Polled now)) (inside ++ Polled later ∷ rest) → AreOfRound inside → HasDialogueOnlyIn terminal.standing terminal.talk → IsLateTalk (moment_of now) terminal.talk → IsPtCutIn pt inside
+stays-before-poll pt terminal P now later inside rest v s a k ok holds onward round only late =
+    cut-before-poll pt (moment_of now) terminal P later rest (after_turn v (Polled now)) onward.moves inside s
+    (inl (
+      record {
+        agrees = turn-agrees v (Polled now) a ok;
+        kept = turn-kept pt terminal (heard_on v.scene.outside.links pt) v (Polled now) a k ok refl not_of not_cut;
+        only = only;
+        late = late;
+        moment_is = refl;
+        round = refl;
+        owed = inl (late-among v.scene.core pt terminal k.kept);
+      },
+      holds,
+    )) onward.lawful onward.turns_are round
   where
     not_of : IsOfTerminal pt (Polled now) → ⊥
     not_of (inl (bytes, e)) = absurd (let n : Polled now ≡ HeardPt pt bytes = e in cc)
@@ -249,3 +278,9 @@ late-before-poll pt terminal heard now later inside rest v a k ok onward round n
 
     not_cut : Polled now ≢ CutPt pt
     not_cut e = absurd (let n : Polled now ≡ CutPt pt = e in cc)
+
+-- where nothing of it comes in the round
+pub late-before-poll : (pt : ℕ) (terminal : Terminal) (heard : List ℕ) (now later : ℤ) (inside rest : List Turn) (v : View) → Agrees v → Kept pt terminal heard v → AllowedTurn v (Polled now) → Along (after_turn v (Polled now)) (inside ++ Polled later ∷ rest)
+    → AreOfRound inside → BringNothing pt inside → HasDialogueOnlyIn terminal.standing terminal.talk → IsLateTalk (moment_of now) terminal.talk → IsPtCutIn pt inside
+late-before-poll pt terminal heard now later inside rest v a k ok onward round nothing only late =
+    stays-before-poll pt terminal (λ v turns. BringNothing pt turns) now later inside rest v (unheard-stays pt terminal) a (kept-here pt terminal heard v k) ok nothing onward round only late

@@ -6,6 +6,7 @@ use Rattle.zvt_apdu.specs.DecodeStream.{decode_apdus, decode_apdus_within}
 use Rattle.zvt_bmp.specs.Decode.{decode_field_value, decode_status_field, decode_status_within, decode_status}
 use Rattle.zvt_msg.specs.MessageDecode.{decode_pt_message}
 use Rattle.zvt_msg.specs.CommandCanonical.{canonical_command}
+use Rattle.gw_site.specs.Outside.{outside_of}
 use Rattle.gw_site.specs.declared.turn.Turn.{Turn}
 use Rattle.gw_site.specs.declared.turn.Turn.TheVariants.{Start, Polled, HeardPt, Lost, Stopped, Linked, LinkFailed, SentPt, CutPt}
 use Rattle.gw_owes.specs.TerminalExample.{ack, enquiry_sent}
@@ -13,6 +14,7 @@ use Rattle.gw_owes.specs.Terminals.{registration}
 use Rattle.gw_rules.specs.Lawful.{IsCourse}
 use Rattle.gw_rules.specs.LinkLaws.{EndsLink, IsOfTerminal, IsSilentIn, IsPtCutIn, ack_bytes, IsSentTo, IsRegistered, HasRested, IsTriedIn}
 use Rattle.gw_rules.specs.RowExample.{example_pt, terminal_setup, register_bytes}
+use Rattle.gw_rules.specs.SilenceLaws.{CompletesNone, SaysNothingIn, linked_turns}
 use Rattle.gw_rules.specs.TerminalLogExample.{linked_log, linked_course, done_log, done_course, silent_registration_course, SilentRegistrationIsLawful, DoneIsEnquired, DoneThenSilentIsCut, UnfinishedIsCut, PollBeforeSilentCut, PollBeforeEnquiry, items_begin, cut_log, cut_course, PollBeforeLink, LinkTooEarly, EnquiryBeforeRegistration, EnquiryAfterCut, ready_course, due_again_course, declined_course, silent_enquiry_course, unacknowledged_course, ReadyIsLawful, DueAgainIsLawful, DeclinedIsLawful, SilentEnquiryIsLawful, UnacknowledgedIsLawful}
 use Rattle.gw_rules.specs.View.{Move, Begin, Make, after, at_first}
 use Rattle.gw_rules.proofs.DueLemmas.{due-is-tried, tried-once-rested}
@@ -22,7 +24,7 @@ use Rattle.gw_rules.proofs.PrefixLemmas.{lawful-along}
 use Rattle.gw_rules.proofs.RowExampleLemmas.{formed}
 use Rattle.gw_rules.proofs.StageLemmas.{no-true}
 use Rattle.gw_rules.proofs.TestedLemmas.{passes_course, course-tested}
-use Rattle.gw_rules.proofs.RegistrationLemmas.{silent-registration-is-cut}
+use Rattle.gw_rules.proofs.LinkedSilenceLemmas.{silent-registration-is-cut}
 
 -- the moves after the start
 abbrev pub after_start : List Move → List Move
@@ -167,11 +169,17 @@ none-cut pt (x ∷ first, rest, e) = absurd (let n : [] ≡ x ∷ (first ++ CutP
 pub poll-before-silent-cut : PollBeforeSilentCut
 poll-before-silent-cut = record {
   before = lawful-along (linked_log ++ Polled (pos 5) ∷ []) (linked_course ++ Make (Polled (pos 5)) ∷ []) refl (from-start (after_start (linked_course ++ Make (Polled (pos 5)) ∷ [])) refl);
-  with_turn = λ lawful. none-cut 0 (silent-registration-is-cut [] (Polled (pos 0) ∷ []) (SentPt 0 register_bytes true ∷ []) [] [] terminal_setup example_pt 0 (pos 5) (pos 6) lawful (refl, tt) (sent-silent register_bytes) tt tt refl in_time);
+  with_turn = λ lawful. none-cut 0 (silent-registration-is-cut [] (Polled (pos 0) ∷ []) (SentPt 0 register_bytes true ∷ []) [] [] terminal_setup example_pt 0 (pos 5) (pos 6) lawful (refl, tt) sent_says_nothing tt tt tt refl in_time);
 }
   where
     in_time : 0 + 5 ≤ 5
     in_time = omega arith
+
+    none_heard : (chunk : List ℕ) → SentPt 0 register_bytes true ≡ HeardPt 0 chunk → CompletesNone (outside_of (linked_turns [] terminal_setup (Polled (pos 0) ∷ []) 0 [])) 0 chunk
+    none_heard chunk e = absurd (let n : SentPt 0 register_bytes true ≡ HeardPt 0 chunk = e in cc)
+
+    sent_says_nothing : SaysNothingIn (outside_of (linked_turns [] terminal_setup (Polled (pos 0) ∷ []) 0 [])) 0 (SentPt 0 register_bytes true ∷ [])
+    sent_says_nothing = record { quiet = (refl, tt); completes_none = (none_heard, tt); lasts = (sent-silent register_bytes).lasts }
 
 none-sent : (bytes : List ℕ) (now : ℤ) → IsSentTo 0 bytes (Polled now) → ⊥
 none-sent bytes now (inl e) = absurd (let n : Polled now ≡ SentPt 0 bytes true = e in cc)

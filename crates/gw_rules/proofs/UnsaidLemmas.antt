@@ -1,5 +1,5 @@
 -- A terminal that says no whole APDU stays as it is, and is cut at its deadline.
-use Rattle.std.proofs.Common.{◌≡◌, ℕ, List, [], ◌∷◌, ◌++◌, refl, sym, ◌∙◌, ap, subst, true, false, inl, inr, eqb-true}
+use Rattle.std.proofs.Common.{◌≡◌, ◌≢◌, ℕ, List, [], ◌∷◌, ◌++◌, refl, sym, ◌∙◌, ap, subst, true, false, inl, inr, eqb-true}
 use Rattle.std.proofs.lemmas.Bool.{eq-eqb}
 use Rattle.std.specs.Prelude.{Bool, ◌==◌, Option}
 use Rattle.std.specs.List.{flat_map}
@@ -15,17 +15,17 @@ use Rattle.gw_owes.specs.TerminalLaws.{IsBeforeReady, HasDialogueOnlyIn}
 use Rattle.gw_owes.specs.declared.terminal.Standing.{Standing}
 use Rattle.gw_owes.specs.declared.terminal.Terminal.{Terminal}
 use Rattle.gw_owes.proofs.ApduLemmas.{pt-bytes-give}
-use Rattle.gw_rules.specs.LinkLaws.{EndsLink, EndsNone, IsOfTerminal}
-use Rattle.gw_rules.specs.Lawful.{AllowedTurn, IsCourse, turns_of}
-use Rattle.gw_rules.specs.SilenceLaws.{CompletesNone, CompleteNone, SilentDialogueIsCut}
+use Rattle.gw_rules.specs.LinkLaws.{EndsNone, IsOfTerminal}
+use Rattle.gw_rules.specs.Lawful.{AllowedTurn, IsCourse, turns_of, Stands}
+use Rattle.gw_rules.specs.SilenceLaws.{CompletesNone, CompleteNone, IsNotLostIn, SilentDialogueIsCut}
 use Rattle.gw_rules.specs.View.{View, Move, Begin, Read, Make, after, after_turn, view_from, at_first}
-use Rattle.gw_rules.proofs.CourseLemmas.{course-append, turns_of-append, begin-outside, after-outside, stands-outside, view_from-append}
+use Rattle.gw_rules.proofs.CourseLemmas.{course-append, turns_of-append, begin-outside, after-outside, stands-more, stands-outside, view_from-append}
 use Rattle.gw_rules.proofs.HeardLemmas.{HeardBytes, heard-bytes, bytes-append, turn-bytes, begin-bytes, stands-bytes}
-use Rattle.gw_rules.proofs.KeptLemmas.{Kept, without_asker, change_none, due-change-none, begin-kept, read-kept, turn-kept}
+use Rattle.gw_rules.proofs.KeptLemmas.{KeptHere, kept-here, without_asker, change_none, due-change-none, begin-kept, read-kept, turn-kept}
 use Rattle.gw_rules.proofs.LinkStateLemmas.{On, standing_state}
 use Rattle.gw_rules.proofs.LinkedLemmas.{Agrees, move-agrees, course-agrees, first-agrees}
 use Rattle.gw_rules.proofs.OutsideCutLemmas.{same-rest}
-use Rattle.gw_rules.proofs.SilenceLemmas.{late-before-poll}
+use Rattle.gw_rules.proofs.SilenceLemmas.{StaysBy, stays-before-poll}
 use Rattle.gw_rules.proofs.StageLemmas.{no-true}
 
 -- ---- bytes that complete nothing
@@ -82,22 +82,15 @@ bytes-are pt Synced e = no-true e
 bytes-are pt DiskFailed e = no-true e
 bytes-are pt (Crash file) e = no-true e
 
-not-of-terminal : (pt : ℕ) (turn : Turn) → brings_bytes pt turn ≡ false → (EndsLink pt turn → ⊥) → IsOfTerminal pt turn → ⊥
-not-of-terminal pt turn e lasts (inl (bytes, is)) = no-true (sym e ∙ ap (brings_bytes pt) is ∙ eq-eqb pt pt refl)
-not-of-terminal pt turn e lasts (inr lost) = lasts (inl lost)
+not-of-terminal : (pt : ℕ) (turn : Turn) → brings_bytes pt turn ≡ false → turn ≢ Lost pt → IsOfTerminal pt turn → ⊥
+not-of-terminal pt turn e unlost (inl (bytes, is)) = no-true (sym e ∙ ap (brings_bytes pt) is ∙ eq-eqb pt pt refl)
+not-of-terminal pt turn e unlost (inr lost) = unlost lost
 
 -- ---- along a course
 
--- with what was heard on its link
-abbrev pub KeptHere : ℕ → Terminal → View → Type 0
-KeptHere pt terminal v = Kept pt terminal (heard_on v.scene.outside.links pt) v
-
-pub kept-here : (pt : ℕ) (terminal : Terminal) (heard : List ℕ) (v : View) → Kept pt terminal heard v → KeptHere pt terminal v
-kept-here pt terminal heard v k = record { kept = k.kept; linked = k.linked; items = k.items; heard_is = refl }
-
-turn-unsaid : (pt : ℕ) (terminal : Terminal) (v : View) (turn : Turn) → Agrees v → HeardBytes v.scene.outside → KeptHere pt terminal v → AllowedTurn v turn → is_between turn ≡ false → ((chunk : List ℕ) → turn ≡ HeardPt pt chunk → CompletesNone v.scene.outside pt chunk) → (EndsLink pt turn → ⊥)
+turn-unsaid : (pt : ℕ) (terminal : Terminal) (v : View) (turn : Turn) → Agrees v → HeardBytes v.scene.outside → KeptHere pt terminal v → AllowedTurn v turn → is_between turn ≡ false → ((chunk : List ℕ) → turn ≡ HeardPt pt chunk → CompletesNone v.scene.outside pt chunk) → turn ≢ Lost pt → turn ≢ CutPt pt
     → KeptHere pt terminal (after_turn v turn)
-turn-unsaid pt terminal v turn a bytes k ok quiet none lasts = by_test (brings_bytes pt turn) refl
+turn-unsaid pt terminal v turn a bytes k ok quiet none unlost uncut = by_test (brings_bytes pt turn) refl
   where
     with_bytes : (chunk : List ℕ) → AllowedTurn v (HeardPt pt chunk) → CompletesNone v.scene.outside pt chunk → KeptHere pt terminal (after_turn v (HeardPt pt chunk))
     with_bytes chunk ok none = record {
@@ -112,7 +105,7 @@ turn-unsaid pt terminal v turn a bytes k ok quiet none lasts = by_test (brings_b
         let is = bytes-are pt turn e in
         subst (λ t. KeptHere pt terminal (after_turn v t)) (sym is.1) (with_bytes is.0 (subst (AllowedTurn v) is.1 ok) (none is.0 is.1))
     by_test false e =
-        kept-here pt terminal (heard_on v.scene.outside.links pt) (after_turn v turn) (turn-kept pt terminal (heard_on v.scene.outside.links pt) v turn a k ok quiet (not-of-terminal pt turn e lasts) (λ cut. lasts (inr (inl cut))))
+        kept-here pt terminal (heard_on v.scene.outside.links pt) (after_turn v turn) (turn-kept pt terminal (heard_on v.scene.outside.links pt) v turn a k ok quiet (not-of-terminal pt turn e unlost) uncut)
 
 pub moves-unsaid : (pt : ℕ) (terminal : Terminal) (v : View) (moves : List Move) → Agrees v → HeardBytes v.scene.outside → KeptHere pt terminal v → IsCourse v moves → IsQuiet (turns_of moves) → CompleteNone v.scene.outside pt (turns_of moves) → EndsNone pt (turns_of moves)
     → KeptHere pt terminal (view_from v moves)
@@ -123,8 +116,27 @@ moves-unsaid pt terminal v (Begin ∷ moves) a bytes k c quiet none lasts =
 moves-unsaid pt terminal v (Read as_read ∷ moves) a bytes k c quiet none lasts =
     moves-unsaid pt terminal (after v (Read as_read)) moves (move-agrees v (Read as_read) a c.0) bytes (read-kept pt terminal (heard_on v.scene.outside.links pt) v as_read k) c.1 quiet none lasts
 moves-unsaid pt terminal v (Make turn ∷ moves) a bytes k c quiet none lasts =
-    moves-unsaid pt terminal (after_turn v turn) moves (move-agrees v (Make turn) a c.0) (turn-bytes v turn bytes c.0) (turn-unsaid pt terminal v turn a bytes k c.0 quiet.0 none.0 lasts.0) c.1 quiet.1
+    moves-unsaid pt terminal (after_turn v turn) moves (move-agrees v (Make turn) a c.0) (turn-bytes v turn bytes c.0) (turn-unsaid pt terminal v turn a bytes k c.0 quiet.0 none.0 (λ lost. lasts.0 (inl lost)) (λ cut. lasts.0 (inr (inl cut)))) c.1 quiet.1
     (subst (λ (o : Outside). CompleteNone o pt (turns_of moves)) (sym (after-outside v turn)) none.1) lasts.1
+
+-- ---- in a round
+
+-- it completes no APDU in these turns, and its link isn't lost
+pub record SaysNone (pt : ℕ) (v : View) (turns : List Turn) : Type 0 where
+  pub bytes : HeardBytes v.scene.outside
+  pub none : CompleteNone v.scene.outside pt turns
+  pub unlost : IsNotLostIn pt turns
+
+pub says-none-stays : (pt : ℕ) (terminal : Terminal) → StaysBy pt terminal (SaysNone pt)
+says-none-stays pt terminal = record {
+  begins = λ v turns s b.
+      record { bytes = begin-bytes v s.bytes; none = subst (λ (o : Outside). CompleteNone o pt turns) (sym (begin-outside v.scene v.items)) s.none; unlost = s.unlost };
+  reads = λ v as_read turns s. record { bytes = s.bytes; none = s.none; unlost = s.unlost };
+  turns = λ v turn turns s a k ok quiet uncut. (
+    turn-unsaid pt terminal v turn a s.bytes k ok quiet s.none.0 s.unlost.0 uncut,
+    record { bytes = turn-bytes v turn s.bytes ok; none = subst (λ (o : Outside). CompleteNone o pt turns) (sym (after-outside v turn)) s.none.1; unlost = s.unlost.1 },
+  );
+}
 
 -- ---- the law
 
@@ -157,8 +169,11 @@ silent-dialogue-is-cut log v first second now pt s =
     let silent : KeptHere pt terminal w =
     moves-unsaid pt terminal v first agrees (stands-bytes log v s.before) kept course.0 s.silent.quiet (subst (λ (p : Outside). CompleteNone p pt (turns_of first)) o s.silent.completes_none) s.silent.lasts in
     let polled : View = after_turn w (Polled now) in
+    let stands : Stands (log ++ turns_of first ++ Polled now ∷ []) polled = stands-more (log ++ turns_of first) w (Make (Polled now) ∷ []) (stands-more log v first s.before course.0) (course.1.0, tt) in
+    let says : SaysNone pt polled (turns_of second) =
+    record { bytes = stands-bytes (log ++ turns_of first ++ Polled now ∷ []) polled stands; none = subst (λ (p : Outside). CompleteNone p pt (turns_of second)) (sym (stands-outside _ polled stands)) s.completes_none; unlost = s.unlost } in
     let ends = subst (λ u. AllowedTurn u (Polled now)) (view_from-append v first (Make (Polled now) ∷ second)) s.ends in
     let onward = course-append polled second (Make (Polled now) ∷ []) course.1.1 (ends, tt) in
-    late-before-poll pt terminal (heard_on w.scene.outside.links pt) now now (turns_of second) [] w (course-agrees v first agrees course.0) silent course.1.0
-    (record { moves = second ++ Make (Polled now) ∷ []; turns_are = turns_of-append second (Make (Polled now) ∷ []); lawful = onward }) s.round s.nothing
+    stays-before-poll pt terminal (SaysNone pt) now now (turns_of second) [] w (says-none-stays pt terminal) (course-agrees v first agrees course.0) silent course.1.0 says
+    (record { moves = second ++ Make (Polled now) ∷ []; turns_are = turns_of-append second (Make (Polled now) ∷ []); lawful = onward }) s.round
     (before-ready-talks s.terminal.standing s.terminal.talk s.standing_is) (s.facts, s.talk_is, s.late)

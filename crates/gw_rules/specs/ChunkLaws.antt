@@ -5,7 +5,7 @@ use Rattle.gw_base.specs.declared.setup.Setup.{Setup}
 use Rattle.gw_site.specs.Outside.{outside_of}
 use Rattle.gw_site.specs.Sorts.{IsQuiet, AreOfRound}
 use Rattle.gw_site.specs.declared.turn.Turn.{Turn}
-use Rattle.gw_site.specs.declared.turn.Turn.TheVariants.{Start, Polled, HeardPt, Linked}
+use Rattle.gw_site.specs.declared.turn.Turn.TheVariants.{Start, Polled, HeardPt}
 use Rattle.zvt_apdu.specs.Grammar.{ApduValue}
 use Rattle.gw_owes.specs.Core.{new_terminal}
 use Rattle.gw_owes.specs.Terminals.{registration, after_command}
@@ -14,15 +14,11 @@ use Rattle.gw_owes.specs.declared.terminal.Terminal.{Terminal}
 use Rattle.gw_rules.specs.DialogueLaws.{EndsWith, IsDone, IsEnquiredIn}
 use Rattle.gw_rules.specs.Lawful.{IsLawful}
 use Rattle.gw_rules.specs.LinkLaws.{EndsNone, HasSaid}
-use Rattle.gw_rules.specs.SilenceLaws.{SaysNothingIn}
+use Rattle.gw_rules.specs.SilenceLaws.{SaysNothingIn, linked_turns}
 
 -- a terminal with these settings, to which its registration was sent at this moment
 abbrev pub registering_terminal : Pt → ℕ → Terminal
 registering_terminal settings moment = after_command (new_terminal settings) (registration settings) Registering moment
-
--- the turns of a run, the link of a terminal, and then these
-abbrev pub linked_turns : List Turn → Setup → List Turn → ℕ → List Turn → List Turn
-linked_turns before setup run pt turns = before ++ Start setup ∷ (run ++ Linked pt ∷ turns)
 
 -- in a lawful log, a terminal that was linked and has said no whole APDU, and then says APDUs with the bytes of a round that end its registration as done, is enquired before the next poll, unless its link ends before
 abbrev pub DoneAtOnceIsEnquired : Type 0

@@ -1,10 +1,13 @@
 -- The definitions of lawful logs: what is owed after each turn, and which turn may come next.
+pub mod AloneExample
 pub mod CauseExample
 pub mod ChunkExample
 pub mod ChunkLaws
+pub mod CutCauseExample
 pub mod CutCauses
 pub mod CutExample
 pub mod DialogueLaws
+pub mod DoneExample
 pub mod Example
 pub mod JournalFiles
 pub mod Lawful
@@ -12,11 +15,13 @@ pub mod Laws
 pub mod Lean
 pub mod LinkLaws
 pub mod Opening
+pub mod OutsideLaws
 pub mod RowExample
 pub mod Scene
 pub mod SilenceLaws
 pub mod Stage
 pub mod TerminalLogExample
 pub mod TranscriptLaws
+pub mod TrickleExample
 pub mod Triple
 pub mod View

@@ -122,12 +122,6 @@ pub record IsSilentIn (pt : ℕ) (turns : List Turn) : Type 0 where
   pub unheard : BringNothing pt turns
   pub lasts : EndsNone pt turns
 
--- in a lawful log, a terminal of which nothing was heard since it was linked, and so since its registration was sent, is cut before the next poll once a poll brings nothing of it and comes as many seconds later as its settings give it to acknowledge a command
-abbrev pub SilentRegistrationIsCut : Type 0
-SilentRegistrationIsCut =
-    (before run silent inside rest : List Turn) (setup : Setup) (settings : Pt) (pt : ℕ) (now later : ℤ) → IsLawful (before ++ Start setup ∷ (run ++ Linked pt ∷ (silent ++ Polled now ∷ (inside ++ Polled later ∷ rest)))) → IsQuiet run → IsSilentIn pt silent
-    → AreOfRound inside → BringNothing pt inside → slice_get setup.terminals pt ≡ Some settings → (outside_of (before ++ Start setup ∷ run)).moment + settings.answer ≤ moment_of now → IsPtCutIn pt inside
-
 -- ---- enquiries
 
 -- the APDU `80 00 00`, an Ack, with which each side acknowledges

@@ -4,17 +4,22 @@
 ghost use Rattle.gw_rules.specs.Example.{BadFrameIsLawful, CrashLeavesNoOther, CrashedIsLawful, CrowdedIsLawful, DiskFailureEnds, FailedSendIsLawful, GateEndsLooking, LooksMayFail, NoRunWhereNotOpened, NothingToLookAt, NothingToLookAtLater, PollBeforeCut, PollBeforeReply, PollEndsLooking, PollWhileCrowded, RefusedIsNotPolled, RestartedIsLawful, SilentIsLawful, StatusIsLawful, UnaskedReply};
 ghost use Rattle.gw_rules.specs.JournalFiles.{EachHasJournalFiles, KeepingHasJournal, KeepingLeavesJournals, KeptFileIsJournal, OpenedHasJournal, OpeningHasJournal, OpeningLeavesJournalFiles};
 ghost use Rattle.gw_rules.specs.RowExample.{BothAreItems, ClosedGateDrops, FailedSendCutsLink, FailedSyncCrashes, GateIsInFlight, GoneTillIsForgotten, LinkIsDueAgain, LinkRegisters, LostEndOfDayReplies, LostIsDue, LostTransactionKeepsAsker, OpenGateKeeps, PollBeforeUnframedCut, RowItemsComeFirst, SendingsAreSpelled, StartLeavesFlight, SyncKeeps, UnframedIsLawful, UnlinkedIsLawful, WaitsByDeadline};
+ghost use Rattle.gw_rules.specs.AloneExample.{OutsideLeavesOther, TooLongEndsOwnLink};
 ghost use Rattle.gw_rules.specs.CauseExample.{OutsideIsCause, OutsideIsCut, PollBeforeOutsideCut, PollBeforeTooLongCut, SplitReport, TooLongIsCause, TooLongIsCut};
 ghost use Rattle.gw_rules.specs.ChunkExample.{PollBeforeSplitEnquiry, SplitIsEnquired};
 ghost use Rattle.gw_rules.specs.ChunkLaws.{DoneAtOnceIsEnquired};
+ghost use Rattle.gw_rules.specs.CutCauseExample.{ExampleDeclinedCut, ExampleFailedCut, ExampleLateCut, ExampleOutsideCut, ExampleTooLongCut, ExampleUnclearCut};
 ghost use Rattle.gw_rules.specs.CutCauses.{EachPtCutHasCause, FailedSendCuts};
 ghost use Rattle.gw_rules.specs.DialogueLaws.{DoneRegistrationIsEnquired, ReportMakesReady};
+ghost use Rattle.gw_rules.specs.DoneExample.{ExampleDone, ExampleDoneAtOnce};
 ghost use Rattle.gw_rules.specs.CutExample.{BothAreCut, BothAreLinkedAgain, EnquiryUnacknowledged, OtherIsNotCutFirst, PollBeforeOtherCut, UnacknowledgedDoneIsCut};
-ghost use Rattle.gw_rules.specs.LinkLaws.{DueIsTried, EachUsesLinks, EnquiryFollowsRegistration, LinkedRegisters, OutsideCuts, SilentEnquiryIsCut, SilentRegistrationIsCut, TriedOnceRested, UnfinishedRegistrationIsCut};
-ghost use Rattle.gw_rules.specs.SilenceLaws.{SilentDialogueIsCut};
+ghost use Rattle.gw_rules.specs.LinkLaws.{DueIsTried, EachUsesLinks, EnquiryFollowsRegistration, LinkedRegisters, OutsideCuts, SilentEnquiryIsCut, TriedOnceRested, UnfinishedRegistrationIsCut};
+ghost use Rattle.gw_rules.specs.OutsideLaws.{OutsideIsAlone, TooLongIsAlone};
+ghost use Rattle.gw_rules.specs.SilenceLaws.{SilentDialogueIsCut, SilentRegistrationIsCut};
 ghost use Rattle.gw_rules.specs.TerminalLogExample.{DeclinedIsLawful, DoneIsEnquired, DoneThenSilentIsCut, DueAgainIsLawful, EnquiryAfterCut, EnquiryBeforeRegistration, LinkTooEarly, PollBeforeEnquiry, PollBeforeLink, PollBeforeSilentCut, ReadyIsLawful, SilentEnquiryIsLawful, SilentRegistrationIsLawful, UnacknowledgedIsLawful, UnfinishedIsCut};
 ghost use Rattle.gw_rules.specs.Laws.{BadFrameCuts, CallsEndInOne, CrowdedCuts, EachHasOneLeanCourse, EachHeardIsBytes, PrefixIsLawful, PtBytesBring, RestartIsLawful, SetupIsWithinLimits, TillBytesBring};
 ghost use Rattle.gw_rules.specs.TranscriptLaws.{EachCommandWasSent, EachLogFollowsTranscript, EachMessageWasSaid, EachPollFollowsTranscript, ExampleLogTranscript};
+ghost use Rattle.gw_rules.specs.TrickleExample.{PollBeforeTrickleCut, TrickleIsCut, TrickleIsSilent};
 
 /// Along each lawful log there is exactly one course in which nothing begins unless a turn of its run follows.
 pub fn law_one_course()
@@ -74,6 +79,20 @@ pub fn law_outside_cuts()
     ensures cuts { OutsideCuts }
 {}
 
+/// In a lawful log, an APDU outside the grammar, and bytes that begin one above the limit, change nothing but the link of the terminal
+/// that says them. Their item begins before the next poll. Where the terminal is linked in the view before that, the next turn is its
+/// cut, and once nothing is left to handle of the same bytes all is as in that view, but that the terminal's connection is gone and that
+/// it is due in five seconds: each other terminal, each till, the records and the file are the same, and no other call was owed. Where
+/// it was cut before, all is as in that view.
+pub fn law_outside_alone()
+    ensures outside { OutsideIsAlone }
+    ensures too_long { TooLongIsAlone }
+    ensures example { OutsideLeavesOther }
+    ensures too_long_example { TooLongEndsOwnLink }
+{
+    gw_owes::law_transcript();
+}
+
 /// In a lawful log a terminal is cut only for these causes: the turn right before is a send to it that has failed; with the bytes that
 /// began the round it has said an APDU outside the grammar, begun one above the limit, or said a message that leaves its dialogue unclear
 /// or declines its registration or enquiry; or the deadline of its dialogue has come. Of these four each is an item that begins right
@@ -91,13 +110,15 @@ pub fn law_due_is_tried()
     ensures rested { TriedOnceRested }
 {}
 
-/// In a lawful log, a terminal of which nothing was heard since it was linked, and so since its registration was sent, is cut before
-/// the next poll, once a poll comes that brings nothing of it and is later than the link by the seconds that its settings give it
-/// to acknowledge a command; so is one of which nothing but `80 00 00`, in a chunk of its own, was heard on its link, by the seconds
+/// In a lawful log, a terminal that has said no whole APDU since it was linked, and so since its registration was sent, is cut before the
+/// next poll, once a poll comes that is later than the link by the seconds that its settings give it to acknowledge a command, where with
+/// what that brings it says none either, begins none above the limit, and its link doesn't end before: so no poll comes before the cut, in an example, of one that says a single byte with each poll. So
+/// is one of which nothing but `80 00 00`, in a chunk of its own, was heard on its link, once a poll brings nothing of it, by the seconds
 /// that they give it from one message to the next; and one of which that and then `06 0F 00`, in a chunk of its own, and nothing else
 /// was heard, and that was enquired, by those for a command. `law_silent_dialogue_cuts` says it of every dialogue, along courses.
 pub fn law_silent_cuts()
     ensures registration { SilentRegistrationIsCut }
+    ensures poll_before { PollBeforeTrickleCut }
     ensures unfinished { UnfinishedRegistrationIsCut }
     ensures enquiry { SilentEnquiryIsCut }
 {}
@@ -116,13 +137,16 @@ pub fn law_done_at_once()
     ensures enquired { DoneAtOnceIsEnquired }
     ensures example { SplitIsEnquired }
     ensures poll_before { PollBeforeSplitEnquiry }
+    ensures premise { ExampleDoneAtOnce }
 {}
 
 /// Along each lawful course, a terminal that registers or is enquired, completes no APDU and begins none above the limit, is cut before the
-/// next poll, unless its link ends before, once a poll comes that brings nothing of it and is at its dialogue's deadline or later: bytes of
-/// earlier polls that complete no APDU don't put the deadline off.
+/// next poll, unless its link ends before, once a poll comes at its dialogue's deadline or later: bytes that complete no APDU don't put
+/// the deadline off, whichever polls bring them. So it is, in an example, where a single byte comes with each poll.
 pub fn law_silent_dialogue_cuts()
     ensures cuts { SilentDialogueIsCut }
+    ensures example { TrickleIsSilent }
+    ensures example_cut { TrickleIsCut }
 {}
 
 /// Along each lawful course, a terminal that registers, and with newly heard bytes says APDUs that end its registration as done, is sent its
@@ -252,7 +276,8 @@ pub fn law_cut_examples()
 {}
 
 /// A terminal that has said an APDU outside the grammar, and one that has begun an APDU above the limit, are cut, and no poll comes
-/// before; and a terminal whose enquiry is ended by the second part of a Completion, with the report that came before, is ready.
+/// before; a terminal whose enquiry is ended by the second part of a Completion, with the report that came before, is ready; and one
+/// whose registration is ended as done by a part of its Ack and its Completion is enquired.
 pub fn law_cause_examples()
     ensures outside { OutsideIsCut }
     ensures outside_cause { OutsideIsCause }
@@ -261,6 +286,18 @@ pub fn law_cause_examples()
     ensures too_long_cause { TooLongIsCause }
     ensures poll_before_too_long { PollBeforeTooLongCut }
     ensures report { SplitReport }
+    ensures done { ExampleDone }
+{}
+
+/// For each cause of a cut there is a lawful log after which a terminal is cut for it: a message that leaves its registration unclear,
+/// and one that declines it; an APDU outside the grammar, and one above the limit; a deadline; and a send that has failed.
+pub fn law_cut_cause_examples()
+    ensures unclear { ExampleUnclearCut }
+    ensures declined { ExampleDeclinedCut }
+    ensures outside { ExampleOutsideCut }
+    ensures too_long { ExampleTooLongCut }
+    ensures late { ExampleLateCut }
+    ensures failed_send { ExampleFailedCut }
 {}
 
 /// A record is in flight once its gate is written, and kept once that is synced. A start leaves it in flight; a power failure

@@ -171,7 +171,7 @@ links-pt-formed = record {
   command = (omega arith, omega arith);
 }
 
-links-formed : IsSetup links_setup
+pub links-formed : IsSetup links_setup
 links-formed = record {
   name = formed.name;
   line = formed.line;

@@ -1,12 +1,14 @@
 -- Laws of the logs of scripts.
-use Rattle.std.specs.Prelude.{◌≡◌, ◌↔◌, ℕ, List, Ok}
+use Rattle.std.specs.Prelude.{◌≡◌, ◌↔◌, ℕ, ◌+◌, List, length, Ok, true, false}
 use Rattle.gw_site.specs.declared.turn.Turn.{Turn}
+use Rattle.gw_script.specs.Decode.{split_lines}
 use Rattle.gw_script.specs.site.ByLines.{GoesByLines, HasNoFailures}
+use Rattle.gw_script.specs.site.Decode.{script_of}
 use Rattle.gw_script.specs.site.Events.{HasEventsOf}
 use Rattle.gw_script.specs.site.ScriptLine.{Script, setup_of}
 use Rattle.gw_rules.specs.Lawful.{IsLawful}
 use Rattle.gw_run.specs.ScriptLog.{IsLogOf, IsRunWith}
-use Rattle.gw_run.specs.Served.{served_script}
+use Rattle.gw_run.specs.Served.{first_unserved, is_served, served_script}
 
 -- a script has one log at most
 abbrev pub OneLog : Type 0
@@ -23,3 +25,7 @@ LogHasEvents = (text : List ℕ) (script : Script) (log : List Turn) → served_
 -- only a text that is a served script has a log
 abbrev pub LogHasScript : Type 0
 LogHasScript = (text : List ℕ) (log : List Turn) → IsLogOf text log → (script : Script) × (served_script text ≡ Ok script)
+
+-- the two tables of what is served agree: a script is served exactly where each line of its text is, after those before it
+abbrev pub TablesAgree : Type 0
+TablesAgree = (text : List ℕ) (script : Script) → script_of text ≡ Ok script → is_served script ≡ true ↔ first_unserved false 1 (split_lines text) ≡ 1 + length (split_lines text)

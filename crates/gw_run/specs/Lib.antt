@@ -2,7 +2,9 @@
 pub mod Example
 pub mod Laws
 pub mod LogWritten
+pub mod ReadyExample
 pub mod Replay
 pub mod ScriptLog
 pub mod Served
+pub mod ServedExample
 pub mod Top

@@ -1,6 +1,8 @@
 //! Laws of the logs of scripts.
 ghost use Rattle.gw_run.specs.Example.{LinksHasText, LinksIsOfScript, StatusHasText, StatusIsOfScript};
-ghost use Rattle.gw_run.specs.Laws.{LogGoesByLines, LogHasEvents, LogHasScript, OneLog};
+ghost use Rattle.gw_run.specs.Laws.{LogGoesByLines, LogHasEvents, LogHasScript, OneLog, TablesAgree};
+ghost use Rattle.gw_run.specs.ReadyExample.{FailedIsNotOfScript, ReadyHasText, ReadyIsOfScript};
+ghost use Rattle.gw_run.specs.ServedExample.{ScriptIsServed, SecondTerminalIsUnserved};
 
 /// At most one log plays a script in one run to its end: it is lawful, and each send that fails takes as many bytes as the
 /// script's line says.
@@ -30,4 +32,23 @@ pub fn law_status()
 pub fn law_failing_calls()
     ensures script { LinksIsOfScript }
     ensures text { LinksHasText }
+{}
+
+/// A script in which a terminal is linked, registered and enquired, and reports its last transaction, has this log, with this text:
+/// at its end the terminal is ready.
+pub fn law_ready()
+    ensures script { ReadyIsOfScript }
+    ensures text { ReadyHasText }
+{}
+
+/// A lawful log in which a link fails, although no line of that script makes it fail, isn't the log of the script.
+pub fn law_another_log()
+    ensures other { FailedIsNotOfScript }
+{}
+
+/// A script is served exactly where each line of its text is. Closed scripts show it.
+pub fn law_served()
+    ensures agree { TablesAgree }
+    ensures served { ScriptIsServed }
+    ensures second { SecondTerminalIsUnserved }
 {}

@@ -11,15 +11,8 @@ mod text;
 
 pub use ending::Ending;
 pub use gw_rules::law_crash;
-pub use laws::{law_failing_calls, law_one_log, law_plays, law_status};
+pub use laws::{
+    law_another_log, law_failing_calls, law_one_log, law_plays, law_ready, law_served, law_status,
+};
 pub use program::top;
 pub use text::{Unwritten, write_log};
-
-#[cfg(test)]
-mod dialogue_tests;
-#[cfg(test)]
-mod message_tests;
-#[cfg(test)]
-mod script_tests;
-#[cfg(test)]
-mod tests;

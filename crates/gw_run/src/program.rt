@@ -100,16 +100,26 @@ fn site_of(alloc: Global, text: &[u8]) -> Result<SimSite, Ending>
     }
 }
 
+/// As [`site_of`], of a text that isn't kept: its memory is given back before the script is played.
+fn site_of_input(alloc: Global, text: Vec<u8>) -> Result<SimSite, Ending>
+    requires within { length text.items ≤ script_limit }
+    ensures fresh { IfOk result (λ site. IsFresh (sim_observed site) text.items) }
+    ensures served { IfOk result (λ site. served_script text.items ≡ Ok (played_script site)) }
+    ensures fault { IfErr result (IsTextFault text.items) }
+{
+    site_of(alloc, &text)
+}
+
 /// Plays the script of this text, or reports what is wrong with it.
-fn play_text<O: Sink>(alloc: Global, text: &[u8], out: &mut O) -> Ending
-    requires within { length text.now ≤ script_limit }
-    ensures printed { Adds (O.written out.old) (O.written out.new) (TextPrinted text.now result) }
-    ensures end { IsTextEnd text.now result }
+fn play_text<O: Sink>(alloc: Global, text: Vec<u8>, out: &mut O) -> Ending
+    requires within { length text.items ≤ script_limit }
+    ensures printed { Adds (O.written out.old) (O.written out.new) (TextPrinted text.items result) }
+    ensures end { IsTextEnd text.items result }
     ensures output_failed { result ≡ Ending.OutputFailed → Rose (O.faults out.old) (O.faults out.new) }
     ensures later { O.faults out.old ≤ O.faults out.new }
 {
-    match site_of(alloc, text) {
-        Ok(mut site) => play(alloc, text, &mut site, out),
+    match site_of_input(alloc, text) {
+        Ok(mut site) => play(alloc, &mut site, out),
         Err(fault) => write_last_lines(alloc, fault, out),
     }
 }
@@ -128,7 +138,7 @@ fn replay<I: Source, O: Sink>(alloc: Global, input: &mut I, out: &mut O) -> Endi
     ensures out_later { O.faults out.old ≤ O.faults out.new }
 {
     match read_input(alloc, input) {
-        Ok(text) => play_text(alloc, &text, out),
+        Ok(text) => play_text(alloc, text, out),
         Err(fault) => write_last_lines(alloc, fault, out),
     }
 }

@@ -66,11 +66,9 @@ fn write_play<O: Sink>(alloc: Global, log: &[Turn], whole: bool, out: &mut O) ->
     }
 }
 
-/// Plays the script of a site, which has this text, and writes its log.
-pub(crate) fn play<O: Sink>(alloc: Global, text: &[u8], site: &mut SimSite, out: &mut O) -> Ending
-    requires fresh { IsFresh (sim_observed site.old) text.now }
-    requires served { (script : Script) × (served_script text.now ≡ Ok script) }
-    ensures printed { Adds (O.written out.old) (O.written out.new) (PlayPrinted text.now result) }
+/// Plays the script of a site, of which nothing was played, and writes its log.
+pub(crate) fn play<O: Sink>(alloc: Global, site: &mut SimSite, out: &mut O) -> Ending
+    ensures printed { (text : List ℕ) (script : Script) → served_script text ≡ Ok script → IsFresh (sim_observed site.old) text → Adds (O.written out.old) (O.written out.new) (PlayPrinted text result) }
     ensures end { IsPlayEnd result }
     ensures output_failed { result ≡ Ending.OutputFailed → Rose (O.faults out.old) (O.faults out.new) }
     ensures later { O.faults out.old ≤ O.faults out.new }

@@ -1,6 +1,7 @@
 -- The laws of the whole script.
 pub mod ByLinesLemmas
 pub mod CallLemmas
+pub mod CallerLemmas
 pub mod EventLemmas
 pub mod ExactLemmas
 pub mod FormLemmas

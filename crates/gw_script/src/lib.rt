@@ -4,10 +4,12 @@
 ghost use Rattle.gw_script.specs.Example.{TextOfMessage, TextOfPrefix};
 ghost use Rattle.gw_script.specs.Laws.{TextOfBytes, TextOfFrame};
 ghost use Rattle.gw_script.specs.site.ByLines.{GoingByLinesPlays, PlainLinesGoOn};
-ghost use Rattle.gw_script.specs.site.CallExample.{LimitIsArmed, LimitIsUnknown, LooksAndWrites, OtherSetupIsNotItsOwn, PollReachesPower, SendsTakeExactly, SendsTakeNoFewer, StartsWithItsOwn};
+ghost use Rattle.gw_script.specs.site.CallExample.{BesideTheScript, LimitIsArmed, LimitIsUnknown, LooksAndWrites, OtherSetupIsNotItsOwn, PlanIsDone, PollReachesPower, PowerIsOff, SendToPtIsCut, SendsTakeExactly, SendsTakeNoFewer, StartsWithItsOwn, SyncGoesOn};
+ghost use Rattle.gw_script.specs.site.Callers.{OneLogOfCaller};
 ghost use Rattle.gw_script.specs.site.Events.{RunHasEvents};
 ghost use Rattle.gw_script.specs.site.Example.{AllFormsAreRead, DefaultsHold, EarlyLinesFail, MisplacedAreReported, NumbersRise, PowerFailsAfterTwo, PowerFailsAtOnce, PowerFailsNoLater, SendsFail, SyncMustFail, TwiceIsReported, WritesFail, WrongLinesAreReported};
-ghost use Rattle.gw_script.specs.site.Laws.{CallsGoOn, CallsPlay, LimitsAreArmed, OneLogOfCalls, PlaysOn, PowerGoesOn, PrefixesPlay, ReadsSiteScripts, SendsAreCut, SendsTakeTheirs, SplitsLines};
+ghost use Rattle.gw_script.specs.site.RunExample.{FailingRunHasEvents, PlainRunGoes};
+ghost use Rattle.gw_script.specs.site.Laws.{CallsGoOn, CallsPlay, GoesOnBeside, LimitsAreArmed, OneLogOfCalls, PlaysOn, PowerGoesOn, PrefixesPlay, ReadsSiteScripts, SendsAreCut, SendsTakeTheirs, SplitsLines};
 
 /// In the text of a log a frame whose message is printable ASCII is written as `'` and the message, and other bytes in
 /// hexadecimal; so a printable message is, and a frame that is incomplete.
@@ -62,22 +64,37 @@ pub fn law_site_logs()
     ensures by_lines { PlainLinesGoOn }
     ensures lines_play { GoingByLinesPlays }
     ensures events { RunHasEvents }
+    ensures plain { PlainRunGoes }
+    ensures failing { FailingRunHasEvents }
 {}
 
-/// The calls on a site and its power failures determine the log, which plays the script. A send that fails takes exactly the
-/// lesser of its length and its line's number. Closed logs show it, with writes, looks and the setup of the runs.
+/// The calls on a site and its power failures determine the log, also where the power is set to fail or a file is put on the disk
+/// beside the script; else the log plays the script. A send that fails takes exactly the lesser of its length and its line's
+/// number. Closed logs show it, with writes, looks and the setup of the runs.
 pub fn law_site_calls()
     ensures play { CallsPlay }
     ensures one_log { OneLogOfCalls }
     ensures calls { CallsGoOn }
     ensures power_back { PowerGoesOn }
+    ensures beside { GoesOnBeside }
     ensures cut { SendsAreCut }
     ensures sends { SendsTakeExactly }
     ensures no_fewer { SendsTakeNoFewer }
     ensures looks { LooksAndWrites }
+    ensures beside_script { BesideTheScript }
+    ensures sync { SyncGoesOn }
+    ensures off { PowerIsOff }
+    ensures pt { SendToPtIsCut }
     ensures power { PollReachesPower }
     ensures own { StartsWithItsOwn }
     ensures other { OtherSetupIsNotItsOwn }
+{}
+
+/// A gateway that does one thing at most after each past does one thing in all with the lines of a script, and its site has one
+/// log, whatever calls and power failures there are.
+pub fn law_site_callers()
+    ensures one_log { OneLogOfCaller }
+    ensures plan { PlanIsDone }
 {}
 
 /// How many bytes a send that fails takes at most is what fail lines have armed at the place up to which the script is played,

@@ -9,12 +9,3 @@ mod site;
 mod tills;
 
 pub use site::NetSite;
-
-#[cfg(test)]
-mod alone_tests;
-#[cfg(test)]
-mod file_tests;
-#[cfg(test)]
-mod fixture;
-#[cfg(test)]
-mod socket_tests;

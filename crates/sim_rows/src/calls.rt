@@ -4,6 +4,7 @@ ghost use Rattle.sim_site.specs.Sites.{log_of};
 
 use gw_base::Bytes;
 use gw_site::{Failed, Site, Turn, What};
+use sim_script::ImageKind;
 use sim_site::SimSite;
 use std::alloc::{AllocError, Global};
 use std::test::Fail;
@@ -31,14 +32,41 @@ impl From<Result<(), Failed>> for Answer {
     }
 }
 
-/// A site that plays this script.
-pub(crate) fn site_of(alloc: Global, script: &str) -> Result<SimSite, Fail>
+/// A site that plays this script, with an empty log.
+fn new_site(alloc: Global, script: &str) -> Result<SimSite, Fail>
     ensures { IfOk result (λ site. log_of site ≡ []) }
 {
     match SimSite::from_script(alloc, script.as_bytes()) {
         Ok(site) => Ok(site),
         Err(_) => Err(Fail::from("no script")),
     }
+}
+
+/// A site that plays this script. As of each function below, nothing is said of it, so that tests have no facts to carry along.
+pub(crate) fn site_of(alloc: Global, script: &str) -> Result<SimSite, Fail> {
+    new_site(alloc, script)
+}
+
+/// A site that plays the script and holds this file.
+pub(crate) fn holding(alloc: Global, script: &str, file: &[u8]) -> Result<SimSite, Fail> {
+    let mut site = new_site(alloc, script)?;
+    site.holding(alloc, file)?;
+    Ok(site)
+}
+
+/// How many turns the log has.
+pub(crate) fn turns_of(site: &SimSite) -> usize {
+    site.log().as_slice().len()
+}
+
+/// The power is to fail after so many more calls.
+pub(crate) fn stop_after(site: &mut SimSite, calls: u64, image: ImageKind) {
+    site.stop_after(calls, image);
+}
+
+/// Whether the script was read to its end, whether the power has failed, and whether the log could not grow.
+pub(crate) fn reports_of(site: &SimSite) -> (bool, bool, bool) {
+    (site.ended(), site.crashed(), site.short())
 }
 
 /// A run begins.
@@ -81,6 +109,34 @@ fn read(site: &mut SimSite, offset: u64) -> Answer {
     }
 }
 
+fn cut_till(site: &mut SimSite, till: u64) {
+    site.cut_till(till);
+}
+
+fn cut_pt(site: &mut SimSite, pt: u16) {
+    site.cut_pt(pt);
+}
+
+fn link(site: &mut SimSite, pt: u16) -> Result<(), Failed> {
+    site.link_pt(pt)
+}
+
+fn send_till(site: &mut SimSite, till: u64, bytes: &[u8]) -> Result<(), Failed> {
+    site.send_till(till, bytes)
+}
+
+fn send_pt(site: &mut SimSite, pt: u16, bytes: &[u8]) -> Result<(), Failed> {
+    site.send_pt(pt, bytes)
+}
+
+fn write(site: &mut SimSite, offset: u64, bytes: &[u8]) -> Result<(), Failed> {
+    site.write_at(offset, bytes)
+}
+
+fn sync(site: &mut SimSite) -> Result<(), Failed> {
+    site.sync()
+}
+
 /// Makes the call of a word: its name, and after colons a number and bytes in hexadecimal.
 fn make(alloc: Global, site: &mut SimSite, word: &str) -> Result<Answer, Fail> {
     let mut parts = word.split(':');
@@ -93,8 +149,8 @@ fn make(alloc: Global, site: &mut SimSite, word: &str) -> Result<Answer, Fail> {
         "poll" => return Ok(poll(site)),
         "length" => return Ok(length(site)),
         "read" => return Ok(read(site, wide)),
-        "cut-till" => site.cut_till(wide),
-        "cut-pt" => site.cut_pt(number),
+        "cut-till" => cut_till(site, wide),
+        "cut-pt" => cut_pt(site, number),
         "restart" => restart(alloc, site)?,
         _ => return outcome(site, name, number, &bytes),
     }
@@ -105,11 +161,11 @@ fn make(alloc: Global, site: &mut SimSite, word: &str) -> Result<Answer, Fail> {
 fn outcome(site: &mut SimSite, name: &str, number: u16, bytes: &[u8]) -> Result<Answer, Fail> {
     let wide = u64::from(number);
     let made = match name {
-        "link" => site.link_pt(number),
-        "send-till" => site.send_till(wide, bytes),
-        "send-pt" => site.send_pt(number, bytes),
-        "write" => site.write_at(wide, bytes),
-        "sync" => site.sync(),
+        "link" => link(site, number),
+        "send-till" => send_till(site, wide, bytes),
+        "send-pt" => send_pt(site, number, bytes),
+        "write" => write(site, wide, bytes),
+        "sync" => sync(site),
         _ => return Err(Fail::from("no call")),
     };
     Ok(Answer::from(made))
@@ -125,15 +181,26 @@ pub(crate) fn played(alloc: Global, script: &str, calls: &str) -> Result<String,
 pub(crate) fn made(alloc: Global, site: &mut SimSite, calls: &str) -> Result<String, Fail> {
     let mut lines = String::new(alloc);
     for word in calls.split_whitespace() {
-        let before = site.log().as_slice().len();
+        let before = turns_of(site);
         let answer = make(alloc, site, word)?;
-        for turn in site.log().as_slice().iter().skip(before) {
-            push_turn(alloc, &mut lines, turn)?;
-            lines.push_str("\n")?;
-        }
+        push_turns(alloc, &mut lines, site, before)?;
         push_answer(alloc, &mut lines, &answer)?;
     }
     Ok(lines)
+}
+
+/// Appends the lines of the turns after so many.
+fn push_turns(
+    alloc: Global,
+    lines: &mut String,
+    site: &SimSite,
+    before: usize,
+) -> Result<(), AllocError> {
+    for turn in site.log().as_slice().iter().skip(before) {
+        push_turn(alloc, lines, turn)?;
+        lines.push_str("\n")?;
+    }
+    Ok(())
 }
 
 fn push_answer(alloc: Global, lines: &mut String, answer: &Answer) -> Result<(), AllocError> {

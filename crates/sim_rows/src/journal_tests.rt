@@ -3,7 +3,7 @@ ghost use Rattle.std.specs.Prelude.{IfOk, OnOk};
 ghost use Rattle.jrn_log.specs.Journal.{StandsFor};
 ghost use Rattle.sim_site.specs.Sites.{sim_observed};
 
-use crate::calls::{restart, site_of};
+use crate::calls::{holding, restart, site_of, stop_after, turns_of};
 use gw_site::Site;
 use jrn_log::{AppendFault, Journal, OpenFault};
 use sim_script::ImageKind;
@@ -27,13 +27,6 @@ fn keep(site: &mut SimSite, journal: &mut Journal, body: &[u8; 255]) -> Result<u
         return Err(AppendFault::Disk);
     }
     journal.append(site, body)
-}
-
-/// A site that plays the script and holds this file.
-fn holding(alloc: Global, script: &str, file: &[u8]) -> Result<SimSite, Fail> {
-    let mut site = site_of(alloc, script)?;
-    site.holding(alloc, file)?;
-    Ok(site)
 }
 
 /// The bodies of a site's file, each by a letter: `A` for the first kind, `B` for the second.
@@ -116,8 +109,8 @@ fn every_stop_leaves_the_old_bodies_or_the_new(rt: HostRuntime) -> Result<(), Fa
     for (calls, kept, turns, columns) in STOPS {
         for (kind, expected) in LEFT.into_iter().zip(columns) {
             let mut site = site_of(alloc, "")?;
-            site.stop_after(calls, kind);
-            let left = (keep_both(alloc, &mut site), site.log().as_slice().len());
+            stop_after(&mut site, calls, kind);
+            let left = (keep_both(alloc, &mut site), turns_of(&site));
             assert_eq!(rt; left, (kept, turns), "{calls} {kind:?}");
             restart(alloc, &mut site)?;
             let bodies = bodies_of(alloc, &mut site)?;
@@ -128,33 +121,46 @@ fn every_stop_leaves_the_old_bodies_or_the_new(rt: HostRuntime) -> Result<(), Fa
 }
 
 /// After how many calls the power fails first, and what this leaves; the same of a second run over what is left; how many of
-/// the five returned Ok in the second run, and the bodies that are left.
-const TWO_STOPS: [(u64, ImageKind, u64, ImageKind, usize, &str); 9] = [
+/// the five returned Ok in the second run, how many turns both runs and the power failure between them have left, and the bodies
+/// that are left.
+const TWO_STOPS: [(u64, ImageKind, u64, ImageKind, usize, usize, &str); 9] = [
     // The file is still empty, or of one byte: the second run writes the first gate again.
-    (2, ImageKind::Old, 6, ImageKind::New, 1, "A"),
-    (2, ImageKind::Junk(0xA5), 6, ImageKind::Old, 1, ""),
+    (2, ImageKind::Old, 6, ImageKind::New, 1, 9, "A"),
+    (2, ImageKind::Junk(0xA5), 6, ImageKind::Old, 1, 9, ""),
     // A body that was never synced, and a gate of junk.
-    (4, ImageKind::Junk(0xA5), 4, ImageKind::New, 1, "A"),
-    (6, ImageKind::Junk(0x41), 4, ImageKind::Junk(0xA5), 1, "A"),
+    (4, ImageKind::Junk(0xA5), 4, ImageKind::New, 1, 9, "A"),
+    (
+        6,
+        ImageKind::Junk(0x41),
+        4,
+        ImageKind::Junk(0xA5),
+        1,
+        11,
+        "A",
+    ),
     // What the first has left stays, though nothing was synced since.
-    (6, ImageKind::New, 0, ImageKind::Old, 0, "A"),
-    (11, ImageKind::New, 9, ImageKind::New, 4, "ABAB"),
-    (11, ImageKind::New, 9, ImageKind::Old, 4, "ABA"),
-    (11, ImageKind::Old, 10, ImageKind::Old, 5, "AAB"),
-    (12, ImageKind::Old, 1, ImageKind::Junk(0xA5), 0, "AB"),
+    (6, ImageKind::New, 0, ImageKind::Old, 0, 7, "A"),
+    (11, ImageKind::New, 9, ImageKind::New, 4, 21, "ABAB"),
+    (11, ImageKind::New, 9, ImageKind::Old, 4, 21, "ABA"),
+    (11, ImageKind::Old, 10, ImageKind::Old, 5, 22, "AAB"),
+    (12, ImageKind::Old, 1, ImageKind::Junk(0xA5), 0, 14, "AB"),
 ];
 
 #[test]
 fn two_stops(rt: HostRuntime) -> Result<(), Fail> {
     let alloc = rt.alloc();
-    for (calls, kind, more_calls, other_kind, kept, expected) in TWO_STOPS {
+    for (calls, kind, more_calls, other_kind, kept, turns, expected) in TWO_STOPS {
         let mut site = site_of(alloc, "")?;
-        site.stop_after(calls, kind);
+        stop_after(&mut site, calls, kind);
         let _ = keep_both(alloc, &mut site);
         restart(alloc, &mut site)?;
-        site.stop_after(more_calls, other_kind);
-        let again = keep_both(alloc, &mut site);
-        assert_eq!(rt; again, kept, "{calls} {kind:?} {more_calls} {other_kind:?}");
+        stop_after(&mut site, more_calls, other_kind);
+        let again = (keep_both(alloc, &mut site), turns_of(&site));
+        assert_eq!(rt;
+            again,
+            (kept, turns),
+            "{calls} {kind:?} {more_calls} {other_kind:?}"
+        );
         restart(alloc, &mut site)?;
         let bodies = bodies_of(alloc, &mut site)?;
         assert_eq!(rt;
@@ -194,10 +200,10 @@ fn a_first_opening_reads_nothing(rt: HostRuntime) -> Result<(), Fail> {
     let alloc = rt.alloc();
     for (file, calls, script, opened, turns) in OPENINGS {
         let mut site = holding(alloc, script, file)?;
-        let before = site.log().as_slice().len();
-        site.stop_after(calls, ImageKind::New);
+        let before = turns_of(&site);
+        stop_after(&mut site, calls, ImageKind::New);
         let is_opened = Journal::open(alloc, &mut site, SLOTS).is_ok();
-        let left = site.log().as_slice().iter().skip(before).count();
+        let left = turns_of(&site).saturating_sub(before);
         assert_eq!(rt;
             (is_opened, left),
             (opened, turns),

@@ -1,5 +1,5 @@
 //! Power failures: when the power fails, what it leaves of the file, what it forgets, and how the script goes on.
-use crate::calls::{Row, made, played, site_of};
+use crate::calls::{Row, made, played, site_of, stop_after};
 use sim_script::ImageKind;
 use std::test::Fail;
 
@@ -229,7 +229,7 @@ fn what_a_power_failure_leaves(rt: HostRuntime) -> Result<(), Fail> {
             let mut site = site_of(alloc, script)?;
             made(alloc, &mut site, "open")?;
             made(alloc, &mut site, calls)?;
-            site.stop_after(0, kind);
+            stop_after(&mut site, 0, kind);
             let crash = format!(in alloc; "power {file}\n")?;
             let left = made(alloc, &mut site, "restart")?;
             assert_eq!(rt; left.as_str(), crash.as_str(), "{calls} {kind:?}");
@@ -300,8 +300,8 @@ fn stops_without_a_line(rt: HostRuntime) -> Result<(), Fail> {
         let mut site = site_of(alloc, script)?;
         made(alloc, &mut site, calls)?;
         // It is replaced, where the power has not failed.
-        site.stop_after(1, ImageKind::Junk(0xFF));
-        site.stop_after(count, kind);
+        stop_after(&mut site, 1, ImageKind::Junk(0xFF));
+        stop_after(&mut site, count, kind);
         let left = made(alloc, &mut site, further)?;
         assert_eq!(rt; left.as_str(), lines, "{script:?} {calls} {count} {kind:?}");
     }

@@ -1,5 +1,5 @@
 //! Scripts that are read: the setup, lines of another form, what a site reports of itself, and files that it holds.
-use crate::calls::{made, played, site_of};
+use crate::calls::{holding, made, played, reports_of, site_of};
 use gw_base::Currency;
 use sim_script::ScriptFault;
 use sim_site::SimSite;
@@ -68,6 +68,7 @@ const RIGHT: &str = "\
     slots 1000000\n\
     terminal T1 EUR 000000 0 0\n\
     terminal ~ CZK 999999 255 255\n\
+    terminal PPPPPPPPPPPPPPPPPPPPPPPPPPPPPPPPPPPPPPPP EUR 123456 0 0\n\
     at 0\n\
     at 253370764800\n\
     open 18446744073709551615\n\
@@ -117,6 +118,7 @@ const WRONG: &str = "\
     close\n\
     close 1 1\n\
     close 1x\n\
+    close 18446744073709551616\n\
     till\n\
     till 1\n\
     till 1 \n\
@@ -126,11 +128,13 @@ const WRONG: &str = "\
     till 1 00 00\n\
     till 1  00\n\
     till x 00\n\
+    till 18446744073709551616 00\n\
     say\n\
     say 1\n\
     say 1 \n\
     say x y\n\
     say  1 x\n\
+    say 18446744073709551616 x\n\
     pt\n\
     pt 0\n\
     pt 0 \n\
@@ -156,9 +160,12 @@ const WRONG: &str = "\
     fail link 0 0\n\
     fail send-till 1\n\
     fail send-till 1 x\n\
+    fail send-till 18446744073709551616 0\n\
+    fail send-till 1 18446744073709551616\n\
     fail send-till 1 1 1\n\
     fail send-pt 0\n\
     fail send-pt 0 01\n\
+    fail send-pt 0 18446744073709551616\n\
     fail send\n\
     fail write 1\n\
     fail sync \n\
@@ -177,15 +184,29 @@ const WRONG: &str = "\
     power 0 junk xx\n\
     power 0 new 41\n\
     power -1 new\n\
+    power 18446744073709551616 new\n\
     name\n\
     name \n\
     name A B\n\
+    name NNNNNNNNNNNNNNNNNNNNNNNNNNNNNNNNNNNNNNNNN\n\
+    line\n\
+    line \n\
     line 9\n\
+    line 18446744073709551616\n\
+    wait\n\
     wait 0\n\
     wait 3601\n\
+    wait 18446744073709551616\n\
+    slots\n\
     slots 1\n\
     slots 1000001\n\
+    slots 18446744073709551616\n\
+    terminal\n\
+    terminal \n\
     terminal T1\n\
+    terminal PPPPPPPPPPPPPPPPPPPPPPPPPPPPPPPPPPPPPPPPP EUR 123456 0 0\n\
+    terminal T1 EUR 123456 18446744073709551616 0\n\
+    terminal T1 EUR 123456 0 18446744073709551616\n\
     terminal T1 EUR 12345 0 0\n\
     terminal T1 EUR 123456 256 0\n\
     terminal T1 EUR 123456 0 256\n\
@@ -193,7 +214,14 @@ const WRONG: &str = "\
     terminal T1 EUR 123456 0";
 
 /// Scripts whose first wrong line is this one, by what came before.
-const AFTER: [(&str, u32); 12] = [
+const AFTER: [(&str, u32); 16] = [
+    ("line 1\nname", 2),
+    ("open 1\n\nclose 18446744073709551616\nx", 3),
+    (
+        "name G\nterminal PPPPPPPPPPPPPPPPPPPPPPPPPPPPPPPPPPPPPPPPP EUR 123456 0 0",
+        2,
+    ),
+    ("slots 2\n# a\nwait\nline", 3),
     ("tick\nname G", 2),
     ("# a\n\nat 1\nline 0", 4),
     ("fail open\nwait 1", 2),
@@ -332,7 +360,7 @@ fn what_a_site_reports(rt: HostRuntime) -> Result<(), Fail> {
     for (script, calls, ended, crashed) in REPORTED {
         let mut site = site_of(alloc, script)?;
         made(alloc, &mut site, calls)?;
-        let reported = (site.ended(), site.crashed(), site.short());
+        let reported = reports_of(&site);
         assert_eq!(rt; reported, (ended, crashed, false), "{script:?} {calls}");
     }
     Ok(())
@@ -341,8 +369,7 @@ fn what_a_site_reports(rt: HostRuntime) -> Result<(), Fail> {
 #[test]
 fn files_held_before_a_run(rt: HostRuntime) -> Result<(), Fail> {
     let alloc = rt.alloc();
-    let mut site = site_of(alloc, "tick\npower 0 old")?;
-    site.holding(alloc, b"abc")?;
+    let mut site = holding(alloc, "tick\npower 0 old", b"abc")?;
     let left = made(
         alloc,
         &mut site,

@@ -1,5 +1,5 @@
 -- How the log of a site goes on by calls.
-use Rattle.std.proofs.Common.{◌≡◌, ℕ, List, [], ◌∷◌, ◌++◌, get_or, refl, sym, ◌∙◌, ap, subst, true, false, append_assoc}
+use Rattle.std.proofs.Common.{◌≡◌, ℕ, List, [], ◌∷◌, ◌++◌, get_or, refl, sym, ◌∙◌, ap, subst, true, false, append-nil, append_assoc}
 use Rattle.std.proofs.Math.Logic.{∥∥₁_map}
 use Rattle.std.specs.Prelude.{Bool, ℤ, not, is_some, ◌==◌, if◌then◌else◌, Option, Some, None, IsSome, option_map}
 use Rattle.gw_base.specs.declared.setup.Setup.{Setup}
@@ -11,11 +11,11 @@ use Rattle.gw_site.specs.declared.site.What.TheVariants.{TillOpened, TillBytes, 
 use Rattle.gw_site.specs.declared.turn.Turn.{Turn}
 use Rattle.gw_site.specs.declared.turn.Turn.TheVariants.{OpenFailed, Start, Crash, Linked, LinkFailed, Polled, SentTill, SentPt, Wrote, Synced, DiskFailed}
 use Rattle.gw_site.proofs.OutsideLemmas.{outside_of-append}
-use Rattle.gw_script.specs.site.Calls.{IsPlayedTo, PollCall, SiteCall, call_turns, place_after, polled_place, polled_turns}
+use Rattle.gw_script.specs.site.Calls.{IsReached, Holding, Made, PollCall, PowerBack, Reaches, SiteCall, SiteStep, StopAfter, are_scripted, call_turns, place_after, polled_place, polled_turns, set_to_fail}
 use Rattle.gw_script.specs.site.Hazards.{armed, crash_file, is_reached, sent_of}
-use Rattle.gw_script.specs.site.Playing.{Idle, Play, PlaysLines, PlaysTo, after_poll, applies, begins, brings, fails_next, is_off, met, powered, restarted}
+use Rattle.gw_script.specs.site.Playing.{Idle, Play, PlaysLines, after_poll, applies, begins, brings, fails_next, is_off, met, powered, restarted}
 use Rattle.gw_script.specs.site.ScriptLine.{Failing, ImageKind, PlayedLine, At, Poll, Fail, Power}
-use Rattle.gw_script.proofs.site.CallLemmas.{calls-go-on, calls-play, power-goes-on}
+use Rattle.gw_script.proofs.site.CallLemmas.{calls-go-on, calls-play, goes-on-beside, power-goes-on, scripted_append}
 use Rattle.gw_script.proofs.site.LeadsLemmas.{prefixes-play}
 use Rattle.sim_script.specs.Values.{image_value, lines_value}
 use Rattle.sim_script.specs.declared.line.ImageKind.{ImageKind as ReadImageKind}
@@ -24,6 +24,7 @@ use Rattle.sim_site.specs.Connected.{HasConnections, IsFollowed}
 use Rattle.sim_site.specs.Disks.{HasDisk}
 use Rattle.sim_site.specs.Numbers.{connection_numbers}
 use Rattle.sim_site.specs.Places.{place_value}
+use Rattle.sim_site.specs.Steps.{HasPart, HasSteps}
 use Rattle.sim_site.proofs.ConnectionLemmas.{followed}
 use Rattle.sim_site.specs.declared.connections.Connections.{Connections}
 use Rattle.sim_site.specs.declared.disk.Disk.{Disk}
@@ -33,59 +34,96 @@ use Rattle.sim_site.specs.declared.place.Place.{Place}
 pub never : {A : Type 0} → true ≡ false → A
 never e = absurd (let h : true ≡ false = e in cc)
 
--- ---- what the log plays
+-- ---- which steps have led here
 
-pub plays_same : (lines : List PlayedLine) (old new : List Turn) → new ≡ old → ∥ PlaysLines lines old ∥₁ → ∥ PlaysLines lines new ∥₁
-plays_same lines old new e p = subst (λ log. ∥ PlaysLines lines log ∥₁) (sym e) p
+pub part_same : (scripted : Bool) (lines : List PlayedLine) (old new : List Turn) → new ≡ old → ∥ HasPart scripted lines old ∥₁ → ∥ HasPart scripted lines new ∥₁
+part_same scripted lines old new e p = subst (λ log. ∥ HasPart scripted lines log ∥₁) (sym e) p
 
-pub plays_stood : (lines : List PlayedLine) (log : List Turn) (place : Play) → ∥ IsPlayedTo lines log place ∥₁ → ∥ PlaysLines lines log ∥₁
-plays_stood lines log place p = ∥∥₁_map p (λ played. calls-play lines played.0 log (place, played.1))
+whole_part : (scripted : Bool) (lines : List PlayedLine) (log : List Turn) (place : Play) → HasSteps scripted lines log place → HasPart scripted lines log
+whole_part scripted lines log place stood = ([], place, subst (λ l. HasSteps scripted lines l place) (sym (append-nil log)) stood)
+
+pub part_stood : (scripted : Bool) (lines : List PlayedLine) (log : List Turn) (place : Play) → ∥ HasSteps scripted lines log place ∥₁ → ∥ HasPart scripted lines log ∥₁
+part_stood scripted lines log place p = ∥∥₁_map p (λ stood. whole_part scripted lines log place stood)
+
+-- a prefix of a log of the script alone plays it
+pub part_plays : (lines : List PlayedLine) (log : List Turn) → HasPart true lines log → PlaysLines lines log
+part_plays lines log (later, place, (steps, own, leads)) = prefixes-play lines log later (calls-play lines steps (log ++ later) own (place, leads))
+
+-- what the script alone leads to is led to
+loosened : (scripted : Bool) (lines : List PlayedLine) (log : List Turn) (place : Play) → HasSteps scripted lines log place → IsReached lines log place
+loosened true lines log place (steps, own, leads) = (steps, leads)
+loosened false lines log place reached = reached
+
+pub part_loosened : (scripted : Bool) (lines : List PlayedLine) (log : List Turn) → ∥ HasPart scripted lines log ∥₁ → ∥ HasPart false lines log ∥₁
+part_loosened scripted lines log p = ∥∥₁_map p (λ part. (part.0, part.1, loosened scripted lines (log ++ part.0) part.1 part.2))
+
+pub stands_loosened : (scripted : Bool) (lines : List PlayedLine) (log : List Turn) (place : Play) → ∥ HasSteps scripted lines log place ∥₁ → ∥ IsReached lines log place ∥₁
+stands_loosened scripted lines log place p = ∥∥₁_map p (λ stood. loosened scripted lines log place stood)
+
+-- one step of the script more
+steps_on : (scripted : Bool) (lines : List PlayedLine) (old new : List Turn) (place next : Play) (step : SiteStep) → are_scripted (step ∷ []) ≡ true → ((steps : List SiteStep) → Reaches lines steps old place → Reaches lines (steps ++ step ∷ []) new next) →
+    HasSteps scripted lines old place → HasSteps scripted lines new next
+steps_on true lines old new place next step own goes (steps, mine, leads) = (steps ++ step ∷ [], scripted_append steps (step ∷ []) mine own, goes steps leads)
+steps_on false lines old new place next step own goes (steps, leads) = (steps ++ step ∷ [], goes steps leads)
 
 pub idle_there : (lines : List ScriptLine) (place : Place) → place.off ≡ None → Idle (place_value lines place)
 idle_there lines place off = record { no_event = refl; no_failure = refl; power = ap (option_map image_value) off }
 
--- a call was made
-pub stands_made : (lines : List ScriptLine) (old new : List Turn) (place next : Place) (call : SiteCall) → place.off ≡ None → new ≡ old ++ call_turns (outside_of old) (place_value lines place) call →
-    place_value lines next ≡ place_after (outside_of old) (place_value lines place) call → ∥ IsPlayedTo (lines_value lines) old (place_value lines place) ∥₁ → ∥ IsPlayedTo (lines_value lines) new (place_value lines next) ∥₁
-stands_made lines old new place next call off is moves p = ∥∥₁_map p (λ played. one played)
-  where
-    turns : List Turn
-    turns = call_turns (outside_of old) (place_value lines place) call
+-- the call goes on from the place
+call_on : (scripted : Bool) (lines : List ScriptLine) (old : List Turn) (place : Place) (call : SiteCall) → place.off ≡ None → HasSteps scripted (lines_value lines) old (place_value lines place) →
+    HasSteps scripted (lines_value lines) (old ++ call_turns (outside_of old) (place_value lines place) call) (place_after (outside_of old) (place_value lines place) call)
+call_on scripted lines old place call off stood =
+    let turns = call_turns (outside_of old) (place_value lines place) call in
+    steps_on scripted (lines_value lines) old (old ++ turns) (place_value lines place) (place_after (outside_of old) (place_value lines place) call) (Made call) refl
+    (λ steps leads. calls-go-on (lines_value lines) steps old (place_value lines place) call turns leads (idle_there lines place off, refl)) stood
 
-    one : IsPlayedTo (lines_value lines) old (place_value lines place) → IsPlayedTo (lines_value lines) new (place_value lines next)
-    one played = subst (λ log. IsPlayedTo (lines_value lines) log (place_value lines next)) (sym is) (subst (IsPlayedTo (lines_value lines) (old ++ turns)) (sym moves) (calls-go-on (lines_value lines) old (place_value lines place) call turns played (idle_there lines place off, refl)))
+-- a call was made
+pub stands_made : (scripted : Bool) (lines : List ScriptLine) (old new : List Turn) (place next : Place) (call : SiteCall) → place.off ≡ None → new ≡ old ++ call_turns (outside_of old) (place_value lines place) call →
+    place_value lines next ≡ place_after (outside_of old) (place_value lines place) call → ∥ HasSteps scripted (lines_value lines) old (place_value lines place) ∥₁ → ∥ HasSteps scripted (lines_value lines) new (place_value lines next) ∥₁
+stands_made scripted lines old new place next call off is moves p = ∥∥₁_map p (λ stood.
+    subst (λ log. HasSteps scripted (lines_value lines) log (place_value lines next)) (sym is) (subst (HasSteps scripted (lines_value lines) (old ++ call_turns (outside_of old) (place_value lines place) call)) (sym moves) (call_on scripted lines old place call off stood)))
 
 -- memory was refused, and the log has only some of the call's turns
-pub plays_refused : (lines : List ScriptLine) (old new : List Turn) (place : Place) (call : SiteCall) (added rest : List Turn) → place.off ≡ None → call_turns (outside_of old) (place_value lines place) call ≡ added ++ rest → new ≡ old ++ added →
-    ∥ IsPlayedTo (lines_value lines) old (place_value lines place) ∥₁ → ∥ PlaysLines (lines_value lines) new ∥₁
-plays_refused lines old new place call added rest off turns e p = ∥∥₁_map p (λ played. one played)
-  where
-    made : List Turn
-    made = call_turns (outside_of old) (place_value lines place) call
-
-    one : IsPlayedTo (lines_value lines) old (place_value lines place) → PlaysLines (lines_value lines) new
-    one played =
-        let more = calls-go-on (lines_value lines) old (place_value lines place) call made played (idle_there lines place off, refl) in
-        let all : PlaysLines (lines_value lines) (old ++ made) = calls-play (lines_value lines) more.0 (old ++ made) (place_after (outside_of old) (place_value lines place) call, more.1) in
-        subst (PlaysLines (lines_value lines)) (sym e) (prefixes-play (lines_value lines) (old ++ added) rest (subst (PlaysLines (lines_value lines)) (ap (λ t. old ++ t) turns ∙ sym (append_assoc old added rest)) all))
+pub part_refused : (scripted : Bool) (lines : List ScriptLine) (old new : List Turn) (place : Place) (call : SiteCall) (added rest : List Turn) → place.off ≡ None → call_turns (outside_of old) (place_value lines place) call ≡ added ++ rest → new ≡ old ++ added →
+    ∥ HasSteps scripted (lines_value lines) old (place_value lines place) ∥₁ → ∥ HasPart scripted (lines_value lines) new ∥₁
+part_refused scripted lines old new place call added rest off turns e p = ∥∥₁_map p (λ stood. (
+  rest,
+  place_after (outside_of old) (place_value lines place) call,
+  subst (λ log. HasSteps scripted (lines_value lines) log (place_after (outside_of old) (place_value lines place) call)) (ap (λ t. old ++ t) turns ∙ sym (append_assoc old added rest) ∙ ap (λ l. l ++ rest) (sym e)) (call_on scripted lines old place call off stood),
+))
 
 -- nothing is played yet
-pub plays_nothing : (lines : List PlayedLine) (log : List Turn) → log ≡ [] → ∥ PlaysLines lines log ∥₁
-plays_nothing lines log e = ∣ (begins lines, subst (λ l. PlaysTo lines l (begins lines)) (sym e) refl) ∣₁
-
-pub stands_first : (lines : List PlayedLine) (log : List Turn) (place : Play) → log ≡ [] → place ≡ begins lines → ∥ IsPlayedTo lines log place ∥₁
-stands_first lines log place e first = ∣ ([], (e, sym first)) ∣₁
+pub stands_first : (lines : List PlayedLine) (log : List Turn) (place : Play) → log ≡ [] → place ≡ begins lines → ∥ HasSteps true lines log place ∥₁
+stands_first lines log place e first = ∣ ([], refl, (e, sym first)) ∣₁
 
 -- the power is there again
-pub stands_restarted : (lines : List ScriptLine) (old new : List Turn) (place next : Place) (kind : ReadImageKind) → place.off ≡ Some kind → new ≡ old ++ Crash (crash_file (image_value kind) (outside_of old)) ∷ [] →
-    place_value lines next ≡ restarted (place_value lines place) → ∥ IsPlayedTo (lines_value lines) old (place_value lines place) ∥₁ → ∥ IsPlayedTo (lines_value lines) new (place_value lines next) ∥₁
-stands_restarted lines old new place next kind off is moves p = ∥∥₁_map p (λ played. one played)
-  where
-    one : IsPlayedTo (lines_value lines) old (place_value lines place) → IsPlayedTo (lines_value lines) new (place_value lines next)
-    one played = subst (λ log. IsPlayedTo (lines_value lines) log (place_value lines next)) (sym is) (subst (IsPlayedTo (lines_value lines) (old ++ Crash (crash_file (image_value kind) (outside_of old)) ∷ [])) (sym moves) (power-goes-on (lines_value lines) old (place_value lines place) (image_value kind) played (ap (option_map image_value) off)))
+pub stands_restarted : (scripted : Bool) (lines : List ScriptLine) (old new : List Turn) (place next : Place) (kind : ReadImageKind) → place.off ≡ Some kind → new ≡ old ++ Crash (crash_file (image_value kind) (outside_of old)) ∷ [] →
+    place_value lines next ≡ restarted (place_value lines place) → ∥ HasSteps scripted (lines_value lines) old (place_value lines place) ∥₁ → ∥ HasSteps scripted (lines_value lines) new (place_value lines next) ∥₁
+stands_restarted scripted lines old new place next kind off is moves p = ∥∥₁_map p (λ stood.
+    let turns = Crash (crash_file (image_value kind) (outside_of old)) ∷ [] in
+    let more = steps_on scripted (lines_value lines) old (old ++ turns) (place_value lines place) (restarted (place_value lines place)) PowerBack refl
+    (λ steps leads. power-goes-on (lines_value lines) steps old (place_value lines place) (image_value kind) leads (ap (option_map image_value) off)) stood in
+    subst (λ log. HasSteps scripted (lines_value lines) log (place_value lines next)) (sym is) (subst (HasSteps scripted (lines_value lines) (old ++ turns)) (sym moves) more))
 
-pub stands_same : (lines : List ScriptLine) (old new : List Turn) (place : Place) → new ≡ old → ∥ IsPlayedTo (lines_value lines) old (place_value lines place) ∥₁ → ∥ IsPlayedTo (lines_value lines) new (place_value lines place) ∥₁
-stands_same lines old new place e p = subst (λ log. ∥ IsPlayedTo (lines_value lines) log (place_value lines place) ∥₁) (sym e) p
+pub stands_same : (scripted : Bool) (lines : List ScriptLine) (old new : List Turn) (place : Place) → new ≡ old → ∥ HasSteps scripted (lines_value lines) old (place_value lines place) ∥₁ → ∥ HasSteps scripted (lines_value lines) new (place_value lines place) ∥₁
+stands_same scripted lines old new place e p = subst (λ log. ∥ HasSteps scripted (lines_value lines) log (place_value lines place) ∥₁) (sym e) p
+
+-- the power was set to fail beside the script
+pub stands_stopped : (scripted : Bool) (lines : List ScriptLine) (log : List Turn) (place next : Place) (calls : ℕ) (kind : ImageKind) → place_value lines next ≡ set_to_fail calls kind (place_value lines place) →
+    ∥ HasSteps scripted (lines_value lines) log (place_value lines place) ∥₁ → ∥ HasSteps false (lines_value lines) log (place_value lines next) ∥₁
+stands_stopped scripted lines log place next calls kind moves p = ∥∥₁_map p (λ stood.
+    let (steps, leads) = loosened scripted (lines_value lines) log (place_value lines place) stood in
+    subst (HasSteps false (lines_value lines) log) (sym moves) (steps ++ StopAfter calls kind ∷ [], goes-on-beside.stop (lines_value lines) steps log (place_value lines place) calls kind leads))
+
+-- a file was put on the disk beside the script
+pub stands_held : (scripted : Bool) (lines : List ScriptLine) (old new : List Turn) (place : Place) (file : List ℕ) → new ≡ old ++ Crash file ∷ [] → ∥ HasSteps scripted (lines_value lines) old (place_value lines place) ∥₁ → ∥ HasSteps false (lines_value lines) new (place_value lines place) ∥₁
+stands_held scripted lines old new place file is p = ∥∥₁_map p (λ stood.
+    let (steps, leads) = loosened scripted (lines_value lines) old (place_value lines place) stood in
+    subst (λ log. HasSteps false (lines_value lines) log (place_value lines place)) (sym is) (steps ++ Holding file ∷ [], goes-on-beside.file (lines_value lines) steps old (place_value lines place) file leads))
+
+-- so it was before the first turn, wherever the site is
+pub part_held : (lines : List PlayedLine) (old new : List Turn) (file : List ℕ) → old ≡ [] → new ≡ old ++ Crash file ∷ [] → ∥ HasPart false lines new ∥₁
+part_held lines old new file none is = ∣ whole_part false lines new (begins lines) (subst (λ log. HasSteps false lines log (begins lines)) (sym (is ∙ ap (λ l. l ++ Crash file ∷ []) none)) (Holding file ∷ [], ([], refl, (refl, refl)))) ∣₁
 
 -- ---- disk and connections
 

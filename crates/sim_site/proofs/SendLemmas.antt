@@ -15,6 +15,7 @@ use Rattle.gw_script.proofs.site.LimitLemmas.{limits-are-armed}
 use Rattle.sim_script.specs.Values.{image_value, lines_value}
 use Rattle.sim_site.specs.Made.{IsLit, play_at}
 use Rattle.sim_site.specs.Sites.{origin_of}
+use Rattle.sim_site.specs.Steps.{HasSteps}
 use Rattle.sim_site.specs.declared.played.Played.{Played}
 
 limit_prop : (x y : Option ℕ) → IsProp (x ≡ y)
@@ -31,22 +32,22 @@ after_log played limit none lit own = by_test (are_known played.log) refl
     lines = lines_value played.script.lines.items
 
     by_test : (test : Bool) → are_known played.log ≡ test → HasLimit played limit (hazard_after lines played.log)
-    by_test true known = inr (∥∥₁_elim (played.stands own lit.whole) (limit_prop _ _) (λ there. ap limit (limits-are-armed lines played.log (play_at played) there known (ap (option_map image_value) lit.power))))
+    by_test true known = inr (∥∥₁_elim (subst (λ scripted. ∥ HasSteps scripted lines played.log (play_at played) ∥₁) own (played.stands lit.whole)) (limit_prop _ _) (λ there. ap limit (limits-are-armed lines played.log (play_at played) there known (ap (option_map image_value) lit.power))))
     by_test false unknown = inl (ap (λ k. limit (if k then (play_from nothing_yet Sync (begins lines) played.log).hazard else no_hazard)) unknown ∙ none)
 
-own_limit : (played : Played) (limit : Hazard → Option ℕ) → limit no_hazard ≡ None → IsLit played → played.scripted ≡ true → HasLimit played limit (hazard_read (script_of played.text) played.log)
+own_limit : (played : Played) (limit : Hazard → Option ℕ) → limit no_hazard ≡ None → IsLit played → played.scripted ≡ true → HasLimit played limit (hazard_read (script_of played.text.value) played.log)
 own_limit played limit none lit own = subst (λ read. HasLimit played limit (hazard_read read played.log)) (sym played.read_is) (after_log played limit none lit own)
 
 pub till_limit_there : (played : Played) (till : ℕ) → IsLit played → ((origin_of played).till_limit played.log till ≡ None) ⊎ ((origin_of played).till_limit played.log till ≡ takes_most (play_at played).hazard.fail_tills till)
 till_limit_there played till lit = by_test played.scripted refl
   where
-    by_test : (test : Bool) → played.scripted ≡ test → ((if test then script_origin played.text else record no_origin { script = 255 ∷ [] }).till_limit played.log till ≡ None) ⊎ ((if test then script_origin played.text else record no_origin { script = 255 ∷ [] }).till_limit played.log till ≡ takes_most (play_at played).hazard.fail_tills till)
+    by_test : (test : Bool) → played.scripted ≡ test → ((if test then script_origin played.text.value else record no_origin { script = 255 ∷ [] }).till_limit played.log till ≡ None) ⊎ ((if test then script_origin played.text.value else record no_origin { script = 255 ∷ [] }).till_limit played.log till ≡ takes_most (play_at played).hazard.fail_tills till)
     by_test true own = own_limit played (λ h. takes_most h.fail_tills till) refl lit own
     by_test false other = inl refl
 
 pub pt_limit_there : (played : Played) (pt : ℕ) → IsLit played → ((origin_of played).pt_limit played.log pt ≡ None) ⊎ ((origin_of played).pt_limit played.log pt ≡ takes_most (play_at played).hazard.fail_pts pt)
 pt_limit_there played pt lit = by_test played.scripted refl
   where
-    by_test : (test : Bool) → played.scripted ≡ test → ((if test then script_origin played.text else record no_origin { script = 255 ∷ [] }).pt_limit played.log pt ≡ None) ⊎ ((if test then script_origin played.text else record no_origin { script = 255 ∷ [] }).pt_limit played.log pt ≡ takes_most (play_at played).hazard.fail_pts pt)
+    by_test : (test : Bool) → played.scripted ≡ test → ((if test then script_origin played.text.value else record no_origin { script = 255 ∷ [] }).pt_limit played.log pt ≡ None) ⊎ ((if test then script_origin played.text.value else record no_origin { script = 255 ∷ [] }).pt_limit played.log pt ≡ takes_most (play_at played).hazard.fail_pts pt)
     by_test true own = own_limit played (λ h. takes_most h.fail_pts pt) refl lit own
     by_test false other = inl refl

@@ -120,5 +120,5 @@ script_within text script e = let spells = (reads-scripts.script text script).0 
 
 -- the setup with which the runs of what is played start
 pub setup_limits : {E : Type 0} (played : Played) (result : Result Setup E) → IfOk result (λ setup. setup ≡ setup_of (whole_script_value played.script).given) → IfOk result IsSetup
-setup_limits played (Ok setup) is = subst IsSetup (sym is) (script_within played.text (whole_script_value played.script) played.read_is)
+setup_limits played (Ok setup) is = subst IsSetup (sym is) (script_within played.text.value (whole_script_value played.script) played.read_is)
 setup_limits played (Err error) is = tt

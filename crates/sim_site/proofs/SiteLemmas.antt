@@ -37,7 +37,7 @@ pub short_dark : (played : Played) → played.short ≡ true → is_dark played 
 short_dark played short = ap (λ s. s || is_some played.place.off) short
 
 pub origin_same : (old new : Played) → IsSameScript old new → origin_of new ≡ origin_of old
-origin_same old new same = ap (λ s. if s then script_origin new.text else record no_origin { script = 255 ∷ [] }) same.scripted ∙ ap (λ (text : List ℕ). if old.scripted then script_origin text else record no_origin { script = 255 ∷ [] }) same.text
+origin_same old new same = ap (λ s. if s then script_origin new.text.value else record no_origin { script = 255 ∷ [] }) same.scripted ∙ ap (λ (text : List ℕ). if old.scripted then script_origin text else record no_origin { script = 255 ∷ [] }) same.text
 
 -- ---- what is added
 
@@ -303,7 +303,7 @@ ok_same a b e = cc
 pub origin_own : (played : Played) (script : Script) → script_of (origin_of played).script ≡ Ok script → (played.scripted ≡ true) × (whole_script_value played.script ≡ script)
 origin_own played script e = by_test played.scripted refl e
   where
-    by_test : (test : Bool) → played.scripted ≡ test → script_of (if test then script_origin played.text else record no_origin { script = 255 ∷ [] }).script ≡ Ok script → (played.scripted ≡ true) × (whole_script_value played.script ≡ script)
+    by_test : (test : Bool) → played.scripted ≡ test → script_of (if test then script_origin played.text.value else record no_origin { script = 255 ∷ [] }).script ≡ Ok script → (played.scripted ≡ true) × (whole_script_value played.script ≡ script)
     by_test true own same = (own, ok_same (whole_script_value played.script) script (sym played.read_is ∙ same))
     by_test false own same = absurd (let h : Err 1 ≡ Ok script = sym no_text ∙ same in cc)
 

@@ -1,7 +1,7 @@
 -- Bytes written over those of a file and past its end, in two parts.
-use Rattle.std.proofs.Common.{◌≡◌, ℕ, ◌+◌, ◌-◌, ◌<◌, ◌≤◌, List, [], ◌++◌, length, get_or, take, drop, refl, sym, ◌∙◌, ap, arith, inl, inr, append-nil, append_assoc, length-append, length-take, take-append-drop}
+use Rattle.std.proofs.Common.{◌≡◌, ℕ, ◌+◌, ◌-◌, ◌<◌, ◌≤◌, List, [], ◌++◌, length, get_or, take, drop, sym, ◌∙◌, ap, arith, inl, inr, append-nil, append_assoc, length-append, length-take, take-append-drop}
 use Rattle.std.proofs.lemmas.Bool.{cases_lt}
-use Rattle.std.proofs.lemmas.List.{length-replicate, take_all, take-append-le, drop-append-le, drop_all, length-take-le, get_or-take, get_or_past, get_or-replicate, get_or_append_left, get_or-append_right}
+use Rattle.std.proofs.lemmas.List.{length-replicate, take_all, drop_all, length-take-le, get_or-take, get_or_past, get_or-replicate, get_or_append_left, get_or-append_right}
 use Rattle.std.specs.Prelude.{Result, Ok, Err, OnOk, is_ok, min, replicate, if◌then◌else◌}
 use Rattle.gw_site.specs.Outside.{overwrite}
 

@@ -11,3 +11,4 @@ pub mod Places
 pub mod Ranges
 pub mod Sites
 pub mod Sought
+pub mod Steps

@@ -32,7 +32,7 @@ pub record IsLit (played : Played) : Type 0 where
 
 -- what is played is the same
 pub record IsSameScript (old new : Played) : Type 0 where
-  pub text : new.text ≡ old.text
+  pub text : new.text.value ≡ old.text.value
   pub script : new.script ≡ old.script
   pub scripted : new.scripted ≡ old.scripted
 
@@ -49,7 +49,7 @@ pub record IsRefused (old new : Played) : Type 0 where
 
 -- nothing has changed
 pub record IsUnchanged (old new : Played) : Type 0 where
-  pub text : new.text ≡ old.text
+  pub text : new.text.value ≡ old.text.value
   pub script : new.script ≡ old.script
   pub scripted : new.scripted ≡ old.scripted
   pub place : new.place ≡ old.place
@@ -58,7 +58,7 @@ pub record IsUnchanged (old new : Played) : Type 0 where
 
 -- nothing is played yet
 pub record IsUnplayed (text : List ℕ) (played : Played) : Type 0 where
-  pub text_is : played.text ≡ text
+  pub text_is : played.text.value ≡ text
   pub scripted : played.scripted ≡ true
   pub whole : played.short ≡ false
   pub power : played.place.off ≡ None

@@ -1,8 +1,8 @@
 -- How far a site has played its script.
-use Rattle.std.specs.Prelude.{◌≡◌, ℕ, Bool, true, false, ◌==◌, if◌then◌else◌, List, [], drop, is_some, option_map}
+use Rattle.std.specs.Prelude.{◌≡◌, Bool, true, false, List, [], drop, option_map}
 use Rattle.gw_site.specs.Outside.{Outside}
-use Rattle.gw_script.specs.site.Playing.{Play, early_lines, is_off, powered}
-use Rattle.gw_script.specs.site.ScriptLine.{ImageKind, PlayedLine}
+use Rattle.gw_script.specs.site.Playing.{Play, early_lines}
+use Rattle.gw_script.specs.site.ScriptLine.{PlayedLine}
 use Rattle.gw_script.specs.site.Calls.{SiteCall, place_after}
 use Rattle.sim_script.specs.declared.line.ScriptLine.{ScriptLine}
 use Rattle.sim_script.specs.Values.{image_value, lines_value}
@@ -28,7 +28,3 @@ place_value lines place = record {
 -- Inner: the place moves as the call says
 abbrev pub Moves : Place → Place → SiteCall → Type 0
 Moves old new call = (o : Outside) (lines : List ScriptLine) → place_value lines new ≡ place_after o (place_value lines old) call
-
--- the place once the power is set to fail after so many more calls: at once for none; where it has failed already all is as before
-abbrev pub set_to_fail : ℕ → ImageKind → Play → Play
-set_to_fail calls kind p = if is_some p.off then p else if calls == 0 then is_off kind p else powered calls kind p

@@ -20,7 +20,7 @@ use Rattle.sim_site.specs.declared.site.SimSite.{SimSite}
 
 -- what determines what is played: the text; one that no script has, where the power was set to fail or a file was put on the disk beside the script
 abbrev pub origin_of : Played → Origin
-origin_of played = if played.scripted then script_origin played.text else record no_origin { script = 255 ∷ [] }
+origin_of played = if played.scripted then script_origin played.text.value else record no_origin { script = 255 ∷ [] }
 
 -- the log that has played the script, how often a call has failed, whether the site is dark, and what determines what is played
 abbrev pub observed_with : ℕ → Played → Observed

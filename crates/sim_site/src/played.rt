@@ -3,15 +3,16 @@ ghost use Rattle.std.specs.Prelude.{◌≡◌, ◌⊎◌, ◌||◌, ◌==◌, �
 ghost use Rattle.std.specs.Option.{option_to_list};
 ghost use Rattle.gw_site.specs.Outside.{Outside, outside_from, outside_of};
 ghost use Rattle.gw_site.specs.declared.turn.Turn.TheVariants.{Crash, DiskFailed, Linked, LinkFailed, OpenFailed, Polled, Start, Synced, Wrote};
-ghost use Rattle.gw_script.specs.site.Calls.{IsPlayedTo};
+ghost use Rattle.gw_script.specs.site.Calls.{set_to_fail};
 ghost use Rattle.gw_script.specs.site.Decode.{script_of};
 ghost use Rattle.gw_script.specs.Decode.{is_empty};
 ghost use Rattle.gw_script.specs.site.Hazards.{crash_file, is_failing, sent_of, takes_most};
-ghost use Rattle.gw_script.specs.site.Playing.{PlaysLines, restarted};
+ghost use Rattle.gw_script.specs.site.Playing.{restarted};
 ghost use Rattle.sim_script.specs.Values.{image_value, lines_value, whole_script_value};
 ghost use Rattle.sim_site.specs.Connected.{HasConnections};
 ghost use Rattle.sim_site.specs.Disks.{HasDisk};
-ghost use Rattle.sim_site.specs.Places.{place_value, set_to_fail};
+ghost use Rattle.sim_site.specs.Places.{place_value};
+ghost use Rattle.sim_site.specs.Steps.{HasPart, HasSteps};
 
 use crate::connections::Connections;
 use crate::disk::Disk;
@@ -22,12 +23,13 @@ use gw_base::{Bytes, Setup};
 use gw_site::{Turn, Turns, What};
 use sim_script::{ImageKind, Script};
 use std::alloc::{AllocError, Global};
+use std::snapshot::Snapshot;
 
 /// A script, the log that has played it up to a place, and the disk and the connections that the log has led to.
 #[derive(Drop)]
 pub(crate) struct Played {
-    /// The text of the script.
-    pub(crate) text: Bytes,
+    /// The text of the script, of which no bytes are kept: clauses alone read it.
+    pub(crate) text: Snapshot<Bytes>,
     pub(crate) script: Script,
     /// What is played is the script alone: no power failure was set and no file was put on the disk beside it.
     pub(crate) scripted: bool,
@@ -37,9 +39,9 @@ pub(crate) struct Played {
     pub(crate) short: bool,
     pub(crate) disk: Disk,
     pub(crate) connections: Connections,
-    pub(crate) ghost read_is: { script_of text ≡ Ok (whole_script_value script) },
-    pub(crate) ghost plays: { scripted ≡ true → ∥ PlaysLines (lines_value script.lines.items) log ∥₁ },
-    pub(crate) ghost stands: { scripted ≡ true → short ≡ false → ∥ IsPlayedTo (lines_value script.lines.items) log (place_value script.lines.items place) ∥₁ },
+    pub(crate) ghost read_is: { script_of text.value ≡ Ok (whole_script_value script) },
+    pub(crate) ghost part: { ∥ HasPart scripted (lines_value script.lines.items) log ∥₁ },
+    pub(crate) ghost stands: { short ≡ false → ∥ HasSteps scripted (lines_value script.lines.items) log (place_value script.lines.items place) ∥₁ },
     pub(crate) ghost disk_is: { short ≡ false → HasDisk (outside_of log) disk },
     pub(crate) ghost connections_are: { short ≡ false → HasConnections (outside_of log) connections },
 }
@@ -166,9 +168,13 @@ impl Played {
     ghost use Rattle.sim_site.specs.Made.{IsLit, IsCallMade, IsUnplayed, IsPollRefused, IsPollMade, IsRefused, IsSameScript, IsUnchanged, IsWriteRefused, outside_at, play_at};
 
     /// Nothing of this script, which the text was read as, is played yet.
-    pub(crate) fn new(alloc: Global, text: Bytes, script: Script) -> Result<Played, AllocError>
-        requires { script_of text ≡ Ok (whole_script_value script) }
-        ensures new { IfOk result (λ played. IsUnplayed text played) }
+    pub(crate) fn new(
+        alloc: Global,
+        text: Snapshot<Bytes>,
+        script: Script,
+    ) -> Result<Played, AllocError>
+        requires { script_of text.value ≡ Ok (whole_script_value script) }
+        ensures new { IfOk result (λ played. IsUnplayed text.value played) }
     {
         let place = Place::first(alloc, &script.lines)?;
         Ok(Played {
@@ -234,6 +240,7 @@ impl Played {
 
     /// The disk has this file, as a power failure left it; nothing changes where there is no memory.
     pub(crate) fn hold(&mut self, alloc: Global, file: &[u8]) -> Result<(), AllocError>
+        requires { self.old.log ≡ [] }
         ensures log { OnOk result (self.new.log ≡ self.old.log ++ Crash file.now ∷ []) }
         ensures scripted { OnOk result (self.new.scripted ≡ false) }
         ensures place { OnOk result (self.new.place ≡ self.old.place) }

@@ -7,14 +7,14 @@ ghost use Rattle.gw_site.specs.Outside.{file_part, outside_of};
 ghost use Rattle.gw_site.specs.Turns.{DiskTurns, IsPromised, IsTurn, IsWithinBuf, LinkTurns, OpenTurns, PolledTurns, SentPtTurns, SentTillTurns, SyncedTurns, WroteTurns};
 ghost use Rattle.gw_site.specs.declared.turn.Turn.TheVariants.{Crash, CutPt, CutTill};
 ghost use Rattle.gw_script.specs.Decode.{is_empty, script_limit};
-ghost use Rattle.gw_script.specs.site.Calls.{CutPtCall, CutTillCall, LengthCall, LinkCall, OpenCall, PollCall, ReadCall, SendPtCall, SendTillCall, SyncCall, WriteCall};
+ghost use Rattle.gw_script.specs.site.Calls.{CutPtCall, CutTillCall, IsReached, LengthCall, LinkCall, OpenCall, PollCall, ReadCall, SendPtCall, SendTillCall, SyncCall, WriteCall, set_to_fail};
 ghost use Rattle.gw_script.specs.site.Decode.{script_of};
 ghost use Rattle.gw_script.specs.site.Limits.{script_origin};
 ghost use Rattle.gw_script.specs.site.Playing.{begins};
 ghost use Rattle.gw_script.specs.site.ScriptLine.{setup_of};
 ghost use Rattle.sim_script.specs.Read.{IsScriptFault};
 ghost use Rattle.sim_script.specs.Values.{image_value, whole_script_value};
-ghost use Rattle.sim_site.specs.Places.{set_to_fail};
+ghost use Rattle.sim_site.specs.Steps.{IsReachedPart};
 
 use crate::played::Played;
 use gw_base::{Bytes, Setup};
@@ -22,6 +22,7 @@ use gw_site::{Failed, Polled, Site, Turns, What};
 use jrn_log::read_part;
 use sim_script::{ImageKind, Script, ScriptFault, read_script};
 use std::alloc::{AllocError, Global};
+use std::snapshot::Snapshot;
 
 /// A site in memory. Its events, moments, failing calls and power failures are those of a script, in the lines of
 /// `docs/FORMATS.md`.
@@ -33,6 +34,14 @@ pub struct SimSite {
     alloc: Global,
     played: Played,
     faults: u64,
+}
+
+/// A text for clauses alone, of which no bytes are kept.
+fn text_of(alloc: Global, bytes: &[u8]) -> Result<Snapshot<Bytes>, AllocError>
+    ensures { IfOk result (λ text. text.value ≡ bytes.now) }
+{
+    let copy = Bytes::copied(alloc, bytes)?;
+    Ok(Snapshot::of(&copy))
 }
 
 /// A count of failures after one more; it stays at its last value.
@@ -78,7 +87,7 @@ impl SimSite {
         ensures script { IfOk result (λ site. script_of bytes.now ≡ Ok (played_script site)) }
         ensures place { IfOk result (λ site. place_of site ≡ begins (played_script site).lines) }
     {
-        let text = Bytes::copied(alloc, bytes)?;
+        let text = text_of(alloc, bytes)?;
         let played = Played::new(alloc, text, script)?;
         Ok(SimSite {
             alloc,
@@ -167,10 +176,13 @@ impl SimSite {
         self.played.script.given.setup(alloc)
     }
 
-    /// What went in and out. It plays the script of the text of which the site was made, unless `holding` or `stop_after`
-    /// was called.
+    /// What went in and out: the log of calls on the site, of its power failures, and of `holding` and `stop_after` where they
+    /// were called; else it plays the script of the text of which the site was made. Where it could not grow it is a prefix of
+    /// such a log.
     pub fn log(&self) -> &Turns
         ensures log { result.now ≡ log_of self.now }
+        ensures steps { is_log_full self.now ≡ false → ∥ IsReached (played_script self.now).lines result.now (place_of self.now) ∥₁ }
+        ensures part { ∥ IsReachedPart (played_script self.now).lines result.now ∥₁ }
         ensures plays { PlaysOrigin (sim_observed self.now).origin.script result.now }
         ensures calls { is_log_full self.now ≡ false → IsOriginPlayedTo (sim_observed self.now).origin.script result.now (place_of self.now) }
     {

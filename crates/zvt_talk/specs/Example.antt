@@ -1,14 +1,16 @@
 -- Example dialogues: a payment, an enquiry and a display, and what single messages mean in them.
-use Rattle.std.specs.Prelude.{◌≡◌, ℕ, pos, List, [], ◌∷◌, None, Some, Ok, true, false}
+use Rattle.std.specs.Prelude.{◌≡◌, ℕ, pos, List, [], ◌∷◌, ◌++◌, None, Some, Ok, IsTrue, true, false}
 use Rattle.gw_base.specs.declared.figures.Figures.{Figures}
 use Rattle.zvt_bmp.specs.declared.fields.Fields.{Fields}
 use Rattle.zvt_bmp.specs.Decode.{decode_status}
 use Rattle.zvt_msg.specs.Message.{Ack, Intermediate, Line, Block, Status, Completion, Abort, Other}
 use Rattle.zvt_talk.specs.declared.dialogue_kind.DialogueKind.TheVariants.{Enquiry, Payment, Display}
 use Rattle.zvt_talk.specs.declared.meaning.Heard.TheVariants as heard
+use Rattle.zvt_talk.specs.declared.phase.Phase.TheVariants.{Begun}
 use Rattle.zvt_talk.specs.Dialogue.{Dialogue}
 use Rattle.zvt_talk.specs.Came.{Came, Message, StopWished, messages, deadline}
-use Rattle.zvt_talk.specs.Talk.{meaning}
+use Rattle.zvt_talk.specs.Talk.{meaning, end_of, TalkFacts, talk_after, talk_goes_on}
+use Rattle.zvt_talk.specs.TalkSteps.{meaning_for_talk, next_talk, no_statuses, with_fields}
 use Rattle.zvt_talk.specs.Laws.{ReportsLastTransaction, ReportsNoTransaction}
 use Rattle.zvt_talk.specs.Limits.{AllNumbersFitFields, FiguresFitFields, FiguresFitRecord, AreAtLeastOne, WereRead}
 
@@ -100,3 +102,30 @@ pub record ExampleReports : Type 0 where
   pub none : ReportsNoTransaction enquiry_dialogue acknowledged_came (Abort (Some 0x83)) 0 None 0x83
   pub none_reported : meaning enquiry_dialogue acknowledged_came (Abort (Some 0x83)) ≡ heard.Told 0 None 0x83
   pub other_code : meaning enquiry_dialogue acknowledged_came (Abort (Some 0x84)) ≡ heard.Unclear
+
+-- a stop was wished of the payment once it was acknowledged, so that `06 B0` was sent
+abbrev pub stopped_came : List Came
+stopped_came = Message Ack (pos 103) ∷ StopWished ∷ []
+
+-- what its talk keeps of that
+abbrev pub stopped_talk : TalkFacts
+stopped_talk = record { dialogue_kind = Payment; none = 0x83; command_time = 180; deadline = pos 283; phase = Begun true no_statuses }
+
+-- and of a status that comes then
+abbrev pub stopped_status_talk : TalkFacts
+stopped_status_talk = record stopped_talk { deadline = pos 290; phase = Begun true (with_fields no_statuses greatest_status) }
+
+-- the payment with this status was completed
+abbrev pub completed_came : List Came
+completed_came = greatest_came ++ Message Completion (pos 111) ∷ []
+
+-- a payment that is begun goes on, and of a status its talk says and keeps what all that came does; one that has ended keeps its end, whatever comes
+pub record ExampleTalkSteps : Type 0 where
+  pub talk : talk_after payment_dialogue stopped_came ≡ stopped_talk
+  pub goes_on : IsTrue (talk_goes_on (talk_after payment_dialogue stopped_came))
+  pub means_for_talk : meaning_for_talk stopped_talk (Status greatest_status) ≡ heard.Seen
+  pub means : meaning payment_dialogue stopped_came (Status greatest_status) ≡ heard.Seen
+  pub next : next_talk stopped_talk (Status greatest_status) (pos 110) ≡ stopped_status_talk
+  pub after_all : talk_after payment_dialogue (stopped_came ++ Message (Status greatest_status) (pos 110) ∷ []) ≡ stopped_status_talk
+  pub ended : end_of payment_dialogue completed_came ≡ Some (heard.Approved greatest_figures)
+  pub stays : end_of payment_dialogue (completed_came ++ StopWished ∷ Message (Abort (Some 5)) (pos 112) ∷ []) ≡ Some (heard.Approved greatest_figures)

@@ -7,7 +7,7 @@ ghost use Rattle.zvt_talk.specs.declared.meaning.Heard.{Heard};
 ghost use Rattle.zvt_talk.specs.declared.meaning.Heard.TheVariants as heard;
 ghost use Rattle.zvt_talk.specs.declared.dialogue_kind.DialogueKind.TheVariants.{Display};
 ghost use Rattle.zvt_talk.specs.Dialogue.{Dialogue};
-ghost use Rattle.zvt_talk.specs.Example.{ExampleBegins, ExampleGoesOn, ExampleDeadlines, ExampleFigures, ExampleReadFigures, ExampleReports};
+ghost use Rattle.zvt_talk.specs.Example.{ExampleBegins, ExampleGoesOn, ExampleDeadlines, ExampleFigures, ExampleReadFigures, ExampleReports, ExampleTalkSteps};
 ghost use Rattle.zvt_talk.specs.Came.{Came, Message, StopWished, messages, statuses, last_status, said_approved, has_ended, is_begun, is_stop_sent, is_stop_wished, deadline};
 ghost use Rattle.zvt_talk.specs.Talk.{meaning, end_of, is_end, phase_of, talk_after, talk_goes_on};
 ghost use Rattle.zvt_talk.specs.Limits.{AreAtLeastOne, FiguresFitFields, FiguresFitRecord, AllNumbersFitFields, WereRead};
@@ -236,11 +236,12 @@ pub fn law_deadline()
 {}
 
 /// Examples of the laws, which are computed: how a payment begins and goes on, its deadlines, the greatest numbers that
-/// are reported, and what an enquiry reports.
+/// are reported, what an enquiry reports, and what a talk keeps.
 pub fn law_examples()
     ensures begun { ExampleBegins }
     ensures goes_on { ExampleGoesOn }
     ensures deadline { ExampleDeadlines }
     ensures figures { ExampleFigures }
     ensures reports { ExampleReports }
+    ensures steps { ExampleTalkSteps }
 {}

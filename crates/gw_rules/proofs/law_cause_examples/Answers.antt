@@ -1,5 +1,6 @@
 -- Proof of the contract of `law_cause_examples`.
 use Rattle.gw_rules.proofs.CauseExampleLemmas.{outside-cut, outside-cause, poll-before-outside-cut, too-long-cut, too-long-cause, poll-before-too-long-cut, split-report}
+use Rattle.gw_rules.proofs.DoneExampleLemmas.{done}
 use Rattle.gw_rules.proofs.law_cause_examples.Goals as goal
 
 pub returns-clause-outside : goal.returns-clause-outside
@@ -22,3 +23,6 @@ returns-clause-poll_before_too_long c = poll-before-too-long-cut
 
 pub returns-clause-report : goal.returns-clause-report
 returns-clause-report c = split-report
+
+pub returns-clause-done : goal.returns-clause-done
+returns-clause-done c = done

@@ -7,7 +7,7 @@ use Rattle.gw_script.specs.site.CallExample.{OtherSetupIsNotItsOwn, SendsTakeNoF
 use Rattle.gw_script.specs.site.ScriptLine.{Open, Tick, FailSendTill, Junk, New, Poll, Fail}
 use Rattle.gw_script.specs.site.Playing.{Sync}
 use Rattle.gw_script.specs.site.Calls.{OpenCall, PollCall, SendTillCall, Made, PlaysBy}
-use Rattle.gw_script.proofs.site.CallLemmas.{calls-go-on, calls-play, one-log-of-calls, power-goes-on, sends-are-cut}
+use Rattle.gw_script.proofs.site.CallLemmas.{calls-go-on, calls-play, goes-on-beside, one-log-of-calls, power-goes-on, sends-are-cut}
 use Rattle.gw_script.proofs.law_site_calls.Goals as goal
 
 pub returns-clause-play : goal.returns-clause-play
@@ -58,3 +58,18 @@ returns-clause-calls c = calls-go-on
 
 pub returns-clause-power_back : goal.returns-clause-power_back
 returns-clause-power_back c = power-goes-on
+
+pub returns-clause-beside : goal.returns-clause-beside
+returns-clause-beside c = goes-on-beside
+
+pub returns-clause-beside_script : goal.returns-clause-beside_script
+returns-clause-beside_script c = (_, (_, refl, (_, _, (record { no_event = refl; no_failure = refl; power = refl }, refl), refl, (_, _, (record { no_event = refl; no_failure = refl; power = refl }, refl), refl, (_, _, (record { no_event = refl; no_failure = refl; power = refl }, refl), refl, (Junk 165, _, refl, refl, (_, _, (record { no_event = refl; no_failure = refl; power = refl }, refl), refl, (_, _, (record { no_event = refl; no_failure = refl; power = refl }, refl), refl, (refl, refl)))))))))
+
+pub returns-clause-sync : goal.returns-clause-sync
+returns-clause-sync c = record { place = _; reached = (_, _, (record { no_event = refl; no_failure = refl; power = refl }, refl), refl, (_, _, (record { no_event = refl; no_failure = refl; power = refl }, refl), refl, (refl, refl))); fits = (record { no_event = refl; no_failure = refl; power = refl }, refl) }
+
+pub returns-clause-off : goal.returns-clause-off
+returns-clause-off c = record { place = _; reached = (_, _, (record { no_event = refl; no_failure = refl; power = refl }, refl), refl, (_, _, (record { no_event = refl; no_failure = refl; power = refl }, refl), refl, (_, _, (record { no_event = refl; no_failure = refl; power = refl }, refl), refl, (refl, refl)))); off = refl }
+
+pub returns-clause-pt : goal.returns-clause-pt
+returns-clause-pt c = record { place = _; reached = (_, _, (record { no_event = refl; no_failure = refl; power = refl }, refl), refl, (_, _, (record { no_event = refl; no_failure = refl; power = refl }, refl), refl, (_, _, (record { no_event = refl; no_failure = refl; power = refl }, refl), refl, (refl, refl)))); named = refl; fits = (record { no_event = refl; no_failure = refl; power = refl }, refl) }

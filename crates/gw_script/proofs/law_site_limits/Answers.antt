@@ -9,7 +9,7 @@ pub returns-clause-armed : goal.returns-clause-armed
 returns-clause-armed c = limits-are-armed
 
 pub returns-clause-known : goal.returns-clause-known
-returns-clause-known c = (_, (Made (OpenCall plain) ∷ Made PollCall ∷ Made PollCall ∷ [], (_, _, (record { no_event = refl; no_failure = refl; power = refl }, refl), refl, (_, _, (record { no_event = refl; no_failure = refl; power = refl }, refl), refl, (_, _, (record { no_event = refl; no_failure = refl; power = refl }, refl), refl, (refl, refl))))), refl, refl, refl)
+returns-clause-known c = (_, (Made (OpenCall plain) ∷ Made PollCall ∷ Made PollCall ∷ [], refl, (_, _, (record { no_event = refl; no_failure = refl; power = refl }, refl), refl, (_, _, (record { no_event = refl; no_failure = refl; power = refl }, refl), refl, (_, _, (record { no_event = refl; no_failure = refl; power = refl }, refl), refl, (refl, refl))))), refl, refl, refl)
 
 pub returns-clause-unknown : goal.returns-clause-unknown
 returns-clause-unknown c = refl

@@ -9,8 +9,8 @@ use Rattle.gw_site.proofs.OutsideLemmas.{outside_from-append}
 use Rattle.gw_script.specs.site.ScriptLine.{ImageKind, Failing, Event, Open, Close, FromTill, FromPt, Lose, Tick, PlayedLine, At, Poll, Fail, Power}
 use Rattle.gw_script.specs.site.Hazards.{Armed, Hazard, armed, crash_file, is_failing, is_reached, links_without, sends_without, sent_of, takes_most}
 use Rattle.gw_script.specs.site.Playing.{DiskCall, Write, Sync, Length, Read, Fits, Idle, Leads, Play, after_poll, applies, begins, brings, brought, counted, fails_next, fallen, is_off, met, one_call_less, play_after, powered, restarted}
-use Rattle.gw_script.specs.site.Calls.{SiteCall, OpenCall, PollCall, SendTillCall, SendPtCall, LinkCall, CutTillCall, CutPtCall, LengthCall, ReadCall, WriteCall, SyncCall, CallFits, LeadsBy, SiteStep, Made, PowerBack, place_after, play_from, polled_place, polled_turns, call_turns}
-use Rattle.gw_script.specs.site.Laws.{CallsGoOn, CallsPlay, IsCutTo, OneLogOfCalls, PowerGoesOn, SendsAreCut}
+use Rattle.gw_script.specs.site.Calls.{SiteCall, OpenCall, PollCall, SendTillCall, SendPtCall, LinkCall, CutTillCall, CutPtCall, LengthCall, ReadCall, WriteCall, SyncCall, LeadsBy, SiteStep, Made, PowerBack, StopAfter, Holding, are_scripted, place_after, play_from, polled_place, polled_turns, call_turns, set_to_fail}
+use Rattle.gw_script.specs.site.Laws.{CallsGoOn, CallsPlay, GoesOnBeside, IsCutTo, OneLogOfCalls, PowerGoesOn, SendsAreCut}
 use Rattle.gw_script.proofs.site.LeadsLemmas.{sends-take-theirs}
 
 -- no event and no failure of the disk is due
@@ -242,24 +242,26 @@ crash_then steps again o p q kind later turns after none failing same off is res
     let from : Leads (outside_after o (Crash file)) (restarted (fallen o q.off q)) later final = subst (λ x. Leads (outside_after o (Crash file)) (restarted x) later final) (sym same) leads in
     (final, subst (λ t. Leads o q t final) (sym is) (Sync, record { kind = kind; no_event = none; no_failure = failing; off = ap (λ (x : Play). x.off) same ∙ off; file_is = refl }, from))
 
-goes_by : (steps : List SiteStep) → Again steps
-goes_by [] o p q turns after at (none, same) = (q, subst (λ t. Leads o q t q) (sym none) refl)
-goes_by (Made call ∷ steps) o p q turns after (inl (same, quiet)) (made, later, (idle, made_is), is, rest) =
-    let (final, leads) = call_then steps (goes_by steps) o p call later turns after idle (is ∙ ap (λ m. m ++ later) made_is) (subst (λ m. LeadsBy (outside_from o m) (place_after o p call) steps later after) made_is rest) in
+goes_by : (steps : List SiteStep) → are_scripted steps ≡ true → Again steps
+goes_by [] own o p q turns after at (none, same) = (q, subst (λ t. Leads o q t q) (sym none) refl)
+goes_by (Made call ∷ steps) own o p q turns after (inl (same, quiet)) (made, later, (idle, made_is), is, rest) =
+    let (final, leads) = call_then steps (goes_by steps own) o p call later turns after idle (is ∙ ap (λ m. m ++ later) made_is) (subst (λ m. LeadsBy (outside_from o m) (place_after o p call) steps later after) made_is rest) in
     (final, subst (λ x. Leads o x turns final) (sym same) leads)
-goes_by (Made call ∷ steps) o p q turns after (inr fell) (made, later, (idle, made_is), is, rest) = absurd (let e : Some fell.kind ≡ None = sym fell.off ∙ sym (ap (λ (x : Play). x.off) fell.is) ∙ idle.power in cc)
-goes_by (PowerBack ∷ steps) o p q turns after (inl (same, quiet)) (kind, later, off, is, rest) =
+goes_by (Made call ∷ steps) own o p q turns after (inr fell) (made, later, (idle, made_is), is, rest) = absurd (let e : Some fell.kind ≡ None = sym fell.off ∙ sym (ap (λ (x : Play). x.off) fell.is) ∙ idle.power in cc)
+goes_by (PowerBack ∷ steps) own o p q turns after (inl (same, quiet)) (kind, later, off, is, rest) =
     let stays : fallen o p.off p ≡ p = ap (λ x. fallen o x p) off in
-    let (final, leads) = crash_then steps (goes_by steps) o p p kind later turns after quiet.no_event quiet.no_failure stays off is rest in
+    let (final, leads) = crash_then steps (goes_by steps own) o p p kind later turns after quiet.no_event quiet.no_failure stays off is rest in
     (final, subst (λ x. Leads o x turns final) (sym same) leads)
-goes_by (PowerBack ∷ steps) o p q turns after (inr fell) (kind, later, off, is, rest) =
-    crash_then steps (goes_by steps) o p q kind later turns after fell.idle.no_event fell.idle.no_failure (ap (λ x. fallen o x q) fell.idle.power ∙ sym fell.is) off is rest
+goes_by (PowerBack ∷ steps) own o p q turns after (inr fell) (kind, later, off, is, rest) =
+    crash_then steps (goes_by steps own) o p q kind later turns after fell.idle.no_event fell.idle.no_failure (ap (λ x. fallen o x q) fell.idle.power ∙ sym fell.is) off is rest
+goes_by (StopAfter calls kind ∷ steps) own o p q turns after at rest = absurd (let h : false ≡ true = own in cc)
+goes_by (Holding file ∷ steps) own o p q turns after at rest = absurd (let h : false ≡ true = own in cc)
 
 begins_quiet : (lines : List PlayedLine) → IsQuiet (begins lines)
 begins_quiet lines = record { no_event = refl; no_failure = refl }
 
 pub calls-play : CallsPlay
-calls-play lines steps log (after, leads) = goes_by steps nothing_yet (begins lines) (begins lines) log after (inl (refl, begins_quiet lines)) leads
+calls-play lines steps log own (after, leads) = goes_by steps own nothing_yet (begins lines) (begins lines) log after (inl (refl, begins_quiet lines)) leads
 
 -- ---- one log
 
@@ -276,53 +278,66 @@ one_log (PowerBack ∷ steps) o p turns other after end (kind, later, off, is, r
     let same : kind ≡ kind2 = some_same kind kind2 (sym off ∙ off2) in
     let more = one_log steps (outside_after o (Crash (crash_file kind2 o))) (restarted p) later later2 after end (subst (λ k. LeadsBy (outside_after o (Crash (crash_file k o))) (restarted p) steps later after) same rest) rest2 in
     is ∙ ap (λ k. Crash (crash_file k o) ∷ later) same ∙ ap (λ l. Crash (crash_file kind2 o) ∷ l) more ∙ sym is2
+one_log (StopAfter calls kind ∷ steps) o p turns other after end h k = one_log steps o (set_to_fail calls kind p) turns other after end h k
+one_log (Holding file ∷ steps) o p turns other after end (later, is, rest) (later2, is2, rest2) =
+    let more = one_log steps (outside_after o (Crash file)) p later later2 after end rest rest2 in
+    is ∙ ap (λ l. Crash file ∷ l) more ∙ sym is2
 
 pub one-log-of-calls : OneLogOfCalls
 one-log-of-calls lines steps log other (after, h) (end, k) = one_log steps nothing_yet (begins lines) log other after end h k
 
--- ---- one call more
+-- ---- steps after others
 
-steps_call : (steps : List SiteStep) (o : Outside) (p : Play) (turns : List Turn) (place : Play) (call : SiteCall) (made : List Turn) → LeadsBy o p steps turns place → CallFits (outside_from o turns) place call made →
-    LeadsBy o p (steps ++ Made call ∷ []) (turns ++ made) (place_after (outside_from o turns) place call)
-steps_call [] o p turns place call made (none, same) fits =
-    let f : CallFits o p call made = subst (λ t. CallFits (outside_from o t) p call made) none (subst (λ x. CallFits (outside_from o turns) x call made) (sym same) fits) in
-    (made, [], f, (ap (λ t. t ++ made) none ∙ sym (append-nil made)), (refl, ap (λ t. place_after (outside_from o t) p call) (sym none) ∙ ap (λ x. place_after (outside_from o turns) x call) same))
-steps_call (Made first ∷ steps) o p turns place call made (begun, later, fits, is, rest) last =
-    let o2 = outside_from o begun in
-    let there : outside_from o turns ≡ outside_from o2 later = ap (outside_from o) is ∙ outside_from-append o begun later in
-    let more = steps_call steps o2 (place_after o p first) later place call made rest (subst (λ x. CallFits x place call made) there last) in
-    (begun, later ++ made, fits, (ap (λ t. t ++ made) is ∙ append_assoc begun later made), subst (λ x. LeadsBy o2 (place_after o p first) (steps ++ Made call ∷ []) (later ++ made) (place_after x place call)) (sym there) more)
-steps_call (PowerBack ∷ steps) o p turns place call made (kind, later, off, is, rest) last =
-    let o2 = outside_after o (Crash (crash_file kind o)) in
-    let there : outside_from o turns ≡ outside_from o2 later = ap (outside_from o) is in
-    let more = steps_call steps o2 (restarted p) later place call made rest (subst (λ x. CallFits x place call made) there last) in
-    (kind, later ++ made, off, ap (λ t. t ++ made) is, subst (λ x. LeadsBy o2 (restarted p) (steps ++ Made call ∷ []) (later ++ made) (place_after x place call)) (sym there) more)
+pub leads_by_append : (steps : List SiteStep) (o : Outside) (p : Play) (turns : List Turn) (place : Play) (more : List SiteStep) (later : List Turn) (after : Play) → LeadsBy o p steps turns place → LeadsBy (outside_from o turns) place more later after →
+    LeadsBy o p (steps ++ more) (turns ++ later) after
+leads_by_append [] o p turns place more later after (none, same) last =
+    let from : LeadsBy o p more later after = subst (λ t. LeadsBy (outside_from o t) p more later after) none (subst (λ x. LeadsBy (outside_from o turns) x more later after) (sym same) last) in
+    subst (λ t. LeadsBy o p more (t ++ later) after) (sym none) from
+leads_by_append (Made call ∷ steps) o p turns place more later after (made, mid, fits, is, rest) last =
+    let there : outside_from o turns ≡ outside_from (outside_from o made) mid = ap (outside_from o) is ∙ outside_from-append o made mid in
+    (made, mid ++ later, fits, ap (λ t. t ++ later) is ∙ append_assoc made mid later, leads_by_append steps (outside_from o made) (place_after o p call) mid place more later after rest (subst (λ x. LeadsBy x place more later after) there last))
+leads_by_append (PowerBack ∷ steps) o p turns place more later after (kind, mid, off, is, rest) last =
+    (kind, mid ++ later, off, ap (λ t. t ++ later) is, leads_by_append steps (outside_after o (Crash (crash_file kind o))) (restarted p) mid place more later after rest (subst (λ x. LeadsBy x place more later after) (ap (outside_from o) is) last))
+leads_by_append (StopAfter calls kind ∷ steps) o p turns place more later after first last = leads_by_append steps o (set_to_fail calls kind p) turns place more later after first last
+leads_by_append (Holding file ∷ steps) o p turns place more later after (mid, is, rest) last =
+    (mid ++ later, ap (λ t. t ++ later) is, leads_by_append steps (outside_after o (Crash file)) p mid place more later after rest (subst (λ x. LeadsBy x place more later after) (ap (outside_from o) is) last))
 
--- the turn of a power failure at this outside
-abbrev crash_at : ImageKind → Outside → Turn
-crash_at kind o = Crash (crash_file kind o)
-
-steps_power : (steps : List SiteStep) (o : Outside) (p : Play) (turns : List Turn) (place : Play) (kind : ImageKind) → LeadsBy o p steps turns place → place.off ≡ Some kind →
-    LeadsBy o p (steps ++ PowerBack ∷ []) (turns ++ crash_at kind (outside_from o turns) ∷ []) (restarted place)
-steps_power [] o p turns place kind (none, same) off =
-    let here : p.off ≡ Some kind = ap (λ (x : Play). x.off) same ∙ off in
-    (kind, [], here, (ap (λ t. t ++ crash_at kind (outside_from o t) ∷ []) none), (refl, ap restarted same))
-steps_power (Made first ∷ steps) o p turns place kind (begun, later, fits, is, rest) off =
-    let o2 = outside_from o begun in
-    let there : outside_from o turns ≡ outside_from o2 later = ap (outside_from o) is ∙ outside_from-append o begun later in
-    let more = steps_power steps o2 (place_after o p first) later place kind rest off in
-    (begun, later ++ crash_at kind (outside_from o2 later) ∷ [], fits, (ap (λ x. turns ++ crash_at kind x ∷ []) there ∙ ap (λ t. t ++ crash_at kind (outside_from o2 later) ∷ []) is ∙ append_assoc begun later (crash_at kind (outside_from o2 later) ∷ [])), more)
-steps_power (PowerBack ∷ steps) o p turns place kind (first, later, begun, is, rest) off =
-    let o2 = outside_after o (crash_at first o) in
-    let there : outside_from o turns ≡ outside_from o2 later = ap (outside_from o) is in
-    let more = steps_power steps o2 (restarted p) later place kind rest off in
-    (first, later ++ crash_at kind (outside_from o2 later) ∷ [], begun, (ap (λ x. turns ++ crash_at kind x ∷ []) there ∙ ap (λ t. t ++ crash_at kind (outside_from o2 later) ∷ []) is), more)
+-- the steps before others lead somewhere
+pub leads_by_part : (steps : List SiteStep) (o : Outside) (p : Play) (more : List SiteStep) (turns : List Turn) (after : Play) → LeadsBy o p (steps ++ more) turns after → (made : List Turn) × (middle : Play) × LeadsBy o p steps made middle
+leads_by_part [] o p more turns after leads = ([], p, (refl, refl))
+leads_by_part (Made call ∷ steps) o p more turns after (made, later, fits, is, rest) =
+    let (mid, place, leads) = leads_by_part steps (outside_from o made) (place_after o p call) more later after rest in
+    (made ++ mid, place, (made, mid, fits, refl, leads))
+leads_by_part (PowerBack ∷ steps) o p more turns after (kind, later, off, is, rest) =
+    let (mid, place, leads) = leads_by_part steps (outside_after o (Crash (crash_file kind o))) (restarted p) more later after rest in
+    (Crash (crash_file kind o) ∷ mid, place, (kind, mid, off, refl, leads))
+leads_by_part (StopAfter calls kind ∷ steps) o p more turns after leads = leads_by_part steps o (set_to_fail calls kind p) more turns after leads
+leads_by_part (Holding file ∷ steps) o p more turns after (later, is, rest) =
+    let (mid, place, leads) = leads_by_part steps (outside_after o (Crash file)) p more later after rest in
+    (Crash file ∷ mid, place, (mid, refl, leads))
 
 pub calls-go-on : CallsGoOn
-calls-go-on lines log place call made (steps, leads) fits = (steps ++ Made call ∷ [], steps_call steps nothing_yet (begins lines) log place call made leads fits)
+calls-go-on lines steps log place call made leads fits =
+    leads_by_append steps nothing_yet (begins lines) log place (Made call ∷ []) made (place_after (outside_from nothing_yet log) place call) leads (made, [], fits, sym (append-nil made), (refl, refl))
 
 pub power-goes-on : PowerGoesOn
-power-goes-on lines log place kind (steps, leads) off = (steps ++ PowerBack ∷ [], steps_power steps nothing_yet (begins lines) log place kind leads off)
+power-goes-on lines steps log place kind leads off =
+    leads_by_append steps nothing_yet (begins lines) log place (PowerBack ∷ []) (Crash (crash_file kind (outside_from nothing_yet log)) ∷ []) (restarted place) leads (kind, [], off, refl, (refl, refl))
+
+pub goes-on-beside : GoesOnBeside
+goes-on-beside = record {
+  stop = λ lines steps log place calls kind leads.
+      subst (λ l. LeadsBy nothing_yet (begins lines) (steps ++ StopAfter calls kind ∷ []) l (set_to_fail calls kind place)) (append-nil log) (leads_by_append steps nothing_yet (begins lines) log place (StopAfter calls kind ∷ []) [] (set_to_fail calls kind place) leads (refl, refl));
+  file = λ lines steps log place file leads. leads_by_append steps nothing_yet (begins lines) log place (Holding file ∷ []) (Crash file ∷ []) place leads ([], refl, (refl, refl));
+}
+
+-- steps that were not beside the script, and one more of them
+pub scripted_append : (steps more : List SiteStep) → are_scripted steps ≡ true → are_scripted more ≡ true → are_scripted (steps ++ more) ≡ true
+scripted_append [] more own other = other
+scripted_append (Made call ∷ steps) more own other = scripted_append steps more own other
+scripted_append (PowerBack ∷ steps) more own other = scripted_append steps more own other
+scripted_append (StopAfter calls kind ∷ steps) more own other = absurd (let h : false ≡ true = own in cc)
+scripted_append (Holding file ∷ steps) more own other = absurd (let h : false ≡ true = own in cc)
 
 -- ---- sends
 

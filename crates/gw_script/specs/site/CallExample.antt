@@ -1,13 +1,15 @@
 -- Closed examples: what calls on sites that play scripts leave in the log, and with which setup runs start.
-use Rattle.std.specs.Prelude.{◌≡◌, pos, List, [], ◌∷◌, ◌++◌, true, false, Some, None}
+use Rattle.std.specs.Prelude.{◌≡◌, pos, List, [], ◌∷◌, ◌++◌, true, false, Option, Some, None}
+use Rattle.gw_site.specs.Outside.{outside_of}
 use Rattle.gw_site.specs.declared.turn.Turn.{Turn}
-use Rattle.gw_site.specs.declared.turn.Turn.TheVariants.{Start, OpenFailed, Polled, Opened, Stopped, Linked, LinkFailed, SentTill, Wrote, DiskFailed, Crash}
+use Rattle.gw_site.specs.declared.turn.Turn.TheVariants.{Start, OpenFailed, Polled, Opened, Stopped, Linked, LinkFailed, SentTill, SentPt, Wrote, DiskFailed, Crash}
 use Rattle.gw_base.specs.declared.setup.Setup.{Setup}
-use Rattle.gw_script.specs.site.ScriptLine.{Open, Tick, FailOpen, FailLink, FailSendTill, FailWrite, FailSync, FailLength, FailRead, New, Junk, PlayedLine, At, Poll, Fail, Power, Script, nothing_given, setup_of}
+use Rattle.gw_script.specs.site.ScriptLine.{Open, Tick, FailOpen, FailLink, FailSendTill, FailSendPt, FailWrite, FailSync, FailLength, FailRead, New, Junk, PlayedLine, At, Poll, Fail, Power, Script, nothing_given, setup_of}
 use Rattle.gw_script.specs.site.Hazards.{takes_most}
 use Rattle.gw_script.specs.site.Limits.{are_known, hazard_after}
 use Rattle.gw_script.specs.site.Playing.{Play}
-use Rattle.gw_script.specs.site.Calls.{OpenCall, PollCall, SendTillCall, LinkCall, LengthCall, ReadCall, WriteCall, SyncCall, Made, PowerBack, IsPlayedTo, PlaysBy}
+use Rattle.gw_script.specs.site.Callers.{IsDoneBy}
+use Rattle.gw_script.specs.site.Calls.{OpenCall, PollCall, SendTillCall, SendPtCall, LinkCall, LengthCall, ReadCall, WriteCall, SyncCall, SiteStep, Made, PowerBack, StopAfter, Holding, CallFits, IsPlayedTo, PlaysBy, Reaches}
 use Rattle.gw_script.specs.site.Runs.{PlaysItself, RunsWith}
 
 -- the setup of a script without setup lines
@@ -26,11 +28,55 @@ SendsTakeNoFewer = ¬ PlaysBy (Poll (Open 1) ∷ Fail (FailSendTill 1 2) ∷ Pol
     (Made (OpenCall plain) ∷ Made PollCall ∷ Made PollCall ∷ Made (SendTillCall 1 (7 ∷ 8 ∷ 9 ∷ [])) ∷ [])
     (Start plain ∷ Polled (pos 0) ∷ Opened 1 ∷ Polled (pos 0) ∷ SentTill 1 (7 ∷ []) false ∷ [])
 
+-- a script in which looks, writes and syncs fail, and then the power; what happens to its site; and the log
+abbrev pub disk_lines : List PlayedLine
+disk_lines = Fail FailRead ∷ Fail FailWrite ∷ Fail FailSync ∷ Power 3 (Junk 165) ∷ Poll Tick ∷ []
+
+abbrev pub disk_steps : List SiteStep
+disk_steps =
+    Made (OpenCall plain) ∷ Made LengthCall ∷ Made (ReadCall 0 4) ∷ Made (ReadCall 0 4) ∷ Made PollCall ∷ Made LengthCall ∷ Made (WriteCall 0 (1 ∷ 2 ∷ [])) ∷ Made SyncCall ∷ Made (WriteCall 1 (3 ∷ [])) ∷ PowerBack ∷ Made LengthCall ∷ []
+
+abbrev pub disk_log : List Turn
+disk_log = Start plain ∷ DiskFailed ∷ Polled (pos 0) ∷ Wrote 0 (1 ∷ 2 ∷ []) ∷ DiskFailed ∷ DiskFailed ∷ Wrote 1 (3 ∷ []) ∷ Crash (165 ∷ 165 ∷ []) ∷ []
+
 -- looks that succeed leave no turn; those that fail do, and don't count for the power; a write that fails has all its bytes and counts once, as does a sync that fails
 abbrev pub LooksAndWrites : Type 0
-LooksAndWrites = PlaysBy (Fail FailRead ∷ Fail FailWrite ∷ Fail FailSync ∷ Power 3 (Junk 165) ∷ Poll Tick ∷ [])
-    (Made (OpenCall plain) ∷ Made LengthCall ∷ Made (ReadCall 0 4) ∷ Made (ReadCall 0 4) ∷ Made PollCall ∷ Made LengthCall ∷ Made (WriteCall 0 (1 ∷ 2 ∷ [])) ∷ Made SyncCall ∷ Made (WriteCall 1 (3 ∷ [])) ∷ PowerBack ∷ Made LengthCall ∷ [])
-    (Start plain ∷ DiskFailed ∷ Polled (pos 0) ∷ Wrote 0 (1 ∷ 2 ∷ []) ∷ DiskFailed ∷ DiskFailed ∷ Wrote 1 (3 ∷ []) ∷ Crash (165 ∷ 165 ∷ []) ∷ [])
+LooksAndWrites = PlaysBy disk_lines disk_steps disk_log
+
+-- the step of a plan after those that were done
+abbrev pub planned : List SiteStep → List SiteStep → Option SiteStep
+planned [] done = None
+planned (step ∷ plan) [] = Some step
+planned (step ∷ plan) (first ∷ done) = planned plan done
+
+-- a gateway that does these steps one after the other, whatever comes of them, has done them with that log
+abbrev pub PlanIsDone : Type 0
+PlanIsDone = IsDoneBy (λ done log. planned disk_steps done) disk_lines disk_steps disk_log
+
+-- beside the script: a file is put on the disk, and the power fails after two calls, an opening and a write
+abbrev pub BesideTheScript : Type 0
+BesideTheScript = PlaysBy (Poll Tick ∷ [])
+    (Holding (1 ∷ 2 ∷ []) ∷ StopAfter 2 (Junk 165) ∷ Made (OpenCall plain) ∷ Made LengthCall ∷ Made (WriteCall 0 (9 ∷ [])) ∷ PowerBack ∷ Made (OpenCall plain) ∷ Made PollCall ∷ [])
+    (Crash (1 ∷ 2 ∷ []) ∷ Start plain ∷ Wrote 0 (9 ∷ []) ∷ Crash (165 ∷ 2 ∷ []) ∷ Start plain ∷ Polled (pos 0) ∷ [])
+
+-- a call that goes on from a place: a sync that fails
+pub record SyncGoesOn : Type 0 where
+  pub place : Play
+  pub reached : Reaches (Fail FailSync ∷ Poll Tick ∷ []) (Made (OpenCall plain) ∷ Made PollCall ∷ []) (Start plain ∷ Polled (pos 0) ∷ []) place
+  pub fits : CallFits (outside_of (Start plain ∷ Polled (pos 0) ∷ [])) place SyncCall (DiskFailed ∷ [])
+
+-- a place at which the power has failed
+pub record PowerIsOff : Type 0 where
+  pub place : Play
+  pub reached : Reaches (Power 1 New ∷ Poll Tick ∷ []) (Made (OpenCall plain) ∷ Made PollCall ∷ Made (WriteCall 0 (1 ∷ [])) ∷ []) (Start plain ∷ Polled (pos 0) ∷ Wrote 0 (1 ∷ []) ∷ []) place
+  pub off : place.off ≡ Some New
+
+-- a send to a terminal that a fail line names, at a place that is reached
+pub record SendToPtIsCut : Type 0 where
+  pub place : Play
+  pub reached : Reaches (Fail (FailSendPt 0 2) ∷ Poll Tick ∷ []) (Made (OpenCall plain) ∷ Made (LinkCall 0) ∷ Made PollCall ∷ []) (Start plain ∷ Linked 0 ∷ Polled (pos 0) ∷ []) place
+  pub named : takes_most place.hazard.fail_pts 0 ≡ Some 2
+  pub fits : CallFits (outside_of (Start plain ∷ Linked 0 ∷ Polled (pos 0) ∷ [])) place (SendPtCall 0 (7 ∷ 8 ∷ 9 ∷ [])) (SentPt 0 (7 ∷ 8 ∷ []) false ∷ [])
 
 -- the poll that reaches a power failure leaves no turn; openings and links fail where their lines say so; what a power failure forgets
 abbrev pub PollReachesPower : Type 0

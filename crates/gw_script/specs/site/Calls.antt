@@ -1,12 +1,12 @@
 -- The turns of each call of the gateway, by what is handed to it and by how far the script is played. A log alone shows neither what was to be sent nor a look that succeeds; `Playing` says which turns fit by the log alone.
-use Rattle.std.specs.Prelude.{◌≡◌, ℕ, not, if◌then◌else◌, List, [], ◌∷◌, ◌++◌, Option, Some, None, is_some}
+use Rattle.std.specs.Prelude.{◌≡◌, ℕ, Bool, true, false, not, ◌==◌, if◌then◌else◌, List, [], ◌∷◌, ◌++◌, Option, Some, None, is_some}
 use Rattle.gw_base.specs.declared.setup.Setup.{Setup}
 use Rattle.gw_site.specs.Outside.{Outside, outside_after, outside_from, nothing_yet}
 use Rattle.gw_site.specs.declared.turn.Turn.{Turn}
 use Rattle.gw_site.specs.declared.turn.Turn.TheVariants.{Start, OpenFailed, Polled, Linked, LinkFailed, SentTill, SentPt, CutTill, CutPt, Wrote, Synced, DiskFailed, Crash}
 use Rattle.gw_script.specs.site.ScriptLine.{ImageKind, PlayedLine}
 use Rattle.gw_script.specs.site.Hazards.{crash_file, is_failing, sent_of, takes_most}
-use Rattle.gw_script.specs.site.Playing.{DiskCall, Write, Sync, Length, Read, Idle, Play, after_poll, begins, brought, play_after, restarted}
+use Rattle.gw_script.specs.site.Playing.{DiskCall, Write, Sync, Length, Read, Idle, Play, after_poll, begins, brought, is_off, play_after, powered, restarted}
 
 -- a call on the site, and what is handed to it
 pub data SiteCall : Type 0 where
@@ -76,24 +76,50 @@ place_after o p SyncCall = play_from o Sync p (call_turns o p SyncCall)
 abbrev pub CallFits : Outside → Play → SiteCall → List Turn → Type 0
 CallFits o p call turns = Idle p × (turns ≡ call_turns o p call)
 
+-- the place once the power is set to fail after so many more calls: at once for none; where it has failed already all is as before
+abbrev pub set_to_fail : ℕ → ImageKind → Play → Play
+set_to_fail calls kind p = if is_some p.off then p else if calls == 0 then is_off kind p else powered calls kind p
+
 -- what happens to a site
 pub data SiteStep : Type 0 where
   -- the gateway makes this call
   Made : SiteCall → SiteStep
   -- the power, which has failed, is there again
   PowerBack : SiteStep
+  -- beside the script the power is set to fail after so many more calls, and to leave this
+  StopAfter : ℕ → ImageKind → SiteStep
+  -- beside the script this file is put on the disk, as if a power failure had left it
+  Holding : List ℕ → SiteStep
 
--- the calls and power failures lead from one place of the script to another, with these turns
+-- nothing happens beside the script: the gateway makes calls, and the power is there again where the script has let it fail
+abbrev pub are_scripted : List SiteStep → Bool
+are_scripted [] = true
+are_scripted (Made call ∷ steps) = are_scripted steps
+are_scripted (PowerBack ∷ steps) = are_scripted steps
+are_scripted (StopAfter calls kind ∷ steps) = false
+are_scripted (Holding file ∷ steps) = false
+
+-- the steps lead from one place of the script to another, with these turns
 abbrev pub LeadsBy : Outside → Play → List SiteStep → List Turn → Play → Type 0
 LeadsBy o p [] turns after = (turns ≡ []) × (p ≡ after)
 LeadsBy o p (Made call ∷ steps) turns after = (made : List Turn) × (later : List Turn) × CallFits o p call made × (turns ≡ made ++ later) × LeadsBy (outside_from o made) (place_after o p call) steps later after
 LeadsBy o p (PowerBack ∷ steps) turns after =
     (kind : ImageKind) × (later : List Turn) × (p.off ≡ Some kind) × (turns ≡ Crash (crash_file kind o) ∷ later) × LeadsBy (outside_after o (Crash (crash_file kind o))) (restarted p) steps later after
+LeadsBy o p (StopAfter calls kind ∷ steps) turns after = LeadsBy o (set_to_fail calls kind p) steps turns after
+LeadsBy o p (Holding file ∷ steps) turns after = (later : List Turn) × (turns ≡ Crash file ∷ later) × LeadsBy (outside_after o (Crash file)) p steps later after
 
--- a site that plays these lines has this log after these calls and power failures
+-- a site that plays these lines is at this place after these steps, with this log
+abbrev pub Reaches : List PlayedLine → List SiteStep → List Turn → Play → Type 0
+Reaches lines steps log place = LeadsBy nothing_yet (begins lines) steps log place
+
+-- a site that plays these lines has this log after these steps
 abbrev pub PlaysBy : List PlayedLine → List SiteStep → List Turn → Type 0
-PlaysBy lines steps log = (after : Play) × LeadsBy nothing_yet (begins lines) steps log after
+PlaysBy lines steps log = (after : Play) × Reaches lines steps log after
 
--- after some calls and power failures the lines are played up to this place, with this log
+-- after some steps, whether beside the script or not, the lines are played up to this place, with this log
+abbrev pub IsReached : List PlayedLine → List Turn → Play → Type 0
+IsReached lines log place = (steps : List SiteStep) × Reaches lines steps log place
+
+-- after some steps, none of which was beside the script, the lines are played up to this place, with this log
 abbrev pub IsPlayedTo : List PlayedLine → List Turn → Play → Type 0
-IsPlayedTo lines log place = (steps : List SiteStep) × LeadsBy nothing_yet (begins lines) steps log place
+IsPlayedTo lines log place = (steps : List SiteStep) × (are_scripted steps ≡ true) × Reaches lines steps log place

@@ -5,7 +5,7 @@ use Rattle.gw_site.specs.Outside.{Outside, outside_of}
 use Rattle.gw_site.specs.declared.turn.Turn.{Turn}
 use Rattle.gw_site.specs.declared.turn.Turn.TheVariants.{SentTill, SentPt, Crash}
 use Rattle.gw_script.specs.Decode.{split_lines}
-use Rattle.gw_script.specs.site.Calls.{CallFits, IsPlayedTo, PlaysBy, SendPtCall, SendTillCall, SiteCall, SiteStep, place_after}
+use Rattle.gw_script.specs.site.Calls.{CallFits, IsPlayedTo, PlaysBy, Reaches, SendPtCall, SendTillCall, SiteCall, SiteStep, Holding, Made, PowerBack, StopAfter, are_scripted, place_after, set_to_fail}
 use Rattle.gw_script.specs.site.Hazards.{crash_file, sent_of, takes_most}
 use Rattle.gw_script.specs.site.Limits.{are_known, hazard_after}
 use Rattle.gw_script.specs.site.ScriptLine.{ImageKind, PlayedLine, Script}
@@ -47,23 +47,30 @@ pub record SendsAreCut : Type 0 where
   pub pts : (o : Outside) (p : Play) (pt most : ℕ) (bytes : List ℕ) (turns : List Turn) → takes_most p.hazard.fail_pts pt ≡ Some most → CallFits o p (SendPtCall pt bytes) turns
       → (sent : List ℕ) × IsCutTo most bytes sent × (turns ≡ SentPt pt sent false ∷ [])
 
--- the log of calls and power failures plays the lines
+-- the log of steps plays the lines, where none of them was beside the script
 abbrev pub CallsPlay : Type 0
-CallsPlay = (lines : List PlayedLine) (steps : List SiteStep) (log : List Turn) → PlaysBy lines steps log → PlaysLines lines log
+CallsPlay = (lines : List PlayedLine) (steps : List SiteStep) (log : List Turn) → are_scripted steps ≡ true → PlaysBy lines steps log → PlaysLines lines log
 
--- the same calls and power failures have the same log
+-- the same steps have the same log, whatever calls and power failures there are among them
 abbrev pub OneLogOfCalls : Type 0
 OneLogOfCalls = (lines : List PlayedLine) (steps : List SiteStep) (log other : List Turn) → PlaysBy lines steps log → PlaysBy lines steps other → log ≡ other
 
 -- a call that may be made goes on from the place, with its turns
 abbrev pub CallsGoOn : Type 0
-CallsGoOn = (lines : List PlayedLine) (log : List Turn) (place : Play) (call : SiteCall) (made : List Turn) → IsPlayedTo lines log place → CallFits (outside_of log) place call made
-    → IsPlayedTo lines (log ++ made) (place_after (outside_of log) place call)
+CallsGoOn = (lines : List PlayedLine) (steps : List SiteStep) (log : List Turn) (place : Play) (call : SiteCall) (made : List Turn) → Reaches lines steps log place → CallFits (outside_of log) place call made
+    → Reaches lines (steps ++ Made call ∷ []) (log ++ made) (place_after (outside_of log) place call)
 
 -- where the power has failed the script goes on in the next run, with the file that is left
 abbrev pub PowerGoesOn : Type 0
-PowerGoesOn = (lines : List PlayedLine) (log : List Turn) (place : Play) (kind : ImageKind) → IsPlayedTo lines log place → place.off ≡ Some kind
-    → IsPlayedTo lines (log ++ Crash (crash_file kind (outside_of log)) ∷ []) (restarted place)
+PowerGoesOn = (lines : List PlayedLine) (steps : List SiteStep) (log : List Turn) (place : Play) (kind : ImageKind) → Reaches lines steps log place → place.off ≡ Some kind
+    → Reaches lines (steps ++ PowerBack ∷ []) (log ++ Crash (crash_file kind (outside_of log)) ∷ []) (restarted place)
+
+-- what happens beside the script goes on from each place: the power is set to fail, without a turn, and a file is put on the disk
+pub record GoesOnBeside : Type 0 where
+  pub stop : (lines : List PlayedLine) (steps : List SiteStep) (log : List Turn) (place : Play) (calls : ℕ) (kind : ImageKind) → Reaches lines steps log place
+      → Reaches lines (steps ++ StopAfter calls kind ∷ []) log (set_to_fail calls kind place)
+  pub file : (lines : List PlayedLine) (steps : List SiteStep) (log : List Turn) (place : Play) (file : List ℕ) → Reaches lines steps log place
+      → Reaches lines (steps ++ Holding file ∷ []) (log ++ Crash file ∷ []) place
 
 -- where the power is there, and no disk or power has failed in the log, what is armed by the log is what is armed at the place up to which calls and power failures have played the lines
 abbrev pub LimitsAreArmed : Type 0

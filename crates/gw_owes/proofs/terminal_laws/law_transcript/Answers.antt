@@ -1,6 +1,6 @@
 -- Proof of the contract of `law_transcript`.
 use Rattle.std.proofs.Common.{◌∙◌, ap, not}
-use Rattle.gw_owes.proofs.TranscriptLemmas.{new-follows, rows-follow, links-begin, runs-follow, example-transcript}
+use Rattle.gw_owes.proofs.TranscriptLemmas.{new-follows, rows-follow, links-begin, steps-follow, example-transcript}
 use Rattle.gw_owes.proofs.terminal_laws.law_transcript.Goals as goal
 
 pub returns-clause-new : goal.returns-clause-new
@@ -19,8 +19,8 @@ returns-clause-rows c = rows-follow (record {
 pub returns-clause-links : goal.returns-clause-links
 returns-clause-links c = links-begin
 
-pub returns-clause-runs : goal.returns-clause-runs
-returns-clause-runs c = runs-follow (record {
+pub returns-clause-steps : goal.returns-clause-steps
+returns-clause-steps c = steps-follow (record {
   goes_on = λ dialogue came. c.law_ends.ensures.goes_on dialogue came ∙ ap not (c.law_ends.ensures.ended dialogue came);
   means = c.law_talk_steps.ensures.means;
   next = c.law_talk_steps.ensures.next;

@@ -4,16 +4,16 @@ use Rattle.gw_run.proofs.program.play_text.Goals as goal
 
 pub returns-in-Ok-clause-printed : goal.returns-in-Ok-clause-printed
 returns-in-Ok-clause-printed g c = λ written e.
-    let y = c.play.ensures.printed written e in
-    (y.0, play-printed c.args.text.now c.play.result y.0 (c.requires.within, (_, c.in-Ok.ensures.served)) y.1, y.2)
+    let y = c.play.ensures.printed c.args.text.items _ c.in-Ok.ensures.served c.in-Ok.ensures.fresh written e in
+    (y.0, play-printed c.args.text.items c.play.result y.0 (c.requires.within, (_, c.in-Ok.ensures.served)) y.1, y.2)
 
 pub returns-in-Ok-clause-end : goal.returns-in-Ok-clause-end
-returns-in-Ok-clause-end g c = play-end c.args.text.now c.play.result (c.requires.within, (_, c.in-Ok.ensures.served)) c.play.ensures.end
+returns-in-Ok-clause-end g c = play-end c.args.text.items c.play.result (c.requires.within, (_, c.in-Ok.ensures.served)) c.play.ensures.end
 
 pub returns-in-Err-clause-printed : goal.returns-in-Err-clause-printed
 returns-in-Err-clause-printed g c = λ written e.
     let y = c.write_last_lines.ensures.observed written e in
-    (y.0, text-fault-printed c.args.text.now c.in-Err.fault c.write_last_lines.result y.0 c.in-Err.ensures.fault y.1, y.2)
+    (y.0, text-fault-printed c.args.text.items c.in-Err.fault c.write_last_lines.result y.0 c.in-Err.ensures.fault y.1, y.2)
 
 pub returns-in-Err-clause-end : goal.returns-in-Err-clause-end
-returns-in-Err-clause-end g c = text-fault-end c.args.text.now c.in-Err.fault c.write_last_lines.result c.in-Err.ensures.fault c.write_last_lines.ensures.which
+returns-in-Err-clause-end g c = text-fault-end c.args.text.items c.in-Err.fault c.write_last_lines.result c.in-Err.ensures.fault c.write_last_lines.ensures.which

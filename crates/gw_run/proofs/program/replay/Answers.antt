@@ -1,5 +1,5 @@
 -- Proof of the contract of `replay`.
-use Rattle.std.proofs.Common.{ap, ◌∙◌}
+use Rattle.std.proofs.Common.{ap}
 use Rattle.std.specs.Prelude.{Err}
 use Rattle.gw_run.proofs.ReplayLemmas.{fault-printed, observed-cause, input-fault, input-cause, input-complete, text-cause, text-complete, text-printed}
 use Rattle.gw_run.proofs.program.replay.Goals as goal
@@ -8,15 +8,15 @@ pub returns-in-Ok-clause-printed : goal.returns-in-Ok-clause-printed
 returns-in-Ok-clause-printed g c = λ written e.
     let y = c.play_text.ensures.printed written e in (
       y.0,
-      (λ words acc. text-printed c.play_text.result words _ _ _ y.0 acc (λ all e. let x = c.in-Ok.ensures.bytes all e in (x.1, c.deref.ensures.value ∙ x.0)) y.1),
+      (λ words acc. text-printed c.play_text.result words _ _ _ y.0 acc (λ all e. let x = c.in-Ok.ensures.bytes all e in (x.1, x.0)) y.1),
       y.2,
     )
 
 pub returns-in-Ok-clause-cause : goal.returns-in-Ok-clause-cause
-returns-in-Ok-clause-cause g c = λ words acc. text-cause c.play_text.result words _ _ _ acc (λ all e. let x = c.in-Ok.ensures.bytes all e in (x.1, c.deref.ensures.value ∙ x.0)) c.play_text.ensures.output_failed c.play_text.ensures.end
+returns-in-Ok-clause-cause g c = λ words acc. text-cause c.play_text.result words _ _ _ acc (λ all e. let x = c.in-Ok.ensures.bytes all e in (x.1, x.0)) c.play_text.ensures.output_failed c.play_text.ensures.end
 
 pub returns-in-Ok-clause-complete : goal.returns-in-Ok-clause-complete
-returns-in-Ok-clause-complete g c = λ script calm written. text-complete c.play_text.result _ _ script (λ all e. c.deref.ensures.value ∙ (c.in-Ok.ensures.bytes all e).0) c.play_text.ensures.end
+returns-in-Ok-clause-complete g c = λ script calm written. text-complete c.play_text.result _ _ script (λ all e. (c.in-Ok.ensures.bytes all e).0) c.play_text.ensures.end
 
 pub returns-in-Err-clause-printed : goal.returns-in-Err-clause-printed
 returns-in-Err-clause-printed g c = λ written e.

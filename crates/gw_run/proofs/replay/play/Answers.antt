@@ -9,12 +9,10 @@ use Rattle.gw_run.proofs.ServedLemmas.{script-read}
 use Rattle.gw_run.proofs.replay.play.Goals as goal
 
 pub returns-clause-printed : goal.returns-clause-printed
-returns-clause-printed g c =
-    let text = c.args.text.now in
-    let script = c.requires.served.0 in
+returns-clause-printed g c = λ text script served fresh.
     let log = c.as_slice.result.now in
     let few : length log < 18446744073709551615 = (let size = c.as_slice.type_inv in omega arith) in
-    let read = ap (λ (o : Origin). script_of o.script) (c.run_script-whole.ensures.origin ∙ ap (λ (o : Observed). o.origin) c.requires.fresh) ∙ script-read text script c.requires.served.1 in
+    let read = ap (λ (o : Origin). script_of o.script) (c.run_script-whole.ensures.origin ∙ ap (λ (o : Observed). o.origin) fresh) ∙ script-read text script served in
     let plays = subst (λ l. ∥ PlaysLines script.lines l ∥₁) (sym c.as_slice.ensures) (c.log.ensures.plays script read) in
-    let run = c.run_script-whole.ensures.run text script c.requires.served.1 c.requires.fresh log (ap Some (sym (c.as_slice.ensures ∙ c.log.ensures.log))) in
-    c.write_play.ensures.printed text (run-plays text script c.run_script-whole.result log c.requires.served.1 few plays run)
+    let run = c.run_script-whole.ensures.run text script served fresh log (ap Some (sym (c.as_slice.ensures ∙ c.log.ensures.log))) in
+    c.write_play.ensures.printed text (run-plays text script c.run_script-whole.result log served few plays run)

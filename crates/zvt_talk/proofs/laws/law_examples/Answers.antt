@@ -44,3 +44,15 @@ returns-clause-reports c = record {
   none_reported = refl;
   other_code = refl;
 }
+
+pub returns-clause-steps : goal.returns-clause-steps
+returns-clause-steps c = record {
+  talk = refl;
+  goes_on = refl;
+  means_for_talk = refl;
+  means = refl;
+  next = refl;
+  after_all = refl;
+  ended = refl;
+  stays = refl;
+}

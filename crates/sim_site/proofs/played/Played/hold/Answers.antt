@@ -3,7 +3,7 @@ use Rattle.std.proofs.Common.{◌∷◌, ◌++◌, [], ◌∙◌, sym, ap}
 use Rattle.gw_site.specs.Outside.{outside_of}
 use Rattle.gw_site.specs.declared.turn.Turn.TheVariants.{Crash}
 use Rattle.sim_script.specs.Values.{lines_value}
-use Rattle.sim_site.proofs.PlayedLemmas.{connections_same, connections_there, crash_clears, disk_same, disk_there, never, plays_same, stands_same}
+use Rattle.sim_site.proofs.PlayedLemmas.{connections_same, connections_there, crash_clears, disk_same, disk_there, part_held, part_same, stands_held, stands_same}
 use Rattle.sim_site.proofs.played.Played.hold.Goals as goal
 
 pub invariant_of-self : goal.invariant_of-self
@@ -13,8 +13,8 @@ invariant_of-self c =
     let same = c.in_err-push.ensures.err in
     record {
       read_is = s.read_is;
-      plays = λ own. plays_same (lines_value lines) s.log c.push.new.self same (s.plays own);
-      stands = λ own lit. stands_same lines s.log c.push.new.self s.place same (s.stands own lit);
+      part = part_same s.scripted (lines_value lines) s.log c.push.new.self same s.part;
+      stands = λ lit. stands_same s.scripted lines s.log c.push.new.self s.place same (s.stands lit);
       disk_is = λ lit. disk_same s.log c.push.new.self s.disk same (s.disk_is lit);
       connections_are = λ lit. connections_same s.log c.push.new.self s.connections same (s.connections_are lit);
     }
@@ -23,11 +23,12 @@ pub invariant_of-self-2 : goal.invariant_of-self-2
 invariant_of-self-2 c =
     let s = c.args.self.now in
     let o = outside_of s.log in
+    let lines = s.script.lines.items in
     let grown = c.in_ok-push.ensures.ok ∙ ap (λ file. s.log ++ Crash file ∷ []) c.in_ok-copy.ensures in
     record {
       read_is = s.read_is;
-      plays = λ own. never (sym own);
-      stands = λ own lit. never (sym own);
+      part = part_held (lines_value lines) s.log c.push.new.self c.args.file.now c.requires grown;
+      stands = λ lit. stands_held s.scripted lines s.log c.push.new.self s.place c.args.file.now grown (s.stands lit);
       disk_is = λ lit. disk_there s.log c.push.new.self _ c.in_ok-disk.disk grown (c.in_ok-disk.ensures o);
       connections_are = λ lit. connections_there s.log c.push.new.self _ c.clear.new.self grown (crash_clears o c.args.file.now c.clear.new.self (c.clear.ensures o));
     }

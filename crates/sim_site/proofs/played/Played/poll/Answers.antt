@@ -1,5 +1,5 @@
 -- Proof of the contract of `poll`.
-use Rattle.std.proofs.Common.{◌≡◌, ◌∷◌, ◌++◌, [], ◌∙◌, sym, ap, subst, true, rules, inl, inr, append-nil}
+use Rattle.std.proofs.Common.{◌∷◌, ◌++◌, [], ◌∙◌, sym, ap, subst, rules, inl, inr, append-nil}
 use Rattle.std.proofs.lemmas.Int.{to_z-of_z}
 use Rattle.std.specs.Prelude.{option_map}
 use Rattle.std.specs.Option.{option_to_list}
@@ -12,7 +12,7 @@ use Rattle.sim_script.specs.Values.{image_value, lines_value}
 use Rattle.sim_site.specs.Connected.{HasConnections}
 use Rattle.sim_site.specs.Made.{HasBrought, HasFallen, EndsPoll}
 use Rattle.sim_site.specs.Places.{place_value}
-use Rattle.sim_site.proofs.PlayedLemmas.{brought_place, brought_turns, connections_there, disk_stays, event_leaves, fell_place, fell_turns, never, plays_refused, plays_same, plays_stood, poll_followed, poll_leaves, some_image, stands_made}
+use Rattle.sim_site.proofs.PlayedLemmas.{brought_place, brought_turns, connections_there, disk_stays, event_leaves, fell_place, fell_turns, never, part_refused, part_same, part_stood, poll_followed, poll_leaves, some_image, stands_made}
 use Rattle.sim_site.proofs.played.Played.poll.Goals as goal
 
 pub invariant_of-self-in_default : goal.invariant_of-self-in_default
@@ -27,8 +27,8 @@ invariant_of-self-in_default c =
     let p = place_value lines s.place in
     let q = place_value lines next in
     let grown = sym (ap (λ turns. s.log ++ turns) (fell_turns o p q kind met off) ∙ append-nil s.log) in
-    let stands = λ (own : s.scripted ≡ true). stands_made lines s.log s.log s.place next PollCall c.requires.power grown (sym (fell_place o p q kind met off)) (s.stands own c.requires.whole) in
-    record { read_is = s.read_is; plays = s.plays; stands = λ own lit. stands own; disk_is = λ lit. s.disk_is c.requires.whole; connections_are = λ lit. subst (HasConnections o) (sym fallen.connections) (s.connections_are c.requires.whole) }
+    let stands = stands_made s.scripted lines s.log s.log s.place next PollCall c.requires.power grown (sym (fell_place o p q kind met off)) (s.stands c.requires.whole) in
+    record { read_is = s.read_is; part = s.part; stands = λ lit. stands; disk_is = λ lit. s.disk_is c.requires.whole; connections_are = λ lit. subst (HasConnections o) (sym fallen.connections) (s.connections_are c.requires.whole) }
 
 pub invariant_of-self-in-Break-branch-2 : goal.invariant_of-self-in-Break-branch-2
 invariant_of-self-in-Break-branch-2 c =
@@ -43,11 +43,11 @@ invariant_of-self-in-Break-branch-2 c =
     let fits : SFits w64 next.moment = search rules in
     record {
       read_is = s.read_is;
-      plays = λ own. elim c.in_err-push_poll.ensures.err [
-        | inl same ↦ plays_same (lines_value lines) s.log c.push_poll.new.log same (s.plays own)
-        | inr more ↦ plays_refused lines s.log c.push_poll.new.log s.place PollCall (Polled next.moment ∷ []) due c.requires.power turns (simp (to_z-of_z, fits) at more) (s.stands own c.requires.whole)
+      part = elim c.in_err-push_poll.ensures.err [
+        | inl same ↦ part_same s.scripted (lines_value lines) s.log c.push_poll.new.log same s.part
+        | inr more ↦ part_refused s.scripted lines s.log c.push_poll.new.log s.place PollCall (Polled next.moment ∷ []) due c.requires.power turns (simp (to_z-of_z, fits) at more) (s.stands c.requires.whole)
       ];
-      stands = λ own lit. never lit;
+      stands = λ lit. never lit;
       disk_is = λ lit. never lit;
       connections_are = λ lit. never lit;
     }
@@ -68,11 +68,11 @@ invariant_of-self-2 c =
     let pushed = simp (to_z-of_z, fits) at c.in_ok-push_poll.ensures.ok in
     let grown = pushed ∙ ap (λ turns. s.log ++ turns) (sym (brought_turns o p q due met off)) in
     let event = pushed ∙ ap (λ turns. s.log ++ Polled next.moment ∷ turns) (sym brought.what) in
-    let stands = λ (own : s.scripted ≡ true). stands_made lines s.log c.push_poll.new.log s.place next PollCall c.requires.power grown (sym (brought_place o p q due met off)) (s.stands own c.requires.whole) in
+    let stands = stands_made s.scripted lines s.log c.push_poll.new.log s.place next PollCall c.requires.power grown (sym (brought_place o p q due met off)) (s.stands c.requires.whole) in
     record {
       read_is = s.read_is;
-      plays = λ own. plays_stood (lines_value lines) c.push_poll.new.log q (stands own);
-      stands = λ own lit. stands own;
+      part = part_stood s.scripted (lines_value lines) c.push_poll.new.log q stands;
+      stands = λ lit. stands;
       disk_is = λ lit. disk_stays s.log c.push_poll.new.log _ s.disk (poll_leaves next.moment _ (event_leaves c.in-Some.brought.what c.polled.new.buf)) event (s.disk_is c.requires.whole);
       connections_are = λ lit. connections_there s.log c.push_poll.new.log _ c.polled.new.connections event (poll_followed o next.moment s.connections c.polled.new.connections c.in-Some.brought.what c.polled.new.buf brought.followed (s.connections_are c.requires.whole));
     }

@@ -1,12 +1,12 @@
 -- Proof of the contract of `restart`.
-use Rattle.std.proofs.Common.{◌≡◌, ◌∷◌, ◌++◌, [], ◌∙◌, ap, subst, true}
+use Rattle.std.proofs.Common.{◌∷◌, ◌++◌, [], ◌∙◌, ap, subst}
 use Rattle.gw_site.specs.Outside.{outside_after, outside_of}
 use Rattle.gw_site.specs.declared.turn.Turn.TheVariants.{Crash}
 use Rattle.gw_script.specs.site.Hazards.{crash_file}
 use Rattle.sim_script.specs.Values.{image_value, lines_value}
 use Rattle.sim_site.specs.Disks.{HasDisk}
 use Rattle.sim_site.specs.Places.{place_value}
-use Rattle.sim_site.proofs.PlayedLemmas.{connections_same, connections_there, crash_clears, disk_same, disk_there, plays_same, plays_stood, stands_restarted, stands_same}
+use Rattle.sim_site.proofs.PlayedLemmas.{connections_same, connections_there, crash_clears, disk_same, disk_there, part_same, part_stood, stands_restarted, stands_same}
 use Rattle.sim_site.proofs.played.Played.restart.Goals as goal
 
 pub invariant_of-self : goal.invariant_of-self
@@ -16,8 +16,8 @@ invariant_of-self c =
     let same = c.in_err-push.ensures.err in
     record {
       read_is = s.read_is;
-      plays = λ own. plays_same (lines_value lines) s.log c.push.new.self same (s.plays own);
-      stands = λ own lit. stands_same lines s.log c.push.new.self s.place same (s.stands own lit);
+      part = part_same s.scripted (lines_value lines) s.log c.push.new.self same s.part;
+      stands = λ lit. stands_same s.scripted lines s.log c.push.new.self s.place same (s.stands lit);
       disk_is = λ lit. disk_same s.log c.push.new.self s.disk same (s.disk_is lit);
       connections_are = λ lit. connections_same s.log c.push.new.self s.connections same (s.connections_are lit);
     }
@@ -30,11 +30,11 @@ invariant_of-self-2 c =
     let image = c.in_ok-image.ensures o (s.disk_is c.requires.whole) in
     let grown = c.in_ok-push.ensures.ok ∙ ap (λ file. s.log ++ Crash file ∷ []) (c.in_ok-file.ensures ∙ c.deref.ensures.value ∙ image) in
     let disk : HasDisk (outside_after o (Crash (crash_file (image_value c.args.kind) o))) c.in_ok-disk.disk = subst (λ file. HasDisk (outside_after o (Crash file)) c.in_ok-disk.disk) image (c.in_ok-disk.ensures o) in
-    let stands = λ (own : s.scripted ≡ true). stands_restarted lines s.log c.push.new.self s.place c.restart.new.self c.args.kind c.requires.off grown (c.restart.ensures.place lines) (s.stands own c.requires.whole) in
+    let stands = stands_restarted s.scripted lines s.log c.push.new.self s.place c.restart.new.self c.args.kind c.requires.off grown (c.restart.ensures.place lines) (s.stands c.requires.whole) in
     record {
       read_is = s.read_is;
-      plays = λ own. plays_stood (lines_value lines) c.push.new.self (place_value lines c.restart.new.self) (stands own);
-      stands = λ own lit. stands own;
+      part = part_stood s.scripted (lines_value lines) c.push.new.self (place_value lines c.restart.new.self) stands;
+      stands = λ lit. stands;
       disk_is = λ lit. disk_there s.log c.push.new.self _ c.in_ok-disk.disk grown disk;
       connections_are = λ lit. connections_there s.log c.push.new.self _ c.clear.new.self grown (crash_clears o (crash_file (image_value c.args.kind) o) c.clear.new.self (c.clear.ensures o));
     }

@@ -1,5 +1,5 @@
 -- Proof of the contract of `send_till`.
-use Rattle.std.proofs.Common.{◌≡◌, ◌∷◌, [], ◌∙◌, refl, true}
+use Rattle.std.proofs.Common.{◌∷◌, [], ◌∙◌, refl}
 use Rattle.gw_site.specs.Outside.{outside_of}
 use Rattle.gw_site.specs.declared.turn.Turn.TheVariants.{SentTill}
 use Rattle.gw_script.specs.site.Calls.{SendTillCall}
@@ -7,13 +7,13 @@ use Rattle.gw_script.specs.site.Hazards.{takes_most}
 use Rattle.sim_script.specs.Values.{lines_value}
 use Rattle.sim_site.specs.Hazards.{sends_value}
 use Rattle.sim_site.specs.Places.{place_value}
-use Rattle.sim_site.proofs.PlayedLemmas.{connections_stay, disk_stays, never, plays_same, plays_stood, stands_made, till_turn}
+use Rattle.sim_site.proofs.PlayedLemmas.{connections_stay, disk_stays, never, part_same, part_stood, stands_made, till_turn}
 use Rattle.sim_site.proofs.played.Played.send_till.Goals as goal
 
 pub invariant_of-self-in-Break-branch-2 : goal.invariant_of-self-in-Break-branch-2
 invariant_of-self-in-Break-branch-2 c =
     let s = c.args.self.now in
-    record { read_is = s.read_is; plays = λ own. plays_same (lines_value s.script.lines.items) s.log c.push.new.self c.in_err-push.ensures.err (s.plays own); stands = λ own lit. never lit; disk_is = λ lit. never lit; connections_are = λ lit. never lit }
+    record { read_is = s.read_is; part = part_same s.scripted (lines_value s.script.lines.items) s.log c.push.new.self c.in_err-push.ensures.err s.part; stands = λ lit. never lit; disk_is = λ lit. never lit; connections_are = λ lit. never lit }
 
 pub invariant_of-self-2 : goal.invariant_of-self-2
 invariant_of-self-2 c =
@@ -21,11 +21,11 @@ invariant_of-self-2 c =
     let lines = s.script.lines.items in
     let o = outside_of s.log in
     let grown = c.in_ok-push.ensures.ok ∙ till_turn s.log c.args.till c.in_ok-sent.sent c.args.bytes.now c.is_none.result c.takes_most-most.result (takes_most (sends_value s.place.hazard.tills) c.args.till) (c.in_ok-sent.ensures ∙ c.taken.ensures) c.is_none.ensures c.takes_most-most.ensures in
-    let stands = λ (own : s.scripted ≡ true). stands_made lines s.log c.push.new.self s.place c.send_till.new.self (SendTillCall c.args.till c.args.bytes.now) c.requires.power grown (c.send_till.ensures.moves c.args.bytes.now o lines) (s.stands own c.requires.whole) in
+    let stands = stands_made s.scripted lines s.log c.push.new.self s.place c.send_till.new.self (SendTillCall c.args.till c.args.bytes.now) c.requires.power grown (c.send_till.ensures.moves c.args.bytes.now o lines) (s.stands c.requires.whole) in
     record {
       read_is = s.read_is;
-      plays = λ own. plays_stood (lines_value lines) c.push.new.self (place_value lines c.send_till.new.self) (stands own);
-      stands = λ own lit. stands own;
+      part = part_stood s.scripted (lines_value lines) c.push.new.self (place_value lines c.send_till.new.self) stands;
+      stands = λ lit. stands;
       disk_is = λ lit. disk_stays s.log c.push.new.self (SentTill c.args.till c.in_ok-sent.sent c.is_none.result ∷ []) s.disk (record { file = λ o. refl; stable = λ o. refl; written = λ o. refl }) c.in_ok-push.ensures.ok (s.disk_is c.requires.whole);
       connections_are = λ lit. connections_stay s.log c.push.new.self (SentTill c.args.till c.in_ok-sent.sent c.is_none.result ∷ []) s.connections (record { tills = λ o. refl; next = λ o. refl; links = λ o. refl }) c.in_ok-push.ensures.ok (s.connections_are c.requires.whole);
     }

@@ -1,12 +1,12 @@
 -- Proof of the contract of `write`.
-use Rattle.std.proofs.Common.{◌≡◌, ◌∷◌, ◌++◌, [], ◌∙◌, ap, true, List, ℕ, inl, inr}
+use Rattle.std.proofs.Common.{◌∷◌, ◌++◌, [], ◌∙◌, ap, List, ℕ, inl, inr}
 use Rattle.std.specs.Prelude.{if◌then◌else◌}
 use Rattle.gw_site.specs.Outside.{outside_of}
 use Rattle.gw_site.specs.declared.turn.Turn.TheVariants.{Wrote, DiskFailed}
 use Rattle.gw_script.specs.site.Calls.{WriteCall, call_turns}
 use Rattle.sim_script.specs.Values.{lines_value}
 use Rattle.sim_site.specs.Places.{place_value}
-use Rattle.sim_site.proofs.PlayedLemmas.{connections_stay, disk_there, never, plays_same, plays_stood, plays_refused, stands_made, write_leaves, write_rest, write_split, write_there}
+use Rattle.sim_site.proofs.PlayedLemmas.{connections_stay, disk_there, never, part_refused, part_same, part_stood, stands_made, write_leaves, write_rest, write_split, write_there}
 use Rattle.sim_site.proofs.played.Played.write.Goals as goal
 
 pub invariant_of-self-in-Break-branch-3 : goal.invariant_of-self-in-Break-branch-3
@@ -17,14 +17,14 @@ invariant_of-self-in-Break-branch-3 c =
     let bytes : List ℕ = c.args.bytes.now in
     let call = WriteCall c.args.offset bytes in
     let turns = call_turns (outside_of s.log) (place_value lines s.place) call in
-    let played = λ (own : s.scripted ≡ true). s.stands own c.requires.whole in
+    let played = s.stands c.requires.whole in
     record {
       read_is = s.read_is;
-      plays = λ own. elim c.in_err-push_write.ensures.err [
-        | inl same ↦ plays_same (lines_value lines) s.log c.push_write.new.log same (s.plays own)
-        | inr more ↦ plays_refused lines s.log c.push_write.new.log s.place call (Wrote c.args.offset bytes ∷ []) (write_rest fails) c.requires.power (write_split fails c.args.offset bytes) (more ∙ ap (λ (b : List ℕ). s.log ++ Wrote c.args.offset b ∷ []) c.in_ok-copy.ensures) (played own)
+      part = elim c.in_err-push_write.ensures.err [
+        | inl same ↦ part_same s.scripted (lines_value lines) s.log c.push_write.new.log same s.part
+        | inr more ↦ part_refused s.scripted lines s.log c.push_write.new.log s.place call (Wrote c.args.offset bytes ∷ []) (write_rest fails) c.requires.power (write_split fails c.args.offset bytes) (more ∙ ap (λ (b : List ℕ). s.log ++ Wrote c.args.offset b ∷ []) c.in_ok-copy.ensures) played
       ];
-      stands = λ own lit. never lit;
+      stands = λ lit. never lit;
       disk_is = λ lit. never lit;
       connections_are = λ lit. never lit;
     }
@@ -36,11 +36,11 @@ invariant_of-self-2 c =
     let o = outside_of s.log in
     let fails = s.place.hazard.write in
     let grown = c.in_ok-push_write.ensures.ok ∙ ap (λ (bytes : List ℕ). s.log ++ (if fails then Wrote c.args.offset bytes ∷ DiskFailed ∷ [] else Wrote c.args.offset bytes ∷ [])) c.in_ok-copy.ensures in
-    let stands = λ (own : s.scripted ≡ true). stands_made lines s.log c.push_write.new.log s.place c.write-2.new.self (WriteCall c.args.offset c.args.bytes.now) c.requires.power grown (c.write-2.ensures.moves c.args.offset c.args.bytes.now o lines) (s.stands own c.requires.whole) in
+    let stands = stands_made s.scripted lines s.log c.push_write.new.log s.place c.write-2.new.self (WriteCall c.args.offset c.args.bytes.now) c.requires.power grown (c.write-2.ensures.moves c.args.offset c.args.bytes.now o lines) (s.stands c.requires.whole) in
     record {
       read_is = s.read_is;
-      plays = λ own. plays_stood (lines_value lines) c.push_write.new.log (place_value lines c.write-2.new.self) (stands own);
-      stands = λ own lit. stands own;
+      part = part_stood s.scripted (lines_value lines) c.push_write.new.log (place_value lines c.write-2.new.self) stands;
+      stands = λ lit. stands;
       disk_is = λ lit. disk_there s.log c.push_write.new.log _ c.write.new.self grown (write_there o fails c.args.offset c.args.bytes.now c.write.new.self (c.in_ok-write.ensures o (s.disk_is c.requires.whole)));
       connections_are = λ lit. connections_stay s.log c.push_write.new.log _ s.connections (write_leaves fails c.args.offset c.args.bytes.now) grown (s.connections_are c.requires.whole);
     }

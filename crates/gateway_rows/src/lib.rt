@@ -1,0 +1,17 @@
+//! Whole scripts by the top call, and the core's decisions by calls made by hand: rows that no clause of one crate says.
+#![tactic(auto)]
+
+#[cfg(test)]
+mod core_tests;
+#[cfg(test)]
+mod dialogue_tests;
+#[cfg(test)]
+mod message_tests;
+#[cfg(test)]
+mod replay;
+#[cfg(test)]
+mod script_tests;
+#[cfg(test)]
+mod tables;
+#[cfg(test)]
+mod top_tests;

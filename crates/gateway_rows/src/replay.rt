@@ -1,0 +1,56 @@
+//! Scripts that are replayed: by what a row is compared with what it gives.
+use gw_base::{Bytes, Text};
+use gw_run::top;
+use gw_site::{MemSink, MemSource, NoSite};
+use std::alloc::{AllocError, Global};
+use std::process::Abort;
+use std::str;
+use std::test::Fail;
+
+/// The words of a line.
+fn words_of(alloc: Global, line: &str) -> Result<Vec<Text>, AllocError> {
+    let mut words = Vec::new(alloc);
+    for word in line.split_whitespace() {
+        words.push(Text::new(String::from_str(alloc, word)?))?;
+    }
+    Ok(words)
+}
+
+/// The status of the top call with the words of a line.
+pub(crate) fn ended(
+    alloc: Global,
+    line: &str,
+    input: &mut MemSource,
+    out: &mut MemSink,
+) -> Result<u8, AllocError> {
+    let words = words_of(alloc, line)?;
+    Ok(top(alloc, &words, &mut NoSite::new(), input, out))
+}
+
+/// A call has ended with this status, and has written this.
+pub(crate) fn compare(
+    rt: &impl Abort,
+    row: &str,
+    ended: (u8, &MemSink),
+    wanted: (u8, &str),
+) -> Result<(), Fail> {
+    let (status, out) = ended;
+    let (wanted_status, output) = wanted;
+    assert_eq!(rt; str::from_utf8(out.bytes().as_slice())?, output, "of {row}");
+    assert_eq!(rt; status, wanted_status, "of {row}");
+    Ok(())
+}
+
+/// A replay of this script ends with this status, and has written this.
+pub(crate) fn check(
+    rt: &impl Abort,
+    alloc: Global,
+    script: &str,
+    output: &str,
+    status: u8,
+) -> Result<(), Fail> {
+    let mut input = MemSource::new(Bytes::copied(alloc, script.as_bytes())?, None);
+    let mut out = MemSink::new(alloc, None, 0);
+    let ended = ended(alloc, "replay", &mut input, &mut out)?;
+    compare(rt, script, (ended, &out), (status, output))
+}

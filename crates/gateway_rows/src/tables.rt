@@ -1,0 +1,162 @@
+//! Tables of rows, as texts, and how they are played.
+//!
+//! Rows are divided by an empty line. A line that begins with `> ` is one of the log, in which each line that polls has its moment
+//! and its event besides. The others are the script's; one after `~ ` brings no event. Messages between till S1 and
+//! terminal T1 have lines of their own:
+//! - `ask CATEGORY BODY` is a request of the till, and `> reply CLASS CATEGORY BODY` what it gets;
+//! - `diagnosis` asks for the state of the terminal, and gets `> state STATE`;
+//! - `> reject SALE POI DETAILS` is the event that rejects a message.
+use crate::replay::check;
+use std::alloc::{AllocError, Global};
+use std::process::Abort;
+use std::test::Fail;
+
+/// A request: its category, this again, and its body.
+const REQUEST: &str =
+    "{\"SaleToPOIRequest\":{\"MessageHeader\":{\"ProtocolVersion\":\"3.0\",\"MessageClass\":\"Service\",\"MessageCategory\":\"%\",\
+    \"MessageType\":\"Request\",\"ServiceID\":\"1\",\"SaleID\":\"S1\",\"POIID\":\"T1\"},\"%Request\":%}}\n";
+
+/// The line of a reply: its class, its category, this again, and its body.
+const REPLY: &str =
+    "till 1 out '{\"SaleToPOIResponse\":{\"MessageHeader\":{\"ProtocolVersion\":\"3.0\",\"MessageClass\":\"%\",\"MessageCategory\":\"%\",\
+    \"MessageType\":\"Response\",\"ServiceID\":\"1\",\"SaleID\":\"S1\",\"POIID\":\"T1\"},\"%Response\":%}}\n";
+
+/// The line of the reply to a Diagnosis: the state.
+const STATE: &str =
+    "till 1 out '{\"SaleToPOIResponse\":{\"MessageHeader\":{\"ProtocolVersion\":\"3.0\",\"MessageClass\":\"Service\",\
+    \"MessageCategory\":\"Diagnosis\",\"MessageType\":\"Response\",\"ServiceID\":\"1\",\"SaleID\":\"S1\",\"POIID\":\"T1\"},\
+    \"DiagnosisResponse\":{\"Response\":{\"Result\":\"Success\"},\"POIStatus\":{\"GlobalStatus\":\"%\"}}}}\n";
+
+/// The line of the event that rejects a message: till, terminal and details.
+const REJECT: &str =
+    "till 1 out '{\"SaleToPOIRequest\":{\"MessageHeader\":{\"ProtocolVersion\":\"3.0\",\"MessageClass\":\"Event\",\
+    \"MessageCategory\":\"Event\",\"MessageType\":\"Notification\",\"SaleID\":\"%\",\"POIID\":\"%\"},\
+    \"EventNotification\":{\"TimeStamp\":\"1970-01-01T00:00:00Z\",\"EventToNotify\":\"Reject\",\"EventDetails\":\"%\"}}}\n";
+
+/// A line up to its first space, and what comes after that.
+pub(crate) fn halves(line: &str) -> (&str, &str) {
+    line.split_once(' ').unwrap_or((line, ""))
+}
+
+/// Appends a form, in which these texts take the places of its `%`.
+pub(crate) fn push_form(text: &mut String, form: &str, values: &[&str]) -> Result<(), AllocError> {
+    for (number, part) in form.split('%').enumerate() {
+        text.push_str(part)?;
+        text.push_str(values.get(number).copied().unwrap_or(""))?;
+    }
+    Ok(())
+}
+
+/// Appends a request, of which the category and the body are given.
+fn push_request(text: &mut String, request: &str) -> Result<(), AllocError> {
+    let (category, body) = halves(request);
+    push_form(text, REQUEST, &[category, category, body])
+}
+
+/// Appends a line of a row to the script.
+fn push_played(script: &mut String, line: &str) -> Result<(), AllocError> {
+    match line.strip_prefix("ask ") {
+        Some(request) => {
+            script.push_str("say 1 ")?;
+            push_request(script, request)
+        }
+        None => push_form(script, "%\n", &[line.strip_prefix("~ ").unwrap_or(line)]),
+    }
+}
+
+/// Appends what the log has of the event of a line, where it polls.
+fn push_event(log: &mut String, now: &str, line: &str) -> Result<(), AllocError> {
+    let (word, rest) = halves(line);
+    let (number, bytes) = halves(rest);
+    match word {
+        "tick" => push_form(log, "at %\n", &[now]),
+        "open" | "lost" => push_form(log, "at %\n%\n", &[now, line]),
+        "till" | "pt" => push_form(log, "at %\n% % in %\n", &[now, word, number, bytes]),
+        "say" => push_form(log, "at %\ntill % in '%\n", &[now, number, bytes]),
+        "ask" => {
+            push_form(log, "at %\ntill 1 in '", &[now])?;
+            push_request(log, rest)
+        }
+        _ => Ok(()),
+    }
+}
+
+/// Appends a line of the log.
+fn push_logged(log: &mut String, line: &str) -> Result<(), AllocError> {
+    let (word, rest) = halves(line);
+    let (first, others) = halves(rest);
+    let (second, last) = halves(others);
+    match word {
+        "reply" => push_form(log, REPLY, &[first, second, second, last]),
+        "reject" => push_form(log, REJECT, &[first, second, last]),
+        "state" => push_form(log, STATE, &[rest]),
+        _ => push_form(log, "%\n", &[line]),
+    }
+}
+
+/// Appends a line of a row to the script or to the log; one that sets the moment changes it.
+fn push_line(
+    script: &mut String,
+    log: &mut String,
+    now: &mut String,
+    line: &str,
+) -> Result<(), AllocError> {
+    if let Some(logged) = line.strip_prefix("> ") {
+        return push_logged(log, logged);
+    }
+    if let Some(moment) = line.strip_prefix("at ") {
+        now.clear();
+        now.push_str(moment)?;
+    }
+    let played = if line == "diagnosis" {
+        "ask Diagnosis {}"
+    } else {
+        line
+    };
+    push_played(script, played)?;
+    push_event(log, now, played)
+}
+
+/// Appends the lines of a row to the script and to the log, from the moment 0 on, and leaves the moment at its end.
+fn push_row(
+    script: &mut String,
+    log: &mut String,
+    now: &mut String,
+    row: &str,
+) -> Result<(), AllocError> {
+    now.clear();
+    now.push_str("0")?;
+    for line in row.split('\n') {
+        push_line(script, log, now, line)?;
+    }
+    Ok(())
+}
+
+/// Plays a row, before which these lines come.
+pub(crate) fn check_row(
+    rt: &impl Abort,
+    alloc: Global,
+    beginning: &str,
+    row: &str,
+) -> Result<(), Fail> {
+    let mut script = String::new(alloc);
+    let mut output = String::new(alloc);
+    let mut now = String::new(alloc);
+    push_row(&mut script, &mut output, &mut now, beginning)?;
+    push_row(&mut script, &mut output, &mut now, row)?;
+    push_form(&mut output, "at %\nstop\nstatus 0\n", &[&now])?;
+    check(rt, alloc, &script, &output, 0)
+}
+
+/// Plays the rows of a table, before each of which these lines come.
+pub(crate) fn check_rows(
+    rt: &impl Abort,
+    alloc: Global,
+    beginning: &str,
+    table: &str,
+) -> Result<(), Fail> {
+    for row in table.split("\n\n") {
+        check_row(rt, alloc, beginning, row)?;
+    }
+    Ok(())
+}

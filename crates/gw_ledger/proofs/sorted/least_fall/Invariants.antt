@@ -1,6 +1,0 @@
--- What the loop of `least_fall` keeps.
-use Rattle.gw_ledger.proofs.FirstBadLemmas.{IsLeastSoFar}
-use Rattle.gw_ledger.proofs.sorted.least_fall.Given as goal
-
-abbrev pub invariant-loop-at : goal.invariant-loop-at
-invariant-loop-at l = IsLeastSoFar l.fn.rows l.at l.least

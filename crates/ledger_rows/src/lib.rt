@@ -1,0 +1,9 @@
+//! Rows on the ledger: records that may and may not follow, a day of one terminal, and payments in more than one block.
+#![tactic(auto)]
+
+#[cfg(test)]
+mod adding_tests;
+#[cfg(test)]
+mod block_tests;
+#[cfg(test)]
+mod tests;

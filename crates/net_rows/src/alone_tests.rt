@@ -1,0 +1,144 @@
+//! Tests that need a process of their own, which they start through a shell.
+use crate::fixture::{Steps, check};
+use crate::rig::Rig;
+use crate::shell::{Row, child_file, see_children};
+use gw_site::What;
+use std::fs::{self, File};
+use std::io::Read;
+use std::net::TcpStream;
+use std::test::Fail;
+use std::time::Duration;
+
+/// Writes until the disk is full, and sees that no call succeeds after that.
+fn fill(rig: &mut Rig<'_>) -> Steps {
+    for slot in 0..10u64 {
+        if !rig.writes(256 * slot, &[0x00; 256]) {
+            check(!rig.writes(0, &[0x00]), "a write after it")?;
+            check(!rig.syncs(), "a sync after it")?;
+            return check(rig.length().is_none(), "the length after it");
+        }
+    }
+    Err("the disk is full")
+}
+
+const FULL: [Row; 1] = [("trap '' XFSZ; ulimit -f 1;", "", "failed for good")];
+
+#[test]
+fn a_disk_that_is_full(rt: HostRuntime) -> Result<(), Fail> {
+    let Some(report) = child_file(&rt, "full") else {
+        return see_children(&rt, "full", &FULL);
+    };
+    let mut rig = Rig::opened(&rt, "full_journal", 47011, &[])?;
+    fill(&mut rig)?;
+    rig.remove_file()?;
+    fs::write(&rt, report.as_str(), "failed for good")?;
+    Ok(())
+}
+
+/// Whether a peer has got nothing.
+fn got_nothing(peer: &mut TcpStream) -> bool {
+    let mut buf = [0; 16];
+    peer.set_nonblocking(true).is_ok() && peer.read(&mut buf).is_err()
+}
+
+/// Prints, and sees that nobody gets it: neither the file, nor the till, nor the site by the till's connection.
+fn print(rt: &HostRuntime, rig: &mut Rig<'_>, till: &mut TcpStream) -> Steps {
+    let mut buf = [0; 4096];
+    let _ = rt.print("status 0\n");
+    let _ = rt.eprint("status 0\n");
+    check(rig.length() == Some(0), "the file is empty")?;
+    check(got_nothing(till), "the till got nothing")?;
+    check(
+        rig.poll(&mut buf) == What::Nothing,
+        "and nothing came by its connection",
+    )
+}
+
+fn print_beside_a_till(rt: &HostRuntime, rig: &mut Rig<'_>) -> Steps {
+    let mut till = rig.connect()?;
+    check(rig.brings(What::TillOpened(1)), "a till opens")?;
+    print(rt, rig, &mut till)
+}
+
+/// Each way in which a process may be started without them: with neither, so that a till would get the number of standard
+/// error, and without one of the last two, which the file would get.
+const CLOSED: [Row; 3] = [
+    ("", " <&- >&- 2>&-", "nothing went astray"),
+    ("", " >&-", "nothing went astray"),
+    ("", " 2>&-", "nothing went astray"),
+];
+
+#[test]
+fn descriptors_that_are_closed(rt: HostRuntime) -> Result<(), Fail> {
+    let Some(report) = child_file(&rt, "closed") else {
+        return see_children(&rt, "closed", &CLOSED);
+    };
+    let mut rig = Rig::opened(&rt, "closed_journal", 47012, &[])?;
+    print_beside_a_till(&rt, &mut rig)?;
+    rig.remove_file()?;
+    fs::write(&rt, report.as_str(), "nothing went astray")?;
+    Ok(())
+}
+
+/// How many descriptors a process may have open, and what then comes of an opening: a poll has 98 entries.
+const LIMITS: [Row; 3] = [
+    ("ulimit -n 64;", "", "refused"),
+    ("ulimit -n 97;", "", "refused"),
+    ("ulimit -n 98;", "", "opened"),
+];
+
+#[test]
+fn too_few_descriptors_for_a_poll(rt: HostRuntime) -> Result<(), Fail> {
+    let Some(report) = child_file(&rt, "few") else {
+        return see_children(&rt, "few", &LIMITS);
+    };
+    let mut rig = Rig::new(&rt, "few_journal", 47016)?;
+    let is_open = rig.open(&[])?;
+    let is_made = fs::remove_file(&rt, rig.journal()).is_ok();
+    check(is_made == is_open, "a file is made where it is opened")?;
+    let found = if is_made { "opened" } else { "refused" };
+    fs::write(&rt, report.as_str(), found)?;
+    Ok(())
+}
+
+/// Opens `/dev/null` until the process may have no more descriptors.
+fn take_descriptors(rt: &HostRuntime) -> Result<Vec<File>, Fail> {
+    let mut held = Vec::new(rt.alloc());
+    for _ in 0..98 {
+        match File::open(rt, "/dev/null") {
+            Ok(file) => held.push(file)?,
+            Err(_) => break,
+        }
+    }
+    check(held.len() < 98, "none is left")?;
+    Ok(held)
+}
+
+fn polls_without_a_descriptor(rt: &HostRuntime, rig: &mut Rig<'_>) -> Result<(), Fail> {
+    let _held = take_descriptors(rt)?;
+    let took = rig.four_quiet_polls()?;
+    check(took >= Duration::from_millis(90), "the polls wait")?;
+    Ok(())
+}
+
+fn a_till_without_a_descriptor(rt: &HostRuntime, rig: &mut Rig<'_>) -> Result<(), Fail> {
+    let _till = rig.connect()?;
+    polls_without_a_descriptor(rt, rig)?;
+    check(rig.brings(What::TillOpened(1)), "then it opens")?;
+    Ok(())
+}
+
+const NONE: [Row; 1] = [("ulimit -n 98;", "", "it opens later")];
+
+/// A till that can't be accepted waits, and the polls do too: every second one leaves the listener out.
+#[test]
+fn no_descriptor_for_a_till(rt: HostRuntime) -> Result<(), Fail> {
+    let Some(report) = child_file(&rt, "none") else {
+        return see_children(&rt, "none", &NONE);
+    };
+    let mut rig = Rig::opened(&rt, "none_journal", 47022, &[])?;
+    a_till_without_a_descriptor(&rt, &mut rig)?;
+    rig.remove_file()?;
+    fs::write(&rt, report.as_str(), "it opens later")?;
+    Ok(())
+}

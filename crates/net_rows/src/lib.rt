@@ -1,0 +1,17 @@
+//! A site over loopback and real files: rows that no clause of one crate says.
+#![tactic(auto)]
+
+#[cfg(test)]
+mod alone_tests;
+#[cfg(test)]
+mod file_tests;
+#[cfg(test)]
+mod fixture;
+#[cfg(test)]
+mod peer;
+#[cfg(test)]
+mod rig;
+#[cfg(test)]
+mod shell;
+#[cfg(test)]
+mod socket_tests;

@@ -1,0 +1,369 @@
+//! Tests of the sockets, over loopback.
+use crate::fixture::{Steps, address, check, is_child, setup, terminal_at};
+use crate::peer::{accepted, sends, three_of};
+use crate::rig::Rig;
+use gw_base::Pts;
+use gw_bytes::{LONGEST_CHUNK, MOST_TERMINALS};
+use gw_site::What;
+use libc::net::listen;
+use std::net::{Shutdown, SocketAddr, TcpListener, TcpStream};
+use std::os::fd::AsRawFd;
+use std::test::Fail;
+use std::time::{Duration, Instant};
+
+/// A till's message comes, and it gets what is sent to it.
+fn a_dialogue(rig: &mut Rig<'_>, till: &mut TcpStream) -> Steps {
+    let message = [0x00, 0x00, 0x00, 0x02, 0x7B, 0x7D];
+    check(rig.brings(What::TillOpened(1)), "a till opens")?;
+    check(sends(till, &message), "it sends bytes")?;
+    check(
+        rig.brings_bytes(What::TillBytes(1, 6), &message),
+        "its bytes come",
+    )?;
+    check(rig.sends_till(1, b"abc"), "it is sent bytes")?;
+    check(three_of(till) == Some(*b"abc"), "it gets them")
+}
+
+fn a_till(rig: &mut Rig<'_>) -> Steps {
+    let mut till = rig.connect()?;
+    a_dialogue(rig, &mut till)?;
+    drop(till);
+    check(rig.brings(What::TillClosed(1)), "it closes")?;
+    check(!rig.sends_till(1, b"abc"), "it is gone")
+}
+
+fn a_terminal(rig: &mut Rig<'_>, listener: &TcpListener) -> Steps {
+    check(!rig.sends_pt(0, b"early"), "it isn't linked")?;
+    check(rig.links(0), "it is linked")?;
+    let mut terminal = accepted(listener)?;
+    check(sends(&mut terminal, &[0x80, 0x00, 0x00]), "it sends bytes")?;
+    check(
+        rig.brings_bytes(What::PtBytes(0, 3), &[0x80, 0x00, 0x00]),
+        "its bytes come",
+    )?;
+    check(rig.sends_pt(0, &[0x06, 0x00, 0x00]), "it is sent bytes")?;
+    check(
+        three_of(&mut terminal) == Some([0x06, 0x00, 0x00]),
+        "it gets them",
+    )
+}
+
+/// A second link replaces the first, whose peer reads its end.
+fn a_second_link(rig: &mut Rig<'_>, listener: &TcpListener) -> Steps {
+    check(rig.links(0), "it is linked")?;
+    let mut first = accepted(listener)?;
+    check(rig.links(0), "it is linked again")?;
+    let second = accepted(listener)?;
+    check(three_of(&mut first).is_none(), "the first has ended")?;
+    drop(second);
+    check(rig.brings(What::PtClosed(0)), "the second ends")?;
+    check(!rig.links(1), "there is no other terminal")
+}
+
+#[test]
+fn a_till_and_a_terminal_over_loopback(rt: HostRuntime) -> Result<(), Fail> {
+    if is_child(&rt) {
+        return Ok(());
+    }
+    let far = address(&rt, 47002);
+    let listener = TcpListener::bind(&rt, far)?;
+    let mut rig = Rig::opened(&rt, "loopback", 47001, &[far])?;
+    a_till(&mut rig)?;
+    a_terminal(&mut rig, &listener)?;
+    a_second_link(&mut rig, &listener)?;
+    rig.remove_file()
+}
+
+fn opens_at(rt: &HostRuntime, rig: &mut Rig<'_>, listen: &str) -> Result<bool, Fail> {
+    let setup = setup(rt, listen, rig.journal(), &[address(rt, 47015)])?;
+    rig.open_with(&setup)
+}
+
+fn opens_with_a_terminal_at(rt: &HostRuntime, rig: &mut Rig<'_>, far: &str) -> Result<bool, Fail> {
+    let mut setup = rig.setup(&[])?;
+    setup.terminals = Pts::new(vec![in rt.alloc(); terminal_at(rt, 1, far)?]?);
+    rig.open_with(&setup)
+}
+
+/// An address is an IP address and a port: to look a name up could take seconds.
+#[test]
+fn names_are_no_addresses(rt: HostRuntime) -> Result<(), Fail> {
+    if is_child(&rt) {
+        return Ok(());
+    }
+    let mut rig = Rig::new(&rt, "names", 47014)?;
+    for listen_at in ["localhost:47014", "127.0.0.1", ""] {
+        check(!opens_at(&rt, &mut rig, listen_at)?, "a name to listen at")?;
+    }
+    check(
+        !opens_with_a_terminal_at(&rt, &mut rig, "localhost:47015")?,
+        "a terminal's name",
+    )?;
+    rig.remove_file()
+}
+
+fn a_byte_at_a_time(rig: &mut Rig<'_>, peer: &mut TcpStream) -> Steps {
+    check(peer.set_nodelay(true).is_ok(), "bytes are sent at once")?;
+    for byte in 0..6u8 {
+        check(sends(peer, &[byte]), "a byte is sent")?;
+        check(
+            rig.brings_bytes(What::TillBytes(1, 1), &[byte]),
+            "a byte comes",
+        )?;
+    }
+    Ok(())
+}
+
+/// A connection that is closed with bytes unread is reset.
+fn a_reset(rig: &mut Rig<'_>) -> Steps {
+    let peer = rig.connect()?;
+    check(rig.brings(What::TillOpened(2)), "a till opens")?;
+    check(rig.sends_till(2, b"never read"), "it is sent bytes")?;
+    drop(peer);
+    check(rig.brings(What::TillClosed(2)), "it is reset")
+}
+
+/// What was sent before a half close comes, and then the connection's end.
+fn a_half_close(rig: &mut Rig<'_>) -> Steps {
+    let mut peer = rig.connect()?;
+    check(rig.brings(What::TillOpened(3)), "a till opens")?;
+    check(sends(&mut peer, b"last"), "it sends bytes")?;
+    check(peer.shutdown(Shutdown::Write).is_ok(), "it closes a half")?;
+    check(
+        rig.brings_bytes(What::TillBytes(3, 4), b"last"),
+        "the last bytes come",
+    )?;
+    check(rig.brings(What::TillClosed(3)), "then the end")
+}
+
+/// How many milliseconds a send to a till took that failed.
+fn failed_send(rt: &HostRuntime, rig: &mut Rig<'_>, till: u64) -> Result<Option<u128>, Fail> {
+    let start = Instant::now(rt)?;
+    if rig.sends_till(till, &[7; 4096]) {
+        return Ok(None);
+    }
+    Ok(Some(start.elapsed(rt)?.as_millis()))
+}
+
+/// How many milliseconds the first send to a till took that failed, of ten thousand.
+fn first_failed_send(rt: &HostRuntime, rig: &mut Rig<'_>, till: u64) -> Result<Option<u128>, Fail> {
+    for _ in 0..10_000 {
+        let took = failed_send(rt, rig, till)?;
+        if took.is_some() {
+            return Ok(took);
+        }
+    }
+    Ok(None)
+}
+
+/// A send to a peer that never reads waits a tenth of a second, and fails.
+fn a_peer_that_never_reads(rt: &HostRuntime, rig: &mut Rig<'_>) -> Result<(), Fail> {
+    let _peer = rig.connect()?;
+    check(rig.brings(What::TillOpened(4)), "a till opens")?;
+    let took = first_failed_send(rt, rig, 4)?;
+    rig.cut_till(4);
+    let took = took.ok_or("a send fails")?;
+    check(
+        took >= 100 && took < 2_000,
+        "it fails in time, and not at once",
+    )?;
+    Ok(())
+}
+
+/// A connection that has more bytes than are read at once doesn't keep one that opened after it from being heard.
+fn a_talker(rig: &mut Rig<'_>, talker: &mut TcpStream) -> Steps {
+    let mut other = rig.connect()?;
+    check(rig.brings(What::TillOpened(5)), "a till opens")?;
+    check(sends(talker, &[9; 20_000]), "the talker sends")?;
+    check(sends(&mut other, b"x"), "the other sends")?;
+    check(rig.brings(What::TillBytes(1, 4096)), "the talker is heard")?;
+    check(rig.brings(What::TillBytes(5, 1)), "then the other")?;
+    check(
+        rig.brings(What::TillBytes(1, 4096)),
+        "then the talker again",
+    )
+}
+
+fn peers_one_after_the_other(rt: &HostRuntime, rig: &mut Rig<'_>) -> Result<(), Fail> {
+    let mut slow = rig.connect()?;
+    check(rig.brings(What::TillOpened(1)), "a till opens")?;
+    a_byte_at_a_time(rig, &mut slow)?;
+    a_reset(rig)?;
+    a_half_close(rig)?;
+    a_peer_that_never_reads(rt, rig)?;
+    a_talker(rig, &mut slow)?;
+    Ok(())
+}
+
+#[test]
+fn peers_that_misbehave(rt: HostRuntime) -> Result<(), Fail> {
+    if is_child(&rt) {
+        return Ok(());
+    }
+    let mut rig = Rig::opened(&rt, "peers", 47003, &[])?;
+    peers_one_after_the_other(&rt, &mut rig)?;
+    rig.remove_file()
+}
+
+fn a_hundred_peers(rt: &HostRuntime, rig: &Rig<'_>) -> Result<Vec<TcpStream>, Fail> {
+    let mut peers = Vec::new(rt.alloc());
+    for _ in 0..100 {
+        peers.push(rig.connect()?)?;
+    }
+    Ok(peers)
+}
+
+fn sixty_five_tills_open(rig: &mut Rig<'_>) -> Steps {
+    for till in 1..=65 {
+        check(rig.brings(What::TillOpened(till)), "65 tills open")?;
+    }
+    Ok(())
+}
+
+#[test]
+fn a_hundred_connections(rt: HostRuntime) -> Result<(), Fail> {
+    if is_child(&rt) {
+        return Ok(());
+    }
+    let mut rig = Rig::opened(&rt, "hundred", 47004, &[])?;
+    let _peers = a_hundred_peers(&rt, &rig)?;
+    sixty_five_tills_open(&mut rig)?;
+    // The others wait, and the poll does too: it doesn't return at once for them.
+    let took = rig.four_quiet_polls()?;
+    check(took >= Duration::from_millis(150), "a poll waits")?;
+    rig.cut_till(33);
+    check(rig.brings(What::TillOpened(66)), "one more has room")?;
+    rig.remove_file()
+}
+
+/// Fills the queue of a listener, so that it accepts no connection and refuses none, as a host that is switched off.
+fn fill_queue(
+    rt: &HostRuntime,
+    listener: &TcpListener,
+    far: SocketAddr,
+) -> Result<Vec<TcpStream>, Fail> {
+    let queue = listen(listener.as_raw_fd(), 0);
+    let mut held = Vec::new(rt.alloc());
+    for _ in 0..8 {
+        match TcpStream::connect_timeout(rt, &far, Duration::from_millis(50)) {
+            Ok(stream) => held.push(stream)?,
+            Err(_) => break,
+        }
+    }
+    check(queue == 0 && held.len() < 8, "the queue isn't full")?;
+    Ok(held)
+}
+
+/// Whether no terminal is linked, where each is tried once.
+fn none_links(rig: &mut Rig<'_>) -> bool {
+    for pt in 0..MOST_TERMINALS {
+        if rig.links(pt as u16) {
+            return false;
+        }
+    }
+    true
+}
+
+/// How long it takes to try each of the terminals once.
+fn links(rt: &HostRuntime, rig: &mut Rig<'_>) -> Result<Duration, Fail> {
+    let start = Instant::now(rt)?;
+    check(none_links(rig), "nobody accepts")?;
+    Ok(start.elapsed(rt)?)
+}
+
+/// How long the shortest of some rounds takes, each of one poll and of all links.
+fn shortest_round(rt: &HostRuntime, rig: &mut Rig<'_>) -> Result<Duration, Fail> {
+    let mut buf = [0; LONGEST_CHUNK];
+    let mut shortest = Duration::MAX;
+    for _ in 0..20 {
+        let _ = rig.poll(&mut buf);
+        shortest = shortest.min(links(rt, rig)?);
+        if shortest < Duration::from_millis(40) {
+            break;
+        }
+    }
+    Ok(shortest)
+}
+
+/// All links between two polls wait 20 ms together: in the shortest of some rounds less than two of them would wait one
+/// after the other. A busy machine makes rounds longer, but hardly all of them.
+#[test]
+fn terminals_that_are_switched_off(rt: HostRuntime) -> Result<(), Fail> {
+    if is_child(&rt) {
+        return Ok(());
+    }
+    let far = address(&rt, 47006);
+    let listener = TcpListener::bind(&rt, far)?;
+    let _held = fill_queue(&rt, &listener, far)?;
+    let mut rig = Rig::opened(&rt, "links", 47005, &[far; MOST_TERMINALS])?;
+    let shortest = shortest_round(&rt, &mut rig)?;
+    check(shortest >= Duration::from_millis(19), "they wait")?;
+    check(
+        shortest < Duration::from_millis(40),
+        "and they wait together",
+    )?;
+    rig.remove_file()
+}
+
+/// Accepts a connection, if one waits, and sends a byte to it.
+fn greet(listener: &TcpListener, greeted: &mut Vec<TcpStream>) -> Result<(), Fail> {
+    let Ok(mut peer) = accepted(listener) else {
+        return Ok(());
+    };
+    check(sends(&mut peer, b"x"), "a byte is sent")?;
+    greeted.push(peer)?;
+    Ok(())
+}
+
+/// Accepts so many connections while the site only polls.
+fn greet_while_polling(
+    rt: &HostRuntime,
+    rig: &mut Rig<'_>,
+    listener: &TcpListener,
+    count: usize,
+) -> Result<Vec<TcpStream>, Fail> {
+    let mut buf = [0; LONGEST_CHUNK];
+    let mut greeted = Vec::new(rt.alloc());
+    for _ in 0..200 {
+        if greeted.len() == count {
+            break;
+        }
+        greet(listener, &mut greeted)?;
+        let _ = rig.poll(&mut buf);
+    }
+    check(greeted.len() == count, "so many connections are made")?;
+    Ok(greeted)
+}
+
+/// The link is not made in time, then all that wait are accepted, of which so many filled the queue.
+fn a_link_is_taken_up(
+    rt: &HostRuntime,
+    rig: &mut Rig<'_>,
+    listener: &TcpListener,
+    before: usize,
+) -> Result<(), Fail> {
+    check(!rig.links(0), "nobody accepts")?;
+    listener.set_nonblocking(true)?;
+    let _greeted = greet_while_polling(rt, rig, listener, before.saturating_add(1))?;
+    check(rig.links(0), "it is taken up")?;
+    check(rig.brings(What::PtBytes(0, 1)), "it is the one accepted")?;
+    Ok(())
+}
+
+/// A link that isn't made in time goes on being made, and is the one that is taken up.
+#[test]
+fn a_link_goes_on_being_made(rt: HostRuntime) -> Result<(), Fail> {
+    if is_child(&rt) {
+        return Ok(());
+    }
+    let far = address(&rt, 47021);
+    let listener = TcpListener::bind(&rt, far)?;
+    let held = fill_queue(&rt, &listener, far)?;
+    let mut rig = Rig::opened(&rt, "making", 47020, &[far])?;
+    a_link_is_taken_up(&rt, &mut rig, &listener, held.len())?;
+    // Where nobody listens, a link fails.
+    drop(listener);
+    rig.cut_pt(0);
+    check(!rig.links(0), "nobody listens")?;
+    rig.remove_file()
+}
