@@ -1,8 +1,9 @@
 //! Reads a script, plays it over the site in memory by calls made by hand, and goes through its log.
 //!
-//! Without arguments it does so with a script of three messages and one of three failing sends, and prints what it counted.
-//! With the arguments KIND (`messages` or `failing`) and LINES it does so with a script of about so many lines, and prints the
-//! nanoseconds that each line takes to be read, to be played and to be gone through in the log, and the peak of memory.
+//! Without arguments it does so with a script of three messages, one of three failing sends and one of four tills that are open
+//! at once, and prints what it counted. With the arguments KIND (`messages`, `failing` or `open`) and LINES it does so with a
+//! script of about so many lines, and prints the nanoseconds that each line takes to be read, to be played and to be gone through
+//! in the log, and the peak of memory.
 #![tactic(auto)]
 
 use anyhow::{Context, anyhow, bail};
@@ -44,6 +45,22 @@ fn failing(alloc: Global, lines: u64) -> Result<String, AllocError> {
     Ok(script)
 }
 
+/// Tills that are all open at once: each says a message, and then they close in the order in which they opened.
+fn open_at_once(alloc: Global, lines: u64) -> Result<String, AllocError> {
+    let tills = lines / 3;
+    let mut script = String::new(alloc);
+    for till in 1..=tills {
+        write!(script, "open {till}\n")?;
+    }
+    for till in 1..=tills {
+        write!(script, "say {till} {{\"message\":{till}}}\n")?;
+    }
+    for till in 1..=tills {
+        write!(script, "close {till}\n")?;
+    }
+    Ok(script)
+}
+
 /// A site that plays the script.
 fn site_of(alloc: Global, script: &str) -> anyhow::Result<SimSite> {
     match SimSite::from_script(alloc, script.as_bytes()) {
@@ -70,6 +87,8 @@ fn play(alloc: Global, site: &mut SimSite) -> anyhow::Result<u64> {
     let mut buf = [0; 4096];
     for polls in 1..u64::MAX {
         match site.poll(&mut buf).what {
+            // So it ends without memory too.
+            What::Stopped if site.short() => bail!("no memory"),
             What::Stopped => return Ok(polls),
             What::TillBytes(till, count) => made(site.send_till(till, &buf[..count]))?,
             What::Nothing => made(site.send_till(0, b"nobody"))?,
@@ -165,7 +184,8 @@ fn script_of(alloc: Global, kind: &str, lines: u64) -> anyhow::Result<String> {
     match kind {
         "messages" => Ok(messages(alloc, lines)?),
         "failing" => Ok(failing(alloc, lines)?),
-        _ => Err(anyhow!("a kind is messages or failing")),
+        "open" => Ok(open_at_once(alloc, lines)?),
+        _ => Err(anyhow!("a kind is messages, failing or open")),
     }
 }
 
@@ -175,7 +195,8 @@ fn main(rt: HostRuntime) -> anyhow::Result<()> {
     let _program = words.next();
     let Some(kind) = words.next() else {
         run(&rt, script_of(alloc, "messages", 3)?.as_str())?;
-        return run(&rt, script_of(alloc, "failing", 12)?.as_str());
+        run(&rt, script_of(alloc, "failing", 12)?.as_str())?;
+        return run(&rt, script_of(alloc, "open", 12)?.as_str());
     };
     let lines = match words.next() {
         Some(word) => word.as_str().parse::<u64>().context("LINES")?,

@@ -156,6 +156,7 @@ pub(crate) fn check_rows(
     table: &str,
 ) -> Result<(), Fail> {
     for row in table.split("\n\n") {
+        assert!(rt; !row.is_empty(), "a row is empty");
         check_row(rt, alloc, beginning, row)?;
     }
     Ok(())

@@ -13,6 +13,3 @@ mod unknown;
 pub use document::read_setup;
 pub use fault::ConfigFault;
 pub use laws::{law_examples, law_first_fault};
-
-#[cfg(test)]
-mod tests;

@@ -43,8 +43,8 @@ use Rattle.gw_rules.specs.Lawful.{first_message, may_begin, Begins, AllowedTurn,
 use Rattle.gw_rules.specs.LinkLaws.{HasSaid}
 use Rattle.gw_rules.specs.OutsideLaws.{IsOfBytes, AreOfBytes, idle_with, HasCourseTo, HasCourse, link_cut, CutsLink, ChangesNothing, IsAlone, after_greeting, OutsideIsAlone, TooLongIsAlone}
 use Rattle.gw_rules.specs.Scene.{Scene, known_in, row_in, row_at, link_lost_at}
-use Rattle.gw_rules.specs.Stage.{Stage, Handling, busy, is_round, is_looking}
-use Rattle.gw_rules.specs.TranscriptLaws.{command_owed, cut_owed, transcript_of}
+use Rattle.gw_rules.specs.Stage.{Stage, Handling, busy, is_round, is_looking, is_broken}
+use Rattle.gw_rules.specs.TranscriptLaws.{transcript_of}
 use Rattle.gw_rules.specs.View.{View, Move, Begin, Read, Make, begun, begin, by_row, called, read_first, after, after_turn, view_from, at_first}
 use Rattle.gw_rules.proofs.CourseLemmas.{begin-stage, stands-more}
 use Rattle.gw_rules.proofs.CutLemmas.{is_dead, dead-round, dead-running, dead-turn, none-among}
@@ -58,7 +58,7 @@ use Rattle.gw_rules.proofs.PrefixLemmas.{Along}
 use Rattle.gw_rules.proofs.SetupLemmas.{HasSetup}
 use Rattle.gw_rules.proofs.SplitLemmas.{SplitAt, split-log, split-agrees, split-outside, split-stands}
 use Rattle.gw_rules.proofs.StageLemmas.{no-true, no-call, handling-not-polled}
-use Rattle.gw_rules.proofs.TranscriptLogLemmas.{logs-follow}
+use Rattle.gw_rules.proofs.TranscriptLogLemmas.{idle-follows}
 use Rattle.gw_rules.proofs.UnlawfulLemmas.{take-owed, begin-next}
 
 -- ---- items of a terminal's bytes
@@ -330,11 +330,11 @@ transcript-serves-none least None came = refl
 transcript-serves-none least (Some dialogue) came = dialogue-serves-none least dialogue.dialogue_kind (end_of dialogue came)
 
 -- by the transcript no terminal serves anything, so that the loss of its link owes no reply
-none-served : EachRowFollowsTranscript → (log : List Turn) (v : View) (s : Stands log v) (pt : ℕ) (terminal : Terminal) → slice_get v.scene.core.terminals pt ≡ Some terminal → v.calls ≡ [] → serves terminal.standing ≡ false
-none-served rows log v s pt terminal found calls =
-    let follows = logs-follow rows log v s pt terminal found (ap (cut_owed pt) calls) in
+none-served : EachRowFollowsTranscript → (log : List Turn) (v : View) (s : Stands log v) (pt : ℕ) (terminal : Terminal) → slice_get v.scene.core.terminals pt ≡ Some terminal → v.scene.stage ≡ Handling → v.calls ≡ [] → serves terminal.standing ≡ false
+none-served rows log v s pt terminal found at calls =
+    let follows = idle-follows rows log v s pt terminal found (ap is_broken at) calls in
     let same : follows.terminal ≡ terminal = same-some follows.terminal terminal (sym follows.found ∙ found) in
-    let transcript : List Carried = command_owed pt v.scene.outside.moment v.calls ++ transcript_of pt s.course in
+    let transcript : List Carried = transcript_of pt s.course in
     let none : serves follows.terminal.standing ≡ false =
     sym (serves-due follows.terminal.standing) ∙ ap serves_any follows.standing_is ∙ transcript-serves-none (on_record v.scene.kept follows.terminal.pt.poi).last (dialogue_by follows.terminal.pt transcript) (came_by transcript) in
     ap (λ (t : Terminal). serves t.standing) (sym same) ∙ none
@@ -451,7 +451,7 @@ changes-alone rows log second rest pt now v item own due s a settled is own_are 
         scene = link_cut v.scene pt terminal
 
         made : after_turn owing (CutPt pt) ≡ idle_with scene (own ++ due)
-        made = cut-is-made v.scene has.setup pt terminal (own ++ due) has.setup_is at found (none-served rows log v s pt terminal found begins.idle.calls)
+        made = cut-is-made v.scene has.setup pt terminal (own ++ due) has.setup_is at found (none-served rows log v s pt terminal found at begins.idle.calls)
 
         unlinked : (apdu : ApduValue) → IsOwedNothing (known_in scene has.setup) pt apdu
         unlinked apdu = unlinked-owes-nothing (known_in scene has.setup) pt (unlinked_terminal terminal v.scene.outside.moment) (Some (v.scene.outside.moment + 5)) apdu (new-is-there v.scene.core.terminals pt terminal (unlinked_terminal terminal v.scene.outside.moment) found) refl

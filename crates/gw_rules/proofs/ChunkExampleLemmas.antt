@@ -16,11 +16,11 @@ use Rattle.gw_rules.specs.DialogueLaws.{EndsWith, IsDone, IsEnquiredIn}
 use Rattle.gw_rules.specs.LinkLaws.{EndsLink, HasSaid}
 use Rattle.gw_rules.specs.RowExample.{example_pt, terminal_setup, register_bytes}
 use Rattle.gw_rules.specs.SilenceLaws.{CompletesNone, SaysNothingIn, linked_turns}
-use Rattle.gw_rules.specs.TerminalLogExample.{items_begin}
+use Rattle.gw_rules.specs.TerminalLogExample.{before_link, items_begin}
 use Rattle.gw_rules.specs.View.{Begin, Make}
 use Rattle.gw_rules.proofs.ChunkLemmas.{done-at-once-is-enquired}
 use Rattle.gw_rules.proofs.PrefixLemmas.{lawful-along}
-use Rattle.gw_rules.proofs.TerminalLogLemmas.{after_start, from-start, poll-ends-none}
+use Rattle.gw_rules.proofs.TerminalLogLemmas.{before-link-quiet, after_start, from-start, poll-ends-none}
 use Rattle.gw_rules.proofs.TextLemmas.{bytes-tested}
 
 pub split-enquired : SplitIsEnquired
@@ -48,12 +48,12 @@ pub one-byte : IsProperApduPrefix (0x80 ∷ [])
 one-byte = (0x00 ∷ 0x00 ∷ [], ack_apdu, (λ e. cc), record { length_bytes = 0x00 ∷ []; is_length = inl (omega arith, refl); within = omega arith; whole = refl })
 
 -- the first byte completes nothing
-first-completes-none : CompletesNone (outside_of (linked_turns [] terminal_setup (Polled (pos 0) ∷ []) 0 (SentPt 0 register_bytes true ∷ Polled (pos 1) ∷ []))) 0 (0x80 ∷ [])
+first-completes-none : CompletesNone (outside_of (linked_turns [] terminal_setup before_link 0 (SentPt 0 register_bytes true ∷ Polled (pos 1) ∷ []))) 0 (0x80 ∷ [])
 unfolding decode_apdus decode_apdus_within
 first-completes-none = (0x80 ∷ [], record { before = []; rest = []; spelled = split_is [] tt; all = split_is (0x80 ∷ []) (bytes-tested (0x80 ∷ []) refl) }, one-byte)
 
 -- the rest completes both
-pub rest-completes : HasSaid (outside_of (linked_turns [] terminal_setup (Polled (pos 0) ∷ []) 0 said_first)) 0 rest_chunk (ack_apdu ∷ done_apdu ∷ []) []
+pub rest-completes : HasSaid (outside_of (linked_turns [] terminal_setup before_link 0 said_first)) 0 rest_chunk (ack_apdu ∷ done_apdu ∷ []) []
 unfolding decode_apdus decode_apdus_within
 rest-completes = record {
   before = [];
@@ -77,7 +77,7 @@ heard-lasts bytes (inl lost) = absurd (let n : HeardPt 0 bytes ≡ Lost 0 = lost
 heard-lasts bytes (inr (inl cut)) = absurd (let n : HeardPt 0 bytes ≡ CutPt 0 = cut in cc)
 heard-lasts bytes (inr (inr failed)) = absurd (let n : HeardPt 0 bytes ≡ LinkFailed 0 = failed in cc)
 
-pub first-silent : SaysNothingIn (outside_of (linked_turns [] terminal_setup (Polled (pos 0) ∷ []) 0 [])) 0 said_first
+pub first-silent : SaysNothingIn (outside_of (linked_turns [] terminal_setup before_link 0 [])) 0 said_first
 first-silent = record {
   quiet = (refl, (refl, (refl, (refl, tt))));
   completes_none = (not_sent, (not_polled, (heard, (not_polled, tt))));
@@ -90,10 +90,10 @@ first-silent = record {
     not_polled : {o : Outside} {now : ℤ} → (chunk : List ℕ) → Polled now ≡ HeardPt 0 chunk → CompletesNone o 0 chunk
     not_polled {o} {now} chunk e = absurd (let n : Polled now ≡ HeardPt 0 chunk = e in cc)
 
-    heard : (chunk : List ℕ) → HeardPt 0 (0x80 ∷ []) ≡ HeardPt 0 chunk → CompletesNone (outside_of (linked_turns [] terminal_setup (Polled (pos 0) ∷ []) 0 (SentPt 0 register_bytes true ∷ Polled (pos 1) ∷ []))) 0 chunk
+    heard : (chunk : List ℕ) → HeardPt 0 (0x80 ∷ []) ≡ HeardPt 0 chunk → CompletesNone (outside_of (linked_turns [] terminal_setup before_link 0 (SentPt 0 register_bytes true ∷ Polled (pos 1) ∷ []))) 0 chunk
     heard chunk e =
         let same : 0x80 ∷ [] ≡ chunk = (let n : HeardPt 0 (0x80 ∷ []) ≡ HeardPt 0 chunk = e in cc) in
-        subst (CompletesNone (outside_of (linked_turns [] terminal_setup (Polled (pos 0) ∷ []) 0 (SentPt 0 register_bytes true ∷ Polled (pos 1) ∷ []))) 0) same first-completes-none
+        subst (CompletesNone (outside_of (linked_turns [] terminal_setup before_link 0 (SentPt 0 register_bytes true ∷ Polled (pos 1) ∷ []))) 0) same first-completes-none
 
 -- ---- what isn't lawful
 
@@ -107,5 +107,5 @@ unfolding decode_apdus decode_apdus_within decode_pt_message
 poll-before-split-enquiry = record {
   before = lawful-along split_log split_course refl (from-start (after_start split_course) refl);
   with_turn = λ lawful.
-      only-acknowledged (done-at-once-is-enquired [] (Polled (pos 0) ∷ []) said_first (SentPt 0 ack true ∷ []) [] terminal_setup example_pt 0 rest_chunk (ack_apdu ∷ done_apdu ∷ []) [] (pos 3) lawful (refl, tt) refl first-silent (refl, tt) (sent-lasts ack, tt) rest-completes both-are-done);
+      only-acknowledged (done-at-once-is-enquired [] before_link said_first (SentPt 0 ack true ∷ []) [] terminal_setup example_pt 0 rest_chunk (ack_apdu ∷ done_apdu ∷ []) [] (pos 3) lawful before-link-quiet refl first-silent (refl, tt) (sent-lasts ack, tt) rest-completes both-are-done);
 }

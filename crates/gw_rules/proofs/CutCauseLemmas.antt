@@ -45,7 +45,7 @@ use Rattle.gw_owes.proofs.TerminalLemmas.{cuts-have-cause, no-link-event-cuts}
 use Rattle.gw_rules.specs.CutCauses.{HasSaidInRound, HasSaidApdu, HasBegunTooLong, BeginsCut, CutCause, SendFailed, SaidOutside, BegunTooLong, BrokeDialogue, DeadlineCame, EachPtCutHasCause, FailedSendCuts}
 use Rattle.gw_rules.specs.Lawful.{first_call, Begins, AllowedTurn, IsCourse, turns_of, Stands}
 use Rattle.gw_rules.specs.LinkLaws.{HasSaid}
-use Rattle.gw_rules.specs.Scene.{Scene, known_in, row_in, link_made_at, link_lost_at}
+use Rattle.gw_rules.specs.Scene.{Scene, records_of, known_in, row_in, link_made_at, link_lost_at}
 use Rattle.gw_rules.specs.Stage.{AtPoll, is_looking}
 use Rattle.gw_rules.specs.View.{View, Move, Begin, Read, Make, later, read_first, after, after_turn, view_from, at_first}
 use Rattle.gw_rules.proofs.CourseLemmas.{stands-more, stands-outside}
@@ -54,6 +54,7 @@ use Rattle.gw_rules.proofs.KeptLemmas.{BeginsFirst, begins-first}
 use Rattle.gw_rules.proofs.LinkLawLemmas.{busy-not-poll, same-call}
 use Rattle.gw_rules.proofs.LinkedLemmas.{Agrees, call-setup, made-at-turns, lost-at-turns, first-agrees, course-agrees, round-setup}
 use Rattle.gw_rules.proofs.OpeningLemmas.{other-not-looking, course-disk, first-owes-disk}
+use Rattle.gw_rules.proofs.OpensLemmas.{opens-cut-none}
 use Rattle.gw_rules.proofs.OutsideCutLemmas.{in-owes}
 use Rattle.gw_rules.proofs.SetupLemmas.{HasSetup}
 use Rattle.gw_rules.proofs.SplitLemmas.{SplitAt, split-log}
@@ -412,7 +413,7 @@ lost-none scene pt = by_setup scene.setup
     by_setup (Some setup) = no-link-event-cuts (known_in scene setup) pt LinkIsLost
 
 turn-calls : (log : List Turn) (v : View) (turn : Turn) → NoneOrOwed log v.calls → NoneOrOwed (log ++ turn ∷ []) (after_turn v turn).calls
-turn-calls log v (Start setup) h = inl refl
+turn-calls log v (Start setup) h = inl (opens-cut-none setup v.scene.outside.file (records_of v.scene))
 turn-calls log v OpenFailed h = inl refl
 turn-calls log v (Polled now) h = inl refl
 turn-calls log v (Opened till) h = inl refl

@@ -186,8 +186,8 @@ pub other-not-cut-first : OtherIsNotCutFirst
 other-not-cut-first = record {
   before = lawful-along both_silent_log both_silent_course refl (from-two (after_start both_silent_course) refl);
   with_turn = λ lawful.
-      let v = leads_along 20 at_first both_silent_log in
-      let led = lead 20 at_first both_silent_log (CutPt 1 ∷ []) refl (along (both_silent_log ++ CutPt 1 ∷ []) lawful) in
+      let v = leads_along 24 at_first both_silent_log in
+      let led = lead 24 at_first both_silent_log (CutPt 1 ∷ []) refl (along (both_silent_log ++ CutPt 1 ∷ []) lawful) in
       let w = after v Begin in
       let begun = begin-next v (CutPt 1) [] refl (plain-waits v (CutPt 1) refl refl refl) led in
       let next = take-owed w (OwedCutPt 0) (CutPt 1) [] refl begun in
@@ -202,8 +202,8 @@ poll-before-other-cut = record {
   before = lawful-along (both_silent_log ++ CutPt 0 ∷ []) (both_silent_course ++ Begin ∷ Make (CutPt 0) ∷ []) refl (from-two (after_start (both_silent_course ++ Begin ∷ Make (CutPt 0) ∷ [])) refl);
   with_turn = λ lawful.
       let turn = Polled (pos 5) in
-      let v = leads_along 20 at_first (both_silent_log ++ CutPt 0 ∷ []) in
-      let led = lead 20 at_first (both_silent_log ++ CutPt 0 ∷ []) (turn ∷ []) refl (along (both_silent_log ++ CutPt 0 ∷ turn ∷ []) lawful) in
+      let v = leads_along 24 at_first (both_silent_log ++ CutPt 0 ∷ []) in
+      let led = lead 24 at_first (both_silent_log ++ CutPt 0 ∷ []) (turn ∷ []) refl (along (both_silent_log ++ CutPt 0 ∷ turn ∷ []) lawful) in
       let w = after v Begin in
       let begun = begin-next v turn [] refl (no-poll-item v (pos 5) refl) led in
       no-poll-call w (pos 5) (OwedCutPt 1) refl (take-owed w (OwedCutPt 1) turn [] refl begun).0;

@@ -12,13 +12,14 @@ use Rattle.gw_owes.specs.TerminalExample.{ack, enquiry_sent}
 use Rattle.gw_owes.specs.declared.terminal.Standing.TheVariants.{Registering}
 use Rattle.gw_owes.specs.declared.terminal.Terminal.{Terminal}
 use Rattle.gw_rules.specs.DialogueLaws.{EndsAlong, IsDone}
-use Rattle.gw_rules.specs.DoneExample.{before_link, first_byte, rest_chunk, both_apdus, enquiring_turns, ExampleDoneAtOnce, first_byte_log, first_byte_course, first_byte_view, enquiring_moves, ExampleDone}
+use Rattle.gw_rules.specs.DoneExample.{first_byte, rest_chunk, both_apdus, enquiring_turns, ExampleDoneAtOnce, first_byte_log, first_byte_course, first_byte_view, enquiring_moves, ExampleDone}
 use Rattle.gw_rules.specs.SilenceLaws.{linked_turns}
 use Rattle.gw_rules.specs.RowExample.{example_pt, terminal_setup}
+use Rattle.gw_rules.specs.TerminalLogExample.{before_link}
 use Rattle.gw_rules.specs.View.{Move, Make}
 use Rattle.gw_rules.proofs.ChunkExampleLemmas.{sent-lasts, first-silent, rest-completes, both-are-done}
 use Rattle.gw_rules.proofs.PrefixLemmas.{lawful-along}
-use Rattle.gw_rules.proofs.TerminalLogLemmas.{after_start, from-start}
+use Rattle.gw_rules.proofs.TerminalLogLemmas.{before-link-quiet, after_start, from-start}
 use Rattle.gw_rules.proofs.TestedLemmas.{course-tested}
 use Rattle.gw_rules.proofs.TextLemmas.{bytes-tested}
 
@@ -30,7 +31,7 @@ pub done-at-once : ExampleDoneAtOnce
 unfolding decode_apdus decode_apdus_within decode_pt_message
 done-at-once = record {
   lawful = lawful-along (linked_turns [] terminal_setup before_link 0 (first_byte ++ HeardPt 0 rest_chunk ∷ (enquiring_turns ++ Polled (pos 3) ∷ Stopped ∷ []))) whole_course refl (from-start (after_start whole_course) refl);
-  quiet = (refl, tt);
+  quiet = before-link-quiet;
   settings_are = refl;
   silent = first-silent;
   round = (refl, (refl, tt));

@@ -3,6 +3,8 @@ use Rattle.std.proofs.Common.{◌≡◌, ℕ, Bool, true, false, List, [], ◌�
 use Rattle.std.proofs.lemmas.Bool.{and_parts, leb-true}
 use Rattle.std.proofs.lemmas.List.{take-append-drop}
 use Rattle.std.specs.Prelude.{pos, nat_le, ◌&&◌}
+use Rattle.gw_base.specs.Setup.{IsSetup}
+use Rattle.gw_base.specs.declared.setup.Setup.{Setup}
 use Rattle.gw_site.proofs.ImageLemmas.{file_image}
 use Rattle.gw_site.specs.declared.turn.Turn.{Turn}
 use Rattle.gw_site.specs.declared.turn.Turn.TheVariants.{Start, OpenFailed, Polled, Opened, HeardTill, Closed, HeardPt, Lost, Stopped, Linked, LinkFailed, SentTill, SentPt, CutTill, CutPt, Wrote, Synced, DiskFailed, Crash}
@@ -10,14 +12,20 @@ use Rattle.sale_frame.specs.Grammar.{frame}
 use Rattle.gw_owes.specs.Calls.{OwedCall}
 use Rattle.gw_owes.specs.Items.{RoundItem}
 use Rattle.gw_owes.specs.ReadAs.{Silent}
-use Rattle.gw_rules.specs.Example.{example_setup, status_request, status_reply, silent_message, status_asked, not_found, heard_log, asked_log, failed_send_log, tills_open, crowded_log, StatusIsLawful, FailedSendIsLawful, SilentIsLawful, BadFrameIsLawful, CrowdedIsLawful, RestartedIsLawful, CrashedIsLawful, LooksMayFail, RefusedIsNotPolled, DiskFailureEnds, NoRunWhereNotOpened}
-use Rattle.gw_rules.specs.Lawful.{AllowedTurn, IsCourse, IsChunk, turns_of, IsLawful}
+use Rattle.gw_rules.specs.Example.{example_setup, status_request, status_reply, silent_message, status_asked, not_found, heard_log, asked_log, failed_send_log, tills_open, crowded_log, StatusIsLawful, FailedSendIsLawful, SilentIsLawful, BadFrameIsLawful, CrowdedIsLawful, RestartedIsLawful, CrashedIsLawful, LooksMayFail, RefusedIsNotPolled, DiskFailureEnds, NoRunWhereNotOpened, first_turns, first_file, began, began_moves}
+use Rattle.gw_rules.specs.Lawful.{AllowedTurn, IsClear, IsCourse, IsChunk, turns_of, IsLawful}
 use Rattle.gw_rules.specs.Stage.{Stage, Resting, Opening, Looking, AtPoll, Handling, Over, Broken, is_running}
 use Rattle.gw_rules.specs.View.{View, Move, Begin, Read, Make, after_turn, view_from, at_first}
 use Rattle.gw_rules.proofs.CourseLemmas.{makes, turns_of-makes, turns_of-append, course-append}
 use Rattle.gw_rules.proofs.PrefixLemmas.{lawful-along, prefix-lawful}
 use Rattle.gw_rules.proofs.StageLemmas.{no-true}
+use Rattle.gw_rules.proofs.TestedLemmas.{passes_course, course-tested}
 use Rattle.gw_rules.proofs.TextLemmas.{bytes-tested, request-read, reply-bytes, silent-read, setup-formed}
+
+-- ---- a run begins
+
+pub began-course : (v : View) (setup : Setup) → IsClear v → IsSetup setup → passes_course (after_turn v (Start setup)) (makes first_turns) ≡ true → IsCourse v (began_moves setup)
+began-course v setup clear formed e = ((clear, formed), course-tested (after_turn v (Start setup)) (makes first_turns) e)
 
 -- ---- a till has opened and said these bytes
 
@@ -25,13 +33,11 @@ abbrev pub heard_view : List ℕ → View
 heard_view bytes = view_from at_first (makes (heard_log bytes))
 
 pub heard-course : (bytes : List ℕ) → IsChunk bytes → IsCourse at_first (makes (heard_log bytes))
-heard-course bytes chunk = (
-  (refl, setup-formed),
-  (
-    record { running = refl; calls = refl; items = refl },
-    ((refl, omega arith), (record { running = refl; calls = refl; items = refl }, ((record { polled = refl; connected_is = refl }, chunk), tt))),
-  ),
-)
+heard-course bytes chunk =
+    course-append at_first (began_moves example_setup) (makes (Polled (pos 0) ∷ Opened 1 ∷ Polled (pos 0) ∷ HeardTill 1 bytes ∷ [])) (began-course at_first example_setup refl setup-formed refl) (
+      record { running = refl; calls = refl; items = refl },
+      ((refl, omega arith), (record { running = refl; calls = refl; items = refl }, ((record { polled = refl; connected_is = refl }, chunk), tt))),
+    )
 
 -- and the log goes on
 pub lawful-after : (bytes : List ℕ) (moves : List Move) → IsChunk bytes → IsCourse (heard_view bytes) moves → IsLawful (heard_log bytes ++ turns_of moves)
@@ -138,20 +144,25 @@ bad-frame-lawful = lawful-after bad_bytes bad_moves bad-chunk bad-course
 
 -- ---- runs
 
-restart-course : (bytes : List ℕ) → IsCourse (heard_view bytes) (makes (Start example_setup ∷ Polled (pos 0) ∷ Opened 1 ∷ Polled (pos 0) ∷ Stopped ∷ []))
-restart-course bytes = (
-  (refl, setup-formed),
-  (record { running = refl; calls = refl; items = refl }, ((refl, omega arith), (record { running = refl; calls = refl; items = refl }, (refl, tt)))),
-)
+restart-course : (bytes : List ℕ) → IsCourse (heard_view bytes) (makes (began example_setup ++ Polled (pos 0) ∷ Opened 1 ∷ Polled (pos 0) ∷ Stopped ∷ []))
+restart-course bytes =
+    course-append (heard_view bytes) (began_moves example_setup) (makes (Polled (pos 0) ∷ Opened 1 ∷ Polled (pos 0) ∷ Stopped ∷ [])) (began-course (heard_view bytes) example_setup refl setup-formed refl)
+    (record { running = refl; calls = refl; items = refl }, ((refl, omega arith), (record { running = refl; calls = refl; items = refl }, (refl, tt))))
 
 pub restarted-lawful : RestartedIsLawful
-restarted-lawful = lawful-after (frame status_request) (makes (Start example_setup ∷ Polled (pos 0) ∷ Opened 1 ∷ Polled (pos 0) ∷ Stopped ∷ [])) request-chunk (restart-course (frame status_request))
+restarted-lawful = lawful-after (frame status_request) (makes (began example_setup ++ Polled (pos 0) ∷ Opened 1 ∷ Polled (pos 0) ∷ Stopped ∷ [])) request-chunk (restart-course (frame status_request))
 
-crash-course : IsCourse (heard_view (frame status_request)) (makes (Crash [] ∷ Start example_setup ∷ Polled (pos 0) ∷ Stopped ∷ []))
-crash-course = ((file_image asked_log, tt), ((refl, setup-formed), (record { running = refl; calls = refl; items = refl }, (refl, tt))))
+abbrev crashed_view : View
+crashed_view = after_turn (heard_view (frame status_request)) (Crash first_file)
+
+crash-course : IsCourse (heard_view (frame status_request)) (makes (Crash first_file ∷ (began example_setup ++ Polled (pos 0) ∷ Stopped ∷ [])))
+crash-course = (
+  (file_image asked_log, bytes-tested first_file refl),
+  course-append crashed_view (began_moves example_setup) (makes (Polled (pos 0) ∷ Stopped ∷ [])) (began-course crashed_view example_setup refl setup-formed refl) (record { running = refl; calls = refl; items = refl }, (refl, tt)),
+)
 
 pub crashed-lawful : CrashedIsLawful
-crashed-lawful = lawful-after (frame status_request) (makes (Crash [] ∷ Start example_setup ∷ Polled (pos 0) ∷ Stopped ∷ [])) request-chunk crash-course
+crashed-lawful = lawful-after (frame status_request) (makes (Crash first_file ∷ (began example_setup ++ Polled (pos 0) ∷ Stopped ∷ []))) request-chunk crash-course
 
 -- ---- the disk
 
@@ -257,13 +268,14 @@ made-course v (turn ∷ turns) e =
     (made-allowed v turn p.0, made-course (after_turn v turn) turns p.1)
 
 abbrev pub full_log : List Turn
-full_log = Start example_setup ∷ tills_open 1 65
+full_log = began example_setup ++ tills_open 1 65
 
 abbrev pub full_view : View
 full_view = view_from at_first (makes full_log)
 
 pub full-course : IsCourse at_first (makes full_log)
-full-course = ((refl, setup-formed), made-course (view_from at_first (Make (Start example_setup) ∷ [])) (tills_open 1 65) refl)
+full-course =
+    course-append at_first (began_moves example_setup) (makes (tills_open 1 65)) (began-course at_first example_setup refl setup-formed refl) (made-course (view_from at_first (began_moves example_setup)) (tills_open 1 65) refl)
 
 abbrev crowded_moves : List Move
 crowded_moves = Begin ∷ Make (CutTill 65) ∷ Make (Polled (pos 0)) ∷ Make Stopped ∷ []

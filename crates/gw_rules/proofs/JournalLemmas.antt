@@ -3,8 +3,9 @@ use Rattle.std.proofs.Common.{◌≡◌, ℕ, Bool, true, false, List, [], ◌�
 use Rattle.std.proofs.lemmas.Bool.{and_parts, leb-true, ltb-true}
 use Rattle.std.proofs.lemmas.List.{length-map, map-append}
 use Rattle.std.specs.Prelude.{◌⊎◌, not, nat_le, if◌then◌else◌, map, Some, None, option_to_list}
+use Rattle.gw_base.specs.declared.setup.Setup.{Setup}
 use Rattle.gw_site.specs.Image.{Image}
-use Rattle.gw_site.specs.Outside.{outside_after, outside_from, outside_of}
+use Rattle.gw_site.specs.Outside.{Outside, outside_after, outside_from, outside_of}
 use Rattle.gw_site.specs.declared.turn.Turn.{Turn}
 use Rattle.gw_site.specs.declared.turn.Turn.TheVariants.{Start, OpenFailed, Polled, Opened, HeardTill, Closed, HeardPt, Lost, Stopped, Linked, LinkFailed, SentTill, SentPt, CutTill, CutPt, Wrote, Synced, DiskFailed, Crash}
 use Rattle.gw_site.proofs.ImageLemmas.{stable_image}
@@ -29,6 +30,7 @@ use Rattle.gw_rules.specs.RowExample.{example_record}
 use Rattle.gw_rules.specs.Scene.{records_of, link_made_at, link_lost_at}
 use Rattle.gw_rules.specs.View.{View, Move, Begin, Read, Make, later, after, after_turn, view_from, at_first}
 use Rattle.gw_rules.proofs.CourseLemmas.{after-outside, begin-outside}
+use Rattle.gw_rules.proofs.OpensLemmas.{opening-owes}
 use Rattle.gw_rules.proofs.SpareLemmas.{begin-spares, made-at-spares, lost-at-spares}
 use Rattle.gw_rules.proofs.StageLemmas.{no-true}
 
@@ -326,8 +328,22 @@ synced-goes log calls (inl s) f = no-true (spare-first calls Sync s.spares f)
 synced-goes log calls (inr (inl o)) f = synced-opens log calls o f
 synced-goes log calls (inr (inr k)) f = synced-keeps log calls k f
 
+-- a run that begins owes no call, or is to open a journal
+start-goes : (v : View) (log : List Turn) (setup : Setup) → v.scene.outside ≡ outside_of log → Goes log v.calls → Goes (log ++ Start setup ∷ []) (after_turn v (Start setup)).calls
+start-goes v log setup e g = by_owed (opening-owes setup v.scene.outside.file (records_of v.scene))
+  where
+    leaves : LeavesJournals (log ++ Start setup ∷ [])
+    leaves = others_leave log (Start setup) (λ o. (refl, refl, refl)) (goes-leaves log v.calls g)
+
+    same : v.scene.outside.file ≡ (outside_of (log ++ Start setup ∷ [])).file
+    same = ap (λ (o : Outside). o.file) e ∙ ap (λ (o : Outside). o.file) (sym (outside_of-append log (Start setup ∷ [])))
+
+    by_owed : ((after_turn v (Start setup)).calls ≡ []) ⊎ ((after_turn v (Start setup)).calls ≡ opening_calls (length v.scene.outside.file)) → Goes (log ++ Start setup ∷ []) (after_turn v (Start setup)).calls
+    by_owed (inl none) = inl (record { spares = ap spare_disk none; leaves = leaves })
+    by_owed (inr calls) = inr (inl (inl (record { more = []; leaves = leaves; calls_are = calls ∙ ap (λ file. opening_calls (length file)) same ∙ sym (append-nil _); spares = refl })))
+
 turn-goes : (v : View) (log : List Turn) (turn : Turn) → v.scene.outside ≡ outside_of log → Goes log v.calls → AllowedTurn v turn → Goes (log ++ turn ∷ []) (after_turn v turn).calls
-turn-goes v log (Start setup) e g ok = still log (Start setup) v.calls [] g (λ o. (refl, refl, refl)) refl
+turn-goes v log (Start setup) e g ok = start-goes v log setup e g
 turn-goes v log OpenFailed e g ok = still log OpenFailed v.calls [] g (λ o. (refl, refl, refl)) refl
 turn-goes v log (Polled now) e g ok = still log (Polled now) v.calls [] g (λ o. (refl, refl, refl)) refl
 turn-goes v log (Opened till) e g ok = still log (Opened till) v.calls [] g (λ o. (refl, refl, refl)) refl

@@ -20,7 +20,7 @@ use Rattle.gw_rules.specs.Stage.{Stage, Resting, Opening, Looking, AtPoll, Handl
 use Rattle.gw_rules.specs.View.{View, later, after_turn, view_from, at_first}
 use Rattle.gw_rules.proofs.LinkStateLemmas.{LinkState, Absent, On, Off, state_of, state_in}
 use Rattle.gw_rules.proofs.LinkedLemmas.{Agrees, Settled, AreConfigured, is_on, call-settled, first-fits, course-agrees, turn-agrees}
-use Rattle.gw_rules.proofs.OpeningLemmas.{OwesDisk, course-disk, other-not-looking}
+use Rattle.gw_rules.proofs.OpeningLemmas.{OwesDisk, start-owes-disk, course-disk, other-not-looking}
 use Rattle.gw_rules.proofs.PrefixLemmas.{Along}
 use Rattle.gw_rules.proofs.SplitLemmas.{SplitAt, split-at, split-log, split-agrees, split-outside, moves-setup}
 use Rattle.gw_rules.proofs.StageLemmas.{no-call, handling-not-polled}
@@ -139,5 +139,5 @@ linked-registers before run rest setup pt turn lawful quiet b =
     let began = after_turn v (Start setup) in
     let y = split-at began x.onward.moves run (Linked pt) (turn ∷ rest) x.onward.turns_are x.onward.lawful in
     let start_agrees = turn-agrees v (Start setup) (split-agrees before (Start setup) (run ++ Linked pt ∷ turn ∷ rest) x) x.allowed in
-    registered-next (view_from began y.first) setup pt turn rest (course-agrees began y.first start_agrees y.lawful) (course-disk began y.first (record { disk = λ e. refl }) y.lawful)
+    registered-next (view_from began y.first) setup pt turn rest (course-agrees began y.first start_agrees y.lawful) (course-disk began y.first (start-owes-disk v setup) y.lawful)
     (moves-setup began y.first (subst IsQuiet (sym y.first_are) quiet)) y.allowed y.onward b

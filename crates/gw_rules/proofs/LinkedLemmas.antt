@@ -25,10 +25,11 @@ use Rattle.gw_owes.specs.TerminalLaws.{settings_of}
 use Rattle.gw_owes.specs.Terminals.{link_made, link_lost, core_without}
 use Rattle.gw_owes.specs.declared.terminal.Terminal.{Terminal}
 use Rattle.gw_rules.specs.Lawful.{first_call, may_begin, first_message, Begins, IsRead, Allowed, AllowedTurn, IsCourse}
-use Rattle.gw_rules.specs.Scene.{Scene, known_in, row_in, row_at, link_made_at, link_lost_at}
+use Rattle.gw_rules.specs.Scene.{Scene, records_of, known_in, row_in, row_at, link_made_at, link_lost_at}
 use Rattle.gw_rules.specs.Stage.{AtPoll, Handling, is_round, is_looking}
 use Rattle.gw_rules.specs.View.{View, Move, Begin, Read, Make, later, read_first, after, after_turn, view_from, at_first}
 use Rattle.gw_rules.proofs.LinkStateLemmas.{LinkState, Absent, On, Off, Odd, state_of, state_in, state_then, EachFits, Fits, fits-same, LeavesLinks, Turns, loses, rows-keep, made-turns, lost-turns, without-states, without-settings, apart}
+use Rattle.gw_rules.proofs.OpensLemmas.{opens-fit}
 use Rattle.gw_rules.proofs.OwedLemmas.{begin-ends, turn-ends, call-last}
 use Rattle.gw_rules.proofs.SetupLemmas.{HasSetup, IsInRun, first-run, begin-run, read-run, turn-run}
 use Rattle.gw_rules.proofs.StageLemmas.{no-true, no-call, not-true, handling-not-polled}
@@ -329,7 +330,7 @@ start-settled v setup = record {
   linked = λ number. by_state number (new-state setup.terminals number);
   even = λ number odd. by_odd number (new-state setup.terminals number) odd;
   settings = new-settings setup.terminals;
-  fits = tt;
+  fits = opens-fit 0 (new_core setup) setup v.scene.outside.file (records_of v.scene);
   none = refl;
 }
   where

@@ -2,14 +2,17 @@
 use Rattle.std.proofs.Common.{◌≡◌, List, [], ◌∷◌, refl, sym, ◌∙◌, ap, subst, true, false}
 use Rattle.std.proofs.lemmas.Bool.{and_parts}
 use Rattle.std.specs.Prelude.{Bool, ◌&&◌, Some, None}
+use Rattle.gw_base.specs.declared.setup.Setup.{Setup}
 use Rattle.gw_site.specs.declared.turn.Turn.{Turn}
 use Rattle.gw_site.specs.declared.turn.Turn.TheVariants.{Start, OpenFailed, Polled, Opened, HeardTill, Closed, HeardPt, Lost, Stopped, Linked, LinkFailed, SentTill, SentPt, CutTill, CutPt, Wrote, Synced, DiskFailed, Crash}
 use Rattle.gw_owes.specs.Calls.{OwedCall}
 use Rattle.gw_rules.specs.JournalFiles.{is_on_disk}
 use Rattle.gw_rules.specs.Lawful.{first_call, AllowedTurn, IsCourse}
+use Rattle.gw_rules.specs.Scene.{records_of}
 use Rattle.gw_rules.specs.Stage.{Stage, Resting, Opening, Looking, AtPoll, Handling, Over, Broken, busy, is_looking, stage_synced, stage_wrote}
 use Rattle.gw_rules.specs.View.{View, Move, Begin, Read, Make, later, after, after_turn, view_from, at_first}
 use Rattle.gw_rules.proofs.CourseLemmas.{begin-stage}
+use Rattle.gw_rules.proofs.OpensLemmas.{opens-all}
 use Rattle.gw_rules.proofs.StageLemmas.{no-true, round-busy}
 
 abbrev pub is_opening : Stage → Bool
@@ -21,7 +24,7 @@ is_opening Handling = false
 is_opening Over = false
 is_opening Broken = false
 
-abbrev all_on_disk : List OwedCall → Bool
+abbrev pub all_on_disk : List OwedCall → Bool
 all_on_disk [] = true
 all_on_disk (call ∷ calls) = is_on_disk call && all_on_disk calls
 
@@ -79,8 +82,12 @@ not-opening v call d next other e = no-true (sym other ∙ first-disk v.calls ca
 pub other-not-looking : {A : Type 0} (v : View) (call : OwedCall) → OwesDisk v → first_call v.calls ≡ Some call → is_on_disk call ≡ false → is_looking (busy v.scene.stage) ≡ true → A
 other-not-looking v call d next other e = not-opening v call d next other (looking-opening (busy v.scene.stage) e)
 
+-- a run that begins opens its journal
+pub start-owes-disk : (v : View) (setup : Setup) → OwesDisk (after_turn v (Start setup))
+start-owes-disk v setup = record { disk = λ e. opens-all (λ calls. all_on_disk calls ≡ true) refl refl refl setup v.scene.outside.file (records_of v.scene) }
+
 turn-disk : (v : View) (turn : Turn) → OwesDisk v → AllowedTurn v turn → OwesDisk (after_turn v turn)
-turn-disk v (Start setup) d ok = record { disk = λ e. refl }
+turn-disk v (Start setup) d ok = start-owes-disk v setup
 turn-disk v OpenFailed d ok = record { disk = λ e. refl }
 turn-disk v (Polled now) d ok = record { disk = λ e. refl }
 turn-disk v (Opened till) d ok = record { disk = λ e. refl }

@@ -14,8 +14,9 @@ use Rattle.gw_owes.proofs.RowEndLemmas.{rows-end}
 use Rattle.gw_owes.proofs.RowLemmas.{links-end}
 use Rattle.gw_rules.specs.Laws.{CallsEndInOne}
 use Rattle.gw_rules.specs.Lawful.{first_call, AllowedTurn, IsCourse}
-use Rattle.gw_rules.specs.Scene.{Scene, row_in, row_at, link_made_at, link_lost_at}
+use Rattle.gw_rules.specs.Scene.{Scene, records_of, row_in, row_at, link_made_at, link_lost_at}
 use Rattle.gw_rules.specs.View.{View, Move, Begin, Read, Make, begin, later, after, after_turn, view_from, at_first}
+use Rattle.gw_rules.proofs.OpensLemmas.{opens-end}
 use Rattle.gw_rules.proofs.StageLemmas.{no-true}
 
 -- ---- rows in a scene
@@ -66,7 +67,7 @@ row-then : (calls more : List OwedCall) → more ≡ [] → ends_in_one calls �
 row-then calls more none e = subst (λ l. ends_in_one (calls ++ l) ≡ true) (sym none) (ap ends_in_one (append-nil calls) ∙ e)
 
 pub turn-ends : (v : View) (turn : Turn) → ends_in_one v.calls ≡ true → AllowedTurn v turn → ends_in_one (after_turn v turn).calls ≡ true
-turn-ends v (Start setup) e ok = refl
+turn-ends v (Start setup) e ok = opens-end setup v.scene.outside.file (records_of v.scene)
 turn-ends v OpenFailed e ok = refl
 turn-ends v (Polled now) e ok = refl
 turn-ends v (Opened till) e ok = refl

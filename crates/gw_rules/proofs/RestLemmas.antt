@@ -1,7 +1,7 @@
 -- When a terminal that isn't linked is due: five seconds after its link ended, or couldn't be made, in this run.
 use Rattle.std.proofs.Common.{◌≡◌, ◌≢◌, ℕ, List, [], ◌∷◌, ◌++◌, refl, sym, ◌∙◌, ap, subst, true, false, inl, inr, append_assoc, append-nil, eqb-true}
-use Rattle.std.proofs.lemmas.Bool.{eq-eqb}
-use Rattle.std.specs.Prelude.{Bool, ℤ, ◌⊎◌, ◌+◌, ◌==◌, Option, Some, None}
+use Rattle.std.proofs.lemmas.Bool.{and_parts, eq-eqb}
+use Rattle.std.specs.Prelude.{Bool, ℤ, ◌⊎◌, ◌+◌, ◌==◌, ◌&&◌, not, Option, Some, None}
 use Rattle.gw_base.specs.declared.setup.Setup.{Setup}
 use Rattle.gw_site.specs.Outside.{Outside, outside_after, outside_from}
 use Rattle.gw_site.specs.Sorts.{IsQuiet, is_between, is_sort_of_round, sort_of}
@@ -20,7 +20,7 @@ use Rattle.gw_rules.proofs.CourseLemmas.{after-outside, begin-outside}
 use Rattle.gw_rules.proofs.LinkStateLemmas.{LinkState, Absent, On, Off, Odd, state_in, state_then}
 use Rattle.gw_rules.proofs.LinkedLemmas.{Agrees, is_on, Settled, Losing, OrLost, IsOfLink, lose_none, begin-agrees, begin-state-settled, begin-state-losing, by-number, call-setup, lost-at-turns, made-at-turns, losing-round, move-agrees, new-state, polled-settled, read-losing, read-settled, round-setup, settled-turn, turn-state}
 use Rattle.gw_rules.proofs.RoundLemmas.{turn-moment}
-use Rattle.gw_rules.proofs.StageLemmas.{no-true}
+use Rattle.gw_rules.proofs.StageLemmas.{no-true, not-true}
 
 -- ---- turns that end a link
 
@@ -70,6 +70,17 @@ end-tests : (pt : ℕ) (turn : Turn) → EndsLink pt turn → is_end pt turn ≡
 end-tests pt turn (inl lost) = ap (is_end pt) lost ∙ eq-eqb pt pt refl
 end-tests pt turn (inr (inl cut)) = ap (is_end pt) cut ∙ eq-eqb pt pt refl
 end-tests pt turn (inr (inr failed)) = ap (is_end pt) failed ∙ eq-eqb pt pt refl
+
+-- these turns end no link of the terminal
+abbrev pub link_lasts : ℕ → List Turn → Bool
+link_lasts pt [] = true
+link_lasts pt (turn ∷ turns) = not (is_end pt turn) && link_lasts pt turns
+
+pub lasts-tested : (pt : ℕ) (turns : List Turn) → link_lasts pt turns ≡ true → EndsNone pt turns
+lasts-tested pt [] e = tt
+lasts-tested pt (turn ∷ turns) e =
+    let p = and_parts (not (is_end pt turn)) (link_lasts pt turns) e in
+    ((λ ends. no-true (sym (not-true (is_end pt turn) p.0) ∙ end-tests pt turn ends)), lasts-tested pt turns p.1)
 
 -- the turn ends the terminal's link, or doesn't
 by-end : {A : Type 0} (pt : ℕ) (turn : Turn) → (EndsLink pt turn → A) → ((EndsLink pt turn → ⊥) → A) → A

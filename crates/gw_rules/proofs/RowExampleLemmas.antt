@@ -15,11 +15,13 @@ use Rattle.sale_frame.specs.Grammar.{BeginsWithBadLength}
 use Rattle.zvt_apdu.specs.DecodeStream.{decode_apdus, decode_apdus_within}
 use Rattle.gw_owes.specs.Calls.{Ask, WriteBody, WriteGate}
 use Rattle.gw_owes.specs.Terminals.{registration}
+use Rattle.gw_rules.specs.Example.{began, began_moves}
 use Rattle.gw_rules.specs.Lawful.{IsCourse, IsChunk}
 use Rattle.gw_rules.specs.RowExample.{example_pt, terminal_setup, unlinked_log, unframed_log, link_view, keep_view, linked_moves, both_bytes, gate_moves, example_record, UnlinkedIsLawful, UnframedIsLawful, PollBeforeUnframedCut, RowItemsComeFirst, LinkRegisters, LinkIsDueAgain, FailedSendCutsLink, LostIsDue, LostEndOfDayReplies, LostTransactionKeepsAsker, BothAreItems, SendingsAreSpelled, GoneTillIsForgotten, WaitsByDeadline, GateIsInFlight, SyncKeeps, StartLeavesFlight, FailedSyncCrashes, ClosedGateDrops, OpenGateKeeps}
 use Rattle.gw_rules.specs.View.{Move, Begin, Make, view_from, at_first}
 use Rattle.gw_rules.proofs.CourseLemmas.{course-append}
 use Rattle.gw_rules.proofs.CutLemmas.{bad-frame-cuts}
+use Rattle.gw_rules.proofs.ExampleLemmas.{began-course}
 use Rattle.gw_rules.proofs.PrefixLemmas.{lawful-along}
 use Rattle.gw_rules.proofs.TextLemmas.{bytes-tested, ident-tested, setup-formed}
 
@@ -46,37 +48,38 @@ formed = record {
   distinct = (All-from_recursion _ [] tt, tt);
 }
 
+abbrev unlinked_moves : List Move
+unlinked_moves = Make (Polled (pos 0)) ∷ Begin ∷ Begin ∷ Make (LinkFailed 0) ∷ Make (Polled (pos 1)) ∷ Make Stopped ∷ []
+
 pub unlinked-lawful : UnlinkedIsLawful
 unlinked-lawful = lawful-along unlinked_log
-    (Make (Start terminal_setup) ∷ Make (Polled (pos 0)) ∷ Begin ∷ Begin ∷ Make (LinkFailed 0) ∷ Make (Polled (pos 1)) ∷ Make Stopped ∷ []) refl (
-      (refl, formed),
+    (began_moves terminal_setup ++ unlinked_moves) refl
+    (course-append at_first (began_moves terminal_setup) unlinked_moves (began-course at_first terminal_setup refl formed refl) (
+      record { running = refl; calls = refl; items = refl },
       (
-        record { running = refl; calls = refl; items = refl },
-        (
-          record { idle = record { round = refl; calls = refl }; first = refl },
-          (record { idle = record { round = refl; calls = refl }; first = refl }, (refl, (record { running = refl; calls = refl; items = refl }, (refl, tt)))),
-        ),
+        record { idle = record { round = refl; calls = refl }; first = refl },
+        (record { idle = record { round = refl; calls = refl }; first = refl }, (refl, (record { running = refl; calls = refl; items = refl }, (refl, tt)))),
       ),
-    )
+    ))
 
 unframed-chunk : IsChunk (0 ∷ 0 ∷ 0 ∷ 0 ∷ [])
 unframed-chunk = record { count = (omega arith, omega arith); bytes = bytes-tested (0 ∷ 0 ∷ 0 ∷ 0 ∷ []) refl }
 
 -- after the till has opened the terminal's link is tried
+abbrev opened_moves : List Move
+opened_moves = Make (Polled (pos 0)) ∷ Make (Opened 1) ∷ Begin ∷ Begin ∷ Make (LinkFailed 0) ∷ Make (Polled (pos 0)) ∷ Make (HeardTill 1 (0 ∷ 0 ∷ 0 ∷ 0 ∷ [])) ∷ []
+
 abbrev unframed_moves : List Move
-unframed_moves = Make (Start terminal_setup) ∷ Make (Polled (pos 0)) ∷ Make (Opened 1) ∷ Begin ∷ Begin ∷ Make (LinkFailed 0) ∷ Make (Polled (pos 0)) ∷ Make (HeardTill 1 (0 ∷ 0 ∷ 0 ∷ 0 ∷ [])) ∷ []
+unframed_moves = began_moves terminal_setup ++ opened_moves
 
 unframed-course : IsCourse at_first unframed_moves
-unframed-course = (
-  (refl, formed),
+unframed-course = course-append at_first (began_moves terminal_setup) opened_moves (began-course at_first terminal_setup refl formed refl) (
+  record { running = refl; calls = refl; items = refl },
   (
-    record { running = refl; calls = refl; items = refl },
+    (refl, leb-true 0 1 refl),
     (
-      (refl, leb-true 0 1 refl),
-      (
-        record { idle = record { round = refl; calls = refl }; first = refl },
-        (record { idle = record { round = refl; calls = refl }; first = refl }, (refl, (record { running = refl; calls = refl; items = refl }, ((record { polled = refl; connected_is = refl }, unframed-chunk), tt)))),
-      ),
+      record { idle = record { round = refl; calls = refl }; first = refl },
+      (record { idle = record { round = refl; calls = refl }; first = refl }, (refl, (record { running = refl; calls = refl; items = refl }, ((record { polled = refl; connected_is = refl }, unframed-chunk), tt)))),
     ),
   ),
 )
@@ -107,7 +110,7 @@ pub poll-before-unframed-cut : PollBeforeUnframedCut
 poll-before-unframed-cut = record {
   before = lawful-along unframed_log unframed_moves refl unframed-course;
   with_turn = λ lawful.
-      let cut = bad-frame-cuts (Start terminal_setup ∷ Polled (pos 0) ∷ Opened 1 ∷ LinkFailed 0 ∷ Polled (pos 0) ∷ []) [] [] 1 (0 ∷ 0 ∷ 0 ∷ 0 ∷ []) (pos 0) [] (0 ∷ 0 ∷ 0 ∷ 0 ∷ []) lawful tt
+      let cut = bad-frame-cuts (began terminal_setup ++ Polled (pos 0) ∷ Opened 1 ∷ LinkFailed 0 ∷ Polled (pos 0) ∷ []) [] [] 1 (0 ∷ 0 ∷ 0 ∷ 0 ∷ []) (pos 0) [] (0 ∷ 0 ∷ 0 ∷ 0 ∷ []) lawful tt
       (record { whole = refl; each = tt; ended = inr zeros-are-bad }) zeros-are-bad in
       none cut.0 cut.1 cut.2;
 }
@@ -182,7 +185,7 @@ start-leaves-flight = record { lawful = course-append keep_view gate_moves (Make
 
 -- the log up to the gate, from which the images are
 abbrev gate_log : List Turn
-gate_log = Start terminal_setup ∷ Polled (pos 0) ∷ Wrote 1 (record_body example_record ++ 0 ∷ []) ∷ Synced ∷ Wrote 0 (165 ∷ []) ∷ []
+gate_log = began terminal_setup ++ Polled (pos 0) ∷ Wrote 1 (record_body example_record ++ 0 ∷ []) ∷ Synced ∷ Wrote 0 (165 ∷ []) ∷ []
 
 open-image : Image (view_from keep_view gate_moves).scene.outside (165 ∷ (record_body example_record ++ 0 ∷ []))
 open-image = file_image gate_log

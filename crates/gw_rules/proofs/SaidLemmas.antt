@@ -21,7 +21,7 @@ use Rattle.gw_owes.specs.declared.terminal.Terminal.{Terminal}
 use Rattle.gw_rules.specs.CutCauses.{HasSaidApdu}
 use Rattle.gw_rules.specs.Lawful.{IsCourse, turns_of, Stands}
 use Rattle.gw_rules.specs.Scene.{known_in}
-use Rattle.gw_rules.specs.TranscriptLaws.{command_to, command_owed, transcript_with, transcript_in, transcript_begun, transcript_made, transcript_from, AreSaid, EachMessageWasSaid}
+use Rattle.gw_rules.specs.TranscriptLaws.{command_to, command_next, transcript_with, transcript_in, transcript_begun, transcript_made, transcript_from, AreSaid, EachMessageWasSaid}
 use Rattle.gw_rules.specs.View.{View, Move, Begin, Read, Make, after, after_turn, at_first}
 use Rattle.gw_rules.proofs.CourseLemmas.{stands-more, stands-outside}
 use Rattle.gw_rules.proofs.CutCauseLemmas.{IsBrought, AreBrought, HasCauses, moves-causes}
@@ -117,9 +117,9 @@ call-said log pt moment (WriteGate slot the_record) transcript h = h
 call-said log pt moment WriteFirstGate transcript h = h
 call-said log pt moment Sync transcript h = h
 
-owed-said : (log : List Turn) (pt moment : ℕ) (calls : List OwedCall) (transcript : List Carried) → AreSaid log pt transcript → AreSaid log pt (command_owed pt moment calls ++ transcript)
-owed-said log pt moment [] transcript h = h
-owed-said log pt moment (call ∷ calls) transcript h = call-said log pt moment call transcript h
+next-said : (log : List Turn) (pt moment : ℕ) (calls : List OwedCall) (transcript : List Carried) → AreSaid log pt transcript → AreSaid log pt (command_next pt moment calls ++ transcript)
+next-said log pt moment [] transcript h = h
+next-said log pt moment (call ∷ calls) transcript h = call-said log pt moment call transcript h
 
 turn-said : (log : List Turn) (pt : ℕ) (v : View) (turn : Turn) (transcript : List Carried) → AreSaid log pt transcript → AreSaid log pt (transcript_made pt v turn transcript)
 turn-said log pt v (Start setup) transcript h = tt
@@ -134,7 +134,7 @@ turn-said log pt v Stopped transcript h = h
 turn-said log pt v (Linked number) transcript h = anew-said log pt transcript (number == pt) h
 turn-said log pt v (LinkFailed number) transcript h = anew-said log pt transcript (number == pt) h
 turn-said log pt v (SentTill till bytes ok) transcript h = h
-turn-said log pt v (SentPt number bytes true) transcript h = owed-said log pt v.scene.outside.moment v.calls transcript h
+turn-said log pt v (SentPt number bytes true) transcript h = next-said log pt v.scene.outside.moment v.calls transcript h
 turn-said log pt v (SentPt number bytes false) transcript h = h
 turn-said log pt v (CutTill till) transcript h = h
 turn-said log pt v (CutPt number) transcript h = anew-said log pt transcript (number == pt) h

@@ -19,7 +19,7 @@ use Rattle.gw_owes.specs.Transcript.{Carried, Took, commanded, took_decoded, too
 use Rattle.gw_owes.specs.declared.terminal.Terminal.{Terminal}
 use Rattle.gw_rules.specs.Lawful.{first_call, Begins, AllowedTurn, IsCourse, turns_of}
 use Rattle.gw_rules.specs.Scene.{known_in}
-use Rattle.gw_rules.specs.TranscriptLaws.{command_owed, command_to, transcript_with, transcript_in, transcript_begun, transcript_made, transcript_from, with_command, sent_then, sent_from, spelled_commands, EachCommandWasSent}
+use Rattle.gw_rules.specs.TranscriptLaws.{command_to, command_next, transcript_with, transcript_in, transcript_begun, transcript_made, transcript_from, with_command, sent_then, sent_from, spelled_commands, EachCommandWasSent}
 use Rattle.gw_rules.specs.View.{View, Move, Begin, Read, Make, after, after_turn, view_from, at_first}
 use Rattle.gw_rules.proofs.CourseLemmas.{begin-outside, stands-outside}
 use Rattle.gw_rules.proofs.LinkStateLemmas.{apart}
@@ -145,7 +145,7 @@ sending-sent moment Acknowledge transcript sent h = h
 sending-sent moment Refuse transcript sent h = h
 
 sent-to : (pt number moment : ℕ) (calls : List OwedCall) (sending : Sending) (bytes : List ℕ) (transcript : List Carried) (sent : List (List ℕ)) → first_call calls ≡ Some (OwedSendPt number sending) → bytes ≡ sending_bytes sending
-    → spelled_commands transcript ≡ sent → spelled_commands (command_owed pt moment calls ++ transcript) ≡ (if number == pt then with_command bytes sent else sent)
+    → spelled_commands transcript ≡ sent → spelled_commands (command_next pt moment calls ++ transcript) ≡ (if number == pt then with_command bytes sent else sent)
 sent-to pt number moment [] sending bytes transcript sent next is h = absurd (let n : None ≡ Some (OwedSendPt number sending) = next in cc)
 sent-to pt number moment (call ∷ calls) sending bytes transcript sent next is h =
     let same : call ≡ OwedSendPt number sending = (let n : Some call ≡ Some (OwedSendPt number sending) = next in cc) in

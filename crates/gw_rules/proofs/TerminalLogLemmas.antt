@@ -1,30 +1,50 @@
 -- The example logs of a gateway with one terminal.
 use Rattle.std.proofs.Common.{◌≡◌, ℕ, List, [], ◌∷◌, ◌++◌, refl, subst, true, false, inl, inr, arith}
-use Rattle.std.specs.Prelude.{ℤ, pos, ◌+◌, ◌≤◌, Some}
+use Rattle.std.proofs.lemmas.Bool.{and_parts}
+use Rattle.std.specs.Prelude.{ℤ, pos, Bool, ◌&&◌, not, ◌+◌, ◌≤◌, Some}
 use Rattle.gw_base.specs.declared.setup.Pt.{Pt}
 use Rattle.zvt_apdu.specs.DecodeStream.{decode_apdus, decode_apdus_within}
 use Rattle.zvt_bmp.specs.Decode.{decode_field_value, decode_status_field, decode_status_within, decode_status}
 use Rattle.zvt_msg.specs.MessageDecode.{decode_pt_message}
 use Rattle.zvt_msg.specs.CommandCanonical.{canonical_command}
 use Rattle.gw_site.specs.Outside.{outside_of}
+use Rattle.gw_site.specs.Sorts.{IsQuiet, is_between}
 use Rattle.gw_site.specs.declared.turn.Turn.{Turn}
 use Rattle.gw_site.specs.declared.turn.Turn.TheVariants.{Start, Polled, HeardPt, Lost, Stopped, Linked, LinkFailed, SentPt, CutPt}
 use Rattle.gw_owes.specs.TerminalExample.{ack, enquiry_sent}
 use Rattle.gw_owes.specs.Terminals.{registration}
+use Rattle.gw_rules.specs.Example.{first_turns, began, began_moves}
 use Rattle.gw_rules.specs.Lawful.{IsCourse}
 use Rattle.gw_rules.specs.LinkLaws.{EndsLink, IsOfTerminal, IsSilentIn, IsPtCutIn, ack_bytes, IsSentTo, IsRegistered, HasRested, IsTriedIn}
 use Rattle.gw_rules.specs.RowExample.{example_pt, terminal_setup, register_bytes}
 use Rattle.gw_rules.specs.SilenceLaws.{CompletesNone, SaysNothingIn, linked_turns}
-use Rattle.gw_rules.specs.TerminalLogExample.{linked_log, linked_course, done_log, done_course, silent_registration_course, SilentRegistrationIsLawful, DoneIsEnquired, DoneThenSilentIsCut, UnfinishedIsCut, PollBeforeSilentCut, PollBeforeEnquiry, items_begin, cut_log, cut_course, PollBeforeLink, LinkTooEarly, EnquiryBeforeRegistration, EnquiryAfterCut, ready_course, due_again_course, declined_course, silent_enquiry_course, unacknowledged_course, ReadyIsLawful, DueAgainIsLawful, DeclinedIsLawful, SilentEnquiryIsLawful, UnacknowledgedIsLawful}
+use Rattle.gw_rules.specs.TerminalLogExample.{before_link, linked_log, linked_course, done_log, done_course, silent_registration_course, SilentRegistrationIsLawful, DoneIsEnquired, DoneThenSilentIsCut, UnfinishedIsCut, PollBeforeSilentCut, PollBeforeEnquiry, items_begin, cut_log, cut_course, PollBeforeLink, LinkTooEarly, EnquiryBeforeRegistration, EnquiryAfterCut, ready_course, due_again_course, declined_course, silent_enquiry_course, unacknowledged_course, ReadyIsLawful, DueAgainIsLawful, DeclinedIsLawful, SilentEnquiryIsLawful, UnacknowledgedIsLawful}
 use Rattle.gw_rules.specs.View.{Move, Begin, Make, after, at_first}
 use Rattle.gw_rules.proofs.DueLemmas.{due-is-tried, tried-once-rested}
 use Rattle.gw_rules.proofs.EnquiryLemmas.{registered-is-enquired}
 use Rattle.gw_rules.proofs.LinkLawLemmas.{uses-links, linked-registers}
 use Rattle.gw_rules.proofs.PrefixLemmas.{lawful-along}
+use Rattle.gw_rules.proofs.RestLemmas.{none-split, lasts-tested}
 use Rattle.gw_rules.proofs.RowExampleLemmas.{formed}
-use Rattle.gw_rules.proofs.StageLemmas.{no-true}
+use Rattle.gw_rules.proofs.StageLemmas.{no-true, not-true}
 use Rattle.gw_rules.proofs.TestedLemmas.{passes_course, course-tested}
 use Rattle.gw_rules.proofs.LinkedSilenceLemmas.{silent-registration-is-cut}
+
+-- ---- a run that begins
+
+-- no run begins in these turns
+abbrev quiet_turns : List Turn → Bool
+quiet_turns [] = true
+quiet_turns (turn ∷ turns) = not (is_between turn) && quiet_turns turns
+
+quiet-tested : (turns : List Turn) → quiet_turns turns ≡ true → IsQuiet turns
+quiet-tested [] e = tt
+quiet-tested (turn ∷ turns) e =
+    let p = and_parts (not (is_between turn)) (quiet_turns turns) e in
+    (not-true (is_between turn) p.0, quiet-tested turns p.1)
+
+pub before-link-quiet : IsQuiet before_link
+before-link-quiet = quiet-tested before_link refl
 
 -- the moves after the start
 abbrev pub after_start : List Move → List Move
@@ -90,14 +110,14 @@ none-tried : (pt : ℕ) → IsTriedIn pt [] → ⊥
 none-tried pt ([], turn, rest, e, tried) = absurd (let n : [] ≡ turn ∷ rest = e in cc)
 none-tried pt (x ∷ first, turn, rest, e, tried) = absurd (let n : [] ≡ x ∷ (first ++ turn ∷ rest) = e in cc)
 
-none-ended : (o : List Turn) (pt moment : ℕ) → HasRested o [] pt moment
-none-ended o pt moment [] rest turn e ends none = absurd (let n : [] ≡ turn ∷ rest = e in cc)
-none-ended o pt moment (x ∷ first) rest turn e ends none = absurd (let n : [] ≡ x ∷ (first ++ turn ∷ rest) = e in cc)
+-- no turn ends the link before the first poll
+none-ended : (o : List Turn) (pt moment : ℕ) → HasRested o first_turns pt moment
+none-ended o pt moment first rest turn e ends none = none-split pt first_turns first turn rest (lasts-tested pt first_turns refl) e ends
 
 pub poll-before-link : PollBeforeLink
 poll-before-link = record {
-  before = lawful-along (Start terminal_setup ∷ Polled (pos 0) ∷ []) (Make (Start terminal_setup) ∷ Make (Polled (pos 0)) ∷ []) refl (from-start (Make (Polled (pos 0)) ∷ []) refl);
-  with_turn = λ lawful. none-tried 0 (due-is-tried [] [] [] [] terminal_setup example_pt 0 (pos 0) (pos 1) lawful tt tt refl refl (none-ended (Start terminal_setup ∷ []) 0 0));
+  before = lawful-along (began terminal_setup ++ Polled (pos 0) ∷ []) (began_moves terminal_setup ++ Make (Polled (pos 0)) ∷ []) refl (from-start (after_start (began_moves terminal_setup ++ Make (Polled (pos 0)) ∷ [])) refl);
+  with_turn = λ lawful. none-tried 0 (due-is-tried [] first_turns [] [] terminal_setup example_pt 0 (pos 0) (pos 1) lawful (quiet-tested first_turns refl) tt refl refl (none-ended (Start terminal_setup ∷ []) 0 0));
 }
 
 -- a poll ends no link
@@ -108,10 +128,10 @@ poll-ends-none now (inr (inr failed)) = absurd (let n : Polled now ≡ LinkFaile
 
 pub link-too-early : LinkTooEarly
 link-too-early = record {
-  before = lawful-along (Start terminal_setup ∷ Polled (pos 0) ∷ LinkFailed 0 ∷ Polled (pos 4) ∷ []) (Make (Start terminal_setup) ∷ Make (Polled (pos 0)) ∷ (items_begin 2 ++ Make (LinkFailed 0) ∷ Make (Polled (pos 4)) ∷ [])) refl
-      (from-start (Make (Polled (pos 0)) ∷ (items_begin 2 ++ Make (LinkFailed 0) ∷ Make (Polled (pos 4)) ∷ [])) refl);
+  before = lawful-along (began terminal_setup ++ Polled (pos 0) ∷ LinkFailed 0 ∷ Polled (pos 4) ∷ []) (began_moves terminal_setup ++ Make (Polled (pos 0)) ∷ (items_begin 2 ++ Make (LinkFailed 0) ∷ Make (Polled (pos 4)) ∷ [])) refl
+      (from-start (after_start (began_moves terminal_setup ++ Make (Polled (pos 0)) ∷ (items_begin 2 ++ Make (LinkFailed 0) ∷ Make (Polled (pos 4)) ∷ []))) refl);
   with_turn = λ lawful.
-      let rested = tried-once-rested [] (Polled (pos 0) ∷ LinkFailed 0 ∷ Polled (pos 4) ∷ []) [] terminal_setup 0 (Linked 0) lawful (refl, (refl, (refl, tt))) (inl refl) (Polled (pos 0) ∷ []) (Polled (pos 4) ∷ []) (LinkFailed 0) refl (inr (inr refl)) (poll-ends-none (pos 4), tt) in
+      let rested = tried-once-rested [] (before_link ++ LinkFailed 0 ∷ Polled (pos 4) ∷ []) [] terminal_setup 0 (Linked 0) lawful (quiet-tested (before_link ++ LinkFailed 0 ∷ Polled (pos 4) ∷ []) refl) (inl refl) before_link (Polled (pos 4) ∷ []) (LinkFailed 0) refl (inr (inr refl)) (poll-ends-none (pos 4), tt) in
       too_late rested;
 }
   where
@@ -131,8 +151,8 @@ not-registered (settings, configured, sent) = by_sent (subst (λ (p : Pt). IsSen
 
 pub enquiry-before-registration : EnquiryBeforeRegistration
 enquiry-before-registration = record {
-  before = lawful-along (Start terminal_setup ∷ Polled (pos 0) ∷ Linked 0 ∷ []) (Make (Start terminal_setup) ∷ Make (Polled (pos 0)) ∷ (items_begin 2 ++ Make (Linked 0) ∷ [])) refl (from-start (Make (Polled (pos 0)) ∷ (items_begin 2 ++ Make (Linked 0) ∷ [])) refl);
-  with_turn = λ lawful. not-registered (linked-registers [] (Polled (pos 0) ∷ []) [] terminal_setup 0 (SentPt 0 enquiry_sent true) lawful (refl, tt) refl);
+  before = lawful-along (began terminal_setup ++ Polled (pos 0) ∷ Linked 0 ∷ []) (began_moves terminal_setup ++ Make (Polled (pos 0)) ∷ (items_begin 2 ++ Make (Linked 0) ∷ [])) refl (from-start (after_start (began_moves terminal_setup ++ Make (Polled (pos 0)) ∷ (items_begin 2 ++ Make (Linked 0) ∷ []))) refl);
+  with_turn = λ lawful. not-registered (linked-registers [] before_link [] terminal_setup 0 (SentPt 0 enquiry_sent true) lawful before-link-quiet refl);
 }
 
 pub enquiry-after-cut : EnquiryAfterCut
@@ -169,16 +189,16 @@ none-cut pt (x ∷ first, rest, e) = absurd (let n : [] ≡ x ∷ (first ++ CutP
 pub poll-before-silent-cut : PollBeforeSilentCut
 poll-before-silent-cut = record {
   before = lawful-along (linked_log ++ Polled (pos 5) ∷ []) (linked_course ++ Make (Polled (pos 5)) ∷ []) refl (from-start (after_start (linked_course ++ Make (Polled (pos 5)) ∷ [])) refl);
-  with_turn = λ lawful. none-cut 0 (silent-registration-is-cut [] (Polled (pos 0) ∷ []) (SentPt 0 register_bytes true ∷ []) [] [] terminal_setup example_pt 0 (pos 5) (pos 6) lawful (refl, tt) sent_says_nothing tt tt tt refl in_time);
+  with_turn = λ lawful. none-cut 0 (silent-registration-is-cut [] before_link (SentPt 0 register_bytes true ∷ []) [] [] terminal_setup example_pt 0 (pos 5) (pos 6) lawful before-link-quiet sent_says_nothing tt tt tt refl in_time);
 }
   where
     in_time : 0 + 5 ≤ 5
     in_time = omega arith
 
-    none_heard : (chunk : List ℕ) → SentPt 0 register_bytes true ≡ HeardPt 0 chunk → CompletesNone (outside_of (linked_turns [] terminal_setup (Polled (pos 0) ∷ []) 0 [])) 0 chunk
+    none_heard : (chunk : List ℕ) → SentPt 0 register_bytes true ≡ HeardPt 0 chunk → CompletesNone (outside_of (linked_turns [] terminal_setup before_link 0 [])) 0 chunk
     none_heard chunk e = absurd (let n : SentPt 0 register_bytes true ≡ HeardPt 0 chunk = e in cc)
 
-    sent_says_nothing : SaysNothingIn (outside_of (linked_turns [] terminal_setup (Polled (pos 0) ∷ []) 0 [])) 0 (SentPt 0 register_bytes true ∷ [])
+    sent_says_nothing : SaysNothingIn (outside_of (linked_turns [] terminal_setup before_link 0 [])) 0 (SentPt 0 register_bytes true ∷ [])
     sent_says_nothing = record { quiet = (refl, tt); completes_none = (none_heard, tt); lasts = (sent-silent register_bytes).lasts }
 
 none-sent : (bytes : List ℕ) (now : ℤ) → IsSentTo 0 bytes (Polled now) → ⊥
@@ -191,7 +211,7 @@ poll-before-enquiry = record {
   before = lawful-along done_log done_course refl (from-start (after_start done_course) refl);
   with_turn = λ lawful.
       let sent = sent-silent register_bytes in
-      let next = registered-is-enquired [] (Polled (pos 0) ∷ []) (SentPt 0 register_bytes true ∷ Polled (pos 1) ∷ []) (Polled (pos 2) ∷ []) [] terminal_setup example_pt 0 (SentPt 0 ack_bytes true) (Polled (pos 3)) lawful (refl, tt)
+      let next = registered-is-enquired [] before_link (SentPt 0 register_bytes true ∷ Polled (pos 1) ∷ []) (Polled (pos 2) ∷ []) [] terminal_setup example_pt 0 (SentPt 0 ack_bytes true) (Polled (pos 3)) lawful before-link-quiet
       (record { quiet = (refl, (refl, tt)); unheard = (sent.unheard.0, (polled-silent [] (pos 1) silent).unheard); lasts = (sent.lasts.0, (polled-silent [] (pos 1) silent).lasts) }) (polled-silent [] (pos 2) silent) refl refl refl in
       none-sent _ (pos 3) (next.enquired refl);
 }

@@ -8,7 +8,7 @@ use Rattle.gw_bytes.specs.Bytes.{IsPrefix}
 use Rattle.gw_site.specs.Outside.{is_connected}
 use Rattle.gw_site.specs.declared.turn.Turn.{Turn}
 use Rattle.gw_site.specs.declared.turn.Turn.TheVariants.{Start, OpenFailed, Polled, Opened, HeardTill, Closed, HeardPt, Lost, Stopped, Linked, LinkFailed, SentTill, SentPt, CutTill, CutPt, Wrote, Synced, DiskFailed, Crash}
-use Rattle.gw_owes.specs.Calls.{Sending, sending_bytes, OwedCall, SendTill, SendPt, LinkPt, WriteBody, WriteGate, WriteFirstGate, Sync, CutTill as OwedCutTill, CutPt as OwedCutPt}
+use Rattle.gw_owes.specs.Calls.{Sending, sending_bytes, OwedCall, SendTill, SendPt, LinkPt, WriteBody, WriteGate, WriteFirstGate, Sync, write_turn, CutTill as OwedCutTill, CutPt as OwedCutPt}
 use Rattle.gw_rules.specs.Lawful.{IsChunk, first_call, may_begin, Allowed, AllowedTurn, IsCourse}
 use Rattle.gw_rules.specs.Stage.{Stage, Resting, Opening, Looking, AtPoll, Handling, Over, Broken, is_round, is_running}
 use Rattle.gw_rules.specs.View.{View, Move, Begin, Read, Make, after}
@@ -66,6 +66,30 @@ sends_pt pt passes (WriteGate slot the_record) = false
 sends_pt pt passes WriteFirstGate = false
 sends_pt pt passes Sync = false
 
+-- the call writes the first gate, and so
+abbrev writes_gate : ℕ → List ℕ → OwedCall → Bool
+writes_gate offset bytes (SendTill till reply) = false
+writes_gate offset bytes (SendPt other sending) = false
+writes_gate offset bytes (OwedCutTill till) = false
+writes_gate offset bytes (OwedCutPt other) = false
+writes_gate offset bytes (LinkPt other) = false
+writes_gate offset bytes (WriteBody slot the_record) = false
+writes_gate offset bytes (WriteGate slot the_record) = false
+writes_gate offset bytes WriteFirstGate = (offset == 0) && bytes_eq bytes (0 ∷ [])
+writes_gate offset bytes Sync = false
+
+-- the call is a sync
+abbrev is_sync : OwedCall → Bool
+is_sync (SendTill till reply) = false
+is_sync (SendPt other sending) = false
+is_sync (OwedCutTill till) = false
+is_sync (OwedCutPt other) = false
+is_sync (LinkPt other) = false
+is_sync (WriteBody slot the_record) = false
+is_sync (WriteGate slot the_record) = false
+is_sync WriteFirstGate = false
+is_sync Sync = true
+
 abbrev first_passes : (OwedCall → Bool) → List OwedCall → Bool
 first_passes passes [] = false
 first_passes passes (call ∷ calls) = passes call
@@ -73,7 +97,7 @@ first_passes passes (call ∷ calls) = passes call
 abbrev is_chunk : List ℕ → Bool
 is_chunk chunk = nat_lt 0 (length chunk) && (nat_le (length chunk) 4096 && each_passes is_byte chunk)
 
--- the turn may come next; those of tills, of the disk and of starts are not tested
+-- the turn may come next; those of tills, of records, of starts and of failed calls on the disk are not tested
 abbrev passes_turn : View → Turn → Bool
 passes_turn v (Start setup) = false
 passes_turn v OpenFailed = false
@@ -91,8 +115,8 @@ passes_turn v (SentPt pt bytes true) = first_passes (sends_pt pt (λ all. bytes_
 passes_turn v (SentPt pt bytes false) = first_passes (sends_pt pt (λ all. bytes_eq bytes (take (length bytes) all))) v.calls
 passes_turn v (CutTill till) = false
 passes_turn v (CutPt pt) = first_passes (cuts_pt pt) v.calls
-passes_turn v (Wrote offset bytes) = false
-passes_turn v Synced = false
+passes_turn v (Wrote offset bytes) = first_passes (writes_gate offset bytes) v.calls
+passes_turn v Synced = first_passes is_sync v.calls
 passes_turn v DiskFailed = false
 passes_turn v (Crash file) = false
 
@@ -163,6 +187,38 @@ send-first pt passes (WriteGate slot the_record ∷ calls) e = no-true e
 send-first pt passes (WriteFirstGate ∷ calls) e = no-true e
 send-first pt passes (Sync ∷ calls) e = no-true e
 
+-- the first call, which passes
+abbrev PassesFirst : (OwedCall → Bool) → List OwedCall → Type 0
+PassesFirst passes calls = (call : OwedCall) × (first_call calls ≡ Some call) × (passes call ≡ true)
+
+passing-first : (passes : OwedCall → Bool) (calls : List OwedCall) → first_passes passes calls ≡ true → PassesFirst passes calls
+passing-first passes [] e = no-true e
+passing-first passes (call ∷ calls) e = (call, refl, e)
+
+gate-call : (offset : ℕ) (bytes : List ℕ) (call : OwedCall) → writes_gate offset bytes call ≡ true → write_turn call ≡ Some (Wrote offset bytes)
+gate-call offset bytes (SendTill till reply) e = no-true e
+gate-call offset bytes (SendPt other sending) e = no-true e
+gate-call offset bytes (OwedCutTill till) e = no-true e
+gate-call offset bytes (OwedCutPt other) e = no-true e
+gate-call offset bytes (LinkPt other) e = no-true e
+gate-call offset bytes (WriteBody slot the_record) e = no-true e
+gate-call offset bytes (WriteGate slot the_record) e = no-true e
+gate-call offset bytes WriteFirstGate e =
+    let p = and_parts (offset == 0) (bytes_eq bytes (0 ∷ [])) e in
+    ap (λ l. Some (Wrote 0 l)) (sym ((bytes_eq-Decides bytes (0 ∷ [])).0 p.1)) ∙ ap (λ o. Some (Wrote o bytes)) (sym (eqb-true offset 0 p.0))
+gate-call offset bytes Sync e = no-true e
+
+sync-call : (call : OwedCall) → is_sync call ≡ true → call ≡ Sync
+sync-call (SendTill till reply) e = no-true e
+sync-call (SendPt other sending) e = no-true e
+sync-call (OwedCutTill till) e = no-true e
+sync-call (OwedCutPt other) e = no-true e
+sync-call (LinkPt other) e = no-true e
+sync-call (WriteBody slot the_record) e = no-true e
+sync-call (WriteGate slot the_record) e = no-true e
+sync-call WriteFirstGate e = no-true e
+sync-call Sync e = refl
+
 is-prefix : (bytes all : List ℕ) → bytes_eq bytes (take (length bytes) all) ≡ true → IsPrefix bytes all
 is-prefix bytes all e = (drop (length bytes) all, sym (take-append-drop (length bytes) all) ∙ ap (λ l. l ++ drop (length bytes) all) (sym ((bytes_eq-Decides bytes (take (length bytes) all)).0 e)))
 
@@ -200,8 +256,12 @@ turn-tested v (SentPt pt bytes false) e =
     (s.0, s.1, is-prefix bytes (sending_bytes s.0) s.2)
 turn-tested v (CutTill till) e = no-true e
 turn-tested v (CutPt pt) e = cut-first pt v.calls e
-turn-tested v (Wrote offset bytes) e = no-true e
-turn-tested v Synced e = no-true e
+turn-tested v (Wrote offset bytes) e =
+    let p = passing-first (writes_gate offset bytes) v.calls e in
+    (p.0, p.1, gate-call offset bytes p.0 p.2)
+turn-tested v Synced e =
+    let p = passing-first is_sync v.calls e in
+    p.1 ∙ ap Some (sync-call p.0 p.2)
 turn-tested v DiskFailed e = no-true e
 turn-tested v (Crash file) e = no-true e
 

@@ -1,7 +1,7 @@
 -- Along each lawful course what is remembered of a terminal is what the transcript of its link says.
-use Rattle.std.proofs.Common.{◌≡◌, ◌≢◌, ℕ, zero, suc, List, [], ◌∷◌, ◌++◌, refl, sym, ◌∙◌, ap, subst, true, false, inl, inr, eqb-true, append-nil}
-use Rattle.std.proofs.lemmas.Bool.{eq-eqb}
-use Rattle.std.specs.Prelude.{Bool, ◌==◌, if◌then◌else◌, map, slice_get, Option, Some, None, Result, Ok, Err}
+use Rattle.std.proofs.Common.{◌≡◌, ◌≢◌, ℕ, zero, suc, List, [], ◌∷◌, ◌++◌, refl, sym, ◌∙◌, ap, subst, true, false, inl, inr, eqb-true, append-nil, append_assoc}
+use Rattle.std.proofs.lemmas.Bool.{and_parts, eq-eqb}
+use Rattle.std.specs.Prelude.{Bool, ◌==◌, ◌||◌, ◌⊎◌, if◌then◌else◌, map, slice_get, Option, Some, None, Result, Ok, Err}
 use Rattle.gw_base.specs.declared.setup.Pt.{Pt}
 use Rattle.gw_base.specs.declared.setup.Setup.{Setup}
 use Rattle.gw_site.specs.Outside.{Connection, is_connected}
@@ -16,7 +16,7 @@ use Rattle.zvt_talk.specs.declared.meaning.Heard.{Heard}
 use Rattle.zvt_talk.specs.declared.meaning.Heard.TheVariants as heard
 use Rattle.jrn_record.specs.declared.records.Record.{Record}
 use Rattle.gw_owes.specs.Calls.{OwedCall, SendTill, LinkPt, WriteBody, WriteGate, WriteFirstGate, Sync, write_turn, SendPt as OwedSendPt, CutTill as OwedCutTill, CutPt as OwedCutPt}
-use Rattle.gw_owes.specs.Core.{Core, new_terminal}
+use Rattle.gw_owes.specs.Core.{Core, new_core, new_terminal}
 use Rattle.gw_owes.specs.Deadlines.{is_late, is_due, late_row, due_row}
 use Rattle.gw_owes.specs.Greeting.{greeting, sending_calls, greet_decoded, oversized_row}
 use Rattle.gw_owes.specs.Handling.{taking, meaning_at, registering, enquiring, serving, consequence, handle_row}
@@ -38,16 +38,18 @@ use Rattle.gw_owes.proofs.SetLemmas.{same-some}
 use Rattle.gw_owes.proofs.TerminalLemmas.{link-changes-alone, row-changes-alone}
 use Rattle.gw_owes.proofs.TranscriptLemmas.{new-follows, links-begin}
 use Rattle.gw_rules.specs.JournalFiles.{is_on_disk}
-use Rattle.gw_rules.specs.Lawful.{first_call, may_begin, Begins, Allowed, AllowedTurn, IsCourse}
+use Rattle.gw_rules.specs.Lawful.{first_call, may_begin, Begins, Allowed, AllowedTurn, IsCourse, Stands}
 use Rattle.gw_rules.specs.Scene.{Scene, known_in, row_in, link_made_at, link_lost_at}
-use Rattle.gw_rules.specs.Stage.{Stage, Resting, Opening, Looking, AtPoll, Handling, Over, Broken, busy, is_looking}
-use Rattle.gw_rules.specs.TranscriptLaws.{command_to, command_owed, cuts_terminal, cut_owed, transcript_with, transcript_in, transcript_begun, transcript_made, transcript_moved, transcript_from, EachLogFollowsTranscript, EachPollFollowsTranscript, ExampleLogTranscript}
+use Rattle.gw_rules.specs.Stage.{AtPoll, is_round, is_running, is_broken}
+use Rattle.gw_rules.specs.TranscriptLaws.{command_to, command_next, command_owed, cuts_terminal, cut_owed, owed_after, owed_from, owed_at, transcript_with, transcript_in, transcript_begun, transcript_made, transcript_moved, transcript_from, transcript_of, EachLogFollowsTranscript, EachPollFollowsTranscript, ExampleLogTranscript}
 use Rattle.gw_rules.specs.View.{View, Move, Begin, Read, Make, later, after, after_turn, view_from, at_first}
 use Rattle.gw_rules.proofs.CourseLemmas.{begin-stage}
 use Rattle.gw_rules.proofs.LinkStateLemmas.{apart, without-settings}
 use Rattle.gw_rules.proofs.LinkedLemmas.{Agrees, first-agrees, move-agrees, round-setup, call-setup}
-use Rattle.gw_rules.proofs.OpeningLemmas.{OwesDisk, first-owes-disk, course-disk, other-not-looking}
-use Rattle.gw_rules.proofs.StageLemmas.{no-true, handling-not-polled, round-busy}
+use Rattle.gw_rules.proofs.OpeningLemmas.{OwesDisk, all_on_disk, first-owes-disk, course-disk}
+use Rattle.gw_rules.proofs.OwedLemmas.{call-last}
+use Rattle.gw_rules.proofs.OwingLemmas.{IsOwing, clear-where, after-clear, clear-turn, turn-clear, move-owing, first-owing, clear-owes-calls}
+use Rattle.gw_rules.proofs.StageLemmas.{no-true, round-busy}
 
 -- ---- terminals that are there
 
@@ -84,46 +86,22 @@ gone-follows kept pt till transcript core has = record {
 
 -- ---- calls
 
--- a call that a row of this terminal, or of none, may owe: none on the disk yet
+-- the call is none to another terminal than this
 abbrev IsCallOf : Option ℕ → OwedCall → Type 0
 IsCallOf of (SendTill till reply) = Unit {0}
 IsCallOf of (OwedSendPt number sending) = of ≡ Some number
 IsCallOf of (OwedCutTill till) = Unit {0}
 IsCallOf of (OwedCutPt number) = of ≡ Some number
 IsCallOf of (LinkPt number) = Unit {0}
-IsCallOf of (WriteBody slot the_record) = ⊥
-IsCallOf of (WriteGate slot the_record) = ⊥
-IsCallOf of WriteFirstGate = ⊥
-IsCallOf of Sync = ⊥
+IsCallOf of (WriteBody slot the_record) = Unit {0}
+IsCallOf of (WriteGate slot the_record) = Unit {0}
+IsCallOf of WriteFirstGate = Unit {0}
+IsCallOf of Sync = Unit {0}
 
--- one at most
+-- nor is any of these
 abbrev AreCallsOf : Option ℕ → List OwedCall → Type 0
 AreCallsOf of [] = Unit {0}
-AreCallsOf of (call ∷ calls) = IsCallOf of call × (calls ≡ [])
-
--- one call at most, and none on the disk
-abbrev AreOne : List OwedCall → Type 0
-AreOne [] = Unit {0}
-AreOne (call ∷ calls) = (is_on_disk call ≡ false) × (calls ≡ [])
-
-call-off-disk : (of : Option ℕ) (call : OwedCall) → IsCallOf of call → is_on_disk call ≡ false
-call-off-disk of (SendTill till reply) is = refl
-call-off-disk of (OwedSendPt number sending) is = refl
-call-off-disk of (OwedCutTill till) is = refl
-call-off-disk of (OwedCutPt number) is = refl
-call-off-disk of (LinkPt number) is = refl
-call-off-disk of (WriteBody slot the_record) is = absurd is
-call-off-disk of (WriteGate slot the_record) is = absurd is
-call-off-disk of WriteFirstGate is = absurd is
-call-off-disk of Sync is = absurd is
-
-calls-one : (of : Option ℕ) (calls : List OwedCall) → AreCallsOf of calls → AreOne calls
-calls-one of [] are = tt
-calls-one of (call ∷ calls) are = (call-off-disk of call are.0, are.1)
-
-later-none : (calls : List OwedCall) → AreOne calls → later calls ≡ []
-later-none [] one = refl
-later-none (call ∷ calls) one = one.1
+AreCallsOf of (call ∷ calls) = IsCallOf of call × AreCallsOf of calls
 
 not-number : (number pt : ℕ) → number ≢ pt → (number == pt) ≡ false
 not-number number pt differs = by_test (number == pt) refl
@@ -132,43 +110,104 @@ not-number number pt differs = by_test (number == pt) refl
     by_test true e = absurd (differs (eqb-true number pt e))
     by_test false e = refl
 
+-- a call owes this terminal nothing
+abbrev OwesNothing : ℕ → ℕ → OwedCall → Type 0
+OwesNothing pt moment call = (command_to pt moment call ≡ []) × (cuts_terminal pt call ≡ false)
+
+-- these commands are owed to the terminal, and its cut or not
+abbrev AreOwed : ℕ → ℕ → List OwedCall → List Carried → Bool → Type 0
+AreOwed pt moment calls commands cut = (command_owed pt moment calls ≡ commands) × (cut_owed pt calls ≡ cut)
+
+-- what is owed after a call that owes the terminal nothing is all that is
+pass-owed : (pt moment : ℕ) (call : OwedCall) (calls : List OwedCall) (commands : List Carried) (cut : Bool) → OwesNothing pt moment call → AreOwed pt moment calls commands cut → AreOwed pt moment (call ∷ calls) commands cut
+pass-owed pt moment call calls commands cut none rest =
+    (ap (λ c. command_owed pt moment calls ++ c) none.0 ∙ append-nil (command_owed pt moment calls) ∙ rest.0, ap (λ b. b || cut_owed pt calls) none.1 ∙ rest.1)
+
 -- another terminal is owed nothing
-other-owed : (of : Option ℕ) (pt moment : ℕ) (calls : List OwedCall) → AreCallsOf of calls → (of ≡ Some pt → ⊥) → (command_owed pt moment calls ≡ []) × (cut_owed pt calls ≡ false)
+other-call : (of : Option ℕ) (pt moment : ℕ) (call : OwedCall) → IsCallOf of call → (of ≡ Some pt → ⊥) → OwesNothing pt moment call
+other-call of pt moment (SendTill till reply) is differs = (refl, refl)
+other-call of pt moment (OwedSendPt number sending) is differs = (rw (not-number number pt (λ same. differs (is ∙ ap Some same))) refl, refl)
+other-call of pt moment (OwedCutTill till) is differs = (refl, refl)
+other-call of pt moment (OwedCutPt number) is differs = (refl, not-number number pt (λ same. differs (is ∙ ap Some same)))
+other-call of pt moment (LinkPt number) is differs = (refl, refl)
+other-call of pt moment (WriteBody slot the_record) is differs = (refl, refl)
+other-call of pt moment (WriteGate slot the_record) is differs = (refl, refl)
+other-call of pt moment WriteFirstGate is differs = (refl, refl)
+other-call of pt moment Sync is differs = (refl, refl)
+
+other-owed : (of : Option ℕ) (pt moment : ℕ) (calls : List OwedCall) → AreCallsOf of calls → (of ≡ Some pt → ⊥) → AreOwed pt moment calls [] false
 other-owed of pt moment [] are differs = (refl, refl)
-other-owed of pt moment (SendTill till reply ∷ calls) are differs = (refl, refl)
-other-owed of pt moment (OwedSendPt number sending ∷ calls) are differs = (rw (not-number number pt (λ same. differs (are.0 ∙ ap Some same))) refl, refl)
-other-owed of pt moment (OwedCutTill till ∷ calls) are differs = (refl, refl)
-other-owed of pt moment (OwedCutPt number ∷ calls) are differs = (refl, not-number number pt (λ same. differs (are.0 ∙ ap Some same)))
-other-owed of pt moment (LinkPt number ∷ calls) are differs = (refl, refl)
-other-owed of pt moment (WriteBody slot the_record ∷ calls) are differs = absurd are.0
-other-owed of pt moment (WriteGate slot the_record ∷ calls) are differs = absurd are.0
-other-owed of pt moment (WriteFirstGate ∷ calls) are differs = absurd are.0
-other-owed of pt moment (Sync ∷ calls) are differs = absurd are.0
+other-owed of pt moment (call ∷ calls) are differs = pass-owed pt moment call calls [] false (other-call of pt moment call are.0 differs) (other-owed of pt moment calls are.1 differs)
 
 -- the terminal is owed all of it
-own-owed : (pt moment : ℕ) (calls : List OwedCall) → AreCallsOf (Some pt) calls → (command_owed pt moment calls ≡ commanded_by moment calls) × (cut_owed pt calls ≡ owes_cut calls)
+own-owed : (pt moment : ℕ) (calls : List OwedCall) → AreCallsOf (Some pt) calls → AreOwed pt moment calls (commanded_by moment calls) (owes_cut calls)
 own-owed pt moment [] are = (refl, refl)
-own-owed pt moment (SendTill till reply ∷ calls) are = (sym (ap (commanded_by moment) are.1), sym (ap owes_cut are.1))
+own-owed pt moment (SendTill till reply ∷ calls) are = pass-owed pt moment (SendTill till reply) calls (commanded_by moment calls) (owes_cut calls) (refl, refl) (own-owed pt moment calls are.1)
 own-owed pt moment (OwedSendPt number sending ∷ calls) are =
     let same : number ≡ pt = sym (same-some pt number are.0) in
-    (ap (λ (b : Bool). if b then commanded moment sending else []) (eq-eqb number pt same) ∙ sym (ap (λ c. commanded_by moment c ++ commanded moment sending) are.1), sym (ap owes_cut are.1))
-own-owed pt moment (OwedCutTill till ∷ calls) are = (sym (ap (commanded_by moment) are.1), sym (ap owes_cut are.1))
-own-owed pt moment (OwedCutPt number ∷ calls) are = (sym (ap (commanded_by moment) are.1), eq-eqb number pt (sym (same-some pt number are.0)))
-own-owed pt moment (LinkPt number ∷ calls) are = (sym (ap (commanded_by moment) are.1), sym (ap owes_cut are.1))
-own-owed pt moment (WriteBody slot the_record ∷ calls) are = absurd are.0
-own-owed pt moment (WriteGate slot the_record ∷ calls) are = absurd are.0
-own-owed pt moment (WriteFirstGate ∷ calls) are = absurd are.0
-own-owed pt moment (Sync ∷ calls) are = absurd are.0
+    let rest : AreOwed pt moment calls (commanded_by moment calls) (owes_cut calls) = own-owed pt moment calls are.1 in
+    (ap (λ l. l ++ command_to pt moment (OwedSendPt number sending)) rest.0 ∙ ap (λ (b : Bool). commanded_by moment calls ++ (if b then commanded moment sending else [])) (eq-eqb number pt same), rest.1)
+own-owed pt moment (OwedCutTill till ∷ calls) are = pass-owed pt moment (OwedCutTill till) calls (commanded_by moment calls) (owes_cut calls) (refl, refl) (own-owed pt moment calls are.1)
+own-owed pt moment (OwedCutPt number ∷ calls) are =
+    let same : number ≡ pt = sym (same-some pt number are.0) in
+    let rest : AreOwed pt moment calls (commanded_by moment calls) (owes_cut calls) = own-owed pt moment calls are.1 in
+    (append-nil (command_owed pt moment calls) ∙ rest.0, ap (λ b. b || cut_owed pt calls) (eq-eqb number pt same))
+own-owed pt moment (LinkPt number ∷ calls) are = pass-owed pt moment (LinkPt number) calls (commanded_by moment calls) (owes_cut calls) (refl, refl) (own-owed pt moment calls are.1)
+own-owed pt moment (WriteBody slot the_record ∷ calls) are = pass-owed pt moment (WriteBody slot the_record) calls (commanded_by moment calls) (owes_cut calls) (refl, refl) (own-owed pt moment calls are.1)
+own-owed pt moment (WriteGate slot the_record ∷ calls) are = pass-owed pt moment (WriteGate slot the_record) calls (commanded_by moment calls) (owes_cut calls) (refl, refl) (own-owed pt moment calls are.1)
+own-owed pt moment (WriteFirstGate ∷ calls) are = pass-owed pt moment WriteFirstGate calls (commanded_by moment calls) (owes_cut calls) (refl, refl) (own-owed pt moment calls are.1)
+own-owed pt moment (Sync ∷ calls) are = pass-owed pt moment Sync calls (commanded_by moment calls) (owes_cut calls) (refl, refl) (own-owed pt moment calls are.1)
 
--- where this call is owed first
-first-owed : (pt moment : ℕ) (calls : List OwedCall) (call : OwedCall) → first_call calls ≡ Some call → (command_owed pt moment calls ≡ command_to pt moment call) × (cut_owed pt calls ≡ cuts_terminal pt call)
-first-owed pt moment [] call e = absurd (let n : None ≡ Some call = e in cc)
-first-owed pt moment (first ∷ calls) call e = let same : first ≡ call = (let n : Some first ≡ Some call = e in cc) in (ap (command_to pt moment) same, ap (cuts_terminal pt) same)
+-- calls on the disk owe terminals nothing
+disk-call : (pt moment : ℕ) (call : OwedCall) → is_on_disk call ≡ true → OwesNothing pt moment call
+disk-call pt moment (SendTill till reply) e = no-true e
+disk-call pt moment (OwedSendPt number sending) e = no-true e
+disk-call pt moment (OwedCutTill till) e = no-true e
+disk-call pt moment (OwedCutPt number) e = no-true e
+disk-call pt moment (LinkPt number) e = no-true e
+disk-call pt moment (WriteBody slot the_record) e = (refl, refl)
+disk-call pt moment (WriteGate slot the_record) e = (refl, refl)
+disk-call pt moment WriteFirstGate e = (refl, refl)
+disk-call pt moment Sync e = (refl, refl)
 
-none-owed : (pt moment : ℕ) (calls : List OwedCall) → calls ≡ [] → (command_owed pt moment calls ≡ []) × (cut_owed pt calls ≡ false)
+disk-owed : (pt moment : ℕ) (calls : List OwedCall) → all_on_disk calls ≡ true → AreOwed pt moment calls [] false
+disk-owed pt moment [] e = (refl, refl)
+disk-owed pt moment (call ∷ calls) e =
+    let parts = and_parts (is_on_disk call) (all_on_disk calls) e in
+    pass-owed pt moment call calls [] false (disk-call pt moment call parts.0) (disk-owed pt moment calls parts.1)
+
+-- the first call and those after it
+first-later : (calls : List OwedCall) (call : OwedCall) → first_call calls ≡ Some call → calls ≡ call ∷ later calls
+first-later [] call e = absurd (let n : None ≡ Some call = e in cc)
+first-later (first ∷ calls) call e = let same : first ≡ call = (let n : Some first ≡ Some call = e in cc) in ap (λ c. c ∷ calls) same
+
+-- where a call that owes the terminal nothing is first, what is owed is what the later ones owe
+next-owed : (pt moment : ℕ) (calls : List OwedCall) (call : OwedCall) → first_call calls ≡ Some call → OwesNothing pt moment call → AreOwed pt moment calls (command_owed pt moment (later calls)) (cut_owed pt (later calls))
+next-owed pt moment calls call next none =
+    let all = first-later calls call next in
+    let rest : AreOwed pt moment (call ∷ later calls) (command_owed pt moment (later calls)) (cut_owed pt (later calls)) =
+    pass-owed pt moment call (later calls) (command_owed pt moment (later calls)) (cut_owed pt (later calls)) none (refl, refl) in
+    (ap (command_owed pt moment) all ∙ rest.0, ap (cut_owed pt) all ∙ rest.1)
+
+or-none : (b : Bool) → (b || false) ≡ b
+or-none true = refl
+or-none false = refl
+
+-- where a call is first and last, what is owed is what it owes
+last-owed : (pt moment : ℕ) (calls : List OwedCall) (call : OwedCall) → first_call calls ≡ Some call → later calls ≡ [] → AreOwed pt moment calls (command_to pt moment call) (cuts_terminal pt call)
+last-owed pt moment calls call next last =
+    let all : calls ≡ call ∷ [] = first-later calls call next ∙ ap (λ l. call ∷ l) last in
+    (ap (command_owed pt moment) all, ap (cut_owed pt) all ∙ or-none (cuts_terminal pt call))
+
+-- the command of the first call, and then those of the later ones
+sent-owed : (pt moment : ℕ) (calls : List OwedCall) (transcript : List Carried) → command_owed pt moment (later calls) ++ (command_next pt moment calls ++ transcript) ≡ command_owed pt moment calls ++ transcript
+sent-owed pt moment [] transcript = refl
+sent-owed pt moment (call ∷ calls) transcript = sym (append_assoc (command_owed pt moment calls) (command_to pt moment call) transcript)
+
+none-owed : (pt moment : ℕ) (calls : List OwedCall) → calls ≡ [] → AreOwed pt moment calls [] false
 none-owed pt moment calls e = (ap (command_owed pt moment) e, ap (cut_owed pt) e)
 
-written-owed : (pt moment : ℕ) (call : OwedCall) (turn : Turn) → write_turn call ≡ Some turn → (command_to pt moment call ≡ []) × (cuts_terminal pt call ≡ false)
+written-owed : (pt moment : ℕ) (call : OwedCall) (turn : Turn) → write_turn call ≡ Some turn → OwesNothing pt moment call
 written-owed pt moment (SendTill till reply) turn e = (refl, refl)
 written-owed pt moment (OwedSendPt number sending) turn e = absurd (let n : None ≡ Some turn = e in cc)
 written-owed pt moment (OwedCutTill till) turn e = (refl, refl)
@@ -184,24 +223,24 @@ written-owed pt moment Sync turn e = (refl, refl)
 reply-of : (of : Option ℕ) (asker : Option ℕ) (reply : Option ReplyValue) → AreCallsOf of (reply_calls_to asker reply)
 reply-of of None reply = tt
 reply-of of (Some till) None = tt
-reply-of of (Some till) (Some reply) = (tt, refl)
+reply-of of (Some till) (Some reply) = (tt, tt)
 
 greeting-of : (number : ℕ) (message : MessageValue) → AreCallsOf (Some number) (sending_calls number (greeting message))
 greeting-of number Ack = tt
 greeting-of number (Nack error_code) = tt
-greeting-of number (Intermediate intermediate_status) = (refl, refl)
-greeting-of number (Line text) = (refl, refl)
-greeting-of number (Block objects) = (refl, refl)
-greeting-of number (Status fields) = (refl, refl)
-greeting-of number Completion = (refl, refl)
-greeting-of number (Abort result_code) = (refl, refl)
-greeting-of number Other = (refl, refl)
+greeting-of number (Intermediate intermediate_status) = (refl, tt)
+greeting-of number (Line text) = (refl, tt)
+greeting-of number (Block objects) = (refl, tt)
+greeting-of number (Status fields) = (refl, tt)
+greeting-of number Completion = (refl, tt)
+greeting-of number (Abort result_code) = (refl, tt)
+greeting-of number Other = (refl, tt)
 
 abbrev IsRowOf : ℕ → Row → Type 0
 IsRowOf number row = AreCallsOf (Some number) row.calls
 
 outside-of : (known : Known) (number : ℕ) → IsRowOf number (oversized_row known number)
-outside-of known number = each-linked (IsRowOf number) known number (λ terminal. cutting known number) tt (λ terminal found linked. (refl, refl))
+outside-of known number = each-linked (IsRowOf number) known number (λ terminal. cutting known number) tt (λ terminal found linked. (refl, tt))
 
 greet-of : (known : Known) (number : ℕ) (decoded : Result MessageValue PtFault) → IsRowOf number (greet_decoded known number decoded)
 greet-of known number (Ok message) = each-linked (IsRowOf number) known number (λ terminal. owing known (sending_calls number (greeting message))) tt (λ terminal found linked. greeting-of number message)
@@ -214,10 +253,10 @@ registering-of known number terminal heard.Line = tt
 registering-of known number terminal heard.Block = tt
 registering-of known number terminal heard.Seen = tt
 registering-of known number terminal (heard.Approved figures) = tt
-registering-of known number terminal heard.Done = (refl, refl)
+registering-of known number terminal heard.Done = (refl, tt)
 registering-of known number terminal (heard.Told reported approved result_code) = tt
-registering-of known number terminal (heard.Declined result_code reported) = (refl, refl)
-registering-of known number terminal heard.Unclear = (refl, refl)
+registering-of known number terminal (heard.Declined result_code reported) = (refl, tt)
+registering-of known number terminal heard.Unclear = (refl, tt)
 registering-of known number terminal heard.Stray = tt
 
 enquiring-of : (known : Known) (number : ℕ) (terminal : Terminal) (meant : Heard) → IsRowOf number (enquiring known number terminal meant)
@@ -229,12 +268,12 @@ enquiring-of known number terminal heard.Seen = tt
 enquiring-of known number terminal (heard.Approved figures) = tt
 enquiring-of known number terminal heard.Done = tt
 enquiring-of known number terminal (heard.Told reported approved result_code) = tt
-enquiring-of known number terminal (heard.Declined result_code reported) = (refl, refl)
-enquiring-of known number terminal heard.Unclear = (refl, refl)
+enquiring-of known number terminal (heard.Declined result_code reported) = (refl, tt)
+enquiring-of known number terminal heard.Unclear = (refl, tt)
 enquiring-of known number terminal heard.Stray = tt
 
 serving-of : (known : Known) (number : ℕ) (terminal : Terminal) (meant : Heard) → IsRowOf number (serving known number terminal meant)
-serving-of known number terminal (heard.Begun true) = (refl, refl)
+serving-of known number terminal (heard.Begun true) = (refl, tt)
 serving-of known number terminal (heard.Begun false) = tt
 serving-of known number terminal (heard.Note intermediate_status) = tt
 serving-of known number terminal heard.Line = tt
@@ -244,7 +283,7 @@ serving-of known number terminal (heard.Approved figures) = tt
 serving-of known number terminal heard.Done = tt
 serving-of known number terminal (heard.Told reported approved result_code) = tt
 serving-of known number terminal (heard.Declined result_code reported) = tt
-serving-of known number terminal heard.Unclear = (refl, refl)
+serving-of known number terminal heard.Unclear = (refl, tt)
 serving-of known number terminal heard.Stray = tt
 
 consequence-of : (known : Known) (number : ℕ) (terminal : Terminal) (meant : Heard) (standing : Standing) → IsRowOf number (consequence known number terminal meant standing)
@@ -259,24 +298,24 @@ handle-of : (known : Known) (number : ℕ) (apdu : ApduValue) → IsRowOf number
 handle-of known number apdu = each-handled (IsRowOf number) known number apdu tt (λ terminal message found linked is taken. consequence-of known number (taking terminal message known.moment) (meaning_at terminal message) terminal.standing)
 
 late-of : (known : Known) (number : ℕ) → IsRowOf number (late_row known number)
-late-of known number = each-terminal (IsRowOf number) known number _ tt (λ terminal found. by-where (IsRowOf number) known (cutting known number) (is_late known.moment terminal.talk) tt (λ late. (refl, refl)))
+late-of known number = each-terminal (IsRowOf number) known number _ tt (λ terminal found. by-where (IsRowOf number) known (cutting known number) (is_late known.moment terminal.talk) tt (λ late. (refl, tt)))
 
 due-of : (known : Known) (number : ℕ) → IsRowOf number (due_row known number)
-due-of known number = each-terminal (IsRowOf number) known number _ tt (λ terminal found. by-where (IsRowOf number) known (owing known (LinkPt number ∷ [])) (is_due known.moment terminal.standing) tt (λ due. (tt, refl)))
+due-of known number = each-terminal (IsRowOf number) known number _ tt (λ terminal found. by-where (IsRowOf number) known (owing known (LinkPt number ∷ [])) (is_due known.moment terminal.standing) tt (λ due. (tt, tt)))
 
 lost-of : (known : Known) (number : ℕ) → IsRowOf number (link_lost known number)
 lost-of known number = each-terminal (IsRowOf number) known number (unlinks known number) tt (λ terminal found. reply-of (Some number) terminal.asker (reply_to_lost terminal.standing))
 
 link-of : (known : Known) (number : ℕ) (event : LinkEvent) → IsRowOf number (link_row known number event)
-link-of known number LinkIsMade = each-terminal (IsRowOf number) known number (registers known number) tt (λ terminal found. (refl, refl))
+link-of known number LinkIsMade = each-terminal (IsRowOf number) known number (registers known number) tt (λ terminal found. (refl, tt))
 link-of known number LinkHasFailed = lost-of known number
 link-of known number LinkIsLost = lost-of known number
 
 rows-of : (tills : List Connection) (known : Known) (item : RoundItem) → AreCallsOf (terminal_of item) (row_of tills known item).calls
-rows-of tills known (Crowded till) = (tt, refl)
+rows-of tills known (Crowded till) = (tt, tt)
 rows-of tills known (Message till bytes) = tt
 rows-of tills known (Asked till as_read) = by-where (λ (row : Row). AreCallsOf None row.calls) known (asked_row known till as_read) (is_connected tills till) tt (λ there. reply-of None (Some till) (reply_to known as_read))
-rows-of tills known (Unframed till) = by-where (λ (row : Row). AreCallsOf None row.calls) known (owing known (OwedCutTill till ∷ [])) (is_connected tills till) tt (λ there. (tt, refl))
+rows-of tills known (Unframed till) = by-where (λ (row : Row). AreCallsOf None row.calls) known (owing known (OwedCutTill till ∷ [])) (is_connected tills till) tt (λ there. (tt, tt))
 rows-of tills known (Gone till) = tt
 rows-of tills known (Greet number apdu) = greet-of known number (decode_pt_message apdu)
 rows-of tills known (Handle number apdu) = handle-of known number apdu
@@ -381,75 +420,17 @@ item-follows rows tills known (Due number) pt transcript terminal found has no_c
 
 -- ---- what holds along a course
 
--- what is remembered of the terminal is what the transcript says, with the command that is owed to it next, but where its cut is
-record IsTranscribed (pt : ℕ) (transcript : List Carried) (v : View) : Type 0 where
-  follows : (terminal : Terminal) → slice_get v.scene.core.terminals pt ≡ Some terminal → cut_owed pt v.calls ≡ false → FollowsTranscript v.scene.kept pt (command_owed pt v.scene.outside.moment v.calls ++ transcript) v.scene.core
+-- what is remembered of the terminal is what the transcript says, with the commands that these calls owe it, but where they owe its cut
+record IsTranscribed (pt : ℕ) (transcript : List Carried) (calls : List OwedCall) (v : View) : Type 0 where
+  follows : (terminal : Terminal) → slice_get v.scene.core.terminals pt ≡ Some terminal → cut_owed pt calls ≡ false → FollowsTranscript v.scene.kept pt (command_owed pt v.scene.outside.moment calls ++ transcript) v.scene.core
 
--- one call is owed at once at most, and none where an event may come
-record OwesOne (v : View) : Type 0 where
-  one : AreOne v.calls
-  polled : v.scene.stage ≡ AtPoll → v.calls ≡ []
-
-never-polled : {A : Type 0} (stage : Stage) → busy stage ≡ AtPoll → A
-never-polled Resting e = absurd (let n : Resting ≡ AtPoll = e in cc)
-never-polled (Opening refused) e = absurd (let n : Opening refused ≡ AtPoll = e in cc)
-never-polled (Looking refused) e = absurd (let n : Looking refused ≡ AtPoll = e in cc)
-never-polled AtPoll e = absurd (let n : Handling ≡ AtPoll = e in cc)
-never-polled Handling e = absurd (let n : Handling ≡ AtPoll = e in cc)
-never-polled Over e = absurd (let n : Over ≡ AtPoll = e in cc)
-never-polled Broken e = absurd (let n : Broken ≡ AtPoll = e in cc)
-
--- ---- one call
-
-in-one : (scene : Scene) (row : Known → Row) (setup : Option Setup) → ((known : Known) → AreOne (row known).calls) → AreOne (row_in scene row setup).calls
-in-one scene row None each = tt
-in-one scene row (Some setup) each = each (known_in scene setup)
-
-row-then : (calls more : List OwedCall) → more ≡ [] → AreOne calls → AreOne (calls ++ more)
-row-then calls more none one = subst (λ l. AreOne (calls ++ l)) (sym none) (subst AreOne (sym (append-nil calls)) one)
-
-made-one : (scene : Scene) (number : ℕ) → AreOne (link_made_at scene number).calls
-made-one scene number = in-one scene (λ known. link_made known number) scene.setup (λ known. calls-one (Some number) (link_made known number).calls (link-of known number LinkIsMade))
-
-lost-one : (scene : Scene) (number : ℕ) → AreOne (link_lost_at scene number).calls
-lost-one scene number = in-one scene (λ known. link_lost known number) scene.setup (λ known. calls-one (Some number) (link_lost known number).calls (lost-of known number))
-
-later-one : (calls : List OwedCall) → AreOne calls → AreOne (later calls)
-later-one calls one = subst AreOne (sym (later-none calls one)) tt
-
-begin-one : (v : View) → Begins v → OwesOne (after v Begin)
-begin-one v b = record { one = by_items v.items; polled = λ e. handling-not-polled (sym (begin-stage v.scene v.items ∙ round-busy v.scene.stage b.idle.round) ∙ e) }
-  where
-    by_items : (items : List RoundItem) → AreOne (after (record v { items = items }) Begin).calls
-    by_items [] = tt
-    by_items (item ∷ items) = in-one v.scene (λ known. row_of v.scene.outside.tills known item) v.scene.setup (λ known. calls-one (terminal_of item) (row_of v.scene.outside.tills known item).calls (rows-of v.scene.outside.tills known item))
-
-turn-one : (v : View) (turn : Turn) → OwesOne v → OwesOne (after_turn v turn)
-turn-one v (Start setup) o = record { one = tt; polled = λ e. refl }
-turn-one v OpenFailed o = record { one = tt; polled = λ e. refl }
-turn-one v (Polled now) o = record { one = tt; polled = λ e. refl }
-turn-one v (Opened till) o = record { one = tt; polled = λ e. refl }
-turn-one v (HeardTill till bytes) o = record { one = tt; polled = λ e. refl }
-turn-one v (Closed till) o = record { one = tt; polled = λ e. refl }
-turn-one v (HeardPt number bytes) o = record { one = tt; polled = λ e. refl }
-turn-one v (Lost number) o = record { one = tt; polled = λ e. refl }
-turn-one v Stopped o = record { one = tt; polled = λ e. refl }
-turn-one v (Linked number) o = record { one = row-then (link_made_at v.scene number).calls (later v.calls) (later-none v.calls o.one) (made-one v.scene number); polled = λ e. never-polled v.scene.stage e }
-turn-one v (LinkFailed number) o = record { one = row-then (link_lost_at v.scene number).calls [] refl (lost-one v.scene number); polled = λ e. never-polled v.scene.stage e }
-turn-one v (SentTill till bytes true) o = record { one = later-one v.calls o.one; polled = λ e. later-none v.calls o.one }
-turn-one v (SentTill till bytes false) o = record { one = (refl, refl); polled = λ e. never-polled v.scene.stage e }
-turn-one v (SentPt number bytes true) o = record { one = later-one v.calls o.one; polled = λ e. later-none v.calls o.one }
-turn-one v (SentPt number bytes false) o = record { one = (refl, refl); polled = λ e. never-polled v.scene.stage e }
-turn-one v (CutTill till) o = record { one = later-one v.calls o.one; polled = λ e. later-none v.calls o.one }
-turn-one v (CutPt number) o = record { one = row-then (link_lost_at v.scene number).calls (later v.calls) (later-none v.calls o.one) (lost-one v.scene number); polled = λ e. never-polled v.scene.stage e }
-turn-one v (Wrote offset bytes) o = record { one = later-one v.calls o.one; polled = λ e. later-none v.calls o.one }
-turn-one v Synced o = record { one = later-one v.calls o.one; polled = λ e. later-none v.calls o.one }
-turn-one v DiskFailed o = record { one = tt; polled = λ e. refl }
-turn-one v (Crash file) o = record { one = tt; polled = λ e. refl }
+-- the same of the calls that the view owes
+abbrev HasTranscript : ℕ → List Carried → View → Type 0
+HasTranscript pt transcript v = IsTranscribed pt transcript v.calls v
 
 -- ---- items that begin
 
-begin-transcribed : EachRowFollowsTranscript → (pt : ℕ) (transcript : List Carried) (v : View) → Agrees v → Begins v → IsTranscribed pt transcript v → IsTranscribed pt (transcript_begun pt v.scene v.items transcript) (after v Begin)
+begin-transcribed : EachRowFollowsTranscript → (pt : ℕ) (transcript : List Carried) (v : View) → Agrees v → Begins v → HasTranscript pt transcript v → HasTranscript pt (transcript_begun pt v.scene v.items transcript) (after v Begin)
 begin-transcribed rows pt transcript v a b t = by_items v.items refl
   where
     before : (terminal : Terminal) → slice_get v.scene.core.terminals pt ≡ Some terminal → FollowsTranscript v.scene.kept pt transcript v.scene.core
@@ -457,10 +438,10 @@ begin-transcribed rows pt transcript v a b t = by_items v.items refl
         let none = none-owed pt v.scene.outside.moment v.calls b.idle.calls in
         subst (λ (l : List Carried). FollowsTranscript v.scene.kept pt (l ++ transcript) v.scene.core) none.0 (t.follows terminal found none.1)
 
-    by_items : (items : List RoundItem) → v.items ≡ items → IsTranscribed pt (transcript_begun pt v.scene v.items transcript) (after v Begin)
+    by_items : (items : List RoundItem) → v.items ≡ items → HasTranscript pt (transcript_begun pt v.scene v.items transcript) (after v Begin)
     by_items [] e = no-true (sym (ap (may_begin v.scene) e) ∙ b.first)
     by_items (item ∷ rest) e =
-        subst (λ l. IsTranscribed pt (transcript_begun pt v.scene l transcript) (after (record v { items = l }) Begin)) (sym e) (record { follows = by_row })
+        subst (λ l. HasTranscript pt (transcript_begun pt v.scene l transcript) (after (record v { items = l }) Begin)) (sym e) (record { follows = by_row })
       where
         Begun : Option Setup → Type 0
         Begun setup =
@@ -479,8 +460,8 @@ begin-transcribed rows pt transcript v a b t = by_items v.items refl
 -- ---- turns
 
 -- the same is remembered, and with what is owed the same was sent
-same-transcribed : (pt : ℕ) (old new : List Carried) (v w : View) → IsTranscribed pt old v → w.scene.core ≡ v.scene.core
-    → (cut_owed pt w.calls ≡ false → (cut_owed pt v.calls ≡ false) × (command_owed pt w.scene.outside.moment w.calls ++ new ≡ command_owed pt v.scene.outside.moment v.calls ++ old)) → IsTranscribed pt new w
+same-transcribed : (pt : ℕ) (old new : List Carried) (v w : View) → HasTranscript pt old v → w.scene.core ≡ v.scene.core
+    → (cut_owed pt w.calls ≡ false → (cut_owed pt v.calls ≡ false) × (command_owed pt w.scene.outside.moment w.calls ++ new ≡ command_owed pt v.scene.outside.moment v.calls ++ old)) → HasTranscript pt new w
 same-transcribed pt old new v w t core same = record {
   follows = λ terminal found no_cut.
       let s = same no_cut in
@@ -490,28 +471,27 @@ same-transcribed pt old new v w t core same = record {
 }
 
 -- nothing was owed, and nothing is
-quiet-transcribed : (pt : ℕ) (transcript : List Carried) (v w : View) → IsTranscribed pt transcript v → w.scene.core ≡ v.scene.core → v.calls ≡ [] → w.calls ≡ [] → IsTranscribed pt transcript w
+quiet-transcribed : (pt : ℕ) (transcript : List Carried) (v w : View) → HasTranscript pt transcript v → w.scene.core ≡ v.scene.core → v.calls ≡ [] → w.calls ≡ [] → HasTranscript pt transcript w
 quiet-transcribed pt transcript v w t core before none = same-transcribed pt transcript transcript v w t core (λ no_cut.
     let b = none-owed pt v.scene.outside.moment v.calls before in
     let n = none-owed pt w.scene.outside.moment w.calls none in
     (b.1, ap (λ l. l ++ transcript) (n.0 ∙ sym b.0)))
 
--- this call was owed, which is none to this terminal, and nothing is
-call-transcribed : (pt : ℕ) (transcript : List Carried) (v w : View) (call : OwedCall) → IsTranscribed pt transcript v → w.scene.core ≡ v.scene.core → first_call v.calls ≡ Some call
-    → (command_to pt v.scene.outside.moment call ≡ []) × (cuts_terminal pt call ≡ false) → w.calls ≡ [] → IsTranscribed pt transcript w
-call-transcribed pt transcript v w call t core next other none = same-transcribed pt transcript transcript v w t core (λ no_cut.
-    let b = first-owed pt v.scene.outside.moment v.calls call next in
-    let n = none-owed pt w.scene.outside.moment w.calls none in
-    (b.1 ∙ other.1, ap (λ l. l ++ transcript) (n.0 ∙ sym (b.0 ∙ other.0))))
+-- the first call was made, which owed the terminal nothing, and the later ones are owed
+call-transcribed : (pt : ℕ) (transcript : List Carried) (v w : View) (call : OwedCall) → HasTranscript pt transcript v → w.scene.core ≡ v.scene.core → w.scene.outside.moment ≡ v.scene.outside.moment → first_call v.calls ≡ Some call
+    → OwesNothing pt v.scene.outside.moment call → w.calls ≡ later v.calls → HasTranscript pt transcript w
+call-transcribed pt transcript v w call t core moment next none rest = same-transcribed pt transcript transcript v w t core (λ no_cut.
+    let b = next-owed pt v.scene.outside.moment v.calls call next none in
+    (b.1 ∙ ap (cut_owed pt) (sym rest) ∙ no_cut, ap (λ l. l ++ transcript) (ap (λ m. command_owed pt m w.calls) moment ∙ ap (command_owed pt v.scene.outside.moment) rest ∙ sym b.0)))
 
--- an event of a link, whose calls are the only ones
-link-transcribed : (pt : ℕ) (transcript : List Carried) (v w : View) (number : ℕ) (event : LinkEvent) (setup : Setup) (call : OwedCall) → IsTranscribed pt transcript v → first_call v.calls ≡ Some call
+-- an event of a link, which the last call has brought, and whose calls are the only ones then
+link-transcribed : (pt : ℕ) (transcript : List Carried) (v w : View) (number : ℕ) (event : LinkEvent) (setup : Setup) (call : OwedCall) → HasTranscript pt transcript v → first_call v.calls ≡ Some call → later v.calls ≡ []
     → (command_to pt v.scene.outside.moment call ≡ []) → (number ≢ pt → cuts_terminal pt call ≡ false) → w.scene.core ≡ (link_row (known_in v.scene setup) number event).core
-    → w.calls ≡ (link_row (known_in v.scene setup) number event).calls → w.scene.outside.moment ≡ v.scene.outside.moment → IsTranscribed pt (if number == pt then [] else transcript) w
-link-transcribed pt transcript v w number event setup call t next none other core calls moment = record {
+    → w.calls ≡ (link_row (known_in v.scene setup) number event).calls → w.scene.outside.moment ≡ v.scene.outside.moment → HasTranscript pt (if number == pt then [] else transcript) w
+link-transcribed pt transcript v w number event setup call t next last none other core calls moment = record {
   follows = λ terminal found no_cut.
       let known : Known = known_in v.scene setup in
-      let b = first-owed pt v.scene.outside.moment v.calls call next in
+      let b = last-owed pt v.scene.outside.moment v.calls call next last in
       let there = ap (λ (c : Core). slice_get c.terminals pt) (sym core) ∙ found in
       let row = link_follows_at known terminal there (λ before found differs.
       subst (λ (l : List Carried). FollowsTranscript v.scene.kept pt (l ++ transcript) v.scene.core) (b.0 ∙ none) (t.follows before found (b.1 ∙ other differs))) in
@@ -536,122 +516,140 @@ lost-at scene number setup is = ap (λ o. row_in scene (λ known. link_lost know
 then-none : (row other : Row) (more : List OwedCall) → row ≡ other → more ≡ [] → row.calls ++ more ≡ other.calls
 then-none row other more is none = ap (λ l. row.calls ++ l) none ∙ append-nil row.calls ∙ ap (λ (r : Row). r.calls) is
 
-start-transcribed : (pt : ℕ) (v : View) (setup : Setup) → IsTranscribed pt [] (after_turn v (Start setup))
-start-transcribed pt v setup = record {
-  follows = λ terminal found no_cut. let one = image-there new_terminal setup.terminals pt terminal found in new-follows setup v.scene.kept pt one.0 one.1;
+-- a run begins, and owes calls on the disk
+start-transcribed : (pt : ℕ) (v : View) (setup : Setup) → OwesDisk (after_turn v (Start setup)) → HasTranscript pt [] (after_turn v (Start setup))
+start-transcribed pt v setup d = record {
+  follows = λ terminal found no_cut.
+      let one = image-there new_terminal setup.terminals pt terminal found in
+      let none = disk-owed pt (after_turn v (Start setup)).scene.outside.moment (after_turn v (Start setup)).calls (d.disk refl) in
+      subst (λ (l : List Carried). FollowsTranscript v.scene.kept pt (l ++ []) (new_core setup)) (sym none.0) (new-follows setup v.scene.kept pt one.0 one.1);
 }
 
 -- no terminal is remembered
-nobody-transcribed : (pt : ℕ) (transcript : List Carried) (w : View) → w.scene.core.terminals ≡ [] → IsTranscribed pt transcript w
-nobody-transcribed pt transcript w none = record { follows = λ terminal found no_cut. absurd (nobody terminal (ap (λ l. slice_get l pt) (sym none) ∙ found)) }
+nobody-transcribed : (pt : ℕ) (transcript : List Carried) (calls : List OwedCall) (w : View) → w.scene.core.terminals ≡ [] → IsTranscribed pt transcript calls w
+nobody-transcribed pt transcript calls w none = record { follows = λ terminal found no_cut. absurd (nobody terminal (ap (λ l. slice_get l pt) (sym none) ∙ found)) }
   where
     nobody : (terminal : Terminal) → slice_get [] pt ≡ Some terminal → ⊥
     nobody terminal found = cc
 
-busy-looking : (stage : Stage) → is_looking stage ≡ true → is_looking (busy stage) ≡ true
-busy-looking Resting e = e
-busy-looking (Opening refused) e = e
-busy-looking (Looking refused) e = e
-busy-looking AtPoll e = no-true e
-busy-looking Handling e = e
-busy-looking Over e = e
-busy-looking Broken e = e
-
--- while the file is looked at nothing but the disk is owed, and so nothing
-looking-none : (v : View) → OwesDisk v → OwesOne v → is_looking v.scene.stage ≡ true → v.calls ≡ []
-looking-none v d o looking = by_calls v.calls refl
-  where
-    by_calls : (calls : List OwedCall) → v.calls ≡ calls → v.calls ≡ []
-    by_calls [] e = e
-    by_calls (call ∷ calls) e = other-not-looking v call d (ap first_call e) (subst AreOne e o.one).0 (busy-looking v.scene.stage looking)
-
-turn-transcribed : (pt : ℕ) (transcript : List Carried) (v : View) (turn : Turn) → Agrees v → OwesDisk v → OwesOne v → AllowedTurn v turn → IsTranscribed pt transcript v → IsTranscribed pt (transcript_made pt v turn transcript) (after_turn v turn)
-turn-transcribed pt transcript v (Start setup) a d o ok t = start-transcribed pt v setup
-turn-transcribed pt transcript v OpenFailed a d o ok t = nobody-transcribed pt [] (after_turn v OpenFailed) refl
-turn-transcribed pt transcript v (Polled now) a d o ok t = quiet-transcribed pt transcript v (after_turn v (Polled now)) t refl ok.calls refl
-turn-transcribed pt transcript v (Opened till) a d o ok t = quiet-transcribed pt transcript v (after_turn v (Opened till)) t refl (o.polled ok.0) refl
-turn-transcribed pt transcript v (HeardTill till bytes) a d o ok t = quiet-transcribed pt transcript v (after_turn v (HeardTill till bytes)) t refl (o.polled ok.0.polled) refl
-turn-transcribed pt transcript v (Closed till) a d o ok t = quiet-transcribed pt transcript v (after_turn v (Closed till)) t refl (o.polled ok.polled) refl
-turn-transcribed pt transcript v (HeardPt number bytes) a d o ok t = quiet-transcribed pt transcript v (after_turn v (HeardPt number bytes)) t refl (o.polled ok.0.polled) refl
-turn-transcribed pt transcript v (Lost number) a d o ok t = quiet-transcribed pt transcript v (after_turn v (Lost number)) t refl (o.polled ok.polled) refl
-turn-transcribed pt transcript v Stopped a d o ok t = quiet-transcribed pt transcript v (after_turn v Stopped) t refl (o.polled ok) refl
-turn-transcribed pt transcript v (Linked number) a d o ok t =
+-- a turn with which no call on the disk fails
+turn-transcribed : (pt : ℕ) (transcript : List Carried) (v : View) (turn : Turn) → Agrees v → OwesDisk v → (v.scene.stage ≡ AtPoll → v.calls ≡ []) → AllowedTurn v turn → is_broken (after_turn v turn).scene.stage ≡ false → HasTranscript pt transcript v
+    → HasTranscript pt (transcript_made pt v turn transcript) (after_turn v turn)
+turn-transcribed pt transcript v (Start setup) a d polled ok clear t = start-transcribed pt v setup (course-disk v (Make (Start setup) ∷ []) d (ok, tt))
+turn-transcribed pt transcript v OpenFailed a d polled ok clear t = nobody-transcribed pt [] [] (after_turn v OpenFailed) refl
+turn-transcribed pt transcript v (Polled now) a d polled ok clear t = quiet-transcribed pt transcript v (after_turn v (Polled now)) t refl ok.calls refl
+turn-transcribed pt transcript v (Opened till) a d polled ok clear t = quiet-transcribed pt transcript v (after_turn v (Opened till)) t refl (polled ok.0) refl
+turn-transcribed pt transcript v (HeardTill till bytes) a d polled ok clear t = quiet-transcribed pt transcript v (after_turn v (HeardTill till bytes)) t refl (polled ok.0.polled) refl
+turn-transcribed pt transcript v (Closed till) a d polled ok clear t = quiet-transcribed pt transcript v (after_turn v (Closed till)) t refl (polled ok.polled) refl
+turn-transcribed pt transcript v (HeardPt number bytes) a d polled ok clear t = quiet-transcribed pt transcript v (after_turn v (HeardPt number bytes)) t refl (polled ok.0.polled) refl
+turn-transcribed pt transcript v (Lost number) a d polled ok clear t = quiet-transcribed pt transcript v (after_turn v (Lost number)) t refl (polled ok.polled) refl
+turn-transcribed pt transcript v Stopped a d polled ok clear t = quiet-transcribed pt transcript v (after_turn v Stopped) t refl (polled ok) refl
+turn-transcribed pt transcript v (Linked number) a d polled ok clear t =
     let k = call-setup v (LinkPt number) a.run ok in
     let row = made-at v.scene number k.setup k.setup_is in
-    link-transcribed pt transcript v (after_turn v (Linked number)) number LinkIsMade k.setup (LinkPt number) t ok refl (λ differs. refl) (ap (λ (r : Row). r.core) row)
-    (then-none (link_made_at v.scene number) _ (later v.calls) row (later-none v.calls o.one)) refl
-turn-transcribed pt transcript v (LinkFailed number) a d o ok t =
+    let last = call-last v.calls (LinkPt number) (λ more. refl) ok a.ends in
+    link-transcribed pt transcript v (after_turn v (Linked number)) number LinkIsMade k.setup (LinkPt number) t ok last refl (λ differs. refl) (ap (λ (r : Row). r.core) row) (then-none (link_made_at v.scene number) _ (later v.calls) row last) refl
+turn-transcribed pt transcript v (LinkFailed number) a d polled ok clear t =
     let k = call-setup v (LinkPt number) a.run ok in
     let row = lost-at v.scene number k.setup k.setup_is in
-    link-transcribed pt transcript v (after_turn v (LinkFailed number)) number LinkIsLost k.setup (LinkPt number) t ok refl (λ differs. refl) (ap (λ (r : Row). r.core) row)
-    (then-none (link_lost_at v.scene number) _ [] row refl) refl
-turn-transcribed pt transcript v (SentTill till bytes true) a d o ok t = call-transcribed pt transcript v (after_turn v (SentTill till bytes true)) (SendTill till ok.0) t refl ok.1 (refl, refl) (later-none v.calls o.one)
-turn-transcribed pt transcript v (SentTill till bytes false) a d o ok t =
-    same-transcribed pt transcript transcript v (after_turn v (SentTill till bytes false)) t refl (λ no_cut.
-    let b = first-owed pt v.scene.outside.moment v.calls (SendTill till ok.0) ok.1 in
+    let last = call-last v.calls (LinkPt number) (λ more. refl) ok a.ends in
+    link-transcribed pt transcript v (after_turn v (LinkFailed number)) number LinkIsLost k.setup (LinkPt number) t ok last refl (λ differs. refl) (ap (λ (r : Row). r.core) row) (then-none (link_lost_at v.scene number) _ [] row refl) refl
+turn-transcribed pt transcript v (SentTill till bytes true) a d polled ok clear t = call-transcribed pt transcript v (after_turn v (SentTill till bytes true)) (SendTill till ok.0) t refl refl ok.1 (refl, refl) refl
+turn-transcribed pt transcript v (SentTill till bytes false) a d polled ok clear t = same-transcribed pt transcript transcript v (after_turn v (SentTill till bytes false)) t refl (λ no_cut.
+    let b = last-owed pt v.scene.outside.moment v.calls (SendTill till ok.0) ok.1 (call-last v.calls (SendTill till ok.0) (λ more. refl) ok.1 a.ends) in
     (b.1, ap (λ l. l ++ transcript) (sym b.0)))
-turn-transcribed pt transcript v (SentPt number bytes true) a d o ok t =
-    same-transcribed pt transcript (command_owed pt v.scene.outside.moment v.calls ++ transcript) v (after_turn v (SentPt number bytes true)) t refl (λ no_cut. (
-      (first-owed pt v.scene.outside.moment v.calls (OwedSendPt number ok.0) ok.1).1,
-      ap (λ l. l ++ (command_owed pt v.scene.outside.moment v.calls ++ transcript)) (none-owed pt v.scene.outside.moment (later v.calls) (later-none v.calls o.one)).0,
-    ))
-turn-transcribed pt transcript v (SentPt number bytes false) a d o ok t =
-    same-transcribed pt transcript transcript v (after_turn v (SentPt number bytes false)) t refl (λ no_cut.
-    let b = first-owed pt v.scene.outside.moment v.calls (OwedSendPt number ok.0) ok.1 in
-    (b.1, ap (λ l. l ++ transcript) (sym (b.0 ∙ ap (λ (test : Bool). if test then commanded v.scene.outside.moment ok.0 else []) no_cut))))
-turn-transcribed pt transcript v (CutTill till) a d o ok t = record {
+turn-transcribed pt transcript v (SentPt number bytes true) a d polled ok clear t =
+    same-transcribed pt transcript (command_next pt v.scene.outside.moment v.calls ++ transcript) v (after_turn v (SentPt number bytes true)) t refl (λ no_cut.
+    (ap (cut_owed pt) (first-later v.calls (OwedSendPt number ok.0) ok.1) ∙ no_cut, sent-owed pt v.scene.outside.moment v.calls transcript))
+turn-transcribed pt transcript v (SentPt number bytes false) a d polled ok clear t = same-transcribed pt transcript transcript v (after_turn v (SentPt number bytes false)) t refl (λ no_cut.
+    let b = last-owed pt v.scene.outside.moment v.calls (OwedSendPt number ok.0) ok.1 (call-last v.calls (OwedSendPt number ok.0) (λ more. refl) ok.1 a.ends) in
+    let other : (number == pt) ≡ false = sym (or-none (number == pt)) ∙ no_cut in
+    (b.1, ap (λ l. l ++ transcript) (sym (b.0 ∙ ap (λ (test : Bool). if test then commanded v.scene.outside.moment ok.0 else []) other))))
+turn-transcribed pt transcript v (CutTill till) a d polled ok clear t = record {
   follows = λ terminal found no_cut.
-      let b = first-owed pt v.scene.outside.moment v.calls (OwedCutTill till) ok in
+      let b = next-owed pt v.scene.outside.moment v.calls (OwedCutTill till) ok (refl, refl) in
       let before = there-before v.scene.core (core_without v.scene.core till) pt terminal (without-settings till v.scene.core.terminals) found in
-      subst (λ (l : List Carried). FollowsTranscript v.scene.kept pt (l ++ transcript) (core_without v.scene.core till)) (sym (none-owed pt v.scene.outside.moment (later v.calls) (later-none v.calls o.one)).0)
-      (gone-follows v.scene.kept pt till transcript v.scene.core
-      (subst (λ (l : List Carried). FollowsTranscript v.scene.kept pt (l ++ transcript) v.scene.core) b.0 (t.follows before.0 before.1 b.1)));
+      gone-follows v.scene.kept pt till (command_owed pt v.scene.outside.moment (later v.calls) ++ transcript) v.scene.core
+      (subst (λ (l : List Carried). FollowsTranscript v.scene.kept pt (l ++ transcript) v.scene.core) b.0 (t.follows before.0 before.1 (b.1 ∙ no_cut)));
 }
-turn-transcribed pt transcript v (CutPt number) a d o ok t =
+turn-transcribed pt transcript v (CutPt number) a d polled ok clear t =
     let k = call-setup v (OwedCutPt number) a.run ok in
     let row = lost-at v.scene number k.setup k.setup_is in
-    link-transcribed pt transcript v (after_turn v (CutPt number)) number LinkIsLost k.setup (OwedCutPt number) t ok refl (λ differs. not-number number pt differs) (ap (λ (r : Row). r.core) row)
-    (then-none (link_lost_at v.scene number) _ (later v.calls) row (later-none v.calls o.one)) refl
-turn-transcribed pt transcript v (Wrote offset bytes) a d o ok t =
-    call-transcribed pt transcript v (after_turn v (Wrote offset bytes)) ok.0 t refl ok.1 (written-owed pt v.scene.outside.moment ok.0 (Wrote offset bytes) ok.2) (later-none v.calls o.one)
-turn-transcribed pt transcript v Synced a d o ok t = call-transcribed pt transcript v (after_turn v Synced) Sync t refl ok (refl, refl) (later-none v.calls o.one)
-turn-transcribed pt transcript v DiskFailed a d o (inl next) t = call-transcribed pt transcript v (after_turn v DiskFailed) Sync t refl next (refl, refl) refl
-turn-transcribed pt transcript v DiskFailed a d o (inr looking) t = quiet-transcribed pt transcript v (after_turn v DiskFailed) t refl (looking-none v d o looking) refl
-turn-transcribed pt transcript v (Crash file) a d o ok t = nobody-transcribed pt [] (after_turn v (Crash file)) refl
+    let last = call-last v.calls (OwedCutPt number) (λ more. refl) ok a.ends in
+    link-transcribed pt transcript v (after_turn v (CutPt number)) number LinkIsLost k.setup (OwedCutPt number) t ok last refl (λ differs. not-number number pt differs) (ap (λ (r : Row). r.core) row)
+    (then-none (link_lost_at v.scene number) _ (later v.calls) row last) refl
+turn-transcribed pt transcript v (Wrote offset bytes) a d polled ok clear t =
+    call-transcribed pt transcript v (after_turn v (Wrote offset bytes)) ok.0 t refl refl ok.1 (written-owed pt v.scene.outside.moment ok.0 (Wrote offset bytes) ok.2) refl
+turn-transcribed pt transcript v Synced a d polled ok clear t = call-transcribed pt transcript v (after_turn v Synced) Sync t refl refl ok (refl, refl) refl
+turn-transcribed pt transcript v DiskFailed a d polled ok clear t = no-true (sym clear)
+turn-transcribed pt transcript v (Crash file) a d polled ok clear t = nobody-transcribed pt [] [] (after_turn v (Crash file)) refl
+
+-- a call on the disk has failed: what was owed is left, and the same is remembered
+failed-transcribed : (pt : ℕ) (transcript : List Carried) (v : View) → HasTranscript pt transcript v → IsTranscribed pt transcript (owed_after v (Make DiskFailed)) (after_turn v DiskFailed)
+failed-transcribed pt transcript v t = record { follows = t.follows }
 
 -- ---- along a course
 
-move-one : (v : View) (move : Move) → OwesOne v → Allowed v move → OwesOne (after v move)
-move-one v Begin o ok = begin-one v ok
-move-one v (Read as_read) o ok = record { one = tt; polled = λ e. refl }
-move-one v (Make turn) o ok = turn-one v turn o
+make-transcribed : (pt : ℕ) (transcript : List Carried) (calls : List OwedCall) (v : View) (turn : Turn) → Agrees v → OwesDisk v → IsOwing calls v → AllowedTurn v turn → IsTranscribed pt transcript calls v
+    → IsTranscribed pt (transcript_made pt v turn transcript) (owed_after v (Make turn)) (after_turn v turn)
+make-transcribed pt transcript calls v turn a d o ok t = by_clear (clear-turn v turn o.broken ok)
+  where
+    by_turn : is_broken v.scene.stage ≡ false → (turn ≡ DiskFailed) ⊎ (is_broken (after_turn v turn).scene.stage ≡ false) → IsTranscribed pt (transcript_made pt v turn transcript) (owed_after v (Make turn)) (after_turn v turn)
+    by_turn clear (inl failed) =
+        subst (λ made. IsTranscribed pt (transcript_made pt v made transcript) (owed_after v (Make made)) (after_turn v made)) (sym failed) (failed-transcribed pt transcript v (subst (λ l. IsTranscribed pt transcript l v) (o.clear clear) t))
+    by_turn clear (inr lasts) =
+        subst (λ l. IsTranscribed pt (transcript_made pt v turn transcript) l (after_turn v turn)) (sym (after-clear v (Make turn) lasts))
+        (turn-transcribed pt transcript v turn a d o.polled ok lasts (subst (λ l. IsTranscribed pt transcript l v) (o.clear clear) t))
 
-move-transcribed : EachRowFollowsTranscript → (pt : ℕ) (transcript : List Carried) (v : View) (move : Move) → Agrees v → OwesDisk v → OwesOne v → Allowed v move → IsTranscribed pt transcript v
-    → IsTranscribed pt (transcript_moved pt v move transcript) (after v move)
-move-transcribed rows pt transcript v Begin a d o ok t = begin-transcribed rows pt transcript v a ok t
-move-transcribed rows pt transcript v (Read as_read) a d o ok t = quiet-transcribed pt transcript v (after v (Read as_read)) t refl ok.idle.calls refl
-move-transcribed rows pt transcript v (Make turn) a d o ok t = turn-transcribed pt transcript v turn a d o ok t
+    by_clear : (is_broken v.scene.stage ≡ false) ⊎ ((file : List ℕ) × (turn ≡ Crash file)) → IsTranscribed pt (transcript_made pt v turn transcript) (owed_after v (Make turn)) (after_turn v turn)
+    by_clear (inl clear) = by_turn clear (turn-clear v turn clear)
+    by_clear (inr crash) =
+        nobody-transcribed pt (transcript_made pt v turn transcript) (owed_after v (Make turn)) (after_turn v turn) (ap (λ made. (after_turn v made).scene.core.terminals) crash.1)
 
-course-transcribed : EachRowFollowsTranscript → (pt : ℕ) (transcript : List Carried) (v : View) (moves : List Move) → Agrees v → OwesDisk v → OwesOne v → IsCourse v moves → IsTranscribed pt transcript v
-    → IsTranscribed pt (transcript_from pt v transcript moves) (view_from v moves)
-course-transcribed rows pt transcript v [] a d o c t = t
-course-transcribed rows pt transcript v (move ∷ moves) a d o c t =
-    course-transcribed rows pt (transcript_moved pt v move transcript) (after v move) moves (move-agrees v move a c.0) (course-disk v (move ∷ []) d (c.0, tt)) (move-one v move o c.0) c.1
-    (move-transcribed rows pt transcript v move a d o c.0 t)
+move-transcribed : EachRowFollowsTranscript → (pt : ℕ) (transcript : List Carried) (calls : List OwedCall) (v : View) (move : Move) → Agrees v → OwesDisk v → IsOwing calls v → Allowed v move → IsTranscribed pt transcript calls v
+    → IsTranscribed pt (transcript_moved pt v move transcript) (owed_after v move) (after v move)
+move-transcribed rows pt transcript calls v Begin a d o ok t =
+    let clear = clear-where v.scene.stage is_round refl ok.idle.round in
+    let lasts = ap is_broken (begin-stage v.scene v.items ∙ round-busy v.scene.stage ok.idle.round) in
+    subst (λ l. IsTranscribed pt (transcript_begun pt v.scene v.items transcript) l (after v Begin)) (sym (after-clear v Begin lasts))
+    (begin-transcribed rows pt transcript v a ok (subst (λ l. IsTranscribed pt transcript l v) (o.clear clear) t))
+move-transcribed rows pt transcript calls v (Read as_read) a d o ok t =
+    let clear = clear-where v.scene.stage is_round refl ok.idle.round in
+    let lasts = ap is_broken (round-busy v.scene.stage ok.idle.round) in
+    subst (λ l. IsTranscribed pt transcript l (after v (Read as_read))) (sym (after-clear v (Read as_read) lasts))
+    (quiet-transcribed pt transcript v (after v (Read as_read)) (subst (λ l. IsTranscribed pt transcript l v) (o.clear clear) t) refl ok.idle.calls refl)
+move-transcribed rows pt transcript calls v (Make turn) a d o ok t = make-transcribed pt transcript calls v turn a d o ok t
+
+course-transcribed : EachRowFollowsTranscript → (pt : ℕ) (transcript : List Carried) (calls : List OwedCall) (v : View) (moves : List Move) → Agrees v → OwesDisk v → IsOwing calls v → IsCourse v moves → IsTranscribed pt transcript calls v
+    → IsTranscribed pt (transcript_from pt v transcript moves) (owed_from v calls moves) (view_from v moves)
+course-transcribed rows pt transcript calls v [] a d o c t = t
+course-transcribed rows pt transcript calls v (move ∷ moves) a d o c t =
+    course-transcribed rows pt (transcript_moved pt v move transcript) (owed_after v move) (after v move) moves (move-agrees v move a c.0) (course-disk v (move ∷ []) d (c.0, tt)) (move-owing calls v move o c.0) c.1
+    (move-transcribed rows pt transcript calls v move a d o c.0 t)
 
 pub logs-follow : EachRowFollowsTranscript → EachLogFollowsTranscript
 logs-follow rows log v s pt terminal found no_cut =
-    let first : OwesOne at_first = record { one = tt; polled = λ e. refl } in
-    let t = course-transcribed rows pt [] at_first s.course first-agrees first-owes-disk first s.lawful (nobody-transcribed pt [] at_first refl) in
-    (subst (IsTranscribed pt (transcript_from pt at_first [] s.course)) s.view_is t).follows terminal found no_cut
+    let t = course-transcribed rows pt [] [] at_first s.course first-agrees first-owes-disk first-owing s.lawful (nobody-transcribed pt [] [] at_first refl) in
+    (subst (IsTranscribed pt (transcript_from pt at_first [] s.course) (owed_from at_first [] s.course)) s.view_is t).follows terminal found no_cut
+
+-- where nothing is owed, and no call on the disk has failed
+pub idle-follows : EachRowFollowsTranscript → (log : List Turn) (v : View) (s : Stands log v) (pt : ℕ) (terminal : Terminal) → slice_get v.scene.core.terminals pt ≡ Some terminal → is_broken v.scene.stage ≡ false → v.calls ≡ []
+    → FollowsTranscript v.scene.kept pt (transcript_of pt s.course) v.scene.core
+idle-follows rows log v s pt terminal found clear calls =
+    let none = none-owed pt v.scene.outside.moment (owed_at s.course) (clear-owes-calls log v s clear ∙ calls) in
+    subst (λ (l : List Carried). FollowsTranscript v.scene.kept pt (l ++ transcript_of pt s.course) v.scene.core) none.0 (logs-follow rows log v s pt terminal found none.1)
 
 pub polls-follow : EachRowFollowsTranscript → EachPollFollowsTranscript
-polls-follow rows log v s pt terminal may found =
-    let none = none-owed pt v.scene.outside.moment v.calls may.calls in
-    subst (λ (l : List Carried). FollowsTranscript v.scene.kept pt (l ++ transcript_from pt at_first [] s.course) v.scene.core) none.0 (logs-follow rows log v s pt terminal found none.1)
+polls-follow rows log v s pt terminal may found = idle-follows rows log v s pt terminal found (clear-where v.scene.stage is_running refl may.running) may.calls
 
 -- ---- the example
 
 pub example-log-transcript : ExampleLogTranscript
 unfolding decode_apdus decode_apdus_within decode_pt_message
-example-log-transcript = record { linked = refl; enquired = refl; standing = refl; cut = refl }
+example-log-transcript = record {
+  linked = refl;
+  enquired = refl;
+  standing = refl;
+  cut = refl;
+  owed = record { own = refl; other = refl; newest_first = refl; no_cut = refl; own_cut = refl; other_cut = refl; left = refl; none_made = refl };
+}

@@ -10,13 +10,13 @@ use Rattle.zvt_apdu.proofs.DecodeStreamLemmas.{split_is}
 use Rattle.gw_rules.specs.LinkLaws.{IsPtCutIn}
 use Rattle.gw_rules.specs.RowExample.{example_pt, terminal_setup, register_bytes}
 use Rattle.gw_rules.specs.SilenceLaws.{CompletesNone, CompleteNone, SaysNothingIn, linked_turns}
-use Rattle.gw_rules.specs.TerminalLogExample.{linked_log, linked_course}
+use Rattle.gw_rules.specs.TerminalLogExample.{before_link, linked_log, linked_course}
 use Rattle.gw_rules.specs.TrickleExample.{trickle_log, trickle_first, trickle_second, linked_view, TrickleIsCut, TrickleIsSilent, PollBeforeTrickleCut}
 use Rattle.gw_rules.specs.View.{Make}
 use Rattle.gw_rules.proofs.ChunkExampleLemmas.{ack_apdu, one-byte, heard-lasts, sent-lasts}
 use Rattle.gw_rules.proofs.LinkedSilenceLemmas.{silent-registration-is-cut}
 use Rattle.gw_rules.proofs.PrefixLemmas.{lawful-along}
-use Rattle.gw_rules.proofs.TerminalLogLemmas.{after_start, from-start, poll-ends-none}
+use Rattle.gw_rules.proofs.TerminalLogLemmas.{before-link-quiet, after_start, from-start, poll-ends-none}
 use Rattle.gw_rules.proofs.TestedLemmas.{course-tested}
 use Rattle.gw_rules.proofs.TextLemmas.{bytes-tested}
 
@@ -93,10 +93,10 @@ trickle-silent = record {
 abbrev said_before : List Turn
 said_before = SentPt 0 register_bytes true ∷ Polled (pos 1) ∷ HeardPt 0 (0x80 ∷ []) ∷ []
 
-since-linked : SaysNothingIn (outside_of (linked_turns [] terminal_setup (Polled (pos 0) ∷ []) 0 [])) 0 said_before
+since-linked : SaysNothingIn (outside_of (linked_turns [] terminal_setup before_link 0 [])) 0 said_before
 since-linked = record { quiet = (refl, first-silent.quiet); completes_none = (not_sent, first-silent.completes_none); lasts = (sent-lasts register_bytes, first-silent.lasts) }
   where
-    not_sent : (chunk : List ℕ) → SentPt 0 register_bytes true ≡ HeardPt 0 chunk → CompletesNone (outside_of (linked_turns [] terminal_setup (Polled (pos 0) ∷ []) 0 [])) 0 chunk
+    not_sent : (chunk : List ℕ) → SentPt 0 register_bytes true ≡ HeardPt 0 chunk → CompletesNone (outside_of (linked_turns [] terminal_setup before_link 0 [])) 0 chunk
     not_sent chunk e = absurd (let n : SentPt 0 register_bytes true ≡ HeardPt 0 chunk = e in cc)
 
 only-heard : IsPtCutIn 0 (HeardPt 0 (0x00 ∷ []) ∷ []) → ⊥
@@ -112,5 +112,5 @@ unfolding decode_apdus decode_apdus_within
 poll-before-trickle-cut = record {
   before = lawful-along trickle_log (linked_course ++ trickle_first ++ Make (Polled (pos 5)) ∷ Make (HeardPt 0 (0x00 ∷ [])) ∷ []) refl (from-start (after_start (linked_course ++ trickle_first ++ Make (Polled (pos 5)) ∷ Make (HeardPt 0 (0x00 ∷ [])) ∷ [])) refl);
   with_turn = λ lawful.
-      only-heard (silent-registration-is-cut [] (Polled (pos 0) ∷ []) said_before (HeardPt 0 (0x00 ∷ []) ∷ []) [] terminal_setup example_pt 0 (pos 5) (pos 6) lawful (refl, tt) since-linked (refl, tt) (second-silent.0, tt) (not-lost, tt) refl in-time);
+      only-heard (silent-registration-is-cut [] before_link said_before (HeardPt 0 (0x00 ∷ []) ∷ []) [] terminal_setup example_pt 0 (pos 5) (pos 6) lawful before-link-quiet since-linked (refl, tt) (second-silent.0, tt) (not-lost, tt) refl in-time);
 }

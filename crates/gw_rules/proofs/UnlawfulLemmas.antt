@@ -1,23 +1,23 @@
 -- The example logs that aren't lawful.
 use Rattle.std.proofs.Common.{◌≡◌, ℕ, ◌≤◌, Bool, true, false, List, [], ◌∷◌, ◌++◌, take, refl, sym, ◌∙◌, ap, subst, arith, inl, inr}
 use Rattle.std.proofs.lemmas.Bool.{and_parts}
-use Rattle.std.specs.Prelude.{ℤ, pos, ◌&&◌, Some, None}
+use Rattle.std.specs.Prelude.{ℤ, pos, ◌&&◌, ◌+◌, length, Some, None}
 use Rattle.gw_site.specs.Image.{Image}
 use Rattle.gw_site.specs.Outside.{outside_of}
 use Rattle.gw_site.specs.declared.turn.Turn.{Turn}
-use Rattle.gw_site.specs.declared.turn.Turn.TheVariants.{Start, Polled, HeardTill, SentTill, Synced, DiskFailed, Crash}
+use Rattle.gw_site.specs.declared.turn.Turn.TheVariants.{Polled, HeardTill, SentTill, Synced, DiskFailed, Crash}
 use Rattle.sale_frame.specs.Grammar.{frame}
 use Rattle.jrn_log.specs.JournalTurns.{first_gate_write}
 use Rattle.gw_owes.specs.Calls.{OwedCall, SendTill, WriteFirstGate, Sync, CutTill as OwedCutTill}
 use Rattle.gw_owes.specs.Items.{RoundItem}
 use Rattle.gw_owes.specs.ReadAs.{ReadAs, IsReadAs}
 use Rattle.gw_owes.proofs.ReadLemmas.{reads-one}
-use Rattle.gw_rules.specs.Example.{example_setup, status_request, status_reply, status_asked, not_found, opened_log, asked_log, UnaskedReply, PollBeforeReply, PollBeforeCut, PollWhileCrowded, CrashLeavesNoOther, NothingToLookAt, NothingToLookAtLater, PollEndsLooking, GateEndsLooking, opening_view, gated_view}
+use Rattle.gw_rules.specs.Example.{example_setup, status_request, status_reply, status_asked, not_found, opened_log, asked_log, UnaskedReply, PollBeforeReply, PollBeforeCut, PollWhileCrowded, CrashLeavesNoOther, NothingToLookAt, NothingToLookAtLater, PollEndsLooking, GateEndsLooking, opening_view, gated_view, first_file, began, began_moves}
 use Rattle.gw_rules.specs.Lawful.{first_call, may_begin, first_message, AllowedTurn, IsCourse, turns_of, IsLawful}
 use Rattle.gw_rules.specs.Stage.{is_looking}
 use Rattle.gw_rules.specs.View.{View, Move, Begin, Read, Make, after, after_turn, view_from, at_first}
 use Rattle.gw_rules.proofs.CourseLemmas.{makes, stands-outside}
-use Rattle.gw_rules.proofs.ExampleLemmas.{heard_view, asked-lawful, replying_view, full_log, full_view, full-lawful, failing-lawful}
+use Rattle.gw_rules.proofs.ExampleLemmas.{began-course, heard_view, asked-lawful, replying_view, full_log, full_view, full-lawful, failing-lawful}
 use Rattle.gw_rules.proofs.PrefixLemmas.{Along, along, lawful-along, prefix-lawful}
 use Rattle.gw_rules.proofs.StageLemmas.{no-true, no-call}
 use Rattle.gw_rules.proofs.TextLemmas.{request-read, setup-formed}
@@ -221,10 +221,10 @@ crash-image log file (v, s) =
     subst (λ o. Image o file) (stands-outside log (view_from at_first x.moves) (record { course = x.moves; log_is = x.turns_are; lawful = x.lawful; view_is = refl })) x.allowed.0
 
 pub crash-leaves-no-other : CrashLeavesNoOther
-crash-leaves-no-other = record {
-  before = asked-lawful;
-  with_turn = λ lawful. let longer : 1 ≤ 0 = (crash-image asked_log (165 ∷ []) lawful).no_longer in omega arith;
-}
+crash-leaves-no-other = record { before = asked-lawful; with_turn = λ lawful. not_longer (length first_file) (crash-image asked_log (first_file ++ 165 ∷ []) lawful).no_longer }
+  where
+    not_longer : (size : ℕ) → size + 1 ≤ size → ⊥
+    not_longer size longer = omega arith
 
 -- no call on the disk fails where none is owed and no file is looked at
 no-disk : (v : View) → v.calls ≡ [] → is_looking v.scene.stage ≡ false → AllowedTurn v DiskFailed → ⊥
@@ -246,10 +246,10 @@ gate-ends-looking = record {
 
 pub nothing-to-look-at : NothingToLookAt
 nothing-to-look-at = record {
-  before = lawful-along (Start example_setup ∷ []) (Make (Start example_setup) ∷ []) refl ((refl, setup-formed), tt);
+  before = lawful-along (began example_setup) (began_moves example_setup) refl (began-course at_first example_setup refl setup-formed refl);
   with_turn = λ lawful.
-      let v = view_from at_first (Make (Start example_setup) ∷ []) in
-      no-disk v refl refl (take-next v DiskFailed [] refl (take-all at_first (Start example_setup ∷ []) (DiskFailed ∷ []) refl (along (Start example_setup ∷ DiskFailed ∷ []) lawful))).0;
+      let v = view_from at_first (began_moves example_setup) in
+      no-disk v refl refl (take-next v DiskFailed [] refl (take-all at_first (began example_setup) (DiskFailed ∷ []) refl (along (began example_setup ++ DiskFailed ∷ []) lawful))).0;
 }
 
 pub nothing-to-look-at-later : NothingToLookAtLater

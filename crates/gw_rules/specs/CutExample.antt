@@ -4,12 +4,12 @@ use Rattle.std.specs.Option.{option_map}
 use Rattle.gw_base.specs.declared.setup.Pt.{Pt}
 use Rattle.gw_base.specs.declared.setup.Setup.{Setup}
 use Rattle.gw_site.specs.declared.turn.Turn.{Turn}
-use Rattle.gw_site.specs.declared.turn.Turn.TheVariants.{Start, Polled, HeardPt, Linked, SentPt, CutPt, Stopped}
+use Rattle.gw_site.specs.declared.turn.Turn.TheVariants.{Polled, HeardPt, Linked, SentPt, CutPt, Stopped}
 use Rattle.gw_owes.specs.declared.terminal.Standing.{Standing}
 use Rattle.gw_owes.specs.declared.terminal.Standing.TheVariants.{Unlinked, Registering}
 use Rattle.gw_owes.specs.declared.terminal.Terminal.{Terminal}
 use Rattle.gw_owes.specs.TerminalExample.{ack, completion, enquiry_sent}
-use Rattle.gw_rules.specs.Example.{example_setup, IsCourseAlong, IsUnlawfulAfter}
+use Rattle.gw_rules.specs.Example.{example_setup, IsCourseAlong, IsUnlawfulAfter, began, began_moves}
 use Rattle.gw_rules.specs.RowExample.{example_pt, first_standing, register_bytes}
 use Rattle.gw_rules.specs.TerminalLogExample.{linked_log, linked_course, items_begin, LeavesStanding}
 use Rattle.gw_rules.specs.View.{View, Move, Begin, Make, view_from, at_first}
@@ -44,11 +44,11 @@ both_linked_moves = items_begin 3 ++ Make (Linked 0) ∷ Make (SentPt 0 register
 
 -- both are silent until their deadlines come at moment 5
 abbrev pub both_silent_log : List Turn
-both_silent_log = Start two_setup ∷ Polled (pos 0) ∷ (both_linked ++ Polled (pos 5) ∷ [])
+both_silent_log = began two_setup ++ Polled (pos 0) ∷ (both_linked ++ Polled (pos 5) ∷ [])
 
 -- its course
 abbrev pub both_silent_course : List Move
-both_silent_course = Make (Start two_setup) ∷ Make (Polled (pos 0)) ∷ (both_linked_moves ++ Make (Polled (pos 5)) ∷ [])
+both_silent_course = began_moves two_setup ++ Make (Polled (pos 0)) ∷ (both_linked_moves ++ Make (Polled (pos 5)) ∷ [])
 
 -- both are cut, in the order of the setup, and neither is linked at once
 abbrev pub both_cut_log : List Turn

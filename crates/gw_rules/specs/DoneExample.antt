@@ -14,16 +14,12 @@ use Rattle.gw_rules.specs.Lawful.{IsLawful, turns_of}
 use Rattle.gw_rules.specs.LinkLaws.{EndsNone, HasSaid}
 use Rattle.gw_rules.specs.RowExample.{example_pt, terminal_setup, register_bytes}
 use Rattle.gw_rules.specs.SilenceLaws.{SaysNothingIn, linked_turns}
-use Rattle.gw_rules.specs.TerminalLogExample.{linked_log, linked_course, items_begin}
+use Rattle.gw_rules.specs.TerminalLogExample.{before_link, linked_log, linked_course, items_begin}
 use Rattle.gw_rules.specs.View.{View, Move, Begin, Make, view_from, at_first}
 
 -- ---- a lawful log
 
--- the turns of the run before the terminal is linked
-abbrev pub before_link : List Turn
-before_link = Polled (pos 0) ∷ []
-
--- those after it: the registration is sent, and the first byte of its Ack comes
+-- the turns after the terminal is linked: the registration is sent, and the first byte of its Ack comes
 abbrev pub first_byte : List Turn
 first_byte = SentPt 0 register_bytes true ∷ Polled (pos 1) ∷ HeardPt 0 (0x80 ∷ []) ∷ Polled (pos 2) ∷ []
 

@@ -1,5 +1,5 @@
 -- Example logs, lawful and unlawful.
-use Rattle.std.specs.Prelude.{◌≡◌, ℕ, suc, zero, ◌+◌, pos, true, false, List, [], ◌∷◌, ◌++◌, take, Some, None, codes}
+use Rattle.std.specs.Prelude.{◌≡◌, ℕ, suc, zero, ◌+◌, pos, true, false, List, [], ◌∷◌, ◌++◌, map, take, Some, None, codes}
 use Rattle.sale_frame.specs.Grammar.{frame}
 use Rattle.gw_base.specs.declared.condition.Condition.TheVariants.{NotFound}
 use Rattle.gw_base.specs.declared.setup.Setup.{Setup}
@@ -48,6 +48,24 @@ status_asked = Request status_header (requests.Status (Some (record { service = 
 abbrev pub not_found : ReplyValue
 not_found = failure_reply status_header NotFound
 
+-- ---- a run that begins
+
+-- the turns by which a run on a file of at most one byte opens its journal: none yet
+abbrev pub first_turns : List Turn
+first_turns = []
+
+-- the file that they leave
+abbrev pub first_file : List ℕ
+first_file = []
+
+-- the turns by which a run with this setup begins on a file of at most one byte
+abbrev pub began : Setup → List Turn
+began setup = Start setup ∷ first_turns
+
+-- its moves
+abbrev pub began_moves : Setup → List Move
+began_moves setup = map Make (began setup)
+
 -- ---- what is claimed of a log
 
 -- the course is lawful, and makes the turns of the log
@@ -64,11 +82,11 @@ pub record IsUnlawfulAfter (log : List Turn) (turn : Turn) : Type 0 where
 
 -- a till has opened, and said nothing
 abbrev pub opened_log : List Turn
-opened_log = Start example_setup ∷ Polled (pos 0) ∷ Opened 1 ∷ []
+opened_log = began example_setup ++ Polled (pos 0) ∷ Opened 1 ∷ []
 
 -- it has said these bytes
 abbrev pub heard_log : List ℕ → List Turn
-heard_log bytes = Start example_setup ∷ Polled (pos 0) ∷ Opened 1 ∷ Polled (pos 0) ∷ HeardTill 1 bytes ∷ []
+heard_log bytes = began example_setup ++ Polled (pos 0) ∷ Opened 1 ∷ Polled (pos 0) ∷ HeardTill 1 bytes ∷ []
 
 -- it has said the request
 abbrev pub asked_log : List Turn
@@ -81,7 +99,7 @@ status_log = asked_log ++ SentTill 1 (frame status_reply) true ∷ Polled (pos 0
 -- the moves of the log: the request is read and begins once it was heard, and owes the reply
 abbrev pub status_course : List Move
 status_course =
-    Make (Start example_setup) ∷ Make (Polled (pos 0)) ∷ Make (Opened 1) ∷ Make (Polled (pos 0)) ∷ Make (HeardTill 1 (frame status_request)) ∷ Read status_asked ∷ Begin ∷ Make (SentTill 1 (frame status_reply) true) ∷ Make (Polled (pos 0)) ∷ Make Stopped ∷ []
+    began_moves example_setup ++ Make (Polled (pos 0)) ∷ Make (Opened 1) ∷ Make (Polled (pos 0)) ∷ Make (HeardTill 1 (frame status_request)) ∷ Read status_asked ∷ Begin ∷ Make (SentTill 1 (frame status_reply) true) ∷ Make (Polled (pos 0)) ∷ Make Stopped ∷ []
 
 -- this is its course
 abbrev pub StatusIsLawful : Type 0
@@ -132,7 +150,7 @@ tills_open first (suc count) = Polled (pos 0) ∷ Opened first ∷ tills_open (f
 
 -- the 65th till is cut
 abbrev pub crowded_log : List Turn
-crowded_log = Start example_setup ∷ (tills_open 1 65 ++ CutTill 65 ∷ Polled (pos 0) ∷ Stopped ∷ [])
+crowded_log = began example_setup ++ (tills_open 1 65 ++ CutTill 65 ∷ Polled (pos 0) ∷ Stopped ∷ [])
 
 -- it is lawful
 abbrev pub CrowdedIsLawful : Type 0
@@ -140,21 +158,21 @@ CrowdedIsLawful = IsLawful crowded_log
 
 -- no poll comes before that cut
 abbrev pub PollWhileCrowded : Type 0
-PollWhileCrowded = IsUnlawfulAfter (Start example_setup ∷ tills_open 1 65) (Polled (pos 0))
+PollWhileCrowded = IsUnlawfulAfter (began example_setup ++ tills_open 1 65) (Polled (pos 0))
 
 -- ---- runs and power failures
 
 -- a run begins in the middle of another: nobody is there, and numbers begin anew
 abbrev pub restarted_log : List Turn
-restarted_log = asked_log ++ Start example_setup ∷ Polled (pos 0) ∷ Opened 1 ∷ Polled (pos 0) ∷ Stopped ∷ []
+restarted_log = asked_log ++ began example_setup ++ Polled (pos 0) ∷ Opened 1 ∷ Polled (pos 0) ∷ Stopped ∷ []
 
 -- it is lawful
 abbrev pub RestartedIsLawful : Type 0
 RestartedIsLawful = IsLawful restarted_log
 
--- the power fails, and leaves the file as it was: nothing was ever written
+-- the power fails, and leaves the file as it was: no record was ever written
 abbrev pub crashed_log : List Turn
-crashed_log = asked_log ++ Crash [] ∷ Start example_setup ∷ Polled (pos 0) ∷ Stopped ∷ []
+crashed_log = asked_log ++ Crash first_file ∷ (began example_setup ++ Polled (pos 0) ∷ Stopped ∷ [])
 
 -- it is lawful
 abbrev pub CrashedIsLawful : Type 0
@@ -162,13 +180,13 @@ CrashedIsLawful = IsLawful crashed_log
 
 -- it leaves no byte that was never written
 abbrev pub CrashLeavesNoOther : Type 0
-CrashLeavesNoOther = IsUnlawfulAfter asked_log (Crash (165 ∷ []))
+CrashLeavesNoOther = IsUnlawfulAfter asked_log (Crash (first_file ++ 165 ∷ []))
 
 -- ---- the disk
 
--- no call on the disk fails where a run opens no journal
+-- after the turns by which a run begins no call on the disk fails
 abbrev pub NothingToLookAt : Type 0
-NothingToLookAt = IsUnlawfulAfter (Start example_setup ∷ []) DiskFailed
+NothingToLookAt = IsUnlawfulAfter (began example_setup) DiskFailed
 
 -- nor where its event has come
 abbrev pub NothingToLookAtLater : Type 0

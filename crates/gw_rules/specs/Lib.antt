@@ -10,6 +10,8 @@ pub mod DialogueLaws
 pub mod DoneExample
 pub mod Example
 pub mod JournalFiles
+pub mod KeptExample
+pub mod KeptLaws
 pub mod Lawful
 pub mod Laws
 pub mod Lean

@@ -25,7 +25,7 @@ use Rattle.gw_owes.specs.Events.{waits_by_deadline}
 use Rattle.gw_owes.specs.Items.{Greet, Handle, NextWaiting, Late, Due}
 use Rattle.gw_owes.specs.Replies.{failure_reply}
 use Rattle.gw_owes.specs.Terminals.{core_without}
-use Rattle.gw_rules.specs.Example.{example_setup, IsUnlawfulAfter}
+use Rattle.gw_rules.specs.Example.{example_setup, IsUnlawfulAfter, began, began_moves}
 use Rattle.gw_rules.specs.Lawful.{IsCourse, IsLawful}
 use Rattle.gw_rules.specs.View.{View, Move, Begin, Make, begun, view_from, at_first}
 
@@ -41,7 +41,7 @@ terminal_setup = record example_setup { terminals = example_pt ∷ [] }
 
 -- its link can't be made: it isn't tried again before five seconds have passed, and one poll follows the other
 abbrev pub unlinked_log : List Turn
-unlinked_log = Start terminal_setup ∷ Polled (pos 0) ∷ LinkFailed 0 ∷ Polled (pos 1) ∷ Stopped ∷ []
+unlinked_log = began terminal_setup ++ Polled (pos 0) ∷ LinkFailed 0 ∷ Polled (pos 1) ∷ Stopped ∷ []
 
 -- it is lawful
 abbrev pub UnlinkedIsLawful : Type 0
@@ -49,7 +49,7 @@ UnlinkedIsLawful = IsLawful unlinked_log
 
 -- a till opens and sends bytes that begin no frame, with a terminal there whose link can't be made
 abbrev pub unframed_log : List Turn
-unframed_log = Start terminal_setup ∷ Polled (pos 0) ∷ Opened 1 ∷ LinkFailed 0 ∷ Polled (pos 0) ∷ HeardTill 1 (0 ∷ 0 ∷ 0 ∷ 0 ∷ []) ∷ []
+unframed_log = began terminal_setup ++ Polled (pos 0) ∷ Opened 1 ∷ LinkFailed 0 ∷ Polled (pos 0) ∷ HeardTill 1 (0 ∷ 0 ∷ 0 ∷ 0 ∷ []) ∷ []
 
 -- the till is cut, and then what may be due passes
 abbrev pub UnframedIsLawful : Type 0
@@ -61,7 +61,7 @@ PollBeforeUnframedCut = IsUnlawfulAfter unframed_log (Polled (pos 0))
 
 -- the first poll was made, and the terminal's link is owed
 abbrev pub link_view : View
-link_view = view_from at_first (Make (Start terminal_setup) ∷ Make (Polled (pos 0)) ∷ Begin ∷ Begin ∷ [])
+link_view = view_from at_first (began_moves terminal_setup ++ Make (Polled (pos 0)) ∷ Begin ∷ Begin ∷ [])
 
 -- an item begins that owes this row: the row's items come before those that were to come
 abbrev pub RowItemsComeFirst : Type 0

@@ -1,11 +1,11 @@
 -- Example logs of a gateway with one terminal, from its start on: the way to ready, and what ends it before. Each is along a course that the checker computes.
 use Rattle.std.specs.Prelude.{◌≡◌, ℕ, suc, zero, pos, false, true, List, [], ◌∷◌, ◌++◌, Some}
 use Rattle.gw_site.specs.declared.turn.Turn.{Turn}
-use Rattle.gw_site.specs.declared.turn.Turn.TheVariants.{Start, Polled, HeardPt, Linked, LinkFailed, SentPt, CutPt, Stopped}
+use Rattle.gw_site.specs.declared.turn.Turn.TheVariants.{Polled, HeardPt, Linked, LinkFailed, SentPt, CutPt, Stopped}
 use Rattle.gw_owes.specs.declared.terminal.Standing.{Standing}
 use Rattle.gw_owes.specs.declared.terminal.Standing.TheVariants.{Unlinked, Registering, Enquiring, Ready}
 use Rattle.gw_owes.specs.TerminalExample.{ack, completion, abort, approved_status, enquiry_sent}
-use Rattle.gw_rules.specs.Example.{IsCourseAlong, IsUnlawfulAfter}
+use Rattle.gw_rules.specs.Example.{IsCourseAlong, IsUnlawfulAfter, first_turns, began, began_moves}
 use Rattle.gw_rules.specs.RowExample.{terminal_setup, first_standing, register_bytes}
 use Rattle.gw_rules.specs.View.{Move, Begin, Make, view_from, at_first}
 
@@ -21,13 +21,17 @@ pub record LeavesStanding (log : List Turn) (course : List Move) (standing : Sta
 
 -- ---- the way to ready
 
+-- the turns of the run before the terminal is linked
+abbrev pub before_link : List Turn
+before_link = first_turns ++ Polled (pos 0) ∷ []
+
 -- the terminal is due at once: its link is made, and the registration sent
 abbrev pub linked_log : List Turn
-linked_log = Start terminal_setup ∷ Polled (pos 0) ∷ Linked 0 ∷ SentPt 0 register_bytes true ∷ []
+linked_log = began terminal_setup ++ Polled (pos 0) ∷ Linked 0 ∷ SentPt 0 register_bytes true ∷ []
 
 -- its course: the terminal isn't late, and is due
 abbrev pub linked_course : List Move
-linked_course = Make (Start terminal_setup) ∷ Make (Polled (pos 0)) ∷ (items_begin 2 ++ Make (Linked 0) ∷ Make (SentPt 0 register_bytes true) ∷ [])
+linked_course = began_moves terminal_setup ++ Make (Polled (pos 0)) ∷ (items_begin 2 ++ Make (Linked 0) ∷ Make (SentPt 0 register_bytes true) ∷ [])
 
 -- the registration is acknowledged and done, which is acknowledged too, and the enquiry sent
 abbrev pub enquired_log : List Turn
@@ -53,11 +57,11 @@ ReadyIsLawful = LeavesStanding ready_log ready_course (Ready 123)
 
 -- the link can't be made; it is tried again five seconds later, and not before
 abbrev pub due_again_log : List Turn
-due_again_log = Start terminal_setup ∷ Polled (pos 0) ∷ LinkFailed 0 ∷ Polled (pos 4) ∷ Polled (pos 5) ∷ Linked 0 ∷ SentPt 0 register_bytes true ∷ Polled (pos 5) ∷ Stopped ∷ []
+due_again_log = began terminal_setup ++ Polled (pos 0) ∷ LinkFailed 0 ∷ Polled (pos 4) ∷ Polled (pos 5) ∷ Linked 0 ∷ SentPt 0 register_bytes true ∷ Polled (pos 5) ∷ Stopped ∷ []
 
 -- its course
 abbrev pub due_again_course : List Move
-due_again_course = Make (Start terminal_setup) ∷ Make (Polled (pos 0)) ∷ (items_begin 2 ++ Make (LinkFailed 0) ∷ Make (Polled (pos 4)) ∷ (items_begin 2 ++ Make (Polled (pos 5)) ∷ (items_begin 2 ++ Make (Linked 0) ∷ Make (SentPt 0 register_bytes true) ∷ Make (Polled (pos 5)) ∷ Make Stopped ∷ [])))
+due_again_course = began_moves terminal_setup ++ Make (Polled (pos 0)) ∷ (items_begin 2 ++ Make (LinkFailed 0) ∷ Make (Polled (pos 4)) ∷ (items_begin 2 ++ Make (Polled (pos 5)) ∷ (items_begin 2 ++ Make (Linked 0) ∷ Make (SentPt 0 register_bytes true) ∷ Make (Polled (pos 5)) ∷ Make Stopped ∷ [])))
 
 -- the terminal registers
 abbrev pub DueAgainIsLawful : Type 0
@@ -153,23 +157,23 @@ UnacknowledgedIsLawful = LeavesStanding unacknowledged_log unacknowledged_course
 
 -- no poll comes before the link of the terminal, which is due at once
 abbrev pub PollBeforeLink : Type 0
-PollBeforeLink = IsUnlawfulAfter (Start terminal_setup ∷ Polled (pos 0) ∷ []) (Polled (pos 1))
+PollBeforeLink = IsUnlawfulAfter (began terminal_setup ++ Polled (pos 0) ∷ []) (Polled (pos 1))
 
 -- a link that couldn't be made isn't made four seconds later
 abbrev pub LinkTooEarly : Type 0
-LinkTooEarly = IsUnlawfulAfter (Start terminal_setup ∷ Polled (pos 0) ∷ LinkFailed 0 ∷ Polled (pos 4) ∷ []) (Linked 0)
+LinkTooEarly = IsUnlawfulAfter (began terminal_setup ++ Polled (pos 0) ∷ LinkFailed 0 ∷ Polled (pos 4) ∷ []) (Linked 0)
 
 -- no enquiry is sent once the terminal is linked, but the registration
 abbrev pub EnquiryBeforeRegistration : Type 0
-EnquiryBeforeRegistration = IsUnlawfulAfter (Start terminal_setup ∷ Polled (pos 0) ∷ Linked 0 ∷ []) (SentPt 0 enquiry_sent true)
+EnquiryBeforeRegistration = IsUnlawfulAfter (began terminal_setup ++ Polled (pos 0) ∷ Linked 0 ∷ []) (SentPt 0 enquiry_sent true)
 
 -- the registration can't be sent, and the connection is cut
 abbrev pub cut_log : List Turn
-cut_log = Start terminal_setup ∷ Polled (pos 0) ∷ Linked 0 ∷ SentPt 0 (0x06 ∷ []) false ∷ CutPt 0 ∷ []
+cut_log = began terminal_setup ++ Polled (pos 0) ∷ Linked 0 ∷ SentPt 0 (0x06 ∷ []) false ∷ CutPt 0 ∷ []
 
 -- its course
 abbrev pub cut_course : List Move
-cut_course = Make (Start terminal_setup) ∷ Make (Polled (pos 0)) ∷ (items_begin 2 ++ Make (Linked 0) ∷ Make (SentPt 0 (0x06 ∷ []) false) ∷ Make (CutPt 0) ∷ [])
+cut_course = began_moves terminal_setup ++ Make (Polled (pos 0)) ∷ (items_begin 2 ++ Make (Linked 0) ∷ Make (SentPt 0 (0x06 ∷ []) false) ∷ Make (CutPt 0) ∷ [])
 
 -- nothing is sent to the terminal then
 abbrev pub EnquiryAfterCut : Type 0

@@ -1,5 +1,5 @@
 -- The law that what is remembered of a terminal is what a flat list says: along each lawful log, of the commands that were sent to it and the messages that were taken of it since it was linked.
-use Rattle.std.specs.Prelude.{◌≡◌, ℕ, ◌==◌, Bool, true, false, if◌then◌else◌, List, [], ◌∷◌, ◌++◌, slice_get, Option, Some, None, Ok}
+use Rattle.std.specs.Prelude.{◌≡◌, ℕ, ◌==◌, ◌||◌, Bool, true, false, if◌then◌else◌, List, [], ◌∷◌, ◌++◌, slice_get, Option, Some, None, Ok}
 use Rattle.gw_base.specs.declared.setup.Setup.{Setup}
 use Rattle.gw_site.specs.Outside.{outside_of}
 use Rattle.gw_site.specs.declared.turn.Turn.{Turn}
@@ -8,7 +8,7 @@ use Rattle.zvt_apdu.specs.Grammar.{ApduValue}
 use Rattle.zvt_msg.specs.CommandCanonical.{canonical_command}
 use Rattle.zvt_msg.specs.Message.{MessageValue, Ack, Completion}
 use Rattle.zvt_msg.specs.MessageDecode.{decode_pt_message}
-use Rattle.gw_owes.specs.Calls.{OwedCall, SendTill, LinkPt, WriteBody, WriteGate, WriteFirstGate, Sync, SendPt as OwedSendPt, CutTill as OwedCutTill, CutPt as OwedCutPt}
+use Rattle.gw_owes.specs.Calls.{Ask, Acknowledge, OwedCall, SendTill, LinkPt, WriteBody, WriteGate, WriteFirstGate, Sync, keep_calls, SendPt as OwedSendPt, CutTill as OwedCutTill, CutPt as OwedCutPt}
 use Rattle.gw_owes.specs.Handling.{enquiry_command}
 use Rattle.gw_owes.specs.Items.{RoundItem}
 use Rattle.gw_owes.specs.Row.{Known}
@@ -18,12 +18,13 @@ use Rattle.gw_owes.specs.Transcript.{Carried, Commanded, Took, FollowsTranscript
 use Rattle.gw_owes.specs.declared.terminal.Standing.TheVariants.{Enquiring}
 use Rattle.gw_owes.specs.declared.terminal.Terminal.{Terminal}
 use Rattle.gw_rules.specs.CutCauses.{HasSaidApdu}
-use Rattle.gw_rules.specs.Lawful.{MayPoll, Stands}
+use Rattle.gw_rules.specs.Lawful.{IsClear, MayPoll, Stands}
 use Rattle.gw_rules.specs.LinkLaws.{is_linked_after}
-use Rattle.gw_rules.specs.RowExample.{example_pt}
+use Rattle.gw_rules.specs.RowExample.{example_pt, example_record, keep_view, gate_moves}
 use Rattle.gw_rules.specs.Scene.{Scene, known_in}
+use Rattle.gw_rules.specs.Stage.{is_broken}
 use Rattle.gw_rules.specs.TerminalLogExample.{linked_course, enquired_course, declined_course}
-use Rattle.gw_rules.specs.View.{View, Move, Begin, Read, Make, after, at_first}
+use Rattle.gw_rules.specs.View.{View, Move, Begin, Read, Make, after, view_from, at_first}
 
 -- ---- what is owed to a terminal
 
@@ -39,10 +40,15 @@ command_to pt moment (WriteGate slot the_record) = []
 command_to pt moment WriteFirstGate = []
 command_to pt moment Sync = []
 
--- the command that is owed to it next
+-- the command of the first of these calls
+abbrev pub command_next : ℕ → ℕ → List OwedCall → List Carried
+command_next pt moment [] = []
+command_next pt moment (call ∷ calls) = command_to pt moment call
+
+-- the commands that are owed to it, all of those among these calls, the newest first
 abbrev pub command_owed : ℕ → ℕ → List OwedCall → List Carried
 command_owed pt moment [] = []
-command_owed pt moment (call ∷ calls) = command_to pt moment call
+command_owed pt moment (call ∷ calls) = command_owed pt moment calls ++ command_to pt moment call
 
 -- the call cuts this terminal
 abbrev pub cuts_terminal : ℕ → OwedCall → Bool
@@ -56,10 +62,25 @@ cuts_terminal pt (WriteGate slot the_record) = false
 cuts_terminal pt WriteFirstGate = false
 cuts_terminal pt Sync = false
 
--- its cut is owed next
+-- its cut is owed, anywhere among these calls
 abbrev pub cut_owed : ℕ → List OwedCall → Bool
 cut_owed pt [] = false
-cut_owed pt (call ∷ calls) = cuts_terminal pt call
+cut_owed pt (call ∷ calls) = cuts_terminal pt call || cut_owed pt calls
+
+-- ---- what is owed along a course
+
+-- the calls that are owed after a move; where a call on the disk has failed, those that were owed before it, of which none is made any more
+abbrev pub owed_after : View → Move → List OwedCall
+owed_after v move = if is_broken (after v move).scene.stage then v.calls else (after v move).calls
+
+-- the same after more moves; these calls, where there are none
+abbrev pub owed_from : View → List OwedCall → List Move → List OwedCall
+owed_from v calls [] = calls
+owed_from v calls (move ∷ moves) = owed_from (after v move) (owed_after v move) moves
+
+-- the same at the end of a course
+abbrev pub owed_at : List Move → List OwedCall
+owed_at moves = owed_from at_first [] moves
 
 -- ---- the transcript of a terminal's link along a course
 
@@ -91,7 +112,7 @@ transcript_made pt v Stopped transcript = transcript
 transcript_made pt v (Linked number) transcript = if number == pt then [] else transcript
 transcript_made pt v (LinkFailed number) transcript = if number == pt then [] else transcript
 transcript_made pt v (SentTill till bytes ok) transcript = transcript
-transcript_made pt v (SentPt number bytes true) transcript = command_owed pt v.scene.outside.moment v.calls ++ transcript
+transcript_made pt v (SentPt number bytes true) transcript = command_next pt v.scene.outside.moment v.calls ++ transcript
 transcript_made pt v (SentPt number bytes false) transcript = transcript
 transcript_made pt v (CutTill till) transcript = transcript
 transcript_made pt v (CutPt number) transcript = if number == pt then [] else transcript
@@ -117,11 +138,15 @@ transcript_of pt moves = transcript_from pt at_first [] moves
 
 -- ---- the law
 
--- after each lawful log, each terminal's dialogue, what it awaits and its standing are those of its transcript, with the command that is owed to it next; but where its cut is owed next
+-- the calls owed after a lawful log are those of its view; but where a call on the disk has failed, since then the view has none
+abbrev pub ClearOwesItsCalls : Type 0
+ClearOwesItsCalls = (log : List Turn) (v : View) (s : Stands log v) → IsClear v → owed_at s.course ≡ v.calls
+
+-- after each lawful log, each terminal's dialogue, what it awaits and its standing are those of its transcript, with the commands that are owed to it; but where its cut is owed
 abbrev pub EachLogFollowsTranscript : Type 0
 EachLogFollowsTranscript =
-    (log : List Turn) (v : View) (s : Stands log v) (pt : ℕ) (terminal : Terminal) → slice_get v.scene.core.terminals pt ≡ Some terminal → cut_owed pt v.calls ≡ false
-    → FollowsTranscript v.scene.kept pt (command_owed pt v.scene.outside.moment v.calls ++ transcript_of pt s.course) v.scene.core
+    (log : List Turn) (v : View) (s : Stands log v) (pt : ℕ) (terminal : Terminal) → slice_get v.scene.core.terminals pt ≡ Some terminal → cut_owed pt (owed_at s.course) ≡ false
+    → FollowsTranscript v.scene.kept pt (command_owed pt v.scene.outside.moment (owed_at s.course) ++ transcript_of pt s.course) v.scene.core
 
 -- so where a poll may come they are those of what was sent and taken, and no more
 abbrev pub EachPollFollowsTranscript : Type 0
@@ -201,9 +226,30 @@ EachMessageWasSaid = (log : List Turn) (v : View) (s : Stands log v) (pt : ℕ) 
 
 -- ---- an example
 
+-- a record is to be kept, and then a command to be sent to the terminal
+abbrev pub keep_then_ask : List OwedCall
+keep_then_ask = keep_calls 0 example_record ++ OwedSendPt 0 (Ask (registration example_pt)) ∷ []
+
+-- the gate of the record is written, and its sync fails
+abbrev pub failed_keep_moves : List Move
+failed_keep_moves = gate_moves ++ Make DiskFailed ∷ []
+
+-- what is owed to a terminal: the commands and the cut among calls, after others too, and none of another terminal's; and what a failed sync has left
+pub record ExampleOwed : Type 0 where
+  pub own : command_owed 0 5 keep_then_ask ≡ Commanded (registration example_pt) 5 ∷ []
+  pub other : command_owed 1 5 keep_then_ask ≡ []
+  pub newest_first :
+      command_owed 0 5 (OwedSendPt 0 (Ask (registration example_pt)) ∷ OwedSendPt 0 Acknowledge ∷ OwedSendPt 0 (Ask (enquiry_command example_pt)) ∷ []) ≡ Commanded (enquiry_command example_pt) 5 ∷ Commanded (registration example_pt) 5 ∷ []
+  pub no_cut : cut_owed 0 keep_then_ask ≡ false
+  pub own_cut : cut_owed 0 (keep_calls 0 example_record ++ OwedCutPt 0 ∷ []) ≡ true
+  pub other_cut : cut_owed 1 (keep_calls 0 example_record ++ OwedCutPt 0 ∷ []) ≡ false
+  pub left : owed_from (record keep_view { calls = keep_then_ask }) keep_then_ask failed_keep_moves ≡ Sync ∷ OwedSendPt 0 (Ask (registration example_pt)) ∷ []
+  pub none_made : (view_from (record keep_view { calls = keep_then_ask }) failed_keep_moves).calls ≡ []
+
 -- the transcript once the registration was sent; once it is done, and the enquiry sent, by which the terminal is enquired; and after a cut
 pub record ExampleLogTranscript : Type 0 where
   pub linked : transcript_of 0 linked_course ≡ Commanded (registration example_pt) 0 ∷ []
   pub enquired : transcript_of 0 enquired_course ≡ Commanded (enquiry_command example_pt) 1 ∷ Took Completion 1 ∷ Took Ack 1 ∷ Commanded (registration example_pt) 0 ∷ []
   pub standing : standing_by 0 example_pt (transcript_of 0 enquired_course) ≡ Some Enquiring
   pub cut : transcript_of 0 declined_course ≡ []
+  pub owed : ExampleOwed

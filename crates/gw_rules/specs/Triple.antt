@@ -12,7 +12,8 @@ use Rattle.gw_owes.specs.Core.{new_core}
 use Rattle.gw_owes.specs.Items.{RoundItem}
 use Rattle.gw_owes.specs.Row.{Row}
 use Rattle.gw_rules.specs.Lawful.{IsCourse, IsNext, turns_of, Stands, IsClear}
-use Rattle.gw_rules.specs.Scene.{Scene, link_made_at, link_lost_at}
+use Rattle.gw_rules.specs.Opening.{opening}
+use Rattle.gw_rules.specs.Scene.{Scene, records_of, link_made_at, link_lost_at}
 use Rattle.gw_rules.specs.Stage.{Opening}
 use Rattle.gw_site.specs.Sorts.{IsQuiet}
 use Rattle.gw_rules.specs.View.{View, Move, Begin, Read, Make, after, after_turn, view_from, called}
@@ -103,15 +104,15 @@ AtEvent scene now what buf v = (v ≡ event_view scene now what buf) × IsPromis
 -- a run with this setup has just begun
 pub record IsNewRun (setup : Setup) (scene : Scene) : Type 0 where
   pub setup_is : scene.setup ≡ Some setup
-  pub stage : scene.stage ≡ Opening false
+  pub stage : scene.stage ≡ Opening (opening setup scene.outside.file (records_of scene)).refused
   pub tills : scene.outside.tills ≡ []
   pub links : scene.outside.links ≡ []
   pub polls : scene.polls ≡ 0
   pub core_is : scene.core ≡ new_core setup
 
--- and nothing is owed yet
+-- and the calls of its opening are owed
 abbrev pub JustBegun : Setup → View → Type 0
-JustBegun setup v = (scene : Scene) × Owing scene [] [] v × IsNewRun setup scene
+JustBegun setup v = (scene : Scene) × Owing scene (opening setup scene.outside.file (records_of scene)).calls [] v × IsNewRun setup scene
 
 -- these turns are a start with this setup and then the turns of its run
 abbrev pub IsFromStart : Setup → List Turn → List Turn → Type 0

@@ -3,6 +3,8 @@
 
 ghost use Rattle.gw_rules.specs.Example.{BadFrameIsLawful, CrashLeavesNoOther, CrashedIsLawful, CrowdedIsLawful, DiskFailureEnds, FailedSendIsLawful, GateEndsLooking, LooksMayFail, NoRunWhereNotOpened, NothingToLookAt, NothingToLookAtLater, PollBeforeCut, PollBeforeReply, PollEndsLooking, PollWhileCrowded, RefusedIsNotPolled, RestartedIsLawful, SilentIsLawful, StatusIsLawful, UnaskedReply};
 ghost use Rattle.gw_rules.specs.JournalFiles.{EachHasJournalFiles, KeepingHasJournal, KeepingLeavesJournals, KeptFileIsJournal, OpenedHasJournal, OpeningHasJournal, OpeningLeavesJournalFiles};
+ghost use Rattle.gw_rules.specs.KeptExample.{FlightIsKept, UnsyncedKeepsNone};
+ghost use Rattle.gw_rules.specs.KeptLaws.{EachImageHasKept, EachKeepsFile, EachKeepsJournalFiles, EachLawfulHasKept, EachRoundHasJournal, FullOnlyWithFewerSlots, LongOnlyWithFewerSlots, NeverBad, NeverTruncated, NoneKeptIsLost};
 ghost use Rattle.gw_rules.specs.RowExample.{BothAreItems, ClosedGateDrops, FailedSendCutsLink, FailedSyncCrashes, GateIsInFlight, GoneTillIsForgotten, LinkIsDueAgain, LinkRegisters, LostEndOfDayReplies, LostIsDue, LostTransactionKeepsAsker, OpenGateKeeps, PollBeforeUnframedCut, RowItemsComeFirst, SendingsAreSpelled, StartLeavesFlight, SyncKeeps, UnframedIsLawful, UnlinkedIsLawful, WaitsByDeadline};
 ghost use Rattle.gw_rules.specs.AloneExample.{OutsideLeavesOther, TooLongEndsOwnLink};
 ghost use Rattle.gw_rules.specs.CauseExample.{OutsideIsCause, OutsideIsCut, PollBeforeOutsideCut, PollBeforeTooLongCut, SplitReport, TooLongIsCause, TooLongIsCut};
@@ -18,7 +20,7 @@ ghost use Rattle.gw_rules.specs.OutsideLaws.{OutsideIsAlone, TooLongIsAlone};
 ghost use Rattle.gw_rules.specs.SilenceLaws.{SilentDialogueIsCut, SilentRegistrationIsCut};
 ghost use Rattle.gw_rules.specs.TerminalLogExample.{DeclinedIsLawful, DoneIsEnquired, DoneThenSilentIsCut, DueAgainIsLawful, EnquiryAfterCut, EnquiryBeforeRegistration, LinkTooEarly, PollBeforeEnquiry, PollBeforeLink, PollBeforeSilentCut, ReadyIsLawful, SilentEnquiryIsLawful, SilentRegistrationIsLawful, UnacknowledgedIsLawful, UnfinishedIsCut};
 ghost use Rattle.gw_rules.specs.Laws.{BadFrameCuts, CallsEndInOne, CrowdedCuts, EachHasOneLeanCourse, EachHeardIsBytes, PrefixIsLawful, PtBytesBring, RestartIsLawful, SetupIsWithinLimits, TillBytesBring};
-ghost use Rattle.gw_rules.specs.TranscriptLaws.{EachCommandWasSent, EachLogFollowsTranscript, EachMessageWasSaid, EachPollFollowsTranscript, ExampleLogTranscript};
+ghost use Rattle.gw_rules.specs.TranscriptLaws.{ClearOwesItsCalls, EachCommandWasSent, EachLogFollowsTranscript, EachMessageWasSaid, EachPollFollowsTranscript, ExampleLogTranscript};
 ghost use Rattle.gw_rules.specs.TrickleExample.{PollBeforeTrickleCut, TrickleIsCut, TrickleIsSilent};
 
 /// Along each lawful log there is exactly one course in which nothing begins unless a turn of its run follows.
@@ -159,10 +161,12 @@ pub fn law_dialogue_ends()
 
 /// After each lawful log, each terminal's dialogue, how many Acks and Nacks it awaits, and its standing, but for the moment at which one
 /// that isn't linked is due, are those of a flat list: the commands that were sent to it and the messages that were taken of it since it
-/// was linked. A command that is owed to it counts as sent; and where its cut is owed nothing is said. While it is linked these commands
+/// was linked. The commands that are owed to it count as sent, after others too; and where its cut is owed nothing is said. Where a call
+/// on the disk has failed, what was owed then counts so, though it is made no more. While it is linked the commands that were sent to it
 /// are all that the log says were sent to it since; and each of the messages it said in some round of the log, at that moment.
 pub fn law_standing_transcript()
     ensures logs { EachLogFollowsTranscript }
+    ensures owed { ClearOwesItsCalls }
     ensures polls { EachPollFollowsTranscript }
     ensures sent { EachCommandWasSent }
     ensures said { EachMessageWasSaid }
@@ -182,6 +186,31 @@ pub fn law_journal_files()
     ensures keeping { KeepingLeavesJournals }
     ensures has { KeepingHasJournal }
     ensures kept { KeptFileIsJournal }
+{}
+
+/// What is kept in the journal, at each moment of a log of a gateway that keeps one, whichever rows owe that a record is kept: the
+/// records that are kept are what the slots of the stable file spell, and those of the file are these and then the one in flight.
+/// Whatever a power failure leaves has them, and then at most the one in flight; no record that is kept is ever lost. What it leaves has no
+/// truncated slot, and each of its slots has a record that lies within its limits and may follow those before it. It is too long,
+/// or leaves fewer slots free than keys open, only for a setup with fewer slots than one before it. So an opening has cause to
+/// refuse only what another program has written, or a run with more slots. While a round goes on and no call on the disk is owed, the journal is
+/// open with the records that are kept.
+///
+/// No row of a lawful log keeps a record yet: of these logs, whose file is empty, `lawful` says the same. `left` says that the files are
+/// those that a journal can have left; `example` has a closed log, and `unsynced` calls that keep no record.
+pub fn law_kept_files()
+    ensures file { EachKeepsFile }
+    ensures images { EachImageHasKept }
+    ensures never_lost { NoneKeptIsLost }
+    ensures truncated { NeverTruncated }
+    ensures bad { NeverBad }
+    ensures long { LongOnlyWithFewerSlots }
+    ensures full { FullOnlyWithFewerSlots }
+    ensures round { EachRoundHasJournal }
+    ensures left { EachKeepsJournalFiles }
+    ensures lawful { EachLawfulHasKept }
+    ensures example { FlightIsKept }
+    ensures unsynced { UnsyncedKeepsNone }
 {}
 
 /// A request gets its reply, and nothing is sent and no poll comes instead; where the send of the reply fails, the till is

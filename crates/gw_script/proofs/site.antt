@@ -8,5 +8,8 @@ pub mod FormLemmas
 pub mod LeadsLemmas
 pub mod LimitLemmas
 pub mod LinesLemmas
+pub mod PowerLemmas
+pub mod QuietLemmas
 pub mod ScriptLemmas
+pub mod StepTurnLemmas
 pub mod WordLemmas

@@ -11,6 +11,11 @@ pub mod Hazards
 pub mod Laws
 pub mod Limits
 pub mod Playing
+pub mod PowerExample
+pub mod Powers
 pub mod RunExample
 pub mod Runs
 pub mod ScriptLine
+pub mod StepTurnExample
+pub mod StepTurnLaws
+pub mod StepTurns

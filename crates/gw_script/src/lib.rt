@@ -4,12 +4,16 @@
 ghost use Rattle.gw_script.specs.Example.{TextOfMessage, TextOfPrefix};
 ghost use Rattle.gw_script.specs.Laws.{TextOfBytes, TextOfFrame};
 ghost use Rattle.gw_script.specs.site.ByLines.{GoingByLinesPlays, PlainLinesGoOn};
-ghost use Rattle.gw_script.specs.site.CallExample.{BesideTheScript, LimitIsArmed, LimitIsUnknown, LooksAndWrites, OtherSetupIsNotItsOwn, PlanIsDone, PollReachesPower, PowerIsOff, SendToPtIsCut, SendsTakeExactly, SendsTakeNoFewer, StartsWithItsOwn, SyncGoesOn};
+ghost use Rattle.gw_script.specs.site.CallExample.{BesideTheScript, LimitIsArmed, LimitIsUnknown, LooksAndWrites, NoFileOverAnother, OtherSetupIsNotItsOwn, PlanIsDone, PollReachesPower, PowerIsOff, SendToPtIsCut, SendsTakeExactly, SendsTakeNoFewer, StartsWithItsOwn, SyncGoesOn};
 ghost use Rattle.gw_script.specs.site.Callers.{OneLogOfCaller};
 ghost use Rattle.gw_script.specs.site.Events.{RunHasEvents};
 ghost use Rattle.gw_script.specs.site.Example.{AllFormsAreRead, DefaultsHold, EarlyLinesFail, MisplacedAreReported, NumbersRise, PowerFailsAfterTwo, PowerFailsAtOnce, PowerFailsNoLater, SendsFail, SyncMustFail, TwiceIsReported, WritesFail, WrongLinesAreReported};
+ghost use Rattle.gw_script.specs.site.PowerExample.{PowerFailsOnceOfTwo, PowerFailsTwice, TwoFailuresAreLeft};
+ghost use Rattle.gw_script.specs.site.Powers.{EachFailureLeavesFewer, FailuresAddUp, PowerFailsOncePerLine};
 ghost use Rattle.gw_script.specs.site.RunExample.{FailingRunHasEvents, PlainRunGoes};
 ghost use Rattle.gw_script.specs.site.Laws.{CallsGoOn, CallsPlay, GoesOnBeside, LimitsAreArmed, OneLogOfCalls, PlaysOn, PowerGoesOn, PrefixesPlay, ReadsSiteScripts, SendsAreCut, SendsTakeTheirs, SplitsLines};
+ghost use Rattle.gw_script.specs.site.StepTurnExample.{DiskHasItsTurns, NoCallWithoutPower, PowerIsNext, StepsBesideHaveTurns, WriteFailsNext};
+ghost use Rattle.gw_script.specs.site.StepTurnLaws.{CallOrPower, FirstHasItsTurns, IdleIsDecided, LongerTurnsBegin, LongestIsTaken, MoreHaveTheirTurns, StepHasItsTurns, StepsHaveTheirTurns};
 
 /// In the text of a log a frame whose message is printable ASCII is written as `'` and the message, and other bytes in
 /// hexadecimal; so a printable message is, and a frame that is incomplete.
@@ -68,9 +72,9 @@ pub fn law_site_logs()
     ensures failing { FailingRunHasEvents }
 {}
 
-/// The calls on a site and its power failures determine the log, also where the power is set to fail or a file is put on the disk
-/// beside the script; else the log plays the script. A send that fails takes exactly the lesser of its length and its line's
-/// number. Closed logs show it, with writes, looks and the setup of the runs.
+/// The calls on a site and its power failures determine the log, also where the power is set to fail beside the script, or before
+/// the first turn a file is put on the disk; else the log plays the script. A send that fails takes exactly the lesser of its
+/// length and its line's number. Closed logs show it, with writes, looks and the setup of the runs.
 pub fn law_site_calls()
     ensures play { CallsPlay }
     ensures one_log { OneLogOfCalls }
@@ -82,6 +86,7 @@ pub fn law_site_calls()
     ensures no_fewer { SendsTakeNoFewer }
     ensures looks { LooksAndWrites }
     ensures beside_script { BesideTheScript }
+    ensures no_file_over { NoFileOverAnother }
     ensures sync { SyncGoesOn }
     ensures off { PowerIsOff }
     ensures pt { SendToPtIsCut }
@@ -97,10 +102,42 @@ pub fn law_site_callers()
     ensures plan { PlanIsDone }
 {}
 
+/// The turns of each step of a site are a function of the script's lines and of the steps: exactly the steps that can be taken
+/// have one part for each, and the parts in one are their log. From the log and the place that steps have led to on, more steps
+/// have their turns after those; there any call may be made, or the power has failed and may be there again. The turns of more
+/// steps begin with those of the first of them, and steps that can't all be taken have those of as many as can. Closed steps show
+/// it, with a write that fails and a power failure.
+pub fn law_site_turns()
+    ensures idle { IdleIsDecided }
+    ensures step { StepHasItsTurns }
+    ensures first { FirstHasItsTurns }
+    ensures steps { StepsHaveTheirTurns }
+    ensures more { MoreHaveTheirTurns }
+    ensures either { CallOrPower }
+    ensures begin { LongerTurnsBegin }
+    ensures longest { LongestIsTaken }
+    ensures disk { DiskHasItsTurns }
+    ensures power { PowerIsNext }
+    ensures write { WriteFailsNext }
+    ensures dark { NoCallWithoutPower }
+    ensures beside { StepsBesideHaveTurns }
+{}
+
 /// How many bytes a send that fails takes at most is what fail lines have armed at the place up to which the script is played,
 /// where no disk and no power has failed. Closed logs show it.
 pub fn law_site_limits()
     ensures armed { LimitsAreArmed }
     ensures known { LimitIsArmed }
     ensures unknown { LimitIsUnknown }
+{}
+
+/// The power fails at most once for each `power` line of a script, whatever calls are made, and each power failure leaves fewer
+/// that can come. Closed logs show it: with two such lines it fails twice, or once where the second replaces the first.
+pub fn law_site_powers()
+    ensures per_line { PowerFailsOncePerLine }
+    ensures fewer { EachFailureLeavesFewer }
+    ensures sum { FailuresAddUp }
+    ensures left { TwoFailuresAreLeft }
+    ensures twice { PowerFailsTwice }
+    ensures once { PowerFailsOnceOfTwo }
 {}

@@ -1,46 +1,19 @@
 //! A payment and a reconciliation that are added to the ledger of a day, one call after the other.
-ghost use Rattle.std.specs.Prelude.{IsTrue, IfOk};
+ghost use Rattle.std.specs.Prelude.{IsTrue};
 ghost use Rattle.jrn_record.specs.Limits.{IsIntent, IsOutcome, IsSettled};
 ghost use Rattle.jrn_record.specs.declared.records.Record.{Record};
 ghost use Rattle.gw_ledger.specs.Fold.{fits};
 
-use crate::tests::{FIVE, after_day, approved, pay, settled};
-use gw_base::{Currency, Ident, Key};
-use gw_ledger::{Entry, Found, Ledger, Totals, law_fits};
+use crate::records::{body_of, halves, ledger_of};
+use crate::rows::check_lines;
+use crate::says::{push_says, push_totals, terminal};
+use crate::tests::DAY;
+use gw_base::{Ident, Key};
+use gw_ledger::{Ledger, Totals, law_fits};
 use jrn_record::{Deal, Intent, Outcome, Record, Settled, from_body};
 use std::alloc::Global;
 use std::process::Abort;
 use std::test::Fail;
-
-/// The Intent of a body.
-pub fn intent_of(body: &[u8; 255]) -> Result<Intent, Fail>
-    ensures { IfOk result IsIntent }
-{
-    match from_body(body) {
-        Ok(Record::Intent(intent)) => Ok(intent),
-        _ => Err(Fail::from("no Intent")),
-    }
-}
-
-/// The Outcome of a body.
-pub fn outcome_of(body: &[u8; 255]) -> Result<Outcome, Fail>
-    ensures { IfOk result IsOutcome }
-{
-    match from_body(body) {
-        Ok(Record::Outcome(outcome)) => Ok(outcome),
-        _ => Err(Fail::from("no Outcome")),
-    }
-}
-
-/// The Settled of a body.
-fn settled_of(body: &[u8; 255]) -> Result<Settled, Fail>
-    ensures { IfOk result IsSettled }
-{
-    match from_body(body) {
-        Ok(Record::Settled(settled)) => Ok(settled),
-        _ => Err(Fail::from("no Settled")),
-    }
-}
 
 /// Whether the payment may come next.
 fn payment_fits(ledger: &Ledger, intent: &Intent) -> bool
@@ -103,7 +76,7 @@ fn settled_fits(ledger: &Ledger, settled: &Settled) -> bool
 }
 
 /// Makes room for the payment and adds it.
-pub fn accept(alloc: Global, ledger: &mut Ledger, intent: &Intent) -> Option<u32>
+fn accept(alloc: Global, ledger: &mut Ledger, intent: &Intent) -> Option<u32>
     requires { IsIntent intent.now }
 {
     if ledger.records() >= 1000000 || !payment_fits(ledger, intent) {
@@ -116,7 +89,7 @@ pub fn accept(alloc: Global, ledger: &mut Ledger, intent: &Intent) -> Option<u32
 }
 
 /// Adds the Outcome of the open payment at this terminal, and says whether it may follow.
-pub fn resolve(ledger: &mut Ledger, poi: &Ident<40>, outcome: &Outcome) -> bool
+fn resolve(ledger: &mut Ledger, poi: &Ident<40>, outcome: &Outcome) -> bool
     requires { IsOutcome outcome.now }
 {
     if ledger.records() >= 1000000 || !outcome_fits(ledger, poi, outcome) {
@@ -139,72 +112,98 @@ fn settle(alloc: Global, ledger: &mut Ledger, settled: &Settled) -> Option<Total
     }
 }
 
-/// What has the key of till `S` at this terminal with this ServiceID.
-fn found(ledger: &Ledger, poi: &Ident<40>, service: &[u8]) -> Result<Found, Fail> {
-    let key = Key {
-        sale: Ident::of(b"S").ok_or("sale")?,
-        poi: *poi,
-        service: Ident::of(service).ok_or("service")?,
-    };
-    match ledger.find(&key) {
-        Some(found) => Ok(found),
-        None => Err(Fail::from("nothing is found")),
+/// What an addition returns.
+#[derive(Clone, Copy)]
+enum Added {
+    Slot(u32),
+    Outcome,
+    Totals(Totals),
+}
+
+/// Adds the record of a body, if it may follow.
+fn add_body(
+    alloc: Global,
+    ledger: &mut Ledger,
+    poi: &Ident<40>,
+    body: &[u8; 255],
+) -> Option<Added> {
+    match from_body(body) {
+        Ok(Record::Intent(intent)) => Some(Added::Slot(accept(alloc, ledger, &intent)?)),
+        Ok(Record::Outcome(outcome)) => {
+            if resolve(ledger, poi, &outcome) {
+                Some(Added::Outcome)
+            } else {
+                None
+            }
+        }
+        Ok(Record::Settled(settled)) => Some(Added::Totals(settle(alloc, ledger, &settled)?)),
+        Err(_) => None,
     }
 }
 
-/// The entry under this key.
-pub fn entry(ledger: &Ledger, poi: &Ident<40>, service: &[u8]) -> Result<Entry, Fail> {
-    match found(ledger, poi, service)? {
-        Found::Entry(entry) => Ok(entry),
-        Found::Closed(_) => Err(Fail::from("a reconciliation is found")),
+/// Adds the record of a line, and appends what the ledger returns after the word `added`: the slot of a payment, the totals of a
+/// reconciliation.
+pub(crate) fn add(
+    alloc: Global,
+    text: &mut String,
+    ledger: &mut Ledger,
+    line: &str,
+) -> Result<(), Fail> {
+    let body = body_of(alloc, line)?;
+    match add_body(alloc, ledger, &terminal()?, &body) {
+        Some(Added::Slot(slot)) => write!(text, "added {slot}\n")?,
+        Some(Added::Outcome) => text.push_str("added\n")?,
+        Some(Added::Totals(totals)) => {
+            text.push_str("added ")?;
+            push_totals(text, &totals)?;
+        }
+        None => return Err(Fail::from("it may not follow")),
     }
-}
-
-/// The payment is open, and no total has it yet.
-fn is_open(rt: &impl Abort, ledger: &Ledger, poi: &Ident<40>) -> Result<(), Fail> {
-    assert!(rt; entry(ledger, poi, b"4")?.result.is_none());
-    assert_eq!(rt; ledger.totals(poi, Currency::Eur).debit, (2, 1599));
-    assert_eq!(rt; ledger.tally().unresolved, 1);
     Ok(())
 }
 
-/// The payment has its Outcome, and the totals have it.
-fn is_counted(rt: &impl Abort, ledger: &Ledger, poi: &Ident<40>) -> Result<(), Fail> {
-    let outcome = entry(ledger, poi, b"4")?.result.ok_or("Outcome")?;
-    assert_eq!(rt; outcome.number, 126);
-    let totals = ledger.totals(poi, Currency::Eur);
-    assert_eq!(rt; totals.debit, (3, 2099));
-    assert_eq!(rt; totals.reversed, (1, 1099));
-    Ok(())
-}
+/// A payment, its approval and a reconciliation.
+const ADDED: &str = "\
+pay 4 000000000500 000125
+> added 6
+> entry 4 6 none
+> payments 2 1599
+> unresolved 1
 
-/// The reconciliation has the totals, which begin anew, and the tally has all.
-fn is_settled(rt: &impl Abort, ledger: &Ledger, poi: &Ident<40>) -> Result<(), Fail> {
-    match found(ledger, poi, b"5")? {
-        Found::Closed(closed) => assert_eq!(rt; closed.totals.debit, (3, 2099)),
-        Found::Entry(_) => return Err(Fail::from("an entry is found")),
+approved 00000006 000126 000000000500
+> added
+> entry 4 6 126
+> payments 3 2099
+> reversals 1 1099
+
+settled A 5
+> added 3 2099 1 1099
+> closed 5 8 3 2099 1 1099
+> payments 0 0
+> accepted 4
+> approved 4
+> unresolved 0
+> sum 3198";
+
+/// Adds the record of each row of a table to the ledger, and checks what it returns and says then.
+fn check_added(
+    rt: &impl Abort,
+    alloc: Global,
+    ledger: &mut Ledger,
+    table: &str,
+) -> Result<(), Fail> {
+    for row in table.split("\n\n") {
+        let mut says = String::new(alloc);
+        let (line, _) = halves(row, '\n');
+        add(alloc, &mut says, ledger, line)?;
+        push_says(&mut says, ledger)?;
+        check_lines(rt, row, says.as_str());
     }
-    assert_eq!(rt; ledger.totals(poi, Currency::Eur).debit, (0, 0));
-    let tally = ledger.tally();
-    assert_eq!(rt; (tally.accepted, tally.approved), (4, 4));
-    assert_eq!(rt; (tally.unresolved, tally.sum), (0, 3198));
     Ok(())
 }
 
 #[test]
 fn a_payment_and_a_reconciliation(rt: HostRuntime) -> Result<(), Fail> {
-    let poi = Ident::of(b"A").ok_or("poi")?;
-    let mut ledger = after_day(rt.alloc(), &[])?;
-    let payment = intent_of(&pay(b"\x014", FIVE, b"\x00\x01\x25"))?;
-    assert_eq!(rt; accept(rt.alloc(), &mut ledger, &payment), Some(6));
-    is_open(&rt, &ledger, &poi)?;
-    let approval = outcome_of(&approved(b"\x06", b"\x00\x01\x26", FIVE))?;
-    assert!(rt; resolve(&mut ledger, &poi, &approval));
-    is_counted(&rt, &ledger, &poi)?;
-    let reconciliation = settled_of(&settled(b"\x01A", b"\x015"))?;
-    match settle(rt.alloc(), &mut ledger, &reconciliation) {
-        Some(totals) => assert_eq!(rt; totals.debit, (3, 2099)),
-        None => return Err(Fail::from("the reconciliation may not follow")),
-    }
-    is_settled(&rt, &ledger, &poi)
+    let mut ledger = ledger_of(rt.alloc(), &[DAY])?;
+    check_added(&rt, rt.alloc(), &mut ledger, ADDED)
 }

@@ -6,4 +6,10 @@ mod adding_tests;
 #[cfg(test)]
 mod block_tests;
 #[cfg(test)]
+mod records;
+#[cfg(test)]
+mod rows;
+#[cfg(test)]
+mod says;
+#[cfg(test)]
 mod tests;

@@ -11,3 +11,5 @@ mod line_tests;
 mod power_tests;
 #[cfg(test)]
 mod script_tests;
+#[cfg(test)]
+mod tables;

@@ -1,309 +1,231 @@
 //! Power failures: when the power fails, what it leaves of the file, what it forgets, and how the script goes on.
-use crate::calls::{Row, made, played, site_of, stop_after};
-use sim_script::ImageKind;
+use crate::calls::{check_rows, made, played, site_of};
+use crate::tables::{compare, form, halves, script_of};
+use std::alloc::Global;
+use std::process::Abort;
 use std::test::Fail;
 
 /// When the power fails.
-const FAILURES: [Row; 11] = [
-    // Of two lines for one call both are used up.
-    (
-        "fail read\nfail read\nfail write\ntick\nfail write\ntick",
-        "open read:0 read:0 poll poll write:0:61 write:1:62 sync",
-        "start\ndisk failed\n= failed\n= 00000000\nat 0\nat 0\nwrote 0 61\ndisk failed\n= failed\nwrote 1 62\nsynced\n",
-    ),
-    // At once, in the first poll.
-    (
-        "power 0 junk 41\nopen 1",
-        "open sync length write:0:00 sync poll length sync restart open sync length write:0:00 sync poll poll",
-        "start\nsynced\n= 0\nwrote 0 00\nsynced\n= stopped\n= failed\n= failed\npower 1 00\nstart\nsynced\n= 1\nwrote 0 00\nsynced\nat 0\nopen 1\nat 0\nstop\n= stopped\n",
-    ),
-    // Before a line that is skipped.
-    (
-        "power 0 new\nclose 1\nopen 1",
-        "open poll poll restart open poll poll",
-        "start\n= stopped\n= stopped\npower 0 -\nstart\nat 0\nopen 1\nat 0\nstop\n= stopped\n",
-    ),
-    // After the last line.
-    (
-        "tick\npower 0 new",
-        "open poll poll restart open poll",
-        "start\nat 0\n= stopped\npower 0 -\nstart\nat 0\nstop\n= stopped\n",
-    ),
-    // A dark site makes no call.
-    (
-        "open 1\npower 0 new",
-        "open link:0 poll poll open send-till:1:61 send-pt:0:61 link:1 cut-till:1 cut-pt:0 length read:0 write:0:61 sync restart",
-        "start\nlink 0\nat 0\nopen 1\n= stopped\n= failed\n= failed\n= failed\n= failed\n= failed\n= failed\n= failed\n= failed\npower 0 -\n",
-    ),
-    // A poll, a length and a read don't count.
-    (
-        "power 2 new\ntick\ntick",
-        "open poll write:0:61 length read:0 poll sync length restart length",
-        "start\nat 0\nwrote 0 61\n= 1\n= 61000000\nat 0\nsynced\n= failed\npower 1 61\n= 1\n",
-    ),
-    (
-        "tick\nfail length\nfail read\npower 1 new\ntick",
-        "open poll poll length read:0 length sync length",
-        "start\nat 0\nat 0\ndisk failed\n= failed\ndisk failed\n= failed\n= 0\nsynced\n= failed\n",
-    ),
-    // A later line replaces an earlier one that took no effect.
-    (
-        "power 5 old\npower 1 new\ntick",
-        "open poll write:0:61 write:0:62 restart",
-        "start\nat 0\nwrote 0 61\n= failed\npower 1 61\n",
-    ),
-    (
-        "power 3 new\ntick\npower 1 old\ntick",
-        "open poll write:0:61 poll write:1:62 sync restart",
-        "start\nat 0\nwrote 0 61\nat 0\nwrote 1 62\n= failed\npower 0 -\n",
-    ),
-    (
-        "power 1 old\ntick\npower 0 new",
-        "open poll poll link:0 restart open poll",
-        "start\nat 0\n= stopped\n= failed\npower 0 -\nstart\nat 0\nstop\n= stopped\n",
-    ),
-    // The calls are never made.
-    (
-        "power 3 old\nopen 1",
-        "open poll sync sync poll",
-        "start\nat 0\nopen 1\nsynced\nsynced\nat 0\nstop\n= stopped\n",
-    ),
-];
+const FAILURES: &str = "\
+# Of two lines for one call both are used up.
+script fail read;fail read;fail write;tick;fail write;tick
+calls open read:0 read:0 poll poll write:0:61 write:1:62 sync
+log start;disk failed;= failed;= 00000000;at 0;at 0;wrote 0 61;disk failed;= failed;wrote 1 62;synced;
 
-/// A line, a call that counts for the power, whether or not it fails by that line, and its lines.
-const COUNTED: [Row; 14] = [
-    ("at 0", "open", "start\n"),
-    ("at 0", "link:1", "link 1\n"),
-    ("at 0", "send-till:1:6162", "till 1 out 6162\n"),
-    ("at 0", "send-pt:0:6162", "pt 0 out 6162\n"),
-    ("at 0", "cut-till:1", "till 1 cut\n"),
-    ("at 0", "cut-pt:0", "pt 0 cut\n"),
-    ("at 0", "write:0:61", "wrote 0 61\n"),
-    ("at 0", "sync", "synced\n"),
-    ("fail open", "open", "open failed\n= failed\n"),
-    ("fail link 1", "link:1", "link 1 failed\n= failed\n"),
-    (
-        "fail send-till 1 1",
-        "send-till:1:6162",
-        "till 1 out 61 failed\n= failed\n",
-    ),
-    (
-        "fail send-pt 0 1",
-        "send-pt:0:6162",
-        "pt 0 out 61 failed\n= failed\n",
-    ),
-    (
-        "fail write",
-        "write:0:61",
-        "wrote 0 61\ndisk failed\n= failed\n",
-    ),
-    ("fail sync", "sync", "disk failed\n= failed\n"),
-];
+# At once, in the first poll.
+script power 0 junk 41;open 1
+calls open sync length write:0:00 sync poll length sync restart open sync length write:0:00 sync poll poll
+log start;synced;= 0;wrote 0 00;synced;= stopped;= failed;= failed;power 1 00;start;synced;= 1;wrote 0 00;synced;at 0;open 1;at 0;stop;= stopped;
+
+# Before a line that is skipped.
+script power 0 new;close 1;open 1
+calls open poll poll restart open poll poll
+log start;= stopped;= stopped;power 0 -;start;at 0;open 1;at 0;stop;= stopped;
+
+# After the last line.
+script tick;power 0 new
+calls open poll poll restart open poll
+log start;at 0;= stopped;power 0 -;start;at 0;stop;= stopped;
+
+# A dark site makes no call.
+script open 1;power 0 new
+calls open link:0 poll poll open send-till:1:61 send-pt:0:61 link:1 cut-till:1 cut-pt:0 length read:0 write:0:61 sync restart
+log start;link 0;at 0;open 1;= stopped;= failed;= failed;= failed;= failed;= failed;= failed;= failed;= failed;power 0 -;
+
+# A poll, a length and a read don't count.
+script power 2 new;tick;tick
+calls open poll write:0:61 length read:0 poll sync length restart length
+log start;at 0;wrote 0 61;= 1;= 61000000;at 0;synced;= failed;power 1 61;= 1;
+
+script tick;fail length;fail read;power 1 new;tick
+calls open poll poll length read:0 length sync length
+log start;at 0;at 0;disk failed;= failed;disk failed;= failed;= 0;synced;= failed;
+
+# A later line replaces an earlier one that took no effect.
+script power 5 old;power 1 new;tick
+calls open poll write:0:61 write:0:62 restart
+log start;at 0;wrote 0 61;= failed;power 1 61;
+
+script power 3 new;tick;power 1 old;tick
+calls open poll write:0:61 poll write:1:62 sync restart
+log start;at 0;wrote 0 61;at 0;wrote 1 62;= failed;power 0 -;
+
+script power 1 old;tick;power 0 new
+calls open poll poll link:0 restart open poll
+log start;at 0;= stopped;= failed;power 0 -;start;at 0;stop;= stopped;
+
+# The calls are never made.
+script power 3 old;open 1
+calls open poll sync sync poll
+log start;at 0;open 1;synced;synced;at 0;stop;= stopped;";
 
 /// What goes on in the next run, and what is forgotten.
-const NEXT_RUNS: [Row; 7] = [
-    // The example of docs/FORMATS.md.
-    (
-        "terminal T1 EUR 000000 0 131\nat 5\nfail link 0\nopen 1\npower 2 junk 41\ntick\ntill 1 00\n",
-        "open poll link:0 link:0 poll write:1:62 write:0:62 restart open poll",
-        "start\nat 5\nopen 1\nlink 0 failed\n= failed\nlink 0\nat 5\nwrote 1 62\nwrote 0 62\npower 2 4141\nstart\nat 5\nstop\n= stopped\n",
-    ),
-    (
-        "at 7\npower 0 new\ntick",
-        "open poll restart open poll",
-        "start\n= stopped\npower 0 -\nstart\nat 7\n",
-    ),
-    // No till is there, and their numbers begin anew.
-    (
-        "open 2\npower 0 new\ntill 2 00\nclose 2\nopen 1\nopen 2",
-        "open poll poll restart open poll poll poll",
-        "start\nat 0\nopen 2\n= stopped\npower 0 -\nstart\nat 0\nopen 1\nat 0\nopen 2\nat 0\nstop\n= stopped\n",
-    ),
-    // No terminal is linked.
-    (
-        "tick\npower 0 new\npt 0 00\nlost 0\nfail send-pt 0 0\ntick",
-        "open link:0 poll poll restart open poll link:0 send-pt:0:61",
-        "start\nlink 0\nat 0\n= stopped\npower 0 -\nstart\nat 0\nlink 0\npt 0 out 61\n",
-    ),
-    // Lines that took no effect: three wait for their call, and all others are forgotten.
-    (
-        "open 1\nfail open\nfail length\nfail read\nfail link 1\nfail write\nfail sync\nfail send-till 1 0\nfail send-pt 0 0\npower 0 new\nopen 1",
-        "open link:0 poll poll restart open open length length read:0 read:0 link:0 link:1 write:0:61 sync poll send-till:1:61 send-pt:0:61",
-        "start\nlink 0\nat 0\nopen 1\n= stopped\npower 0 -\nopen failed\n= failed\nstart\ndisk failed\n= failed\n= 0\ndisk failed\n= failed\n= 00000000\nlink 0\nlink 1\nwrote 0 61\nsynced\nat 0\nopen 1\ntill 1 out 61\npt 0 out 61\n",
-    ),
-    // Three runs, of which the second ends in a sync.
-    (
-        "power 0 new\npower 1 new\ntick\nopen 1",
-        "open poll restart open poll sync poll restart open poll",
-        "start\n= stopped\npower 0 -\nstart\nat 0\nsynced\n= stopped\npower 0 -\nstart\nat 0\nopen 1\n",
-    ),
-    // A run begins without a power failure before it: nothing is forgotten.
-    (
-        "fail write\ntick\nfail open",
-        "open poll open write:0:61 write:0:61",
-        "start\nat 0\nstart\nwrote 0 61\ndisk failed\n= failed\nwrote 0 61\n",
-    ),
-];
+const NEXT_RUNS: &str = "\
+# The example of docs/FORMATS.md.
+script terminal T1 EUR 000000 0 131;at 5;fail link 0;open 1;power 2 junk 41;tick;till 1 00;
+calls open poll link:0 link:0 poll write:1:62 write:0:62 restart open poll
+log start;at 5;open 1;link 0 failed;= failed;link 0;at 5;wrote 1 62;wrote 0 62;power 2 4141;start;at 5;stop;= stopped;
+
+script at 7;power 0 new;tick
+calls open poll restart open poll
+log start;= stopped;power 0 -;start;at 7;
+
+# No till is there, and their numbers begin anew.
+script open 2;power 0 new;till 2 00;close 2;open 1;open 2
+calls open poll poll restart open poll poll poll
+log start;at 0;open 2;= stopped;power 0 -;start;at 0;open 1;at 0;open 2;at 0;stop;= stopped;
+
+# No terminal is linked.
+script tick;power 0 new;pt 0 00;lost 0;fail send-pt 0 0;tick
+calls open link:0 poll poll restart open poll link:0 send-pt:0:61
+log start;link 0;at 0;= stopped;power 0 -;start;at 0;link 0;pt 0 out 61;
+
+# Lines that took no effect: three wait for their call, and all others are forgotten.
+script open 1;fail open;fail length;fail read;fail link 1;fail write;fail sync;fail send-till 1 0;fail send-pt 0 0;power 0 new;open 1
+calls open link:0 poll poll restart open open length length read:0 read:0 link:0 link:1 write:0:61 sync poll send-till:1:61 send-pt:0:61
+log start;link 0;at 0;open 1;= stopped;power 0 -;open failed;= failed;start;disk failed;= failed;= 0;disk failed;= failed;= 00000000;link 0;link 1;wrote 0 61;synced;at 0;open 1;till 1 out 61;pt 0 out 61;
+
+# Three runs, of which the second ends in a sync.
+script power 0 new;power 1 new;tick;open 1
+calls open poll restart open poll sync poll restart open poll
+log start;= stopped;power 0 -;start;at 0;synced;= stopped;power 0 -;start;at 0;open 1;
+
+# A run begins without a power failure before it: nothing is forgotten.
+script fail write;tick;fail open
+calls open poll open write:0:61 write:0:61
+log start;at 0;start;wrote 0 61;disk failed;= failed;wrote 0 61;";
 
 #[test]
 fn failures_and_next_runs(rt: HostRuntime) -> Result<(), Fail> {
-    for (script, calls, lines) in FAILURES.into_iter().chain(NEXT_RUNS) {
-        let left = played(rt.alloc(), script, calls)?;
-        assert_eq!(rt; left.as_str(), lines, "{script:?} {calls}");
-    }
+    check_rows(&rt, rt.alloc(), FAILURES)?;
+    check_rows(&rt, rt.alloc(), NEXT_RUNS)
+}
+
+/// A line, a call that counts for the power, whether or not it fails by that line, and what the call leaves in the log and returns.
+const COUNTED: &str = "\
+at 0 | open | start;
+at 0 | link:1 | link 1;
+at 0 | send-till:1:6162 | till 1 out 6162;
+at 0 | send-pt:0:6162 | pt 0 out 6162;
+at 0 | cut-till:1 | till 1 cut;
+at 0 | cut-pt:0 | pt 0 cut;
+at 0 | write:0:61 | wrote 0 61;
+at 0 | sync | synced;
+fail open | open | open failed;= failed;
+fail link 1 | link:1 | link 1 failed;= failed;
+fail send-till 1 1 | send-till:1:6162 | till 1 out 61 failed;= failed;
+fail send-pt 0 1 | send-pt:0:6162 | pt 0 out 61 failed;= failed;
+fail write | write:0:61 | wrote 0 61;disk failed;= failed;
+fail sync | sync | disk failed;= failed;";
+
+/// The power fails after one more call: the call of the row is made whole, and nothing after it.
+fn check_counted(rt: &impl Abort, alloc: Global, row: &str) -> Result<(), Fail> {
+    let (line, rest) = halves(row, " | ");
+    let (call, log) = halves(rest, " | ");
+    let script = form(alloc, "open 1\n%\npower 1 new\ntick", line)?;
+    let calls = form(alloc, "open link:0 poll poll length % length sync", call)?;
+    let before_and_after = "start;link 0;at 0;open 1;at 0;= 0;%= failed;= failed;";
+    let log = form(alloc, before_and_after, log)?;
+    let lines = played(alloc, &script, &calls)?;
+    compare(rt, "the log", row, &lines, &log);
     Ok(())
 }
 
 #[test]
 fn each_call_counts_whether_or_not_it_fails(rt: HostRuntime) -> Result<(), Fail> {
-    let alloc = rt.alloc();
-    for (line, call, lines) in COUNTED {
-        let script = format!(in alloc; "open 1\n{line}\npower 1 new\ntick")?;
-        let mut site = site_of(alloc, script.as_str())?;
-        made(alloc, &mut site, "open link:0 poll poll")?;
-        let before = made(alloc, &mut site, "length")?;
-        assert_eq!(rt; before.as_str(), "= 0\n", "before {call}");
-        let counted = made(alloc, &mut site, call)?;
-        assert_eq!(rt; counted.as_str(), lines, "{line} {call}");
-        let after = made(alloc, &mut site, "length sync")?;
-        assert_eq!(rt; after.as_str(), "= failed\n= failed\n", "after {call}");
+    for row in COUNTED.split('\n') {
+        check_counted(&rt, rt.alloc(), row)?;
     }
     Ok(())
 }
 
-/// A script, calls, and the file that a power failure then leaves: that of the last sync, with all writes, and with junk 41.
-const IMAGES: [(&str, &str, [&str; 3]); 11] = [
-    ("", "", ["0 -", "0 -", "0 -"]),
-    ("", "write:0:6162", ["0 -", "2 6162", "2 4141"]),
-    ("", "write:0:6162 sync", ["2 6162", "2 6162", "2 6162"]),
-    (
-        "",
-        "write:0:616263 sync write:1:78",
-        ["3 616263", "3 617863", "3 614163"],
-    ),
-    // What lies between the file's end and a write isn't written by it.
-    (
-        "",
-        "write:0:61 sync write:3:62",
-        ["1 61", "4 61000062", "4 61000041"],
-    ),
-    (
-        "",
-        "write:0:61626364 sync write:0:78 write:2:797a write:3:21",
-        ["4 61626364", "4 78627921", "4 41624141"],
-    ),
-    (
-        "",
-        "write:0:61 write:1:62 sync write:2:63",
-        ["2 6162", "3 616263", "3 616241"],
-    ),
-    (
-        "fail sync\ntick",
-        "poll write:0:61 sync",
-        ["0 -", "1 61", "1 41"],
-    ),
-    (
-        "fail write\ntick",
-        "poll write:0:61",
-        ["0 -", "1 61", "1 41"],
-    ),
-    // The file that a power failure has left is as one that was synced.
-    (
-        "power 0 new",
-        "write:0:61 poll restart",
-        ["1 61", "1 61", "1 61"],
-    ),
-    (
-        "power 0 old",
-        "write:0:61 sync write:0:62 poll restart write:1:63",
-        ["1 61", "2 6163", "2 6141"],
-    ),
-];
+/// Calls; the file that a power failure then leaves: that of the last sync, with all writes, and with junk 41; and the script.
+const IMAGES: &str = "\
+open | 0 - | 0 - | 0 -
+open write:0:6162 | 0 - | 2 6162 | 2 4141
+open write:0:6162 sync | 2 6162 | 2 6162 | 2 6162
+open write:0:616263 sync write:1:78 | 3 616263 | 3 617863 | 3 614163
+# What lies between the file's end and a write isn't written by it.
+open write:0:61 sync write:3:62 | 1 61 | 4 61000062 | 4 61000041
+open write:0:61626364 sync write:0:78 write:2:797a write:3:21 | 4 61626364 | 4 78627921 | 4 41624141
+open write:0:61 write:1:62 sync write:2:63 | 2 6162 | 3 616263 | 3 616241
+open poll write:0:61 sync | 0 - | 1 61 | 1 41 | fail sync;tick
+open poll write:0:61 | 0 - | 1 61 | 1 41 | fail write;tick
+# The file that a power failure has left is as one that was synced.
+open write:0:61 poll restart | 1 61 | 1 61 | 1 61 | power 0 new
+open write:0:61 sync write:0:62 poll restart write:1:63 | 1 61 | 2 6163 | 2 6141 | power 0 old";
+
+/// A power failure after the calls, set by this word, leaves this file.
+fn check_image(
+    rt: &impl Abort,
+    alloc: Global,
+    script: &str,
+    calls: &str,
+    stop: &str,
+    file: &str,
+) -> Result<(), Fail> {
+    let mut site = site_of(alloc, script)?;
+    made(alloc, &mut site, calls)?;
+    made(alloc, &mut site, stop)?;
+    let log = form(alloc, "power %;", file)?;
+    let lines = made(alloc, &mut site, "restart")?;
+    compare(rt, stop, calls, &lines, &log);
+    Ok(())
+}
+
+/// What each power failure leaves after the calls of a row.
+fn check_images(rt: &impl Abort, alloc: Global, row: &str) -> Result<(), Fail> {
+    if row.starts_with('#') {
+        return Ok(());
+    }
+    let (calls, rest) = halves(row, " | ");
+    let (old, rest) = halves(rest, " | ");
+    let (new, rest) = halves(rest, " | ");
+    let (junk, script) = halves(rest, " | ");
+    let script = script_of(alloc, script)?;
+    check_image(rt, alloc, &script, calls, "stop-old:0", old)?;
+    check_image(rt, alloc, &script, calls, "stop-new:0", new)?;
+    check_image(rt, alloc, &script, calls, "stop-junk:0:41", junk)
+}
 
 #[test]
 fn what_a_power_failure_leaves(rt: HostRuntime) -> Result<(), Fail> {
-    let alloc = rt.alloc();
-    for (script, calls, files) in IMAGES {
-        let kinds = [ImageKind::Old, ImageKind::New, ImageKind::Junk(0x41)];
-        for (kind, file) in kinds.into_iter().zip(files) {
-            let mut site = site_of(alloc, script)?;
-            made(alloc, &mut site, "open")?;
-            made(alloc, &mut site, calls)?;
-            stop_after(&mut site, 0, kind);
-            let crash = format!(in alloc; "power {file}\n")?;
-            let left = made(alloc, &mut site, "restart")?;
-            assert_eq!(rt; left.as_str(), crash.as_str(), "{calls} {kind:?}");
-        }
+    for row in IMAGES.split('\n') {
+        check_images(&rt, rt.alloc(), row)?;
     }
     Ok(())
 }
 
-/// A script, calls, after how many more the power then fails, and what, and further calls and their lines.
-const STOPS: [(&str, &str, u64, ImageKind, &str, &str); 6] = [
-    // Before the first run, so that the opening is reached.
-    (
-        "tick",
-        "",
-        0,
-        ImageKind::New,
-        "open restart open poll",
-        "= failed\npower 0 -\nstart\nat 0\n",
-    ),
-    (
-        "tick",
-        "",
-        1,
-        ImageKind::New,
-        "open poll restart open poll",
-        "start\n= stopped\npower 0 -\nstart\nat 0\n",
-    ),
-    // It replaces a line that took no effect, and a line replaces it.
-    (
-        "power 1 old\ntick",
-        "open poll",
-        2,
-        ImageKind::New,
-        "write:0:61 write:1:62 sync restart",
-        "wrote 0 61\nwrote 1 62\n= failed\npower 2 6162\n",
-    ),
-    (
-        "tick\npower 1 new\ntick",
-        "open poll",
-        9,
-        ImageKind::Old,
-        "poll write:0:61 restart",
-        "at 0\nwrote 0 61\npower 1 61\n",
-    ),
-    // The power has failed already.
-    (
-        "power 0 new",
-        "open write:0:61 poll",
-        0,
-        ImageKind::Old,
-        "restart",
-        "power 1 61\n",
-    ),
-    (
-        "",
-        "open",
-        u64::MAX,
-        ImageKind::Old,
-        "sync poll",
-        "synced\nat 0\nstop\n= stopped\n",
-    ),
-];
+/// The power is to fail beside the script. An earlier failure that took no effect is replaced by a later one, where the power has not
+/// failed.
+const STOPS: &str = "\
+# Before the first run, so that the opening is reached.
+script tick
+calls stop-junk:1:ff stop-new:0 open restart open poll
+log = failed;power 0 -;start;at 0;
+
+script tick
+calls stop-junk:1:ff stop-new:1 open poll restart open poll
+log start;= stopped;power 0 -;start;at 0;
+
+# It replaces a line that took no effect, and a line replaces it.
+script power 1 old;tick
+calls open poll stop-junk:1:ff stop-new:2 write:0:61 write:1:62 sync restart
+log start;at 0;wrote 0 61;wrote 1 62;= failed;power 2 6162;
+
+script tick;power 1 new;tick
+calls open poll stop-junk:1:ff stop-old:9 poll write:0:61 restart
+log start;at 0;at 0;wrote 0 61;power 1 61;
+
+# The power has failed already.
+script power 0 new
+calls open write:0:61 poll stop-junk:1:ff stop-old:0 restart
+log start;wrote 0 61;= stopped;power 1 61;
+
+calls open stop-junk:1:ff stop-old:18446744073709551615 sync poll
+log start;synced;at 0;stop;= stopped;";
 
 #[test]
 fn stops_without_a_line(rt: HostRuntime) -> Result<(), Fail> {
-    let alloc = rt.alloc();
-    for (script, calls, count, kind, further, lines) in STOPS {
-        let mut site = site_of(alloc, script)?;
-        made(alloc, &mut site, calls)?;
-        // It is replaced, where the power has not failed.
-        stop_after(&mut site, 1, ImageKind::Junk(0xFF));
-        stop_after(&mut site, count, kind);
-        let left = made(alloc, &mut site, further)?;
-        assert_eq!(rt; left.as_str(), lines, "{script:?} {calls} {count} {kind:?}");
-    }
-    Ok(())
+    check_rows(&rt, rt.alloc(), STOPS)
 }

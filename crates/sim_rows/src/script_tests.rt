@@ -1,54 +1,62 @@
 //! Scripts that are read: the setup, lines of another form, what a site reports of itself, and files that it holds.
-use crate::calls::{holding, made, played, reports_of, site_of};
-use gw_base::Currency;
+use crate::calls::{holding, made, reports_of, setup_of, site_of};
+use crate::tables::{compare, form, halves, part, push_hex, push_number, repeated, script_of};
+use gw_base::{Currency, Pt, Setup};
 use sim_script::ScriptFault;
 use sim_site::SimSite;
 use std::alloc::{AllocError, Global};
+use std::process::Abort;
 use std::test::Fail;
 
+/// Setups, and the scripts that give them. `47415445574159` is `GATEWAY`, `5431` is `T1`.
+const SETUPS: &str = "\
+47415445574159 0 60 1000000
+47 0 60 1000000 | # name G;;name G
+47 8 3600 2, 5431 EUR 123456 186 131 5 180 | slots 2;wait 3600;line 8;name G;terminal T1 EUR 123456 186 131
+47415445574159 0 1 1000000, 5432 another 000000 0 255 5 180, 5431 EUR 999999 255 0 5 180 | terminal T2 CHF 000000 0 255;slots 1000000;terminal T1 EUR 999999 255 0;wait 1;open 1;";
+
+/// Appends what a setup has of a terminal.
+fn push_terminal(alloc: Global, text: &mut String, pt: &Pt) -> Result<(), AllocError> {
+    let currency = if pt.currency == Currency::Eur {
+        "EUR "
+    } else {
+        "another "
+    };
+    push_hex(alloc, text, ", ", pt.poi.as_bytes(), " ")?;
+    push_hex(alloc, text, currency, &pt.password, "")?;
+    push_number(text, " ", u64::from(pt.config), "")?;
+    push_number(text, " ", u64::from(pt.none), "")?;
+    push_number(text, " ", u64::from(pt.answer), "")?;
+    push_number(text, " ", u64::from(pt.command), "")
+}
+
 /// The numbers of a setup and its terminals, as a text.
-fn setup_text(alloc: Global, script: &str) -> Result<String, Fail> {
-    let site = site_of(alloc, script)?;
-    let setup = site.setup(alloc)?;
-    let name = hex::encode(alloc, setup.name.as_bytes())?;
-    let mut text = format!(in alloc; "{name} {} {} {}", setup.line, setup.wait, setup.slots)?;
+fn setup_text(alloc: Global, setup: &Setup) -> Result<String, AllocError> {
+    let mut text = hex::encode(alloc, setup.name.as_bytes())?;
+    push_number(&mut text, " ", u64::from(setup.line), "")?;
+    push_number(&mut text, " ", u64::from(setup.wait), "")?;
+    push_number(&mut text, " ", u64::from(setup.slots), "")?;
     for pt in setup.terminals.as_slice() {
-        let poi = hex::encode(alloc, pt.poi.as_bytes())?;
-        let password = hex::encode(alloc, &pt.password)?;
-        let currency = if pt.currency == Currency::Eur {
-            "EUR"
-        } else {
-            "another"
-        };
-        write!(
-            text,
-            ", {poi} {currency} {password} {} {} ",
-            pt.config, pt.none
-        )?;
-        write!(text, "{} {}", pt.answer, pt.command)?;
+        push_terminal(alloc, &mut text, pt)?;
     }
     Ok(text)
 }
 
-/// Scripts, and the setup that they give. `47415445574159` is `GATEWAY`, `5431` is `T1`.
-const SETUPS: [(&str, &str); 4] = [
-    ("", "47415445574159 0 60 1000000"),
-    ("# name G\n\nname G", "47 0 60 1000000"),
-    (
-        "slots 2\nwait 3600\nline 8\nname G\nterminal T1 EUR 123456 186 131",
-        "47 8 3600 2, 5431 EUR 123456 186 131 5 180",
-    ),
-    (
-        "terminal T2 CHF 000000 0 255\nslots 1000000\nterminal T1 EUR 999999 255 0\nwait 1\nopen 1\n",
-        "47415445574159 0 1 1000000, 5432 another 000000 0 255 5 180, 5431 EUR 999999 255 0 5 180",
-    ),
-];
+/// The setup of a row's script.
+fn check_setup(rt: &impl Abort, alloc: Global, row: &str) -> Result<(), Fail> {
+    let (wanted, script) = halves(row, " | ");
+    let script = script_of(alloc, script)?;
+    let site = site_of(alloc, &script)?;
+    let setup = setup_of(alloc, &site)?;
+    let text = setup_text(alloc, &setup)?;
+    compare(rt, "the setup", row, &text, wanted);
+    Ok(())
+}
 
 #[test]
 fn setups(rt: HostRuntime) -> Result<(), Fail> {
-    for (script, setup) in SETUPS {
-        let text = setup_text(rt.alloc(), script)?;
-        assert_eq!(rt; text.as_str(), setup, "{script:?}");
+    for row in SETUPS.split('\n') {
+        check_setup(&rt, rt.alloc(), row)?;
     }
     Ok(())
 }
@@ -213,173 +221,209 @@ const WRONG: &str = "\
     terminal T1 XXX 123456 0 0\n\
     terminal T1 EUR 123456 0";
 
-/// Scripts whose first wrong line is this one, by what came before.
-const AFTER: [(&str, u32); 16] = [
-    ("line 1\nname", 2),
-    ("open 1\n\nclose 18446744073709551616\nx", 3),
-    (
-        "name G\nterminal PPPPPPPPPPPPPPPPPPPPPPPPPPPPPPPPPPPPPPPPP EUR 123456 0 0",
-        2,
-    ),
-    ("slots 2\n# a\nwait\nline", 3),
-    ("tick\nname G", 2),
-    ("# a\n\nat 1\nline 0", 4),
-    ("fail open\nwait 1", 2),
-    ("power 0 old\nslots 2", 2),
-    ("tick\nterminal T1 EUR 123456 0 0", 2),
-    ("name A\nname B", 2),
-    ("line 0\nline 0", 2),
-    ("wait 1\nwait 1", 2),
-    ("slots 2\nslots 2", 2),
-    (
-        "terminal T1 EUR 123456 0 0\nterminal T2 EUR 123456 0 0\nterminal T1 CHF 000000 0 0",
-        3,
-    ),
-    ("tick\nx\ny", 2),
-    ("\n\n \n", 3),
-];
+/// The number of the first wrong line of a script, and the script, of which each `;` ends a line.
+const AFTER: &str = "\
+2 line 1;name
+3 open 1;;close 18446744073709551616;x
+2 name G;terminal PPPPPPPPPPPPPPPPPPPPPPPPPPPPPPPPPPPPPPPPP EUR 123456 0 0
+3 slots 2;# a;wait;line
+2 tick;name G
+4 # a;;at 1;line 0
+2 fail open;wait 1
+2 power 0 old;slots 2
+2 tick;terminal T1 EUR 123456 0 0
+2 name A;name B
+2 line 0;line 0
+2 wait 1;wait 1
+2 slots 2;slots 2
+3 terminal T1 EUR 123456 0 0;terminal T2 EUR 123456 0 0;terminal T1 CHF 000000 0 0
+2 tick;x;y
+3 ;; ;";
 
+/// Why a script isn't read.
 fn fault_of(alloc: Global, script: &[u8]) -> Option<ScriptFault> {
-    SimSite::from_script(alloc, script).err()
+    match SimSite::from_script(alloc, script) {
+        Ok(_) => None,
+        Err(fault) => Some(fault),
+    }
+}
+
+/// Whether a script is read, or why not, as a text.
+fn reading_of(alloc: Global, script: &[u8]) -> Result<String, AllocError> {
+    let mut text = String::new(alloc);
+    match fault_of(alloc, script) {
+        None => text.push_str("read")?,
+        Some(ScriptFault::Long) => text.push_str("long")?,
+        Some(ScriptFault::Line { line }) => push_number(&mut text, "line ", u64::from(line), "")?,
+        Some(ScriptFault::Memory) => text.push_str("memory")?,
+    }
+    Ok(text)
+}
+
+/// A script is read, or is refused so.
+fn check_reading(
+    rt: &impl Abort,
+    alloc: Global,
+    what: &str,
+    script: &[u8],
+    wanted: &str,
+) -> Result<(), Fail> {
+    let found = reading_of(alloc, script)?;
+    compare(rt, "the reading", what, &found, wanted);
+    Ok(())
 }
 
 #[test]
 fn lines_that_are_read(rt: HostRuntime) -> Result<(), Fail> {
-    let alloc = rt.alloc();
     for right in RIGHT.split('\n') {
-        assert_eq!(rt; fault_of(alloc, right.as_bytes()), None, "{right:?}");
+        check_reading(&rt, rt.alloc(), right, right.as_bytes(), "read")?;
     }
     Ok(())
+}
+
+/// A line as the third of four is refused.
+fn check_wrong(rt: &impl Abort, alloc: Global, wrong: &str) -> Result<(), Fail> {
+    let script = form(alloc, "# one\n\n%\ntick", wrong)?;
+    check_reading(rt, alloc, wrong, script.as_bytes(), "line 3")
 }
 
 #[test]
 fn lines_that_are_refused(rt: HostRuntime) -> Result<(), Fail> {
-    let alloc = rt.alloc();
     for wrong in WRONG.split('\n') {
-        let script = format!(in alloc; "# one\n\n{wrong}\ntick")?;
-        let fault = fault_of(alloc, script.as_bytes());
-        assert_eq!(rt; fault, Some(ScriptFault::Line { line: 3 }), "{wrong:?}");
+        check_wrong(&rt, rt.alloc(), wrong)?;
     }
     Ok(())
+}
+
+/// The script of a row is refused with the number of the row.
+fn check_after(rt: &impl Abort, alloc: Global, row: &str) -> Result<(), Fail> {
+    let (number, lines) = halves(row, " ");
+    let script = script_of(alloc, lines)?;
+    let wanted = form(alloc, "line %", number)?;
+    check_reading(rt, alloc, row, script.as_bytes(), &wanted)
 }
 
 #[test]
 fn lines_that_are_refused_after_others(rt: HostRuntime) -> Result<(), Fail> {
-    let alloc = rt.alloc();
-    for (script, line) in AFTER {
-        let fault = fault_of(alloc, script.as_bytes());
-        assert_eq!(rt; fault, Some(ScriptFault::Line { line }), "{script:?}");
+    for row in AFTER.split('\n') {
+        check_after(&rt, rt.alloc(), row)?;
     }
-    assert_eq!(rt;
-        fault_of(alloc, b"# \xff"),
-        Some(ScriptFault::Line { line: 1 })
-    );
-    assert_eq!(rt;
-        fault_of(alloc, b"tick\n\xff"),
-        Some(ScriptFault::Line { line: 2 })
-    );
-    Ok(())
+    check_reading(&rt, rt.alloc(), "no text", b"# \xff", "line 1")?;
+    check_reading(&rt, rt.alloc(), "no text", b"tick\n\xff", "line 2")
 }
 
-/// A line of a word and so many times a text.
-fn long_line(alloc: Global, word: &str, text: &str, count: usize) -> Result<String, AllocError> {
-    let mut line = String::from_str(alloc, word)?;
-    for _ in 0..count {
-        line.push_str(text)?;
-    }
-    Ok(line)
+/// A form with so many times a text for its `%` is read as a line, and with one more it is refused.
+fn check_longest(
+    rt: &impl Abort,
+    alloc: Global,
+    line_form: &str,
+    text: &str,
+    most: usize,
+) -> Result<(), Fail> {
+    let longest = repeated(alloc, text, most)?;
+    let mut line = form(alloc, line_form, &longest)?;
+    check_reading(rt, alloc, line_form, line.as_bytes(), "read")?;
+    line.push_str(text)?;
+    check_reading(rt, alloc, line_form, line.as_bytes(), "line 1")
+}
+
+/// A script of so many bytes of one kind is read, or refused so.
+fn check_length(
+    rt: &impl Abort,
+    alloc: Global,
+    byte: u8,
+    length: usize,
+    wanted: &str,
+) -> Result<(), Fail> {
+    let script = vec![in alloc; byte; length]?;
+    check_reading(rt, alloc, "a long script", &script, wanted)
 }
 
 #[test]
 fn the_longest_lines_and_scripts(rt: HostRuntime) -> Result<(), Fail> {
-    let alloc = rt.alloc();
-    let wrong = Some(ScriptFault::Line { line: 1 });
-    let rows = [
-        ("till 1 ", "00", 4096, None),
-        ("till 1 ", "00", 4097, wrong),
-        ("pt 0 ", "ff", 4096, None),
-        ("pt 0 ", "ff", 4097, wrong),
-        ("say 1 ", "x", 4092, None),
-        ("say 1 ", "x", 4093, wrong),
-        ("name ", "N", 40, None),
-        ("name ", "N", 41, wrong),
-    ];
-    for (word, text, count, fault) in rows {
-        let line = long_line(alloc, word, text, count)?;
-        assert_eq!(rt; fault_of(alloc, line.as_bytes()), fault, "{word} {count}");
-    }
-    for (byte, length, fault) in [
-        (b'#', 4_194_304, None),
-        (b'#', 4_194_305, Some(ScriptFault::Long)),
-        (b'x', 4_194_304, wrong),
-        (b'x', 4_194_305, Some(ScriptFault::Long)),
-    ] {
-        let script = vec![in alloc; byte; length]?;
-        assert_eq!(rt; fault_of(alloc, &script), fault, "{byte} {length}");
-    }
-    Ok(())
+    check_longest(&rt, rt.alloc(), "till 1 %", "00", 4096)?;
+    check_longest(&rt, rt.alloc(), "pt 0 %", "ff", 4096)?;
+    check_longest(&rt, rt.alloc(), "say 1 %", "x", 4092)?;
+    check_longest(&rt, rt.alloc(), "name %", "N", 40)?;
+    check_length(&rt, rt.alloc(), b'#', 4_194_304, "read")?;
+    check_length(&rt, rt.alloc(), b'#', 4_194_305, "long")?;
+    check_length(&rt, rt.alloc(), b'x', 4_194_304, "line 1")?;
+    check_length(&rt, rt.alloc(), b'x', 4_194_305, "long")
 }
 
 /// Terminals of one script: at most 32.
 #[test]
 fn the_most_terminals(rt: HostRuntime) -> Result<(), Fail> {
-    let alloc = rt.alloc();
-    let mut script = String::new(alloc);
+    let mut script = String::new(rt.alloc());
     for number in 1..=33 {
-        write!(script, "terminal T{number} EUR 123456 0 0\n")?;
-        let fault = (number == 33).then_some(ScriptFault::Line { line: 33 });
-        assert_eq!(rt; fault_of(alloc, script.as_bytes()), fault, "{number}");
+        push_number(&mut script, "terminal T", number, " EUR 123456 0 0\n")?;
+        let wanted = if number == 33 { "line 33" } else { "read" };
+        check_reading(&rt, rt.alloc(), &script, script.as_bytes(), wanted)?;
     }
     Ok(())
 }
 
-/// A script, calls, and whether the script was then read to its end and the power has failed.
-const REPORTED: [(&str, &str, bool, bool); 12] = [
-    ("", "", true, false),
-    ("# tick\n", "", true, false),
-    ("tick", "", false, false),
-    ("tick", "open", false, false),
-    ("tick\n\n# end\n", "open poll", true, false),
-    ("tick\nat 5", "open poll", false, false),
-    ("tick\nat 5", "open poll poll", true, false),
-    ("fail open\nfail read", "", true, false),
-    ("fail sync", "", false, false),
-    ("tick\npower 0 new", "open poll", false, false),
-    ("tick\npower 0 new", "open poll poll", true, true),
-    (
-        "tick\npower 0 new\ntick",
-        "open poll poll restart open",
-        false,
-        false,
-    ),
-];
+/// What a site reports, that the script was read to its end and that the power has failed; its script; and the calls before.
+const REPORTED: &str = "\
+ended
+ended | # tick;
+neither | tick
+neither | tick | open
+ended | tick;;# end; | open poll
+neither | tick;at 5 | open poll
+ended | tick;at 5 | open poll poll
+ended | fail open;fail read
+neither | fail sync
+neither | tick;power 0 new | open poll
+ended crashed | tick;power 0 new | open poll poll
+neither | tick;power 0 new;tick | open poll poll restart open";
+
+/// What a site reports of itself.
+fn report_of(site: &SimSite) -> &'static str {
+    match reports_of(site) {
+        (true, true, false) => "ended crashed",
+        (true, false, false) => "ended",
+        (false, true, false) => "crashed",
+        (false, false, false) => "neither",
+        (_, _, true) => "short",
+    }
+}
+
+/// What a site reports after the calls of a row.
+fn check_report(rt: &impl Abort, alloc: Global, row: &str) -> Result<(), Fail> {
+    let (wanted, rest) = halves(row, " | ");
+    let (script, calls) = halves(rest, " | ");
+    let script = script_of(alloc, script)?;
+    let mut site = site_of(alloc, &script)?;
+    made(alloc, &mut site, calls)?;
+    compare(rt, "the report", row, report_of(&site), wanted);
+    Ok(())
+}
 
 #[test]
 fn what_a_site_reports(rt: HostRuntime) -> Result<(), Fail> {
-    let alloc = rt.alloc();
-    for (script, calls, ended, crashed) in REPORTED {
-        let mut site = site_of(alloc, script)?;
-        made(alloc, &mut site, calls)?;
-        let reported = reports_of(&site);
-        assert_eq!(rt; reported, (ended, crashed, false), "{script:?} {calls}");
+    for row in REPORTED.split('\n') {
+        check_report(&rt, rt.alloc(), row)?;
     }
+    Ok(())
+}
+
+/// Calls on a site that holds the file `abc`, and their log.
+const HELD: &str = "\
+script tick;power 0 old
+calls length open read:1 write:0:7a poll poll restart open poll
+log = 3;start;= 62630000;wrote 0 7a;at 0;= stopped;power 3 616263;start;at 0;stop;= stopped;";
+
+/// The log of the calls of a row, on a site that holds this file.
+fn check_held(rt: &impl Abort, alloc: Global, file: &[u8], row: &str) -> Result<(), Fail> {
+    let script = script_of(alloc, part(row, "script"))?;
+    let mut site = holding(alloc, &script, file)?;
+    let lines = made(alloc, &mut site, part(row, "calls"))?;
+    compare(rt, "the log", row, &lines, part(row, "log"));
     Ok(())
 }
 
 #[test]
 fn files_held_before_a_run(rt: HostRuntime) -> Result<(), Fail> {
-    let alloc = rt.alloc();
-    let mut site = holding(alloc, "tick\npower 0 old", b"abc")?;
-    let left = made(
-        alloc,
-        &mut site,
-        "length open read:1 write:0:7a poll poll restart open poll",
-    )?;
-    assert_eq!(rt;
-        left.as_str(),
-        "= 3\nstart\n= 62630000\nwrote 0 7a\nat 0\n= stopped\npower 3 616263\nstart\nat 0\nstop\n= stopped\n"
-    );
-    let whole = played(alloc, "", "")?;
-    assert_eq!(rt; whole.as_str(), "");
-    Ok(())
+    check_held(&rt, rt.alloc(), b"abc", HELD)
 }

@@ -4,7 +4,7 @@ use Rattle.std.proofs.Math.Logic.{∥∥₁_map}
 use Rattle.std.specs.Prelude.{Bool, ℤ, not, is_some, ◌==◌, if◌then◌else◌, Option, Some, None, IsSome, option_map}
 use Rattle.gw_base.specs.declared.setup.Setup.{Setup}
 use Rattle.gw_site.specs.Image.{is_covered}
-use Rattle.gw_site.specs.Outside.{Outside, no_run, outside_after, outside_from, outside_of}
+use Rattle.gw_site.specs.Outside.{Outside, is_connected, no_run, outside_after, outside_from, outside_of}
 use Rattle.gw_site.specs.Turns.{event_turns}
 use Rattle.gw_site.specs.declared.site.What.{What}
 use Rattle.gw_site.specs.declared.site.What.TheVariants.{TillOpened, TillBytes, TillClosed, PtBytes, PtClosed, Nothing, Stopped as StoppedEvent}
@@ -22,7 +22,6 @@ use Rattle.sim_script.specs.declared.line.ImageKind.{ImageKind as ReadImageKind}
 use Rattle.sim_script.specs.declared.line.ScriptLine.{ScriptLine}
 use Rattle.sim_site.specs.Connected.{HasConnections, IsFollowed}
 use Rattle.sim_site.specs.Disks.{HasDisk}
-use Rattle.sim_site.specs.Numbers.{connection_numbers}
 use Rattle.sim_site.specs.Places.{place_value}
 use Rattle.sim_site.specs.Steps.{HasPart, HasSteps}
 use Rattle.sim_site.proofs.ConnectionLemmas.{followed}
@@ -115,15 +114,17 @@ stands_stopped scripted lines log place next calls kind moves p = ∥∥₁_map 
     let (steps, leads) = loosened scripted (lines_value lines) log (place_value lines place) stood in
     subst (HasSteps false (lines_value lines) log) (sym moves) (steps ++ StopAfter calls kind ∷ [], goes-on-beside.stop (lines_value lines) steps log (place_value lines place) calls kind leads))
 
--- a file was put on the disk beside the script
-pub stands_held : (scripted : Bool) (lines : List ScriptLine) (old new : List Turn) (place : Place) (file : List ℕ) → new ≡ old ++ Crash file ∷ [] → ∥ HasSteps scripted (lines_value lines) old (place_value lines place) ∥₁ → ∥ HasSteps false (lines_value lines) new (place_value lines place) ∥₁
-stands_held scripted lines old new place file is p = ∥∥₁_map p (λ stood.
+-- before the first turn a file was put on the disk beside the script
+pub stands_held : (scripted : Bool) (lines : List ScriptLine) (old new : List Turn) (place : Place) (file : List ℕ) → old ≡ [] → new ≡ Crash file ∷ [] → ∥ HasSteps scripted (lines_value lines) old (place_value lines place) ∥₁ →
+    ∥ HasSteps false (lines_value lines) new (place_value lines place) ∥₁
+stands_held scripted lines old new place file none is p = ∥∥₁_map p (λ stood.
     let (steps, leads) = loosened scripted (lines_value lines) old (place_value lines place) stood in
-    subst (λ log. HasSteps false (lines_value lines) log (place_value lines place)) (sym is) (steps ++ Holding file ∷ [], goes-on-beside.file (lines_value lines) steps old (place_value lines place) file leads))
+    let first : Reaches (lines_value lines) steps [] (place_value lines place) = subst (λ log. Reaches (lines_value lines) steps log (place_value lines place)) none leads in
+    subst (λ log. HasSteps false (lines_value lines) log (place_value lines place)) (sym is) (steps ++ Holding file ∷ [], goes-on-beside.file (lines_value lines) steps (place_value lines place) file first))
 
--- so it was before the first turn, wherever the site is
-pub part_held : (lines : List PlayedLine) (old new : List Turn) (file : List ℕ) → old ≡ [] → new ≡ old ++ Crash file ∷ [] → ∥ HasPart false lines new ∥₁
-part_held lines old new file none is = ∣ whole_part false lines new (begins lines) (subst (λ log. HasSteps false lines log (begins lines)) (sym (is ∙ ap (λ l. l ++ Crash file ∷ []) none)) (Holding file ∷ [], ([], refl, (refl, refl)))) ∣₁
+-- so it was, wherever the site is
+pub part_held : (lines : List PlayedLine) (new : List Turn) (file : List ℕ) → new ≡ Crash file ∷ [] → ∥ HasPart false lines new ∥₁
+part_held lines new file is = ∣ whole_part false lines new (begins lines) (subst (λ log. HasSteps false lines log (begins lines)) (sym is) (Holding file ∷ [], ([], refl, refl, (refl, refl)))) ∣₁
 
 -- ---- disk and connections
 
@@ -172,7 +173,7 @@ pub record LeaveConnections (turns : List Turn) : Type 0 where
 pub connections_stay : (old new turns : List Turn) (connections : Connections) → LeaveConnections turns → new ≡ old ++ turns → HasConnections (outside_of old) connections → HasConnections (outside_of new) connections
 connections_stay old new turns connections leave e h =
     let o = outside_of old in
-    connections_there old new turns connections e (record { tills = ap connection_numbers (leave.tills o) ∙ h.tills; next = leave.next o ∙ h.next; links = ap connection_numbers (leave.links o) ∙ h.links })
+    connections_there old new turns connections e (record { tills = ap is_connected (leave.tills o) ∙ h.tills; next = leave.next o ∙ h.next; links = ap is_connected (leave.links o) ∙ h.links })
 
 -- ---- turns by a test
 
@@ -290,6 +291,11 @@ fell_due o p (Power calls image ∷ lines) kind due off fell = by_test (calls ==
 pub some_image : (off : Option ReadImageKind) → IsSome off → (kind : ImageKind) × (option_map image_value off ≡ Some kind)
 some_image None is = absurd (let h : false ≡ true = is in cc)
 some_image (Some kind) is = (image_value kind, refl)
+
+-- without an image the power is there
+pub none_off : (off : Option ReadImageKind) → is_some off ≡ false → off ≡ None
+none_off None is = refl
+none_off (Some kind) is = never is
 
 -- the place after a poll that has reached a power failure
 pub fell_there : (o : Outside) (lines : List ScriptLine) (place next : Place) (due : List Turn) → place.off ≡ None → IsSome next.off → after_poll o (place_value lines place) ≡ record (place_value lines next) { due = due } →

@@ -1,9 +1,8 @@
 -- What a send that fails takes, by the log, is what is armed.
-use Rattle.std.proofs.Common.{◌≡◌, ℕ, List, [], ◌∷◌, ◌∙◌, ap, subst, sym, refl, inl, inr, true, false}
+use Rattle.std.proofs.Common.{◌≡◌, ℕ, List, ◌∙◌, ap, subst, sym, refl, inl, inr, true, false}
 use Rattle.std.proofs.Math.Logic.{∥∥₁_elim}
 use Rattle.std.proofs.Props.{props}
 use Rattle.std.specs.Prelude.{◌⊎◌, Bool, Option, None, if◌then◌else◌, option_map}
-use Rattle.gw_site.specs.Observed.{no_origin}
 use Rattle.gw_site.specs.Outside.{nothing_yet}
 use Rattle.gw_script.specs.site.Calls.{play_from}
 use Rattle.gw_script.specs.site.Decode.{script_of}
@@ -14,7 +13,7 @@ use Rattle.gw_script.specs.site.ScriptLine.{PlayedLine}
 use Rattle.gw_script.proofs.site.LimitLemmas.{limits-are-armed}
 use Rattle.sim_script.specs.Values.{image_value, lines_value}
 use Rattle.sim_site.specs.Made.{IsLit, play_at}
-use Rattle.sim_site.specs.Sites.{origin_of}
+use Rattle.sim_site.specs.Sites.{origin_beside, origin_of}
 use Rattle.sim_site.specs.Steps.{HasSteps}
 use Rattle.sim_site.specs.declared.played.Played.{Played}
 
@@ -41,13 +40,13 @@ own_limit played limit none lit own = subst (λ read. HasLimit played limit (haz
 pub till_limit_there : (played : Played) (till : ℕ) → IsLit played → ((origin_of played).till_limit played.log till ≡ None) ⊎ ((origin_of played).till_limit played.log till ≡ takes_most (play_at played).hazard.fail_tills till)
 till_limit_there played till lit = by_test played.scripted refl
   where
-    by_test : (test : Bool) → played.scripted ≡ test → ((if test then script_origin played.text.value else record no_origin { script = 255 ∷ [] }).till_limit played.log till ≡ None) ⊎ ((if test then script_origin played.text.value else record no_origin { script = 255 ∷ [] }).till_limit played.log till ≡ takes_most (play_at played).hazard.fail_tills till)
+    by_test : (test : Bool) → played.scripted ≡ test → ((if test then script_origin played.text.value else origin_beside).till_limit played.log till ≡ None) ⊎ ((if test then script_origin played.text.value else origin_beside).till_limit played.log till ≡ takes_most (play_at played).hazard.fail_tills till)
     by_test true own = own_limit played (λ h. takes_most h.fail_tills till) refl lit own
     by_test false other = inl refl
 
 pub pt_limit_there : (played : Played) (pt : ℕ) → IsLit played → ((origin_of played).pt_limit played.log pt ≡ None) ⊎ ((origin_of played).pt_limit played.log pt ≡ takes_most (play_at played).hazard.fail_pts pt)
 pt_limit_there played pt lit = by_test played.scripted refl
   where
-    by_test : (test : Bool) → played.scripted ≡ test → ((if test then script_origin played.text.value else record no_origin { script = 255 ∷ [] }).pt_limit played.log pt ≡ None) ⊎ ((if test then script_origin played.text.value else record no_origin { script = 255 ∷ [] }).pt_limit played.log pt ≡ takes_most (play_at played).hazard.fail_pts pt)
+    by_test : (test : Bool) → played.scripted ≡ test → ((if test then script_origin played.text.value else origin_beside).pt_limit played.log pt ≡ None) ⊎ ((if test then script_origin played.text.value else origin_beside).pt_limit played.log pt ≡ takes_most (play_at played).hazard.fail_pts pt)
     by_test true own = own_limit played (λ h. takes_most h.fail_pts pt) refl lit own
     by_test false other = inl refl

@@ -2,8 +2,9 @@
 use Rattle.std.proofs.Common.{◌≡◌, ℕ, List, [], ◌∷◌, ◌++◌, refl, sym, ◌∙◌, ap, subst, true, false, append-nil, inl, inr, take, drop, take-append-drop}
 use Rattle.std.specs.Prelude.{◌⊎◌, Bool, Option, not, option_and_then, option_map, ◌||◌, if◌then◌else◌, Some, None, Result, Ok, Err, IsErr, IfOk, OnOk, OnErr, is_some}
 use Rattle.std.specs.Str.{is_utf8}
+use Rattle.gw_bytes.specs.Bytes.{AreBytes}
 use Rattle.gw_base.specs.declared.setup.Setup.{Setup}
-use Rattle.gw_site.specs.Observed.{Observed, Origin, Added, AddedWhole, Grows, GrowsAfter, GrowsBy, GrowsWhole, no_origin}
+use Rattle.gw_site.specs.Observed.{Observed, Origin, Added, AddedWhole, Grows, GrowsAfter, GrowsBy, GrowsWhole}
 use Rattle.gw_site.specs.declared.site.Failed.{Failed}
 use Rattle.gw_site.specs.declared.site.What.{What}
 use Rattle.gw_site.specs.declared.site.What.TheVariants.{Stopped}
@@ -24,7 +25,7 @@ use Rattle.sim_script.specs.Values.{image_value, whole_script_value}
 use Rattle.sim_script.specs.declared.line.ImageKind.{ImageKind as ReadImageKind}
 use Rattle.sim_site.specs.Dark.{is_dark}
 use Rattle.sim_site.specs.Made.{IsLit, IsCallMade, IsPollMade, IsRefused, IsCallReported, IsSameScript, IsUnchanged, IsWriteRefused, outside_at, play_at}
-use Rattle.sim_site.specs.Sites.{GoesOn, IsOriginSetup, IsRestarted, IsReturned, observed_with, origin_of}
+use Rattle.sim_site.specs.Sites.{GoesOn, IsOriginSetup, IsRestarted, IsReturned, observed_with, origin_beside, origin_of}
 use Rattle.sim_site.specs.declared.played.Played.{Played}
 use Rattle.sim_site.specs.declared.site.SimSite.{SimSite}
 
@@ -37,7 +38,7 @@ pub short_dark : (played : Played) → played.short ≡ true → is_dark played 
 short_dark played short = ap (λ s. s || is_some played.place.off) short
 
 pub origin_same : (old new : Played) → IsSameScript old new → origin_of new ≡ origin_of old
-origin_same old new same = ap (λ s. if s then script_origin new.text.value else record no_origin { script = 255 ∷ [] }) same.scripted ∙ ap (λ (text : List ℕ). if old.scripted then script_origin text else record no_origin { script = 255 ∷ [] }) same.text
+origin_same old new same = ap (λ s. if s then script_origin new.text.value else origin_beside) same.scripted ∙ ap (λ (text : List ℕ). if old.scripted then script_origin text else origin_beside) same.text
 
 -- ---- what is added
 
@@ -276,18 +277,19 @@ image_there New log = file_image log
 image_there (Junk byte) log = junk_image byte log
 
 pub restarted_there : {E : Type 0} (result : Result (Unit {0}) E) (old new : SimSite) (kind : ReadImageKind) → old.played.place.off ≡ Some kind → OnOk result (new.played.log ≡ old.played.log ++ Crash (crash_file (image_value kind) (outside_at old.played)) ∷ []) →
-    OnOk result (play_at new.played ≡ restarted (play_at old.played)) → OnOk result (new.played.place.off ≡ None) → new.played.short ≡ false → IsSameScript old.played new.played → OnOk result (IsRestarted old new)
-restarted_there (Ok done) old new kind off log place power whole same = record {
+    OnOk result (AreBytes (crash_file (image_value kind) (outside_at old.played))) → OnOk result (play_at new.played ≡ restarted (play_at old.played)) → OnOk result (new.played.place.off ≡ None) → new.played.short ≡ false → IsSameScript old.played new.played → OnOk result (IsRestarted old new)
+restarted_there (Ok done) old new kind off log bytes place power whole same = record {
   kind = image_value kind;
   failed = ap (option_map image_value) off;
   log = log;
   image = image_there (image_value kind) old.played.log;
+  bytes = bytes;
   place = place;
   lit = lit_there new.played (record { whole = whole; power = power });
   script = ap whole_script_value same.script;
   origin = origin_same old.played new.played same;
 }
-restarted_there (Err error) old new kind off log place power whole same = tt
+restarted_there (Err error) old new kind off log bytes place power whole same = tt
 
 -- no script has the text of a site that doesn't play its script alone
 no_text : script_of (255 ∷ []) ≡ Err 1
@@ -303,7 +305,7 @@ ok_same a b e = cc
 pub origin_own : (played : Played) (script : Script) → script_of (origin_of played).script ≡ Ok script → (played.scripted ≡ true) × (whole_script_value played.script ≡ script)
 origin_own played script e = by_test played.scripted refl e
   where
-    by_test : (test : Bool) → played.scripted ≡ test → script_of (if test then script_origin played.text.value else record no_origin { script = 255 ∷ [] }).script ≡ Ok script → (played.scripted ≡ true) × (whole_script_value played.script ≡ script)
+    by_test : (test : Bool) → played.scripted ≡ test → script_of (if test then script_origin played.text.value else origin_beside).script ≡ Ok script → (played.scripted ≡ true) × (whole_script_value played.script ≡ script)
     by_test true own same = (own, ok_same (whole_script_value played.script) script (sym played.read_is ∙ same))
     by_test false own same = absurd (let h : Err 1 ≡ Ok script = sym no_text ∙ same in cc)
 

@@ -1,17 +1,17 @@
 -- Inner: the connections that a site holds are those of its log.
 use Rattle.std.specs.Prelude.{◌≡◌}
-use Rattle.gw_site.specs.Outside.{Outside, outside_after}
+use Rattle.gw_site.specs.Outside.{Outside, is_connected, outside_after}
 use Rattle.gw_site.specs.declared.site.What.{What}
 use Rattle.gw_site.specs.declared.site.What.TheVariants.{TillOpened, TillBytes, TillClosed, PtBytes, PtClosed, Nothing, Stopped}
 use Rattle.gw_site.specs.declared.turn.Turn.TheVariants.{CutPt, CutTill, Opened}
-use Rattle.sim_site.specs.Numbers.{connection_numbers, least_till}
+use Rattle.sim_site.specs.Numbers.{least_till, numbers_value}
 use Rattle.sim_site.specs.declared.connections.Connections.{Connections}
 
 -- these are the connections of this outside
 pub record HasConnections (o : Outside) (connections : Connections) : Type 0 where
-  pub tills : connection_numbers o.tills ≡ connections.tills.items
+  pub tills : is_connected o.tills ≡ numbers_value connections.tills
   pub next : o.next_till ≡ least_till connections.opened
-  pub links : connection_numbers o.links ≡ connections.links.items
+  pub links : is_connected o.links ≡ numbers_value connections.links
 
 -- the connections have become those after what a poll brings
 abbrev pub IsFollowed : Connections → Connections → What → Type 0

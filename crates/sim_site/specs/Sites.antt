@@ -1,5 +1,6 @@
 -- What can be said of a site in memory.
 use Rattle.std.specs.Prelude.{◌≡◌, ℕ, Bool, false, not, ◌&&◌, if◌then◌else◌, List, [], ◌∷◌, ◌++◌, Some, Ok, is_some, true, ◌||◌, Result, IsOk, IsErr}
+use Rattle.gw_bytes.specs.Bytes.{AreBytes}
 use Rattle.gw_base.specs.declared.setup.Setup.{Setup}
 use Rattle.gw_site.specs.Image.{Image}
 use Rattle.gw_site.specs.Observed.{Observed, Origin, no_origin}
@@ -18,9 +19,13 @@ use Rattle.sim_site.specs.Places.{place_value}
 use Rattle.sim_site.specs.declared.played.Played.{Played}
 use Rattle.sim_site.specs.declared.site.SimSite.{SimSite}
 
--- what determines what is played: the text; one that no script has, where the power was set to fail or a file was put on the disk beside the script
+-- the origin of a site on which something happened beside the script: its text is one that no script has
+abbrev pub origin_beside : Origin
+origin_beside = record no_origin { script = 255 ∷ [] }
+
+-- what determines what is played: the text, unless the power was set to fail or a file was put on the disk beside the script
 abbrev pub origin_of : Played → Origin
-origin_of played = if played.scripted then script_origin played.text.value else record no_origin { script = 255 ∷ [] }
+origin_of played = if played.scripted then script_origin played.text.value else origin_beside
 
 -- the log that has played the script, how often a call has failed, whether the site is dark, and what determines what is played
 abbrev pub observed_with : ℕ → Played → Observed
@@ -83,6 +88,7 @@ pub record IsRestarted (old new : SimSite) : Type 0 where
   pub failed : (place_of old).off ≡ Some kind
   pub log : log_of new ≡ log_of old ++ Crash (crash_file kind (outside_there old)) ∷ []
   pub image : Image (outside_there old) (crash_file kind (outside_there old))
+  pub bytes : AreBytes (crash_file kind (outside_there old))
   pub place : place_of new ≡ restarted (place_of old)
   pub lit : (sim_observed new).dark ≡ false
   pub script : played_script new ≡ played_script old

@@ -1,24 +1,24 @@
 //! The connections of a run.
-ghost use Rattle.std.specs.Prelude.{◌≡◌, ◌==◌, not, filter, map, nat_le, OnOk};
-ghost use Rattle.std.specs.List.{list_any};
+ghost use Rattle.std.specs.Prelude.{◌≡◌, nat_le, OnOk};
 ghost use Rattle.gw_site.specs.Outside.{Outside, is_connected, no_run, outside_after};
 ghost use Rattle.gw_site.specs.declared.turn.Turn.TheVariants.{CutPt, CutTill, Linked, Opened};
 ghost use Rattle.gw_script.specs.site.Hazards.{is_reached};
 ghost use Rattle.gw_script.specs.site.Playing.{applies};
 ghost use Rattle.sim_script.specs.Values.{failing_value, script_event_value};
-ghost use Rattle.sim_site.specs.Numbers.{least_till};
+ghost use Rattle.sim_site.specs.Numbers.{least_till, numbers_value, numbers_with, numbers_without};
 
 use gw_site::What;
 use sim_script::{FailingCall, ScriptEvent};
 use std::alloc::{AllocError, Global};
+use std::collections::BTreeSet;
 
 /// The connections of a run, by their numbers.
 #[derive(Debug, Drop)]
 pub(crate) struct Connections {
-    pub(crate) tills: Vec<u64>,
+    pub(crate) tills: BTreeSet<u64>,
     /// The till of the run that opened last.
     pub(crate) opened: Option<u64>,
-    pub(crate) links: Vec<u16>,
+    pub(crate) links: BTreeSet<u16>,
 }
 
 /// Whether a till of this number may open.
@@ -31,18 +31,34 @@ fn is_above(till: u64, opened: Option<u64>) -> bool
     }
 }
 
-/// A till is gone.
-fn drop_till(tills: &mut Vec<u64>, till: u64)
-    ensures { tills.new.items ≡ filter (λ other. not (other == till)) tills.old.items }
+/// A till is there.
+fn add_till(tills: &mut BTreeSet<u64>, till: u64) -> Result<(), AllocError>
+    ensures { OnOk result (numbers_value tills.new ≡ numbers_with (numbers_value tills.old) till) }
 {
-    tills.retain(|other| *other != till);
+    tills.insert(till)?;
+    Ok(())
+}
+
+/// A till is gone.
+fn drop_till(tills: &mut BTreeSet<u64>, till: u64)
+    ensures { numbers_value tills.new ≡ numbers_without (numbers_value tills.old) till }
+{
+    tills.remove(&till);
+}
+
+/// A terminal is linked.
+fn add_link(links: &mut BTreeSet<u16>, pt: u16) -> Result<(), AllocError>
+    ensures { OnOk result (numbers_value links.new ≡ numbers_with (numbers_value links.old) pt) }
+{
+    links.insert(pt)?;
+    Ok(())
 }
 
 /// A terminal is no longer linked.
-fn drop_link(links: &mut Vec<u16>, pt: u16)
-    ensures { links.new.items ≡ filter (λ other. not (other == pt)) links.old.items }
+fn drop_link(links: &mut BTreeSet<u16>, pt: u16)
+    ensures { numbers_value links.new ≡ numbers_without (numbers_value links.old) pt }
 {
-    links.retain(|other| *other != pt);
+    links.remove(&pt);
 }
 
 impl Connections {
@@ -53,9 +69,9 @@ impl Connections {
         ensures { (o : Outside) → HasConnections (no_run o) result }
     {
         Connections {
-            tills: Vec::new(alloc),
+            tills: BTreeSet::new(alloc),
             opened: None,
-            links: Vec::new(alloc),
+            links: BTreeSet::new(alloc),
         }
     }
 
@@ -116,7 +132,7 @@ impl Connections {
     fn open(&mut self, till: u64) -> Result<(), AllocError>
         ensures { OnOk result ((o : Outside) → HasConnections o self.old → HasConnections (outside_after o (Opened till)) self.new) }
     {
-        self.tills.push(till)?;
+        add_till(&mut self.tills, till)?;
         self.opened = Some(till);
         Ok(())
     }
@@ -143,9 +159,7 @@ impl Connections {
     pub(crate) fn link(&mut self, pt: u16) -> Result<(), AllocError>
         ensures { OnOk result ((o : Outside) → HasConnections o self.old → HasConnections (outside_after o (Linked pt)) self.new) }
     {
-        drop_link(&mut self.links, pt);
-        self.links.push(pt)?;
-        Ok(())
+        add_link(&mut self.links, pt)
     }
 
     /// A till's connection is closed.

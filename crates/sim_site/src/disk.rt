@@ -1,5 +1,6 @@
 //! The disk: the file, that of the last sync, and what was written since then.
 ghost use Rattle.std.specs.Prelude.{ℕ, ◌≡◌, ◌<◌, ◌≤◌, ◌+◌, ◌-◌, ◌++◌, length, get_or, min, replicate, IfOk, OnOk, if◌then◌else◌};
+ghost use Rattle.gw_bytes.specs.Bytes.{AreBytes};
 ghost use Rattle.gw_site.specs.Outside.{Outside, nothing_yet, outside_after, overwrite};
 ghost use Rattle.gw_site.specs.Image.{covers, is_covered, junked_from};
 ghost use Rattle.gw_site.specs.declared.turn.Turn.TheVariants.{Crash, Synced, Wrote};
@@ -104,7 +105,8 @@ fn end_within(range: Written, size: usize) -> usize
 
 /// A copy of these bytes, where there is memory.
 fn copied(alloc: Global, bytes: &[u8]) -> Result<Vec<u8>, AllocError>
-    ensures { IfOk result (λ copy. copy.items ≡ bytes.now) }
+    ensures copy { IfOk result (λ copy. copy.items ≡ bytes.now) }
+    ensures bytes { AreBytes bytes.now }
 {
     Vec::from_slice(alloc, bytes)
 }
@@ -147,7 +149,8 @@ impl Disk {
 
     /// A disk with this file, as a power failure has left it.
     pub(crate) fn holding(alloc: Global, file: Vec<u8>) -> Result<Disk, AllocError>
-        ensures { IfOk result (λ disk. (o : Outside) → HasDisk (outside_after o (Crash file.items)) disk) }
+        ensures disk { IfOk result (λ disk. (o : Outside) → HasDisk (outside_after o (Crash file.items)) disk) }
+        ensures bytes { AreBytes file.items }
     {
         Ok(Disk {
             stable: copied(alloc, &file)?,

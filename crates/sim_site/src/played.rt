@@ -1,6 +1,7 @@
 //! A script, and the log that has played it so far.
 ghost use Rattle.std.specs.Prelude.{◌≡◌, ◌⊎◌, ◌||◌, ◌==◌, ℕ, ◌∷◌, ◌++◌, [], List, length, Ok, Some, None, true, false, not, is_some, OnOk, OnErr, IfOk, if◌then◌else◌};
 ghost use Rattle.std.specs.Option.{option_to_list};
+ghost use Rattle.gw_bytes.specs.Bytes.{AreBytes};
 ghost use Rattle.gw_site.specs.Outside.{Outside, outside_from, outside_of};
 ghost use Rattle.gw_site.specs.declared.turn.Turn.TheVariants.{Crash, DiskFailed, Linked, LinkFailed, OpenFailed, Polled, Start, Synced, Wrote};
 ghost use Rattle.gw_script.specs.site.Calls.{set_to_fail};
@@ -222,6 +223,7 @@ impl Played {
         requires whole { self.old.short ≡ false }
         requires off { self.old.place.off ≡ Some kind }
         ensures log { OnOk result (self.new.log ≡ self.old.log ++ Crash (crash_file (image_value kind) (outside_at self.old)) ∷ []) }
+        ensures bytes { OnOk result (AreBytes (crash_file (image_value kind) (outside_at self.old))) }
         ensures place { OnOk result (play_at self.new ≡ restarted (play_at self.old)) }
         ensures power { OnOk result (self.new.place.off ≡ None) }
         ensures refused { OnErr result (IsUnchanged self.old self.new) }

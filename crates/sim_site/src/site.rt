@@ -54,7 +54,7 @@ fn risen(faults: u64) -> u64
 
 impl SimSite {
     ghost use Rattle.sim_site.specs.Made.{IsCallReported};
-    ghost use Rattle.sim_site.specs.Sites.{IsOriginPlayedTo, IsOriginSetup, IsRestarted, IsSame, PlaysOrigin, is_crashed, is_log_full, log_of, outside_there, place_of, played_script, sim_observed};
+    ghost use Rattle.sim_site.specs.Sites.{IsOriginPlayedTo, IsOriginSetup, IsRestarted, IsSame, PlaysOrigin, is_crashed, is_log_full, log_of, origin_beside, outside_there, place_of, played_script, sim_observed};
 
     /// A site that plays the script of these bytes.
     pub fn from_script(alloc: Global, bytes: &[u8]) -> Result<SimSite, ScriptFault>
@@ -117,6 +117,8 @@ impl SimSite {
         ensures place { place_of self.new ≡ place_of self.old }
         ensures script { played_script self.new ≡ played_script self.old }
         ensures dark { (sim_observed self.new).dark ≡ (sim_observed self.old).dark }
+        ensures short { is_log_full self.new ≡ is_log_full self.old }
+        ensures origin { OnOk result ((sim_observed self.new).origin ≡ origin_beside) }
         ensures refused { OnErr result (IsSame self.old self.new) }
         ensures faults { (sim_observed self.new).faults ≡ (sim_observed self.old).faults }
     {
@@ -124,13 +126,15 @@ impl SimSite {
     }
 
     /// The power fails after so many more calls other than `poll`, `length` and `read_at`, at once after none, as the line
-    /// `power` of a script says; an earlier one that took no effect is replaced. Once the power has failed this does nothing.
+    /// `power` of a script says; an earlier one that took no effect is replaced. Once the power has failed this
+    /// changes nothing but the origin.
     pub fn stop_after(&mut self, calls: u64, image: ImageKind)
         ensures place { place_of self.new ≡ set_to_fail calls (image_value image) (place_of self.old) }
         ensures log { log_of self.new ≡ log_of self.old }
         ensures script { played_script self.new ≡ played_script self.old }
         ensures dark { (sim_observed self.new).dark ≡ ((sim_observed self.old).dark || (calls == 0)) }
         ensures short { is_log_full self.new ≡ is_log_full self.old }
+        ensures origin { (sim_observed self.new).origin ≡ origin_beside }
         ensures faults { (sim_observed self.new).faults ≡ (sim_observed self.old).faults }
     {
         self.played.stop_after(calls, image);

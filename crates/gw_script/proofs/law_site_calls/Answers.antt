@@ -1,12 +1,13 @@
 -- Proof of the contract of `law_site_calls`.
-use Rattle.std.proofs.Common.{◌≡◌, ℕ, length, refl, ap, arith, false, [], ◌∷◌, List}
+use Rattle.std.proofs.Common.{◌≡◌, ℕ, length, refl, sym, ◌∙◌, ap, arith, false, [], ◌∷◌, List}
 use Rattle.std.specs.Prelude.{pos}
 use Rattle.gw_base.specs.declared.setup.Setup.{Setup}
-use Rattle.gw_site.specs.declared.turn.Turn.TheVariants.{Start, Polled, Opened, SentTill}
-use Rattle.gw_script.specs.site.CallExample.{OtherSetupIsNotItsOwn, SendsTakeNoFewer, plain}
+use Rattle.gw_site.specs.declared.turn.Turn.{Turn}
+use Rattle.gw_site.specs.declared.turn.Turn.TheVariants.{Start, Polled, Opened, SentTill, Crash}
+use Rattle.gw_script.specs.site.CallExample.{NoFileOverAnother, OtherSetupIsNotItsOwn, SendsTakeNoFewer, plain}
 use Rattle.gw_script.specs.site.ScriptLine.{Open, Tick, FailSendTill, Junk, New, Poll, Fail}
 use Rattle.gw_script.specs.site.Playing.{Sync}
-use Rattle.gw_script.specs.site.Calls.{OpenCall, PollCall, SendTillCall, Made, PlaysBy}
+use Rattle.gw_script.specs.site.Calls.{OpenCall, PollCall, SendTillCall, Holding, Made, PlaysBy}
 use Rattle.gw_script.proofs.site.CallLemmas.{calls-go-on, calls-play, goes-on-beside, one-log-of-calls, power-goes-on, sends-are-cut}
 use Rattle.gw_script.proofs.law_site_calls.Goals as goal
 
@@ -63,7 +64,23 @@ pub returns-clause-beside : goal.returns-clause-beside
 returns-clause-beside c = goes-on-beside
 
 pub returns-clause-beside_script : goal.returns-clause-beside_script
-returns-clause-beside_script c = (_, (_, refl, (_, _, (record { no_event = refl; no_failure = refl; power = refl }, refl), refl, (_, _, (record { no_event = refl; no_failure = refl; power = refl }, refl), refl, (_, _, (record { no_event = refl; no_failure = refl; power = refl }, refl), refl, (Junk 165, _, refl, refl, (_, _, (record { no_event = refl; no_failure = refl; power = refl }, refl), refl, (_, _, (record { no_event = refl; no_failure = refl; power = refl }, refl), refl, (refl, refl)))))))))
+returns-clause-beside_script c = (_, (_, refl, refl, (_, _, (record { no_event = refl; no_failure = refl; power = refl }, refl), refl, (_, _, (record { no_event = refl; no_failure = refl; power = refl }, refl), refl, (_, _, (record { no_event = refl; no_failure = refl; power = refl }, refl), refl, (Junk 165, _, refl, refl, (_, _, (record { no_event = refl; no_failure = refl; power = refl }, refl), refl, (_, _, (record { no_event = refl; no_failure = refl; power = refl }, refl), refl, (refl, refl)))))))))
+
+-- a log that has a turn isn't empty
+not_none : (turn : Turn) (turns : List Turn) → turn ∷ turns ≡ [] → ⊥
+not_none turn turns e = cc
+
+file_no_other : (file other : List ℕ) (log : List Turn) → PlaysBy (Poll Tick ∷ []) (Holding file ∷ Holding other ∷ []) log → ⊥
+file_no_other file other log (after, (later, none, is, (more, over, same, rest))) = not_none (Crash file) [] over
+
+started_no_file : (file : List ℕ) (log : List Turn) → PlaysBy (Poll Tick ∷ []) (Made (OpenCall plain) ∷ Holding file ∷ []) log → ⊥
+started_no_file file log (after, (made, later, (idle, made_is), is, (more, over, same, rest))) = not_none (Start plain) [] (sym made_is ∙ over)
+
+no_file_over : NoFileOverAnother
+no_file_over = record { twice = file_no_other; started = started_no_file }
+
+pub returns-clause-no_file_over : goal.returns-clause-no_file_over
+returns-clause-no_file_over c = no_file_over
 
 pub returns-clause-sync : goal.returns-clause-sync
 returns-clause-sync c = record { place = _; reached = (_, _, (record { no_event = refl; no_failure = refl; power = refl }, refl), refl, (_, _, (record { no_event = refl; no_failure = refl; power = refl }, refl), refl, (refl, refl))); fits = (record { no_event = refl; no_failure = refl; power = refl }, refl) }

@@ -1,7 +1,6 @@
 -- A gateway that does one thing after each past does one thing in all.
 use Rattle.std.proofs.Common.{◌≡◌, List, [], ◌∷◌, ◌++◌, refl, sym, ◌∙◌, ap, subst, append-nil, append_assoc}
 use Rattle.std.specs.Prelude.{Option, Some, None}
-use Rattle.gw_site.specs.Outside.{nothing_yet}
 use Rattle.gw_site.specs.declared.turn.Turn.{Turn}
 use Rattle.gw_script.specs.site.Calls.{PlaysBy, SiteStep}
 use Rattle.gw_script.specs.site.Callers.{OneLogOfCaller}
@@ -13,7 +12,7 @@ use Rattle.gw_script.proofs.site.CallLemmas.{leads_by_part, one-log-of-calls}
 steps_play : (lines : List PlayedLine) (steps before more : List SiteStep) (log : List Turn) → steps ≡ before ++ more → PlaysBy lines steps log → (past : List Turn) × PlaysBy lines before past
 steps_play lines steps before more log is plays =
     let (after, leads) = subst (λ s. PlaysBy lines s log) is plays in
-    let (past, middle, part) = leads_by_part before nothing_yet (begins lines) more log after leads in
+    let (past, middle, part) = leads_by_part before [] (begins lines) more log after leads in
     (past, (middle, part))
 
 some_step : (a b : SiteStep) → Some a ≡ Some b → a ≡ b

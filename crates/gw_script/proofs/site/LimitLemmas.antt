@@ -1,7 +1,8 @@
 -- What is armed, by a log without failures of the disk and power failures.
 use Rattle.std.proofs.Common.{◌≡◌, List, [], ◌∷◌, ◌++◌, refl, sym, ◌∙◌, ap, subst, true, false}
 use Rattle.std.specs.Prelude.{Bool, if◌then◌else◌, Option, Some, None}
-use Rattle.gw_site.specs.Outside.{Outside, outside_after, outside_from, nothing_yet}
+use Rattle.gw_site.specs.Outside.{Outside, outside_after, outside_from, outside_of, nothing_yet}
+use Rattle.gw_site.proofs.OutsideLemmas.{outside_of-append}
 use Rattle.gw_site.specs.declared.turn.Turn.{Turn}
 use Rattle.gw_site.specs.declared.turn.Turn.TheVariants.{Start, OpenFailed, Polled, Opened, HeardTill, Closed, HeardPt, Lost, Stopped, Linked, LinkFailed, SentTill, SentPt, CutTill, CutPt, Wrote, Synced, DiskFailed, Crash}
 use Rattle.gw_script.specs.site.ScriptLine.{ImageKind}
@@ -99,40 +100,43 @@ call_path o p SyncCall idle known power = refl
 -- ---- steps
 
 -- where the power has failed, nothing known brings it back
-stays_off : (steps : List SiteStep) → are_scripted steps ≡ true → (o : Outside) (p : Play) (turns : List Turn) (after : Play) (kind : ImageKind) → LeadsBy o p steps turns after → are_known turns ≡ true → HasPower after → p.off ≡ Some kind → ⊥
-stays_off [] own o p turns after kind (none, same) known power off = let h : Some kind ≡ None = sym off ∙ ap (λ (x : Play). x.off) same ∙ power in cc
-stays_off (Made call ∷ steps) own o p turns after kind (made, later, (idle, made_is), is, rest) known power off = let h : Some kind ≡ None = sym off ∙ idle.power in cc
-stays_off (PowerBack ∷ steps) own o p turns after kind (found, later, was, is, rest) known power off = let h : false ≡ true = ap are_known (sym is) ∙ known in cc
-stays_off (StopAfter calls kind2 ∷ steps) own o p turns after kind leads known power off = let h : false ≡ true = own in cc
-stays_off (Holding file ∷ steps) own o p turns after kind leads known power off = let h : false ≡ true = own in cc
+stays_off : (steps : List SiteStep) → are_scripted steps ≡ true → (past : List Turn) (p : Play) (turns : List Turn) (after : Play) (kind : ImageKind) → LeadsBy past p steps turns after → are_known turns ≡ true → HasPower after → p.off ≡ Some kind → ⊥
+stays_off [] own past p turns after kind (none, same) known power off = let h : Some kind ≡ None = sym off ∙ ap (λ (x : Play). x.off) same ∙ power in cc
+stays_off (Made call ∷ steps) own past p turns after kind (made, later, (idle, made_is), is, rest) known power off = let h : Some kind ≡ None = sym off ∙ idle.power in cc
+stays_off (PowerBack ∷ steps) own past p turns after kind (found, later, was, is, rest) known power off = let h : false ≡ true = ap are_known (sym is) ∙ known in cc
+stays_off (StopAfter calls kind2 ∷ steps) own past p turns after kind leads known power off = let h : false ≡ true = own in cc
+stays_off (Holding file ∷ steps) own past p turns after kind leads known power off = let h : false ≡ true = own in cc
 
 -- the poll hasn't reached a power failure, where the power is there in the end
-poll_lit : (steps : List SiteStep) → are_scripted steps ≡ true → (o : Outside) (p : Play) (off : Option ImageKind) (later : List Turn) (after : Play) → (after_poll o p).off ≡ off →
-    LeadsBy (outside_from o (polled_turns (after_poll o p) off)) (polled_place (after_poll o p) off) steps later after → are_known later ≡ true → HasPower after → off ≡ None
-poll_lit steps own o p None later after is rest known power = refl
-poll_lit steps own o p (Some kind) later after is rest known power = absurd (stays_off steps own o (after_poll o p) later after kind rest known power is)
+poll_lit : (steps : List SiteStep) → are_scripted steps ≡ true → (past : List Turn) (met : Play) (off : Option ImageKind) (later : List Turn) (after : Play) → met.off ≡ off →
+    LeadsBy (past ++ polled_turns met off) (polled_place met off) steps later after → are_known later ≡ true → HasPower after → off ≡ None
+poll_lit steps own past met None later after is rest known power = refl
+poll_lit steps own past met (Some kind) later after is rest known power = absurd (stays_off steps own (past ++ []) met later after kind rest known power is)
 
-call_lit : (steps : List SiteStep) → are_scripted steps ≡ true → (o : Outside) (p : Play) (call : SiteCall) (later : List Turn) (after : Play) → LeadsBy (outside_from o (call_turns o p call)) (place_after o p call) steps later after → are_known later ≡ true → HasPower after →
-    call ≡ PollCall → HasPower (after_poll o p)
-call_lit steps own o p call later after rest known power poll =
-    poll_lit steps own o p (after_poll o p).off later after refl (subst (λ c. LeadsBy (outside_from o (call_turns o p c)) (place_after o p c) steps later after) poll rest) known power
+call_lit : (steps : List SiteStep) → are_scripted steps ≡ true → (past : List Turn) (p : Play) (call : SiteCall) (later : List Turn) (after : Play) →
+    LeadsBy (past ++ call_turns (outside_of past) p call) (place_after (outside_of past) p call) steps later after → are_known later ≡ true → HasPower after → call ≡ PollCall → HasPower (after_poll (outside_of past) p)
+call_lit steps own past p call later after rest known power poll =
+    let met = after_poll (outside_of past) p in
+    poll_lit steps own past met met.off later after refl (subst (λ c. LeadsBy (past ++ call_turns (outside_of past) p c) (place_after (outside_of past) p c) steps later after) poll rest) known power
 
-path_by : (steps : List SiteStep) → are_scripted steps ≡ true → (o : Outside) (p : Play) (turns : List Turn) (after : Play) → LeadsBy o p steps turns after → are_known turns ≡ true → HasPower after → play_from o Sync p turns ≡ after
-path_by [] own o p turns after (none, same) known power = ap (play_from o Sync p) none ∙ same
-path_by (Made call ∷ steps) own o p turns after (made, later, (idle, made_is), is, rest) known power =
+path_by : (steps : List SiteStep) → are_scripted steps ≡ true → (past : List Turn) (p : Play) (turns : List Turn) (after : Play) → LeadsBy past p steps turns after → are_known turns ≡ true → HasPower after → play_from (outside_of past) Sync p turns ≡ after
+path_by [] own past p turns after (none, same) known power = ap (play_from (outside_of past) Sync p) none ∙ same
+path_by (Made call ∷ steps) own past p turns after (made, later, (idle, made_is), is, rest) known power =
+    let o = outside_of past in
     let mine = call_turns o p call in
     let split : turns ≡ mine ++ later = is ∙ ap (λ m. m ++ later) made_is in
     let (first, more) = parts_known mine later (ap are_known (sym split) ∙ known) in
-    let goes : LeadsBy (outside_from o mine) (place_after o p call) steps later after = subst (λ m. LeadsBy (outside_from o m) (place_after o p call) steps later after) made_is rest in
+    let goes : LeadsBy (past ++ mine) (place_after o p call) steps later after = subst (λ m. LeadsBy (past ++ m) (place_after o p call) steps later after) made_is rest in
     ap (play_from o Sync p) split
     ∙ path_append o p mine later
-    ∙ ap (λ q. play_from (outside_from o mine) Sync q later) (call_path o p call idle first (call_lit steps own o p call later after goes more power))
-    ∙ path_by steps own (outside_from o mine) (place_after o p call) later after goes more power
-path_by (PowerBack ∷ steps) own o p turns after (kind, later, off, is, rest) known power = absurd (let h : false ≡ true = ap are_known (sym is) ∙ known in cc)
-path_by (StopAfter calls kind ∷ steps) own o p turns after leads known power = absurd (let h : false ≡ true = own in cc)
-path_by (Holding file ∷ steps) own o p turns after leads known power = absurd (let h : false ≡ true = own in cc)
+    ∙ ap (λ q. play_from (outside_from o mine) Sync q later) (call_path o p call idle first (call_lit steps own past p call later after goes more power))
+    ∙ ap (λ x. play_from x Sync (place_after o p call) later) (sym (outside_of-append past mine))
+    ∙ path_by steps own (past ++ mine) (place_after o p call) later after goes more power
+path_by (PowerBack ∷ steps) own past p turns after (kind, later, off, is, rest) known power = absurd (let h : false ≡ true = ap are_known (sym is) ∙ known in cc)
+path_by (StopAfter calls kind ∷ steps) own past p turns after leads known power = absurd (let h : false ≡ true = own in cc)
+path_by (Holding file ∷ steps) own past p turns after leads known power = absurd (let h : false ≡ true = own in cc)
 
 pub limits-are-armed : LimitsAreArmed
 limits-are-armed lines log place (steps, own, leads) known power =
     ap (λ k. if k then (play_from nothing_yet Sync (begins lines) log).hazard else no_hazard) known
-    ∙ ap (λ (p : Play). p.hazard) (path_by steps own nothing_yet (begins lines) log place leads known power)
+    ∙ ap (λ (p : Play). p.hazard) (path_by steps own [] (begins lines) log place leads known power)

@@ -1,5 +1,5 @@
 -- Closed examples: what calls on sites that play scripts leave in the log, and with which setup runs start.
-use Rattle.std.specs.Prelude.{◌≡◌, pos, List, [], ◌∷◌, ◌++◌, true, false, Option, Some, None}
+use Rattle.std.specs.Prelude.{◌≡◌, ℕ, pos, List, [], ◌∷◌, ◌++◌, true, false, Option, Some, None}
 use Rattle.gw_site.specs.Outside.{outside_of}
 use Rattle.gw_site.specs.declared.turn.Turn.{Turn}
 use Rattle.gw_site.specs.declared.turn.Turn.TheVariants.{Start, OpenFailed, Polled, Opened, Stopped, Linked, LinkFailed, SentTill, SentPt, Wrote, DiskFailed, Crash}
@@ -28,14 +28,16 @@ SendsTakeNoFewer = ¬ PlaysBy (Poll (Open 1) ∷ Fail (FailSendTill 1 2) ∷ Pol
     (Made (OpenCall plain) ∷ Made PollCall ∷ Made PollCall ∷ Made (SendTillCall 1 (7 ∷ 8 ∷ 9 ∷ [])) ∷ [])
     (Start plain ∷ Polled (pos 0) ∷ Opened 1 ∷ Polled (pos 0) ∷ SentTill 1 (7 ∷ []) false ∷ [])
 
--- a script in which looks, writes and syncs fail, and then the power; what happens to its site; and the log
+-- a script in which looks, writes and syncs fail, and then the power
 abbrev pub disk_lines : List PlayedLine
 disk_lines = Fail FailRead ∷ Fail FailWrite ∷ Fail FailSync ∷ Power 3 (Junk 165) ∷ Poll Tick ∷ []
 
+-- what happens to its site
 abbrev pub disk_steps : List SiteStep
 disk_steps =
     Made (OpenCall plain) ∷ Made LengthCall ∷ Made (ReadCall 0 4) ∷ Made (ReadCall 0 4) ∷ Made PollCall ∷ Made LengthCall ∷ Made (WriteCall 0 (1 ∷ 2 ∷ [])) ∷ Made SyncCall ∷ Made (WriteCall 1 (3 ∷ [])) ∷ PowerBack ∷ Made LengthCall ∷ []
 
+-- its log
 abbrev pub disk_log : List Turn
 disk_log = Start plain ∷ DiskFailed ∷ Polled (pos 0) ∷ Wrote 0 (1 ∷ 2 ∷ []) ∷ DiskFailed ∷ DiskFailed ∷ Wrote 1 (3 ∷ []) ∷ Crash (165 ∷ 165 ∷ []) ∷ []
 
@@ -58,6 +60,11 @@ abbrev pub BesideTheScript : Type 0
 BesideTheScript = PlaysBy (Poll Tick ∷ [])
     (Holding (1 ∷ 2 ∷ []) ∷ StopAfter 2 (Junk 165) ∷ Made (OpenCall plain) ∷ Made LengthCall ∷ Made (WriteCall 0 (9 ∷ [])) ∷ PowerBack ∷ Made (OpenCall plain) ∷ Made PollCall ∷ [])
     (Crash (1 ∷ 2 ∷ []) ∷ Start plain ∷ Wrote 0 (9 ∷ []) ∷ Crash (165 ∷ 2 ∷ []) ∷ Start plain ∷ Polled (pos 0) ∷ [])
+
+-- no file is put on the disk over another that was, nor once a run was started
+pub record NoFileOverAnother : Type 0 where
+  pub twice : (file other : List ℕ) (log : List Turn) → ¬ PlaysBy (Poll Tick ∷ []) (Holding file ∷ Holding other ∷ []) log
+  pub started : (file : List ℕ) (log : List Turn) → ¬ PlaysBy (Poll Tick ∷ []) (Made (OpenCall plain) ∷ Holding file ∷ []) log
 
 -- a call that goes on from a place: a sync that fails
 pub record SyncGoesOn : Type 0 where
@@ -96,10 +103,11 @@ StartsWithItsOwn = PlaysItself no_script (Start plain ∷ Polled (pos 0) ∷ Sto
 abbrev pub OtherSetupIsNotItsOwn : Type 0
 OtherSetupIsNotItsOwn = ¬ RunsWith plain (Start (record plain { wait = 61 }) ∷ [])
 
--- a script with a failing send, and the log of a run up to the poll after its line
+-- a script with a failing send
 abbrev pub send_lines : List PlayedLine
 send_lines = Poll (Open 1) ∷ Fail (FailSendTill 1 2) ∷ Poll Tick ∷ []
 
+-- the log of a run up to the poll after its line
 abbrev pub log_before_send : List Turn
 log_before_send = Start plain ∷ Polled (pos 0) ∷ Opened 1 ∷ Polled (pos 0) ∷ []
 

@@ -1,7 +1,7 @@
 -- The turns of each call of the gateway, by what is handed to it and by how far the script is played. A log alone shows neither what was to be sent nor a look that succeeds; `Playing` says which turns fit by the log alone.
 use Rattle.std.specs.Prelude.{◌≡◌, ℕ, Bool, true, false, not, ◌==◌, if◌then◌else◌, List, [], ◌∷◌, ◌++◌, Option, Some, None, is_some}
 use Rattle.gw_base.specs.declared.setup.Setup.{Setup}
-use Rattle.gw_site.specs.Outside.{Outside, outside_after, outside_from, nothing_yet}
+use Rattle.gw_site.specs.Outside.{Outside, outside_after, outside_of}
 use Rattle.gw_site.specs.declared.turn.Turn.{Turn}
 use Rattle.gw_site.specs.declared.turn.Turn.TheVariants.{Start, OpenFailed, Polled, Linked, LinkFailed, SentTill, SentPt, CutTill, CutPt, Wrote, Synced, DiskFailed, Crash}
 use Rattle.gw_script.specs.site.ScriptLine.{ImageKind, PlayedLine}
@@ -88,7 +88,7 @@ pub data SiteStep : Type 0 where
   PowerBack : SiteStep
   -- beside the script the power is set to fail after so many more calls, and to leave this
   StopAfter : ℕ → ImageKind → SiteStep
-  -- beside the script this file is put on the disk, as if a power failure had left it
+  -- beside the script, before the first turn, this file is put on the disk, as if a power failure had left it
   Holding : List ℕ → SiteStep
 
 -- nothing happens beside the script: the gateway makes calls, and the power is there again where the script has let it fail
@@ -99,18 +99,19 @@ are_scripted (PowerBack ∷ steps) = are_scripted steps
 are_scripted (StopAfter calls kind ∷ steps) = false
 are_scripted (Holding file ∷ steps) = false
 
--- the steps lead from one place of the script to another, with these turns
-abbrev pub LeadsBy : Outside → Play → List SiteStep → List Turn → Play → Type 0
-LeadsBy o p [] turns after = (turns ≡ []) × (p ≡ after)
-LeadsBy o p (Made call ∷ steps) turns after = (made : List Turn) × (later : List Turn) × CallFits o p call made × (turns ≡ made ++ later) × LeadsBy (outside_from o made) (place_after o p call) steps later after
-LeadsBy o p (PowerBack ∷ steps) turns after =
-    (kind : ImageKind) × (later : List Turn) × (p.off ≡ Some kind) × (turns ≡ Crash (crash_file kind o) ∷ later) × LeadsBy (outside_after o (Crash (crash_file kind o))) (restarted p) steps later after
-LeadsBy o p (StopAfter calls kind ∷ steps) turns after = LeadsBy o (set_to_fail calls kind p) steps turns after
-LeadsBy o p (Holding file ∷ steps) turns after = (later : List Turn) × (turns ≡ Crash file ∷ later) × LeadsBy (outside_after o (Crash file)) p steps later after
+-- after this log the steps lead from one place of the script to another, with these turns
+abbrev pub LeadsBy : List Turn → Play → List SiteStep → List Turn → Play → Type 0
+LeadsBy past p [] turns after = (turns ≡ []) × (p ≡ after)
+LeadsBy past p (Made call ∷ steps) turns after =
+    (made : List Turn) × (later : List Turn) × CallFits (outside_of past) p call made × (turns ≡ made ++ later) × LeadsBy (past ++ made) (place_after (outside_of past) p call) steps later after
+LeadsBy past p (PowerBack ∷ steps) turns after =
+    (kind : ImageKind) × (later : List Turn) × (p.off ≡ Some kind) × (turns ≡ Crash (crash_file kind (outside_of past)) ∷ later) × LeadsBy (past ++ Crash (crash_file kind (outside_of past)) ∷ []) (restarted p) steps later after
+LeadsBy past p (StopAfter calls kind ∷ steps) turns after = LeadsBy past (set_to_fail calls kind p) steps turns after
+LeadsBy past p (Holding file ∷ steps) turns after = (later : List Turn) × (past ≡ []) × (turns ≡ Crash file ∷ later) × LeadsBy (past ++ Crash file ∷ []) p steps later after
 
 -- a site that plays these lines is at this place after these steps, with this log
 abbrev pub Reaches : List PlayedLine → List SiteStep → List Turn → Play → Type 0
-Reaches lines steps log place = LeadsBy nothing_yet (begins lines) steps log place
+Reaches lines steps log place = LeadsBy [] (begins lines) steps log place
 
 -- a site that plays these lines has this log after these steps
 abbrev pub PlaysBy : List PlayedLine → List SiteStep → List Turn → Type 0

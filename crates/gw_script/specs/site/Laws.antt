@@ -65,12 +65,11 @@ abbrev pub PowerGoesOn : Type 0
 PowerGoesOn = (lines : List PlayedLine) (steps : List SiteStep) (log : List Turn) (place : Play) (kind : ImageKind) → Reaches lines steps log place → place.off ≡ Some kind
     → Reaches lines (steps ++ PowerBack ∷ []) (log ++ Crash (crash_file kind (outside_of log)) ∷ []) (restarted place)
 
--- what happens beside the script goes on from each place: the power is set to fail, without a turn, and a file is put on the disk
+-- what happens beside the script goes on from each place: the power is set to fail, without a turn, and before the first turn a file is put on the disk
 pub record GoesOnBeside : Type 0 where
   pub stop : (lines : List PlayedLine) (steps : List SiteStep) (log : List Turn) (place : Play) (calls : ℕ) (kind : ImageKind) → Reaches lines steps log place
       → Reaches lines (steps ++ StopAfter calls kind ∷ []) log (set_to_fail calls kind place)
-  pub file : (lines : List PlayedLine) (steps : List SiteStep) (log : List Turn) (place : Play) (file : List ℕ) → Reaches lines steps log place
-      → Reaches lines (steps ++ Holding file ∷ []) (log ++ Crash file ∷ []) place
+  pub file : (lines : List PlayedLine) (steps : List SiteStep) (place : Play) (file : List ℕ) → Reaches lines steps [] place → Reaches lines (steps ++ Holding file ∷ []) (Crash file ∷ []) place
 
 -- where the power is there, and no disk or power has failed in the log, what is armed by the log is what is armed at the place up to which calls and power failures have played the lines
 abbrev pub LimitsAreArmed : Type 0

@@ -1,9 +1,22 @@
 -- Proof of the contract of `polled`.
-use Rattle.std.proofs.Common.{refl, sym, ◌∙◌}
-use Rattle.sim_site.proofs.PlayedLemmas.{fell_there}
+use Rattle.std.proofs.Common.{refl, sym, ◌∙◌, ap}
+use Rattle.sim_site.specs.Places.{place_value}
+use Rattle.sim_site.proofs.PlayedLemmas.{fell_there, none_off}
 use Rattle.sim_site.proofs.polled.polled.Goals as goal
 
 pub returns-then-is_some-clause-polled : goal.returns-then-is_some-clause-polled
 returns-then-is_some-clause-polled c =
     let off = sym c.is_some.ensures ∙ c.if-is_some.true in
     record { power = off; place = λ o held. fell_there o c.args.lines.now c.args.place.now c.sought.new.place _ c.requires off (c.in_ok-line.ensures.met o held); connections = refl }
+
+pub returns-clause-polled : goal.returns-clause-polled
+returns-clause-polled c =
+    let brought = c.in_ok-brought.ensures.brought in
+    record {
+      power = none_off c.sought.new.place.off (sym c.is_some.ensures ∙ c.if-is_some.false);
+      place = λ o held. c.in_ok-line.ensures.met o held ∙ ap (λ due. record (place_value c.args.lines.now c.sought.new.place) { due = due }) (sym brought.turn);
+      what = brought.what ∙ sym brought.turn;
+      followed = c.in_ok-follow.ensures;
+      count = brought.count;
+      promise = λ o held. brought.promise o (c.in_ok-line.ensures.unskipped o held);
+    }

@@ -15,3 +15,6 @@ returns-then-branch-clause-met c = λ o held.
 
 pub returns-clause-met : goal.returns-clause-met
 returns-clause-met c = λ o held. polled_from o c.args.lines.now c.args.place.now ∙ c.loop-place.invariant o held ∙ passed_all o c.args.lines.now c.loop-place.place (omega arith)
+
+pub returns-then-branch-clause-unskipped : goal.returns-then-branch-clause-unskipped
+returns-then-branch-clause-unskipped c = c.in_ok-pass.ensures.unskipped c.if-branch.true

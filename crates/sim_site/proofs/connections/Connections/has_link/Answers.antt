@@ -1,9 +1,7 @@
 -- Proof of the contract of `has_link`.
-use Rattle.std.proofs.Common.{◌∙◌, sym, ap}
-use Rattle.std.specs.List.{list_any}
-use Rattle.std.specs.Prelude.{◌==◌}
-use Rattle.sim_site.proofs.ConnectionLemmas.{there_by_number}
+use Rattle.std.proofs.Common.{ℕ, ◌∙◌, sym, ap}
+use Rattle.std.specs.Prelude.{Bool}
 use Rattle.sim_site.proofs.connections.Connections.has_link.Goals as goal
 
 pub returns : goal.returns
-returns c = λ o held. c.contains.ensures.value ∙ ap (list_any (λ other. other == c.args.pt)) (c.deref.ensures.value ∙ sym held.links) ∙ sym (there_by_number o.links c.args.pt)
+returns c = λ o held. c.contains.ensures ∙ sym (ap (λ (numbers : ℕ → Bool). numbers c.args.pt) held.links)

@@ -5,4 +5,4 @@ use Rattle.sim_site.proofs.ConnectionLemmas.{tills_made}
 use Rattle.sim_site.proofs.connections.Connections.open.Goals as goal
 
 pub returns : goal.returns
-returns c = λ o held. tills_made o c.args.self.now (record c.args.self.now { tills = c.push.new.self; opened = Some c.args.till }) c.args.till held c.in_ok-push.ensures.items refl refl
+returns c = λ o held. tills_made o c.args.self.now (record c.args.self.now { tills = c.add_till.new.tills; opened = Some c.args.till }) c.args.till held c.in_ok-add_till.ensures refl refl

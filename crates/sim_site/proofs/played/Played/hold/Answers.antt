@@ -1,5 +1,5 @@
 -- Proof of the contract of `hold`.
-use Rattle.std.proofs.Common.{◌∷◌, ◌++◌, [], ◌∙◌, sym, ap}
+use Rattle.std.proofs.Common.{◌∷◌, ◌++◌, [], ◌∙◌, ap}
 use Rattle.gw_site.specs.Outside.{outside_of}
 use Rattle.gw_site.specs.declared.turn.Turn.TheVariants.{Crash}
 use Rattle.sim_script.specs.Values.{lines_value}
@@ -25,10 +25,11 @@ invariant_of-self-2 c =
     let o = outside_of s.log in
     let lines = s.script.lines.items in
     let grown = c.in_ok-push.ensures.ok ∙ ap (λ file. s.log ++ Crash file ∷ []) c.in_ok-copy.ensures in
+    let first = grown ∙ ap (λ log. log ++ Crash c.args.file.now ∷ []) c.requires in
     record {
       read_is = s.read_is;
-      part = part_held (lines_value lines) s.log c.push.new.self c.args.file.now c.requires grown;
-      stands = λ lit. stands_held s.scripted lines s.log c.push.new.self s.place c.args.file.now grown (s.stands lit);
+      part = part_held (lines_value lines) c.push.new.self c.args.file.now first;
+      stands = λ lit. stands_held s.scripted lines s.log c.push.new.self s.place c.args.file.now c.requires first (s.stands lit);
       disk_is = λ lit. disk_there s.log c.push.new.self _ c.in_ok-disk.disk grown (c.in_ok-disk.ensures o);
       connections_are = λ lit. connections_there s.log c.push.new.self _ c.clear.new.self grown (crash_clears o c.args.file.now c.clear.new.self (c.clear.ensures o));
     }

@@ -15,6 +15,14 @@ use Rattle.sim_site.specs.Places.{place_value}
 use Rattle.sim_site.proofs.PlayedLemmas.{brought_place, brought_turns, connections_there, disk_stays, event_leaves, fell_place, fell_turns, never, part_refused, part_same, part_stood, poll_followed, poll_leaves, some_image, stands_made}
 use Rattle.sim_site.proofs.played.Played.poll.Goals as goal
 
+pub returns-clause-promise : goal.returns-clause-promise
+returns-clause-promise c =
+    let s = c.args.self.now in
+    let next = c.polled.new.place in
+    let lines = c.deref.result.now in
+    let brought : HasBrought lines s.place next s.connections c.polled.new.connections c.polled.new.buf c.in-Some.brought = subst (EndsPoll lines s.place next s.connections c.polled.new.connections c.polled.new.buf) c.in-Some.is c.in_ok-brought.ensures.polled in
+    brought.promise (outside_of s.log) (s.connections_are c.requires.whole)
+
 pub invariant_of-self-in_default : goal.invariant_of-self-in_default
 invariant_of-self-in_default c =
     let s = c.args.self.now in

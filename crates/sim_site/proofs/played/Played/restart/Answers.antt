@@ -1,5 +1,6 @@
 -- Proof of the contract of `restart`.
 use Rattle.std.proofs.Common.{◌∷◌, ◌++◌, [], ◌∙◌, ap, subst}
+use Rattle.gw_bytes.specs.Bytes.{AreBytes}
 use Rattle.gw_site.specs.Outside.{outside_after, outside_of}
 use Rattle.gw_site.specs.declared.turn.Turn.TheVariants.{Crash}
 use Rattle.gw_script.specs.site.Hazards.{crash_file}
@@ -22,6 +23,11 @@ invariant_of-self c =
       connections_are = λ lit. connections_same s.log c.push.new.self s.connections same (s.connections_are lit);
     }
 
+pub returns-clause-bytes : goal.returns-clause-bytes
+returns-clause-bytes c =
+    let s = c.args.self.now in
+    subst AreBytes (c.in_ok-image.ensures (outside_of s.log) (s.disk_is c.requires.whole)) c.in_ok-disk.ensures.bytes
+
 pub invariant_of-self-2 : goal.invariant_of-self-2
 invariant_of-self-2 c =
     let s = c.args.self.now in
@@ -29,7 +35,7 @@ invariant_of-self-2 c =
     let o = outside_of s.log in
     let image = c.in_ok-image.ensures o (s.disk_is c.requires.whole) in
     let grown = c.in_ok-push.ensures.ok ∙ ap (λ file. s.log ++ Crash file ∷ []) (c.in_ok-file.ensures ∙ c.deref.ensures.value ∙ image) in
-    let disk : HasDisk (outside_after o (Crash (crash_file (image_value c.args.kind) o))) c.in_ok-disk.disk = subst (λ file. HasDisk (outside_after o (Crash file)) c.in_ok-disk.disk) image (c.in_ok-disk.ensures o) in
+    let disk : HasDisk (outside_after o (Crash (crash_file (image_value c.args.kind) o))) c.in_ok-disk.disk = subst (λ file. HasDisk (outside_after o (Crash file)) c.in_ok-disk.disk) image (c.in_ok-disk.ensures.disk o) in
     let stands = stands_restarted s.scripted lines s.log c.push.new.self s.place c.restart.new.self c.args.kind c.requires.off grown (c.restart.ensures.place lines) (s.stands c.requires.whole) in
     record {
       read_is = s.read_is;

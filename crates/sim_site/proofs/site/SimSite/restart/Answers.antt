@@ -7,7 +7,7 @@ use Rattle.sim_site.proofs.site.SimSite.restart.Goals as goal
 pub returns-in-Some-clause-restarted : goal.returns-in-Some-clause-restarted
 returns-in-Some-clause-restarted c =
     let s = c.args.self.now in
-    restarted_there c.restart.result s (record s { played = c.restart.new.self }) c.in-Some.kind c.in-Some.is c.restart.ensures.log c.restart.ensures.place c.restart.ensures.power c.restart.ensures.whole c.restart.ensures.same
+    restarted_there c.restart.result s (record s { played = c.restart.new.self }) c.in-Some.kind c.in-Some.is c.restart.ensures.log c.restart.ensures.bytes c.restart.ensures.place c.restart.ensures.power c.restart.ensures.whole c.restart.ensures.same
 
 pub returns-in-Some-clause-refused : goal.returns-in-Some-clause-refused
 returns-in-Some-clause-refused c =

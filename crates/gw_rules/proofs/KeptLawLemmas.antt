@@ -1,0 +1,281 @@
+-- What is kept along a log of a gateway that keeps a journal, and along a lawful log.
+use Rattle.std.proofs.Common.{◌≡◌, ◌+◌, Bool, true, false, List, [], ◌∷◌, ◌++◌, length, refl, sym, ◌∙◌, ap, subst, arith, inl, inr, append_assoc, append-nil}
+use Rattle.std.proofs.lemmas.List.{length-map}
+use Rattle.std.specs.Prelude.{◌⊎◌, map, None, option_to_list}
+use Rattle.gw_base.specs.declared.setup.Setup.{Setup}
+use Rattle.gw_site.specs.Outside.{Outside, outside_of}
+use Rattle.gw_site.specs.declared.turn.Turn.{Turn}
+use Rattle.gw_site.specs.declared.turn.Turn.TheVariants.{Start, OpenFailed, Polled, Opened, HeardTill, Closed, HeardPt, Lost, Stopped, Linked, LinkFailed, SentTill, SentPt, CutTill, CutPt, Wrote, Synced, DiskFailed, Crash}
+use Rattle.jrn_record.specs.Grammar.{record_body}
+use Rattle.jrn_record.specs.declared.records.Record.{Record}
+use Rattle.jrn_record.proofs.LawLemmas.{record_body-offsets}
+use Rattle.jrn_log.specs.Foreign.{EndsClosed}
+use Rattle.jrn_log.specs.Journal.{IsAtRest}
+use Rattle.jrn_log.specs.JournalLogs.{HasGateAfter, IsJournalLog}
+use Rattle.jrn_log.specs.Slots.{AreSlots}
+use Rattle.jrn_log.proofs.ForeignLemmas.{file_can, stable_can}
+use Rattle.jrn_log.proofs.JournalLogLemmas.{logs_leave, logs_open}
+use Rattle.jrn_log.proofs.SlotLemmas.{one_slots, push_length}
+use Rattle.gw_owes.specs.Items.{RoundItem}
+use Rattle.gw_owes.specs.ReadAs.{ReadAs}
+use Rattle.gw_owes.specs.Row.{Row}
+use Rattle.gw_rules.specs.JournalFiles.{spare_disk, opening_calls}
+use Rattle.gw_rules.specs.KeptLaws.{RecordRules, AreInOrder, HasRoom, KeepsRecord, KeepsAtMostOne, opens_journal, KeepsOn, KeepsJournal, HadMoreSlots, HasKept, EachKeepsFile, EachImageHasKept, NoneKeptIsLost, NeverTruncated, NeverBad, LongOnlyWithFewerSlots, FullOnlyWithFewerSlots, EachRoundHasJournal, EachKeepsJournalFiles, EachLawfulHasKept}
+use Rattle.gw_rules.specs.Lawful.{AllowedTurn, Begins, IsCourse, turns_of}
+use Rattle.gw_rules.specs.Opening.{opening}
+use Rattle.gw_rules.specs.Scene.{Scene, records_of}
+use Rattle.gw_rules.specs.Stage.{Opening, AtPoll, is_round}
+use Rattle.gw_rules.specs.View.{View, Move, Begin, Read, Make, begin, begun, started, after, after_turn, view_from, at_first}
+use Rattle.gw_rules.proofs.KeptFileLemmas.{FreeSlots, free-none, in-order-more, kept-by-either, kept-by-more, kept-by-order, kept_by, none-truncated, one-byte-file, one-byte-files}
+use Rattle.gw_rules.proofs.OpensLemmas.{opening-owes}
+use Rattle.gw_rules.proofs.SpareLemmas.{begin-spares}
+use Rattle.gw_rules.proofs.StageLemmas.{no-true}
+use Rattle.gw_rules.proofs.KeptPhaseLemmas.{Body, Facts, FirstSync, Holds, IsOfLog, Phase, busy-off-poll, owes_all, rests-sparing, round-runs}
+use Rattle.gw_rules.proofs.KeptTurnLemmas.{idle-rests, no-more, outside-later, still-facts, turns}
+
+-- ---- along a log of a gateway that keeps a journal
+
+nothing-made : (journaled : Bool) (rules : RecordRules) → Holds journaled rules [] at_first
+nothing-made journaled rules = record {
+  outside_is = refl;
+  facts = record {
+    files = one-byte-files [] [] (omega arith) refl;
+    in_order = tt;
+    long = one-byte-file [] (omega arith);
+    free = free-none rules [];
+    all_free = free-none rules [];
+    state = None;
+    journal = IsJournalLog.NoTurns;
+  };
+  setup_is = tt;
+  phase = inl (record { over = refl; calls_are = refl });
+}
+
+opening-off-poll : (refused : Bool) → Opening refused ≡ AtPoll → ⊥
+opening-off-poll refused e = cc
+
+run-begins : (rules : RecordRules) (log : List Turn) (v : View) (setup : Setup) (refused : Bool) → Holds true rules log v → Holds true rules (log ++ Start setup ∷ []) (started v.scene setup (opens_journal v.scene.outside.file refused))
+run-begins rules log v setup refused h =
+    let outside : (after_turn v (Start setup)).scene.outside ≡ outside_of (log ++ Start setup ∷ []) = outside-later v log (Start setup) h.outside_is in
+    record {
+      outside_is = outside;
+      facts = still-facts rules log (Start setup) v.scene.kept v.scene.flight (λ o. (refl, refl, refl)) h.facts;
+      setup_is = record { before = log; rest = []; log_is = refl };
+      phase = inr (inr (FirstSync (ap (λ (o : Outside). opening_calls (length o.file)) outside), opening-off-poll refused));
+    }
+
+message-is-read : (journaled : Bool) (rules : RecordRules) (log : List Turn) (v : View) (as_read : ReadAs) → Holds journaled rules log v → is_round v.scene.stage ≡ true → v.calls ≡ [] → Holds journaled rules log (after v (Read as_read))
+message-is-read journaled rules log v as_read h round e =
+    let r = idle-rests journaled rules log v h (round-runs v.scene.stage round) e in
+    record { outside_is = h.outside_is; facts = h.facts; setup_is = h.setup_is; phase = inr (inl (record { is_open = r.is_open; spares = refl })) }
+
+-- an item begins that owes no call on the disk
+item-spares : (journaled : Bool) (rules : RecordRules) (log : List Turn) (v : View) (row : Row) (items : List RoundItem) → Holds journaled rules log v → Begins v → spare_disk row.calls ≡ true → Holds journaled rules log (begun v.scene row items)
+item-spares journaled rules log v row items h b spares =
+    let r = idle-rests journaled rules log v h (round-runs v.scene.stage b.idle.round) b.idle.calls in
+    record { outside_is = h.outside_is; facts = h.facts; setup_is = h.setup_is; phase = inr (inl (record { is_open = r.is_open; spares = spares })) }
+
+-- the setup of the run has the slots that the records need with one more
+room-free : (rules : RecordRules) (log : List Turn) (scene : Scene) (the_record : Record) → IsOfLog log scene.setup → HasRoom rules scene the_record → FreeSlots rules log (scene.kept ++ the_record ∷ [])
+room-free rules log scene the_record of_log room slots needs = record { setup = room.setup; ran = subst (IsOfLog log) room.setup_is of_log; more = let le = room.room in omega (arith, le, needs) }
+
+-- so a run had a slot for it
+room-had : (rules : RecordRules) (log : List Turn) (scene : Scene) (the_record : Record) → IsOfLog log scene.setup → HasRoom rules scene the_record → HadMoreSlots (length (map record_body scene.kept)) log
+room-had rules log scene the_record of_log room = room-free rules log scene the_record of_log room (length (map record_body scene.kept))
+    (let n : length (map record_body scene.kept) ≡ length scene.kept = length-map scene.kept record_body in let m : length (scene.kept ++ the_record ∷ []) ≡ length scene.kept + 1 = push_length scene.kept the_record in omega (arith, n, m))
+
+-- and one that owes that a record is kept
+item-keeps : (rules : RecordRules) (log : List Turn) (v : View) (row : Row) (items : List RoundItem) → Holds true rules log v → Begins v → KeepsRecord rules v.scene row.calls → Holds true rules log (begun v.scene row items)
+item-keeps rules log v row items h b k =
+    let open_journal = (idle-rests true rules log v h (round-runs v.scene.stage b.idle.round) b.idle.calls).is_open refl in
+    let kept : AreInOrder rules [] v.scene.kept = subst (λ l. AreInOrder rules [] l) (no-more v.scene.kept v.scene.flight open_journal.no_flight) h.facts.in_order in
+    let n : length v.scene.kept ≡ length (map record_body v.scene.kept) = sym (length-map v.scene.kept record_body) in
+    record {
+      outside_is = h.outside_is;
+      facts = h.facts;
+      setup_is = h.setup_is;
+      phase = inr (inr (
+        Body (record {
+          base = log;
+          the_record = k.the_record;
+          more = k.more;
+          journal = open_journal.journal;
+          size = (record_body-offsets k.the_record k.within).0;
+          in_order = in-order-more rules [] v.scene.kept k.the_record kept k.within k.follows;
+          room = room-had rules log v.scene k.the_record h.setup_is k.room;
+          free = room-free rules log v.scene k.the_record h.setup_is k.room;
+          log_is = sym (append-nil log);
+          calls_are = k.calls_are ∙ ap (λ slot. owes_all slot k.the_record ++ k.more) n;
+          spares = k.spares;
+          flight_is = open_journal.no_flight;
+        }),
+        busy-off-poll v.scene.stage,
+      ));
+    }
+
+item-begins : (rules : RecordRules) (log : List Turn) (v : View) (row : Row) (items : List RoundItem) → Holds true rules log v → Begins v → KeepsAtMostOne rules v.scene row.calls → Holds true rules log (begun v.scene row items)
+item-begins rules log v row items h b (inl spares) = item-spares true rules log v row items h b spares
+item-begins rules log v row items h b (inr k) = item-keeps rules log v row items h b k
+
+holds-on : (rules : RecordRules) (base : List Turn) (first : View) (log : List Turn) (v : View) → Holds true rules base first → KeepsOn rules base first log v → Holds true rules log v
+holds-on rules base first _ _ h KeepsOn.NoMoves = h
+holds-on rules base first _ _ h (KeepsOn.RunBegins log v setup refused k ok) = run-begins rules log v setup refused (holds-on rules base first log v h k)
+holds-on rules base first _ _ h (KeepsOn.TurnComes log v turn k ok other) = turns true rules log v turn (holds-on rules base first log v h k) ok (λ setup e. absurd (other setup e))
+holds-on rules base first _ _ h (KeepsOn.MessageIsRead log v as_read k ok) = message-is-read true rules log v as_read (holds-on rules base first log v h k) ok.idle.round ok.idle.calls
+holds-on rules base first _ _ h (KeepsOn.ItemBegins log v item items row k b is one) = item-begins rules log v row items (holds-on rules base first log v h k) b one
+
+holds : (rules : RecordRules) (log : List Turn) (v : View) → KeepsJournal rules log v → Holds true rules log v
+holds rules log v k = holds-on rules [] at_first log v (nothing-made true rules) k
+
+-- ---- the records that are kept stay kept
+
+-- these records are the first ones, and more after them
+abbrev HasAll : List Record → List Record → Type 0
+HasAll records first = (more : List Record) × (records ≡ first ++ more)
+
+all-same : (records : List Record) → HasAll records records
+all-same records = ([], sym (append-nil records))
+
+all-later : (first between records : List Record) → HasAll between first → HasAll records between → HasAll records first
+all-later first between records one other = (one.0 ++ other.0, other.1 ∙ ap (λ l. l ++ other.0) one.1 ∙ append_assoc first one.0 other.0)
+
+turn-keeps : (v : View) (turn : Turn) → HasAll (after_turn v turn).scene.kept v.scene.kept
+turn-keeps v (Start setup) = all-same v.scene.kept
+turn-keeps v OpenFailed = all-same v.scene.kept
+turn-keeps v (Polled now) = all-same v.scene.kept
+turn-keeps v (Opened till) = all-same v.scene.kept
+turn-keeps v (HeardTill till bytes) = all-same v.scene.kept
+turn-keeps v (Closed till) = all-same v.scene.kept
+turn-keeps v (HeardPt pt bytes) = all-same v.scene.kept
+turn-keeps v (Lost pt) = all-same v.scene.kept
+turn-keeps v Stopped = all-same v.scene.kept
+turn-keeps v (Linked pt) = all-same v.scene.kept
+turn-keeps v (LinkFailed pt) = all-same v.scene.kept
+turn-keeps v (SentTill till bytes true) = all-same v.scene.kept
+turn-keeps v (SentTill till bytes false) = all-same v.scene.kept
+turn-keeps v (SentPt pt bytes true) = all-same v.scene.kept
+turn-keeps v (SentPt pt bytes false) = all-same v.scene.kept
+turn-keeps v (CutTill till) = all-same v.scene.kept
+turn-keeps v (CutPt pt) = all-same v.scene.kept
+turn-keeps v (Wrote offset bytes) = all-same v.scene.kept
+turn-keeps v Synced = (option_to_list v.scene.flight, refl)
+turn-keeps v DiskFailed = all-same v.scene.kept
+turn-keeps v (Crash file) = kept-by-more v.scene.kept v.scene.flight file
+
+keeps-later : (rules : RecordRules) (base : List Turn) (first : View) (log : List Turn) (v : View) → KeepsOn rules base first log v → HasAll v.scene.kept first.scene.kept
+keeps-later rules base first _ _ KeepsOn.NoMoves = all-same first.scene.kept
+keeps-later rules base first _ _ (KeepsOn.RunBegins log v setup refused k ok) = keeps-later rules base first log v k
+keeps-later rules base first _ _ (KeepsOn.TurnComes log v turn k ok other) = all-later first.scene.kept v.scene.kept (after_turn v turn).scene.kept (keeps-later rules base first log v k) (turn-keeps v turn)
+keeps-later rules base first _ _ (KeepsOn.MessageIsRead log v as_read k ok) = keeps-later rules base first log v k
+keeps-later rules base first _ _ (KeepsOn.ItemBegins log v item items row k b is one) = keeps-later rules base first log v k
+
+-- ---- along a lawful log
+
+-- a run that begins owes no call, or is to open a journal
+lawful-start : (rules : RecordRules) (log : List Turn) (v : View) (setup : Setup) → Holds false rules log v → Holds false rules (log ++ Start setup ∷ []) (after_turn v (Start setup))
+lawful-start rules log v setup h = record {
+  outside_is = outside;
+  facts = still-facts rules log (Start setup) v.scene.kept v.scene.flight (λ o. (refl, refl, refl)) h.facts;
+  setup_is = record { before = log; rest = []; log_is = refl };
+  phase = by_owed (opening-owes setup v.scene.outside.file (records_of v.scene));
+}
+  where
+    outside : (after_turn v (Start setup)).scene.outside ≡ outside_of (log ++ Start setup ∷ [])
+    outside = outside-later v log (Start setup) h.outside_is
+
+    by_owed : ((after_turn v (Start setup)).calls ≡ []) ⊎ ((after_turn v (Start setup)).calls ≡ opening_calls (length v.scene.outside.file))
+        → Phase false rules (log ++ Start setup ∷ []) v.scene.kept v.scene.flight (after_turn v (Start setup)).calls (after_turn v (Start setup)).scene.stage
+    by_owed (inl none) = inr (inl (record { is_open = λ e. no-true e; spares = ap spare_disk none }))
+    by_owed (inr calls) = inr (inr (FirstSync (calls ∙ ap (λ (o : Outside). opening_calls (length o.file)) outside), opening-off-poll (opening setup v.scene.outside.file (records_of v.scene)).refused))
+
+lawful-turn : (rules : RecordRules) (log : List Turn) (v : View) (turn : Turn) → Holds false rules log v → AllowedTurn v turn → Holds false rules (log ++ turn ∷ []) (after_turn v turn)
+lawful-turn rules log v turn h ok = turns false rules log v turn h ok (λ setup e. subst (λ t. Holds false rules (log ++ t ∷ []) (after_turn v t)) (sym e) (lawful-start rules log v setup h))
+
+lawful-begins : (rules : RecordRules) (log : List Turn) (v : View) → Holds false rules log v → Begins v → Holds false rules log (after v Begin)
+lawful-begins rules log v h b =
+    let r = idle-rests false rules log v h (round-runs v.scene.stage b.idle.round) b.idle.calls in
+    by_items v.items (begin-spares v.scene v.items)
+  where
+    by_items : (items : List RoundItem) → spare_disk (begin v.scene items).calls ≡ true → Holds false rules log (begin v.scene items)
+    by_items [] spares = record { outside_is = h.outside_is; facts = h.facts; setup_is = h.setup_is; phase = inr (inl (record { is_open = λ e. no-true e; spares = spares })) }
+    by_items (first ∷ items) spares = record { outside_is = h.outside_is; facts = h.facts; setup_is = h.setup_is; phase = inr (inl (record { is_open = λ e. no-true e; spares = spares })) }
+
+course-holds : (rules : RecordRules) (log : List Turn) (v : View) (moves : List Move) → Holds false rules log v → IsCourse v moves → Holds false rules (log ++ turns_of moves) (view_from v moves)
+course-holds rules log v [] h c = subst (λ l. Holds false rules l v) (sym (append-nil log)) h
+course-holds rules log v (Begin ∷ moves) h c = course-holds rules log (after v Begin) moves (lawful-begins rules log v h c.0) c.1
+course-holds rules log v (Read as_read ∷ moves) h c = course-holds rules log (after v (Read as_read)) moves (message-is-read false rules log v as_read h c.0.idle.round c.0.idle.calls) c.1
+course-holds rules log v (Make turn ∷ moves) h c =
+    subst (λ l. Holds false rules l (view_from (after_turn v turn) moves)) (append_assoc log (turn ∷ []) (turns_of moves)) (course-holds rules (log ++ turn ∷ []) (after_turn v turn) moves (lawful-turn rules log v turn h c.0) c.1)
+
+-- ---- the laws
+
+-- what is kept, by the facts
+facts-kept : (rules : RecordRules) (log : List Turn) (scene : Scene) → Facts rules log scene.kept scene.flight → HasKept rules log scene
+facts-kept rules log scene f = record {
+  file = record { stable = f.files.stable; file = f.files.file };
+  images = f.files.images;
+  truncated = λ file slot image truncated.
+      let kept : List Record = kept_by scene.kept scene.flight file in
+      none-truncated file (map record_body kept) (f.files.images file image) (subst (HasGateAfter file) (sym (length-map kept record_body)) (f.files.gates file image)) slot truncated;
+  bad = λ file bodies image slots. record {
+    records = kept_by scene.kept scene.flight file;
+    bodies_are = one_slots file bodies (map record_body (kept_by scene.kept scene.flight file)) slots (f.files.images file image);
+    in_order = kept-by-order rules scene.kept scene.flight file f.in_order;
+  };
+  long = λ file slots image too_long. f.long slots (let le = image.no_longer in omega (arith, le, too_long));
+  full = λ file slots image needs. kept-by-either (FreeSlots rules log) scene.kept scene.flight file f.free f.all_free slots needs;
+}
+
+has-kept : (rules : RecordRules) (log : List Turn) (v : View) → KeepsJournal rules log v → HasKept rules log v.scene
+has-kept rules log v k = facts-kept rules log v.scene (holds rules log v k).facts
+
+pub each-keeps-file : EachKeepsFile
+each-keeps-file rules log v k = (has-kept rules log v k).file
+
+pub each-image-has-kept : EachImageHasKept
+each-image-has-kept rules log v k = (has-kept rules log v k).images
+
+pub none-kept-is-lost : NoneKeptIsLost
+none-kept-is-lost rules before log first v file k on image =
+    let f = (holds-on rules before first log v (holds rules before first k) on).facts in
+    let all = all-later first.scene.kept v.scene.kept (kept_by v.scene.kept v.scene.flight file) (keeps-later rules before first log v on) (kept-by-more v.scene.kept v.scene.flight file) in
+    (all.0, subst (λ l. AreSlots file (map record_body l)) all.1 (f.files.images file image))
+
+pub never-truncated : NeverTruncated
+never-truncated rules log v k = (has-kept rules log v k).truncated
+
+pub never-bad : NeverBad
+never-bad rules log v k = (has-kept rules log v k).bad
+
+pub long-only-with-fewer-slots : LongOnlyWithFewerSlots
+long-only-with-fewer-slots rules log v k = (has-kept rules log v k).long
+
+pub full-only-with-fewer-slots : FullOnlyWithFewerSlots
+full-only-with-fewer-slots rules log v k = (has-kept rules log v k).full
+
+pub each-round-has-journal : EachRoundHasJournal
+each-round-has-journal rules log v k round spares =
+    let h = holds rules log v k in
+    let r = rests-sparing true rules log v.scene.kept v.scene.flight v.calls v.scene.stage h.phase (round-runs v.scene.stage round) spares in
+    let journal = (r.is_open refl).journal in
+    let o = logs_open log (map record_body v.scene.kept) journal in
+    let n : length (map record_body v.scene.kept) ≡ length v.scene.kept = length-map v.scene.kept record_body in
+    record {
+      outside_is = h.outside_is;
+      no_flight = (r.is_open refl).no_flight;
+      at_rest = subst (IsAtRest log) n o.at_rest;
+      kept = o.kept;
+      ends = subst (EndsClosed (outside_of log).file) n o.ends;
+    }
+
+pub each-keeps-journal-files : EachKeepsJournalFiles
+each-keeps-journal-files rules log v k =
+    let f = (holds rules log v k).facts in
+    let leaves = logs_leave log f.state f.journal in
+    record { file = file_can log leaves; stable = stable_can log leaves; images = leaves }
+
+pub each-lawful-has-kept : EachLawfulHasKept
+each-lawful-has-kept rules log v s =
+    let h : Holds false rules log v =
+    subst (λ w. Holds false rules log w) s.view_is (subst (λ l. Holds false rules l (view_from at_first s.course)) s.log_is (course-holds rules [] at_first s.course (nothing-made false rules) s.lawful)) in
+    facts-kept rules log v.scene h.facts
