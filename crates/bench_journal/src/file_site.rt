@@ -1,7 +1,6 @@
 //! A site that has a real file and no connections, and whose log no proof observes.
-ghost use Rattle.std.specs.Prelude.{◌≡◌, ◌≤◌, None, false, IsErr, length};
+ghost use Rattle.std.specs.Prelude.{◌≡◌, ◌≤◌, None, false, IsErr, length, []};
 ghost use Rattle.gw_site.specs.Failures.{HasCause, Rose};
-ghost use Rattle.gw_site.specs.Observed.{no_origin};
 
 use gw_base::Setup;
 use gw_site::{Failed, Polled, Site, What};
@@ -70,7 +69,7 @@ impl FileSite {
 }
 
 impl Site for FileSite {
-    ghost observed = { λ site. record { log = None; faults = site.failures; dark = false; origin = no_origin } };
+    ghost observed = { λ site. record { log = None; faults = site.failures; dark = false; origin = []; plan = None } };
 
     fn open(&mut self, _setup: &Setup) -> Result<(), Failed> {
         self.fail()

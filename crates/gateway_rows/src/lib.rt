@@ -8,6 +8,8 @@ mod dialogue_tests;
 #[cfg(test)]
 mod message_tests;
 #[cfg(test)]
+mod opening_tests;
+#[cfg(test)]
 mod replay;
 #[cfg(test)]
 mod script_tests;

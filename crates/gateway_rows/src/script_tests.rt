@@ -9,40 +9,49 @@ use std::test::Fail;
 
 /// Scripts, and what is written of them.
 const TURNS: [(&str, &str); 11] = [
-    ("", "start\nat 0\nstop\nstatus 0\n"),
-    ("# a comment\n\n#", "start\nat 0\nstop\nstatus 0\n"),
-    ("at 5", "start\nat 5\nstop\nstatus 0\n"),
+    (
+        "",
+        "start\nsynced\nwrote 0 00\nsynced\nat 0\nstop\nstatus 0\n",
+    ),
+    (
+        "# a comment\n\n#",
+        "start\nsynced\nwrote 0 00\nsynced\nat 0\nstop\nstatus 0\n",
+    ),
+    (
+        "at 5",
+        "start\nsynced\nwrote 0 00\nsynced\nat 5\nstop\nstatus 0\n",
+    ),
     (
         "at 5\ntick\nat 4\ntick\n",
-        "start\nat 5\nat 4\nat 4\nstop\nstatus 0\n",
+        "start\nsynced\nwrote 0 00\nsynced\nat 5\nat 4\nat 4\nstop\nstatus 0\n",
     ),
     (
         "at 5\nclose 1\nat 6\ntick\nat 7\n",
-        "start\nat 6\nat 7\nstop\nstatus 0\n",
+        "start\nsynced\nwrote 0 00\nsynced\nat 6\nat 7\nstop\nstatus 0\n",
     ),
     (
         "open 0\n\nopen 0\n# closes\nclose 0\nclose 0\n",
-        "start\nat 0\nopen 0\nat 0\nclose 0\nat 0\nstop\nstatus 0\n",
+        "start\nsynced\nwrote 0 00\nsynced\nat 0\nopen 0\nat 0\nclose 0\nat 0\nstop\nstatus 0\n",
     ),
     (
         "open 2\nopen 1\nopen 2\nclose 2\nopen 2\nopen 3\n",
-        "start\nat 0\nopen 2\nat 0\nclose 2\nat 0\nopen 3\nat 0\nstop\nstatus 0\n",
+        "start\nsynced\nwrote 0 00\nsynced\nat 0\nopen 2\nat 0\nclose 2\nat 0\nopen 3\nat 0\nstop\nstatus 0\n",
     ),
     (
         "till 1 00\nopen 1\ntill 1 00000A\nclose 1\ntill 1 00\n",
-        "start\nat 0\nopen 1\nat 0\ntill 1 in 00000a\nat 0\nclose 1\nat 0\nstop\nstatus 0\n",
+        "start\nsynced\nwrote 0 00\nsynced\nat 0\nopen 1\nat 0\ntill 1 in 00000a\nat 0\nclose 1\nat 0\nstop\nstatus 0\n",
     ),
     (
         "open 1\ntill 1 00000000\ntill 1 00\n",
-        "start\nat 0\nopen 1\nat 0\ntill 1 in 00000000\ntill 1 cut\nat 0\nstop\nstatus 0\n",
+        "start\nsynced\nwrote 0 00\nsynced\nat 0\nopen 1\nat 0\ntill 1 in 00000000\ntill 1 cut\nat 0\nstop\nstatus 0\n",
     ),
     (
         "open 1\ntill 1 00010001\n",
-        "start\nat 0\nopen 1\nat 0\ntill 1 in 00010001\ntill 1 cut\nat 0\nstop\nstatus 0\n",
+        "start\nsynced\nwrote 0 00\nsynced\nat 0\nopen 1\nat 0\ntill 1 in 00010001\ntill 1 cut\nat 0\nstop\nstatus 0\n",
     ),
     (
         "at 253370764800\nopen 18446744073709551615",
-        "start\nat 253370764800\nopen 18446744073709551615\nat 253370764800\nstop\nstatus 0\n",
+        "start\nsynced\nwrote 0 00\nsynced\nat 253370764800\nopen 18446744073709551615\nat 253370764800\nstop\nstatus 0\n",
     ),
 ];
 
@@ -279,21 +288,12 @@ fn lines_of_a_terminal_and_failing_calls(rt: HostRuntime) -> Result<(), Fail> {
 
 /// Scripts with a line that isn't served yet, in rows of the same form.
 const UNSERVED: &str = "\
-1 fail open
-1 fail write
-1 fail sync
-1 fail length
-1 fail read
-1 power 0 new
-1 power 18446744073709551615 junk Ff
 2 terminal T1 EUR 123456 186 131;terminal T2 EUR 123456 186 131
-6 terminal T1 EUR 123456 186 131;# two;;fail link 0;tick;power 1 old
-2 tick;fail sync;fail open
 2 name A;line 0
 1 wait 60
-1 slots 2
-2 tick;fail open;sya 1 x
-2 tick;sya 1 x;fail open";
+3 slots 2;name A;wait 1
+1 line 0;sya 1 x
+1 sya 1 x;line 0";
 
 #[test]
 fn unserved_lines_are_refused_with_their_number(rt: HostRuntime) -> Result<(), Fail> {
@@ -334,4 +334,210 @@ fn the_longest_lines(rt: HostRuntime) -> Result<(), Fail> {
     check_longest(&rt, rt.alloc(), "name ", "A", 40)?;
     check_longest(&rt, rt.alloc(), "open 1\ntill 1 ", "00", 4_096)?;
     check_longest(&rt, rt.alloc(), "open 1\nsay 1 ", "A", 4_092)
+}
+
+/// Openings and disks that fail, and power failures: the lines of a script, and after `> ` those of its output, with the status.
+const FAILING: &str = "\
+power 0 junk 41
+open 1
+> start
+> synced
+> wrote 0 00
+> synced
+> power 1
+> start
+> synced
+> wrote 0 00
+> synced
+> at 0
+> open 1
+> at 0
+> stop
+> status 0
+
+fail open
+open 1
+> open failed
+> open
+> status 69
+
+fail length
+tick
+> start
+> synced
+> disk failed
+> disk
+> status 74
+
+fail read
+slots 2
+tick
+> script 2
+> status 65
+
+# Nothing is read of a file of one byte, and nothing is written after the opening.
+slots 2
+fail read
+fail write
+tick
+> start
+> synced
+> wrote 0 00
+> synced
+> at 0
+> at 0
+> stop
+> status 0
+
+# The power fails in the call that is counted last, and what is due later isn't made; the next run makes no link, since it is stopped.
+terminal T1 EUR 123456 186 131
+power 1 new
+tick
+> start
+> synced
+> wrote 0 00
+> synced
+> at 0
+> link 0
+> power 1
+> start
+> synced
+> wrote 0 00
+> synced
+> at 0
+> stop
+> status 0
+
+# It fails in a call that fails, which has its line all the same.
+terminal T1 EUR 123456 186 131
+fail link 0
+power 1 old
+tick
+> start
+> synced
+> wrote 0 00
+> synced
+> at 0
+> link 0 failed
+> power 1
+> start
+> synced
+> wrote 0 00
+> synced
+> at 0
+> stop
+> status 0
+
+# Of two power failures, the first at once, the second in the next run.
+at 7
+power 0 old
+open 1
+power 0 junk ff
+tick
+> start
+> synced
+> wrote 0 00
+> synced
+> power 1
+> start
+> synced
+> wrote 0 00
+> synced
+> at 7
+> open 1
+> power 1
+> start
+> synced
+> wrote 0 00
+> synced
+> at 7
+> at 7
+> stop
+> status 0
+
+# A number that opened before the power failure may open again.
+open 5
+power 0 new
+open 5
+> start
+> synced
+> wrote 0 00
+> synced
+> at 0
+> open 5
+> power 1
+> start
+> synced
+> wrote 0 00
+> synced
+> at 0
+> open 5
+> at 0
+> stop
+> status 0
+
+# A power failure that is never reached has no effect.
+power 1 old
+open 1
+> start
+> synced
+> wrote 0 00
+> synced
+> at 0
+> open 1
+> at 0
+> stop
+> status 0
+
+# What fails at the second opening ends the replay.
+tick
+fail open
+power 0 new
+tick
+> start
+> synced
+> wrote 0 00
+> synced
+> at 0
+> power 1
+> open failed
+> open
+> status 69
+
+tick
+fail length
+power 0 new
+tick
+> start
+> synced
+> wrote 0 00
+> synced
+> at 0
+> power 1
+> start
+> synced
+> disk failed
+> disk
+> status 74";
+
+/// Plays a row of such scripts, whose last line is its status.
+fn check_failing(rt: &impl Abort, alloc: Global, row: &str) -> Result<(), Fail> {
+    let mut script = String::new(alloc);
+    let mut output = String::new(alloc);
+    for line in row.split('\n') {
+        match line.strip_prefix("> ") {
+            Some(printed) => push_form(&mut output, "%\n", &[printed])?,
+            None => push_form(&mut script, "%\n", &[line])?,
+        }
+    }
+    let (_, status) = row.rsplit_once(' ').ok_or("no status")?;
+    check(rt, alloc, &script, &output, status.parse::<u8>()?)
+}
+
+#[test]
+fn disks_and_power_that_fail(rt: HostRuntime) -> Result<(), Fail> {
+    for row in FAILING.split("\n\n") {
+        check_failing(&rt, rt.alloc(), row)?;
+    }
+    Ok(())
 }

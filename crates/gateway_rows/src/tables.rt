@@ -5,7 +5,8 @@
 //! terminal T1 have lines of their own:
 //! - `ask CATEGORY BODY` is a request of the till, and `> reply CLASS CATEGORY BODY` what it gets;
 //! - `diagnosis` asks for the state of the terminal, and gets `> state STATE`;
-//! - `> reject SALE POI DETAILS` is the event that rejects a message.
+//! - `> reject SALE POI DETAILS` is the event that rejects a message;
+//! - `> start` is a start, and the opening of the journal on no file.
 use crate::replay::check;
 use std::alloc::{AllocError, Global};
 use std::process::Abort;
@@ -90,6 +91,7 @@ fn push_logged(log: &mut String, line: &str) -> Result<(), AllocError> {
         "reply" => push_form(log, REPLY, &[first, second, second, last]),
         "reject" => push_form(log, REJECT, &[first, second, last]),
         "state" => push_form(log, STATE, &[rest]),
+        "start" => log.push_str("start\nsynced\nwrote 0 00\nsynced\n"),
         _ => push_form(log, "%\n", &[line]),
     }
 }

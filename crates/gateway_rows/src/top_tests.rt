@@ -12,7 +12,7 @@ const STATUS_SCRIPT: &str = "open 1\n\
     \"MessageCategory\":\"TransactionStatus\",\"MessageType\":\"Request\",\"ServiceID\":\"1\",\"SaleID\":\"S1\",\"POIID\":\"T1\"},\
     \"TransactionStatusRequest\":{\"MessageReference\":{\"ServiceID\":\"9\"}}}}\n";
 
-const STATUS_OUTPUT: &str = "start\nat 0\nopen 1\nat 0\n\
+const STATUS_OUTPUT: &str = "start\nsynced\nwrote 0 00\nsynced\nat 0\nopen 1\nat 0\n\
     till 1 in '{\"SaleToPOIRequest\":{\"MessageHeader\":{\"ProtocolVersion\":\"3.0\",\"MessageClass\":\"Service\",\
     \"MessageCategory\":\"TransactionStatus\",\"MessageType\":\"Request\",\"ServiceID\":\"1\",\"SaleID\":\"S1\",\"POIID\":\"T1\"},\
     \"TransactionStatusRequest\":{\"MessageReference\":{\"ServiceID\":\"9\"}}}}\n\
@@ -21,7 +21,7 @@ const STATUS_OUTPUT: &str = "start\nat 0\nopen 1\nat 0\n\
     \"TransactionStatusResponse\":{\"Response\":{\"Result\":\"Failure\",\"ErrorCondition\":\"NotFound\"}}}}\n\
     at 0\nstop\nstatus 0\n";
 
-const REJECT_OUTPUT: &str = "start\nat 0\nopen 1\nat 0\ntill 1 in '{}\n\
+const REJECT_OUTPUT: &str = "start\nsynced\nwrote 0 00\nsynced\nat 0\nopen 1\nat 0\ntill 1 in '{}\n\
     till 1 out '{\"SaleToPOIRequest\":{\"MessageHeader\":{\"ProtocolVersion\":\"3.0\",\"MessageClass\":\"Event\",\
     \"MessageCategory\":\"Event\",\"MessageType\":\"Notification\",\"SaleID\":\"0\",\"POIID\":\"GATEWAY\"},\
     \"EventNotification\":{\"TimeStamp\":\"1970-01-01T00:00:00Z\",\"EventToNotify\":\"Reject\",\"EventDetails\":\"header SaleToPOIRequest\"}}}\n\

@@ -1,6 +1,6 @@
 -- What is owed as the loop serves a till.
 use Rattle.std.proofs.Common.{◌≡◌, ℕ, ◌+◌, ◌<◌, List, [], ◌∷◌, ◌++◌, length, refl, sym, ◌∙◌, ap, arith, length-append, subst, append_assoc}
-use Rattle.std.specs.Prelude.{map, Option, Some, None, Ok, ◌==◌, ◌≢◌, if◌then◌else◌, Bool, true, false}
+use Rattle.std.specs.Prelude.{map, Option, Some, None, Result, Ok, Err, IsErr, ◌==◌, ◌≢◌, if◌then◌else◌, Bool, true, false}
 use Rattle.gw_site.specs.Outside.{Outside, Connection, outside_after, is_connected, without}
 use Rattle.gw_site.specs.declared.turn.Turn.{Turn}
 use Rattle.gw_site.specs.declared.turn.Turn.TheVariants.{SentTill, CutTill as TillCut}
@@ -25,7 +25,7 @@ use Rattle.gw_rules.specs.Stage.{Stage, Resting, Opening, Looking, AtPoll, Handl
 use Rattle.gw_rules.specs.View.{View, called, begun, at_first, at_item, till_cut}
 use Rattle.gw_rules.specs.Lawful.{Stands, may_begin}
 use Rattle.gw_rules.specs.Triple.{Extends, Triple, Owing}
-use Rattle.gw_rules.proofs.TripleLemmas.{triple-refl, triple-then, triple-after, triple-before, triple-frame, triple-some, nothing-extends, begin-triple, read-triple}
+use Rattle.gw_rules.proofs.TripleLemmas.{triple-refl, triple-then, triple-after, triple-before, triple-frame, triple-some, begin-triple, read-triple}
 use Rattle.gw_core.specs.ReplyOf.{IsKnownAt, AreSameReplies}
 use Rattle.gw_dispatch.specs.NextMessage.{TakesMessage}
 use Rattle.gw_dispatch.specs.Round.{IsIn, InRound, Pending, BeforeTill, AfterTill, ReadsOn, Delivered, with_core, known_without}
@@ -36,9 +36,9 @@ use Rattle.std.specs.declared.alloc.AllocError.{AllocError}
 
 -- ---- facts that are known where the site isn't dark
 
-known-observed : (s : Observed) (A : Type 0) (P Q : View → Type 0) → (A → Triple s s P Q) → (d : Bool) → s.dark ≡ d → (before : List Turn) (v : View) → s.log ≡ Some before → Stands before v → (s.dark ≡ false → P v × A) → Extends before v s Q
+known-observed : (s : Observed) (A : Type 0) (P Q : View → Type 0) → (A → Triple s s P Q) → (d : Bool) → s.dark ≡ d → (before : List Turn) (v : View) → s.log ≡ Some before → Stands before v → (s.dark ≡ false → P v × A) → Extends s before v s Q
 known-observed s A P Q k false d before v e stands p = (k (p d).1).observed before v e stands (λ lit. (p lit).0)
-known-observed s A P Q k true d before v e stands p = nothing-extends before v s Q e (λ f. absurd (let h : true ≡ false = sym d ∙ f in cc))
+known-observed s A P Q k true d before v e stands p = (triple-refl s Q).observed before v e stands (λ f. absurd (let h : true ≡ false = sym d ∙ f in cc))
 
 -- what is kept without a call where a fact holds
 pub triple-known : (s : Observed) (A : Type 0) (P Q : View → Type 0) → (A → Triple s s P Q) → Triple s s (λ v. P v × A) Q
@@ -47,6 +47,7 @@ triple-known s A P Q k = record {
   unobserved = λ e. e;
   stays = λ e. e;
   still = λ e. refl;
+  rests = λ e later k. (later, k, λ more. refl);
   origin = refl;
 }
 
@@ -150,6 +151,12 @@ module _ (known : Known) (polls : ℕ) (o : Outside) (till : ℕ) (closed : is_c
       (triple-then s s s _ _ _ (pass-payloads reading.payloads (last ++ items)) (pass-unframed items (has_bad_length reading.rest)))
 
 -- ---- what a reader holds
+
+-- memory was refused: nothing is said
+pub serve-failed : {E : Type 0} (s : Observed) (known : Known) (polls : ℕ) (o : Outside) (till : ℕ) (old new : List ℕ) (items : List RoundItem) (r : Result Served E) → IsErr r →
+    Triple s s (BeforeTill known polls o till old items) (AfterTill r known polls o till new items)
+serve-failed s known polls o till old new items (Ok served) failed = absurd (let h : false ≡ true = failed in cc)
+serve-failed s known polls o till old new items (Err memory) failed = triple-after s s _ _ _ (triple-refl s _) (λ v p. tt)
 
 -- less than a frame waits
 pub serve-waiting : (s : Observed) (known : Known) (polls : ℕ) (o : Outside) (till : ℕ) (bytes : List ℕ) (items : List RoundItem) → IsIncompleteFrame bytes →

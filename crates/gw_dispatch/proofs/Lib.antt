@@ -2,10 +2,14 @@
 pub mod ApduLemmas
 pub mod EngineLemmas
 pub mod HeardLemmas
+pub mod KeepingLemmas
 pub mod LinkLemmas
+pub mod OpeningLemmas
 pub mod PerformLemmas
 pub mod PtsLemmas
+pub mod RecordsLemmas
 pub mod RoundLemmas
+pub mod RunLemmas
 pub mod SendLemmas
 pub mod StepLemmas
 pub mod TillLemmas

@@ -3,7 +3,8 @@ use Rattle.std.proofs.Common.{◌≡◌, ◌<◌, ℕ, List, [], ◌∷◌, ◌+
 use Rattle.std.specs.Prelude.{ℤ, slice_get, Option, Some, None, Result, Ok, Err, IfSome, is_ok}
 use Rattle.gw_base.specs.Moment.{moment_of}
 use Rattle.gw_base.specs.declared.setup.Setup.{Setup}
-use Rattle.gw_site.specs.Observed.{Observed, Grows, GrowsAfter}
+use Rattle.gw_site.specs.Observed.{Observed, Grows, IsStep}
+use Rattle.gw_site.specs.Steps.{CutPtCall, SendPtCall, LinkCall}
 use Rattle.gw_site.specs.Turns.{SentPtTurns, LinkTurns, IsTurn}
 use Rattle.gw_site.specs.declared.site.Failed.{Failed}
 use Rattle.gw_site.specs.declared.turn.Turn.TheVariants.{CutPt as PtCut}
@@ -227,37 +228,37 @@ cuts-calls pt number wanted one is one_is at =
 
 -- the cut of a terminal that serves nothing
 pub cut-performs : (a b : Observed) (old new : Core) (now : ℤ) (pt : ℕ) (wanted : Option Act) → IfSome (slice_get old.terminals pt) (λ (terminal : Terminal). ServesNothing terminal.standing) →
-    IsRowOf old (moment_of now) (λ known. link_row known pt LinkIsLost) new wanted → Grows a b (IsTurn (PtCut pt)) → Performs a b old new now (CutPt pt ∷ [])
-cut-performs a b old new now pt wanted none is grows = λ setup tills polls heard items.
-    cut-held setup tills polls now (AreHeard heard) a b old new pt items (heard-stays pt heard) grows
+    IsRowOf old (moment_of now) (λ known. link_row known pt LinkIsLost) new wanted → Grows a b (IsTurn (PtCut pt)) → IsStep a b (CutPtCall pt) → Performs a b old new now (CutPt pt ∷ [])
+cut-performs a b old new now pt wanted none is grows step = λ setup tills polls heard items.
+    cut-held setup tills polls now (AreHeard heard) a b old new pt items (heard-stays pt heard) grows step
     (λ kept. row-becomes (link_row (known_with setup kept old (moment_of now)) pt LinkIsLost) new wanted (is setup kept) ∙ ap (becoming new) (lost-owes-none old new (moment_of now) pt wanted none is))
 
 -- a send that went
-pub sent-performs : (a b : Observed) (old : Core) (now : ℤ) (pt : ℕ) (bytes : List ℕ) (sending : Sending) (r : Result (Unit {0}) Failed) (sent : Bool) → sent ≡ is_ok r → sent ≡ true → bytes ≡ sending_bytes sending → GrowsAfter a b (SentPtTurns a.origin pt bytes r) →
+pub sent-performs : (a b : Observed) (old : Core) (now : ℤ) (pt : ℕ) (bytes : List ℕ) (sending : Sending) (r : Result (Unit {0}) Failed) (sent : Bool) → sent ≡ is_ok r → sent ≡ true → bytes ≡ sending_bytes sending → Grows a b (SentPtTurns pt bytes r) → IsStep a b (SendPtCall pt bytes) →
     Performs a b old old now (SendPt pt sending ∷ [])
-sent-performs a b old now pt bytes sending (Ok done) sent value went is grows = λ setup tills polls heard items.
-    sent-held setup tills polls now (AreHeard heard) a b old pt sending done items (heard-stays pt heard) (subst (λ bytes. GrowsAfter a b (SentPtTurns {E = Failed} a.origin pt bytes (Ok done))) is grows)
-sent-performs a b old now pt bytes sending (Err failed) sent value went is grows = absurd (let h : false ≡ true = sym value ∙ went in cc)
+sent-performs a b old now pt bytes sending (Ok done) sent value went is grows step = λ setup tills polls heard items.
+    sent-held setup tills polls now (AreHeard heard) a b old pt sending done items (heard-stays pt heard) (subst (λ bytes. Grows a b (SentPtTurns {E = Failed} pt bytes (Ok done))) is grows) (subst (λ bytes. IsStep a b (SendPtCall pt bytes)) is step)
+sent-performs a b old now pt bytes sending (Err failed) sent value went is grows step = absurd (let h : false ≡ true = sym value ∙ went in cc)
 
 -- a send that has failed, and the cut after it
-pub unsent-performs : (a b c : Observed) (old new : Core) (now : ℤ) (pt : ℕ) (bytes : List ℕ) (sending : Sending) (r : Result (Unit {0}) Failed) (sent : Bool) → sent ≡ is_ok r → sent ≡ false → bytes ≡ sending_bytes sending → GrowsAfter a b (SentPtTurns a.origin pt bytes r) →
+pub unsent-performs : (a b c : Observed) (old new : Core) (now : ℤ) (pt : ℕ) (bytes : List ℕ) (sending : Sending) (r : Result (Unit {0}) Failed) (sent : Bool) → sent ≡ is_ok r → sent ≡ false → bytes ≡ sending_bytes sending → Grows a b (SentPtTurns pt bytes r) → IsStep a b (SendPtCall pt bytes) →
     Performs b c old new now (CutPt pt ∷ []) → Performs a c old new now (SendPt pt sending ∷ [])
-unsent-performs a b c old new now pt bytes sending (Ok done) sent value failed is grows cuts = absurd (let h : true ≡ false = sym value ∙ failed in cc)
-unsent-performs a b c old new now pt bytes sending (Err fault) sent value failed is grows cuts = λ setup tills polls heard items. triple-then a b c _ _ _
-    (unsent-held setup tills polls now (AreHeard heard) a b old pt sending fault items (heard-stays pt heard) (subst (λ bytes. GrowsAfter a b (SentPtTurns a.origin pt bytes (Err fault))) is grows))
+unsent-performs a b c old new now pt bytes sending (Ok done) sent value failed is grows step cuts = absurd (let h : true ≡ false = sym value ∙ failed in cc)
+unsent-performs a b c old new now pt bytes sending (Err fault) sent value failed is grows step cuts = λ setup tills polls heard items. triple-then a b c _ _ _
+    (unsent-held setup tills polls now (AreHeard heard) a b old pt sending fault items (heard-stays pt heard) (subst (λ bytes. Grows a b (SentPtTurns pt bytes (Err fault))) is grows) (subst (λ bytes. IsStep a b (SendPtCall pt bytes)) is step))
     (cuts setup tills polls heard items)
 
 -- a link that was tried, and what is wanted then
 pub link-tried : (a b c : Observed) (old mid new : Core) (now : ℤ) (pt : ℕ) (r : Result (Unit {0}) Failed) (made : Bool) (wanted : Option Act) → made ≡ is_ok r → pt < length old.terminals → is_linked_in (slice_get old.terminals pt) ≡ false →
-    IsRowOf old (moment_of now) (λ known. link_row known pt (link_event_of made)) mid wanted → Grows a b (LinkTurns pt r) → Performs b c mid new now (calls_wanted wanted) →
+    IsRowOf old (moment_of now) (λ known. link_row known pt (link_event_of made)) mid wanted → Grows a b (LinkTurns pt r) → IsStep a b (LinkCall pt) → Performs b c mid new now (calls_wanted wanted) →
     (setup : Setup) (tills : List Till) (polls : ℕ) (heard : ℕ → List ℕ) (items : List RoundItem) → heard pt ≡ [] →
     Triple a c (MidRound setup old tills polls now (AreHeard heard) (LinkPt pt ∷ []) items) (MidRound setup new tills polls now (AreHeard heard) [] items)
-link-tried a b c old mid new now pt (Ok done) made wanted up inside unlinked is grows performs = λ setup tills polls heard items none. triple-then a b c _ _ _
-    (made-held setup tills polls now (AreHeard heard) a b old mid pt done (calls_wanted wanted) items inside (heard-linked pt heard none) grows
+link-tried a b c old mid new now pt (Ok done) made wanted up inside unlinked is grows step performs = λ setup tills polls heard items none. triple-then a b c _ _ _
+    (made-held setup tills polls now (AreHeard heard) a b old mid pt done (calls_wanted wanted) items inside (heard-linked pt heard none) grows step
     (λ kept. row-becomes (link_row (known_with setup kept old (moment_of now)) pt LinkIsMade) mid wanted (subst (λ m. IsRow (link_row (known_with setup kept old (moment_of now)) pt (link_event_of m)) mid wanted) up (is setup kept))))
     (performs setup tills polls heard items)
-link-tried a b c old mid new now pt (Err failed) made wanted up inside unlinked is grows performs = λ setup tills polls heard items none. triple-then a b c _ _ _
-    (failed-held setup tills polls now (AreHeard heard) a b old mid pt failed (calls_wanted wanted) items unlinked (heard-linked pt heard none) grows
+link-tried a b c old mid new now pt (Err failed) made wanted up inside unlinked is grows step performs = λ setup tills polls heard items none. triple-then a b c _ _ _
+    (failed-held setup tills polls now (AreHeard heard) a b old mid pt failed (calls_wanted wanted) items unlinked (heard-linked pt heard none) grows step
     (λ kept. row-becomes (link_row (known_with setup kept old (moment_of now)) pt LinkIsLost) mid wanted (subst (λ m. IsRow (link_row (known_with setup kept old (moment_of now)) pt (link_event_of m)) mid wanted) up (is setup kept))))
     (performs setup tills polls heard items)
 

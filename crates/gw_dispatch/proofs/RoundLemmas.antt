@@ -10,7 +10,8 @@ use Rattle.gw_site.specs.Outside.{Outside, Connection, outside_after, is_connect
 use Rattle.gw_site.specs.declared.turn.Turn.TheVariants.{Polled, Opened, HeardTill, Closed, HeardPt, Lost, CutTill as TillCut}
 use Rattle.gw_site.specs.declared.site.What.{What}
 use Rattle.gw_site.specs.declared.site.What.TheVariants.{TillOpened, TillBytes, TillClosed, PtBytes, PtClosed, Nothing, Stopped as StopEvent}
-use Rattle.gw_site.specs.Observed.{Observed, Grows}
+use Rattle.gw_site.specs.Observed.{Observed, Grows, IsStep}
+use Rattle.gw_site.specs.Steps.{CutTillCall}
 use Rattle.gw_site.specs.Turns.{IsTurn}
 use Rattle.sale_frame.specs.Decode.{decode_frames}
 use Rattle.gw_owes.specs.Calls.{CutTill}
@@ -24,13 +25,13 @@ use Rattle.gw_owes.proofs.FrameLemmas.{reading-chunk, rest-chunk}
 use Rattle.gw_rules.specs.Scene.{Scene}
 use Rattle.gw_rules.specs.Stage.{Stage, Resting, Opening, Looking, AtPoll, Handling, Over, Broken, is_round, is_running}
 use Rattle.gw_rules.specs.View.{View, polled, at_event, at_first, till_cut}
-use Rattle.gw_rules.specs.Triple.{Triple, Owing, AtEvent, JustBegun}
+use Rattle.gw_rules.specs.Triple.{Triple, Owing, AtEvent}
 use Rattle.gw_rules.proofs.TripleLemmas.{triple-refl, triple-then, triple-weaker, triple-after, triple-before, triple-frame, triple-some}
 use Rattle.gw_rules.proofs.CallLemmas.{cut-till-triple}
 use Rattle.gw_core.specs.ReplyOf.{IsKnownAt}
 use Rattle.gw_dispatch.specs.MidRound.{AllHear, AreLinked, MidRound, due_items, each_terminal, is_linked_in}
 use Rattle.gw_dispatch.specs.Round.{IsIn, InRound, BeforeTill, AfterTill, ReadsOn, known_at, known_without}
-use Rattle.gw_dispatch.specs.Rounds.{MatchesOutside, IsHeldRun, IsBetweenRounds, IsPolled, RoundSetting, BeforeChunk, BeforeOpen, BeforePtBytes, BeforePtEnd, due_in}
+use Rattle.gw_dispatch.specs.Rounds.{IsRunOpened, MatchesOutside, IsHeldRun, IsBetweenRounds, IsPolled, RoundSetting, BeforeChunk, BeforeOpen, BeforePtBytes, BeforePtEnd, due_in}
 use Rattle.gw_dispatch.specs.RunEnd.{EndedBy}
 use Rattle.gw_dispatch.specs.Tills.{rank, till_of, others, AreBelow}
 use Rattle.gw_dispatch.specs.declared.engine.Dispatch.{Dispatch}
@@ -253,15 +254,15 @@ open-taken s setup dispatch new polls now number few is = triple-after s s _ _ _
 
 -- a till that opens while as many are there as may be is cut, and forgotten
 pub open-crowded : (a b : Observed) (setup : Setup) (dispatch : Dispatch) (new_core : Core) (new_readers : List (List ℕ)) (polls : ℕ) (now : ℤ) (number : ℕ) → 64 ≤ length dispatch.tills.items →
-    new_core ≡ core_without dispatch.pts.core number → new_readers ≡ dispatch.pts.readers.items → Grows a b (IsTurn (TillCut number)) →
+    new_core ≡ core_without dispatch.pts.core number → new_readers ≡ dispatch.pts.readers.items → Grows a b (IsTurn (TillCut number)) → IsStep a b (CutTillCall number) →
     Triple a b (BeforeOpen setup dispatch polls now number) (HandledWith setup new_core new_readers dispatch.tills.items polls now)
-open-crowded a b setup dispatch new_core new_readers polls now number many forgot same grows =
+open-crowded a b setup dispatch new_core new_readers polls now number many forgot same grows step =
     triple-before a b _ _ _ open-up
     (triple-some a b (λ (setting : RoundSetting) v. InRound (knows setting) polls (after setting) (Crowded number ∷ due_in dispatch) v × IsFull setting) (HandledWith setup new_core new_readers dispatch.tills.items polls now) no_setting
     (λ setting. triple-after a b _ _ _ (triple-frame a b _ _ (IsFull setting) (triple-then a a b _ _ _
     (begin-first a (knows setting) polls (after setting) (Crowded number) (due_in dispatch) dispatch.pts.core (CutTill number ∷ []) (record { begins = λ scene e. refl; row = refl }))
     (some-scene a b (knows setting) polls (after setting) (CutTill number ∷ []) (due_in dispatch) (InRound (known_without (knows setting) number) polls (outside_after (after setting) (TillCut number)) (due_in dispatch)) (λ scene.
-    triple-after a b _ _ _ (triple-frame a b _ _ (IsIn (knows setting) polls (after setting) scene) (cut-till-triple scene (due_in dispatch) a b number grows)) (λ v q. (till_cut scene number, q.0, cut-in (knows setting) polls (after setting) number scene q.1))))))
+    triple-after a b _ _ _ (triple-frame a b _ _ (IsIn (knows setting) polls (after setting) scene) (cut-till-triple scene (due_in dispatch) a b number grows step)) (λ v q. (till_cut scene number, q.0, cut-in (knows setting) polls (after setting) number scene q.1))))))
     (λ v q. closed setting v q.0 q.1)))
   where
     knows : RoundSetting → Known
@@ -497,14 +498,14 @@ handled-rest setup dispatch polls now v h =
 
 -- ---- a run
 
--- a run that has just begun
-pub begun-rest : (setup : Setup) (dispatch : Dispatch) → dispatch.tills.items ≡ [] → dispatch.pts.core ≡ new_core setup → (v : View) → JustBegun setup v → IsBetweenRounds setup dispatch 0 v
-begun-rest setup dispatch none new v (scene, is, f) = (
+-- a run whose opening is done
+pub opened-rest : (setup : Setup) (dispatch : Dispatch) → dispatch.tills.items ≡ [] → dispatch.pts.core ≡ new_core setup → (v : View) → IsRunOpened setup v → IsBetweenRounds setup dispatch 0 v
+opened-rest setup dispatch none new v (scene, is, f) = (
   scene,
   is,
   record {
     setup_is = f.setup_is;
-    running = ap is_running f.stage;
+    running = f.running;
     polls_are = f.polls;
     core_is = f.core_is ∙ sym new;
     matches = record {

@@ -2,8 +2,9 @@
 use Rattle.std.proofs.Common.{◌≡◌, ◌<◌, ℕ, List, [], ◌∷◌, length, refl, sym, ◌∙◌, ap, subst, Bool, true, false}
 use Rattle.std.specs.Prelude.{ℤ, slice_get, Ok, Err}
 use Rattle.gw_base.specs.declared.setup.Setup.{Setup}
-use Rattle.gw_site.specs.Observed.{Observed, Grows, GrowsAfter}
+use Rattle.gw_site.specs.Observed.{Observed, Grows, IsStep}
 use Rattle.gw_site.specs.Outside.{Connection, Outside, outside_after, nothing_yet}
+use Rattle.gw_site.specs.Steps.{CutPtCall, SendPtCall, LinkCall}
 use Rattle.gw_site.specs.Turns.{SentPtTurns, LinkTurns, IsTurn}
 use Rattle.gw_site.specs.declared.site.Failed.{Failed}
 use Rattle.gw_site.specs.declared.turn.Turn.{Turn}
@@ -134,9 +135,9 @@ module _ (setup : Setup) (tills : List Till) (polls : ℕ) (now : ℤ) (Also : O
       subst (λ (r : Row). OwingRow (called place.scene turn) r items v) (placed-row core place row fits ∙ row_is) q
 
   -- the cut of a terminal, with which its link is lost
-  pub cut-held : (a b : Observed) (core new : Core) (pt : ℕ) (items : List RoundItem) → StaysAt pt Also → Grows a b (IsTurn (PtCut pt)) → ((kept : List Record) → link_row (known_at setup core kept now) pt LinkIsLost ≡ becoming new []) →
+  pub cut-held : (a b : Observed) (core new : Core) (pt : ℕ) (items : List RoundItem) → StaysAt pt Also → Grows a b (IsTurn (PtCut pt)) → IsStep a b (CutPtCall pt) → ((kept : List Record) → link_row (known_at setup core kept now) pt LinkIsLost ≡ becoming new []) →
       Triple a b (MidRound setup core tills polls now Also (CutPt pt ∷ []) items) (MidRound setup new tills polls now Also [] items)
-  cut-held a b core new pt items stays grows lost = held-call a b core (CutPt pt ∷ []) items (λ scene. CutOfPt scene pt items) _ (λ scene. cut-pt-triple scene items a b pt grows) (λ place v fits q.
+  cut-held a b core new pt items stays grows step lost = held-call a b core (CutPt pt ∷ []) items (λ scene. CutOfPt scene pt items) _ (λ scene. cut-pt-triple scene items a b pt grows step) (λ place v fits q.
       into-held core new (PtCut pt) [] items place v fits (cut-keeps pt)
       (subst (λ c. AreLinked c (outside_after place.outside (PtCut pt))) (ap (λ (r : Row). r.core) (lost place.kept)) (cut-linked (known_at setup core place.kept now) pt place.outside fits.linked))
       (stays.cut place.outside fits.also)
@@ -153,34 +154,34 @@ module _ (setup : Setup) (tills : List Till) (polls : ℕ) (now : ℤ) (Also : O
       into-held core core (SentPt pt bytes ok) calls items place v fits (sent-keeps pt bytes ok) fits.linked (stays.sent place.outside bytes ok fits.also) (same-core core (SentPt pt bytes ok) calls items place v fits q)
 
   -- a send to a terminal, after which nothing is owed
-  pub sent-held : (a b : Observed) (core : Core) (pt : ℕ) (sending : Sending) (done : Unit {0}) (items : List RoundItem) → StaysAt pt Also → GrowsAfter a b (SentPtTurns {E = Failed} a.origin pt (sending_bytes sending) (Ok done)) →
+  pub sent-held : (a b : Observed) (core : Core) (pt : ℕ) (sending : Sending) (done : Unit {0}) (items : List RoundItem) → StaysAt pt Also → Grows a b (SentPtTurns {E = Failed} pt (sending_bytes sending) (Ok done)) → IsStep a b (SendPtCall pt (sending_bytes sending)) →
       Triple a b (MidRound setup core tills polls now Also (SendPt pt sending ∷ []) items) (MidRound setup core tills polls now Also [] items)
-  sent-held a b core pt sending done items stays grows =
-      held-call a b core (SendPt pt sending ∷ []) items (λ scene. SentToPt {E = Failed} (Ok done) scene pt (sending_bytes sending) items) _ (λ scene. send-pt-triple scene items a b {E = Failed} pt sending (Ok done) grows)
+  sent-held a b core pt sending done items stays grows step =
+      held-call a b core (SendPt pt sending ∷ []) items (λ scene. SentToPt {E = Failed} (Ok done) scene pt (sending_bytes sending) items) _ (λ scene. send-pt-triple scene items a b {E = Failed} pt sending (Ok done) grows step)
       (λ place v fits q. after-send core pt (sending_bytes sending) true [] items place v stays fits q)
 
   -- a send that has failed, after which the cut is owed
-  pub unsent-held : (a b : Observed) (core : Core) (pt : ℕ) (sending : Sending) (failed : Failed) (items : List RoundItem) → StaysAt pt Also → GrowsAfter a b (SentPtTurns a.origin pt (sending_bytes sending) (Err failed)) →
+  pub unsent-held : (a b : Observed) (core : Core) (pt : ℕ) (sending : Sending) (failed : Failed) (items : List RoundItem) → StaysAt pt Also → Grows a b (SentPtTurns pt (sending_bytes sending) (Err failed)) → IsStep a b (SendPtCall pt (sending_bytes sending)) →
       Triple a b (MidRound setup core tills polls now Also (SendPt pt sending ∷ []) items) (MidRound setup core tills polls now Also (CutPt pt ∷ []) items)
-  unsent-held a b core pt sending failed items stays grows =
-      held-call a b core (SendPt pt sending ∷ []) items (λ scene. SentToPt (Err failed) scene pt (sending_bytes sending) items) _ (λ scene. send-pt-triple scene items a b pt sending (Err failed) grows)
+  unsent-held a b core pt sending failed items stays grows step =
+      held-call a b core (SendPt pt sending ∷ []) items (λ scene. SentToPt (Err failed) scene pt (sending_bytes sending) items) _ (λ scene. send-pt-triple scene items a b pt sending (Err failed) grows step)
       (λ place v fits q. after-send core pt q.0 false (CutPt pt ∷ []) items place v stays fits q.1)
 
   -- a link that is made
-  pub made-held : (a b : Observed) (core new : Core) (pt : ℕ) (done : Unit {0}) (calls : List OwedCall) (items : List RoundItem) → pt < length core.terminals → StaysLinked pt Also → Grows a b (LinkTurns {E = Failed} pt (Ok done)) →
+  pub made-held : (a b : Observed) (core new : Core) (pt : ℕ) (done : Unit {0}) (calls : List OwedCall) (items : List RoundItem) → pt < length core.terminals → StaysLinked pt Also → Grows a b (LinkTurns {E = Failed} pt (Ok done)) → IsStep a b (LinkCall pt) →
       ((kept : List Record) → link_row (known_at setup core kept now) pt LinkIsMade ≡ becoming new calls) → Triple a b (MidRound setup core tills polls now Also (LinkPt pt ∷ []) items) (MidRound setup new tills polls now Also calls items)
-  made-held a b core new pt done calls items inside stays grows made =
-      held-call a b core (LinkPt pt ∷ []) items (λ scene. LinkTried {E = Failed} (Ok done) scene pt items) _ (λ scene. link-pt-triple scene items a b {E = Failed} pt (Ok done) grows) (λ place v fits q.
+  made-held a b core new pt done calls items inside stays grows step made =
+      held-call a b core (LinkPt pt ∷ []) items (λ scene. LinkTried {E = Failed} (Ok done) scene pt items) _ (λ scene. link-pt-triple scene items a b {E = Failed} pt (Ok done) grows step) (λ place v fits q.
       into-held core new (Linked pt) calls items place v fits (linked-keeps pt)
       (subst (λ c. AreLinked c (outside_after place.outside (Linked pt))) (ap (λ (r : Row). r.core) (made place.kept)) (made-linked-so (known_at setup core place.kept now) pt place.outside inside fits.linked))
       (stays.linked place.outside fits.also)
       (by-row core new (Linked pt) calls items place v (λ known. link_row known pt LinkIsMade) fits (made place.kept) q))
 
   -- a link that could not be made
-  pub failed-held : (a b : Observed) (core new : Core) (pt : ℕ) (failed : Failed) (calls : List OwedCall) (items : List RoundItem) → is_linked_in (slice_get core.terminals pt) ≡ false → StaysLinked pt Also → Grows a b (LinkTurns pt (Err failed)) →
+  pub failed-held : (a b : Observed) (core new : Core) (pt : ℕ) (failed : Failed) (calls : List OwedCall) (items : List RoundItem) → is_linked_in (slice_get core.terminals pt) ≡ false → StaysLinked pt Also → Grows a b (LinkTurns pt (Err failed)) → IsStep a b (LinkCall pt) →
       ((kept : List Record) → link_row (known_at setup core kept now) pt LinkIsLost ≡ becoming new calls) → Triple a b (MidRound setup core tills polls now Also (LinkPt pt ∷ []) items) (MidRound setup new tills polls now Also calls items)
-  failed-held a b core new pt failed calls items unlinked stays grows lost =
-      held-call a b core (LinkPt pt ∷ []) items (λ scene. LinkTried (Err failed) scene pt items) _ (λ scene. link-pt-triple scene items a b pt (Err failed) grows) (λ place v fits q.
+  failed-held a b core new pt failed calls items unlinked stays grows step lost =
+      held-call a b core (LinkPt pt ∷ []) items (λ scene. LinkTried (Err failed) scene pt items) _ (λ scene. link-pt-triple scene items a b pt (Err failed) grows step) (λ place v fits q.
       into-held core new (LinkFailed pt) calls items place v fits (failed-keeps pt)
       (subst (λ c. AreLinked c (outside_after place.outside (LinkFailed pt))) (ap (λ (r : Row). r.core) (lost place.kept)) (failed-linked (known_at setup core place.kept now) pt place.outside unlinked fits.linked))
       (stays.failed place.outside fits.also)

@@ -102,5 +102,6 @@ triple-unwaited a b P Q k = record {
   unobserved = k.unobserved;
   stays = k.stays;
   still = k.still;
+  rests = k.rests;
   origin = k.origin;
 }

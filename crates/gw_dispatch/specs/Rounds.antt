@@ -1,10 +1,11 @@
 -- What holds between rounds, as an event comes, and once it was handled.
-use Rattle.std.specs.Prelude.{◌≡◌, ℕ, ◌≤◌, ℤ, true, List, [], ◌++◌, length, Some, Result, Ok, Err}
+use Rattle.std.specs.Prelude.{◌≡◌, ℕ, ◌≤◌, ℤ, true, List, [], ◌++◌, length, Some, None, Result, Ok, Err}
 use Rattle.gw_base.specs.declared.setup.Setup.{Setup}
 use Rattle.gw_site.specs.Outside.{Outside, outside_after, is_connected, heard_on}
 use Rattle.gw_site.specs.declared.site.What.{What}
 use Rattle.gw_site.specs.declared.turn.Turn.TheVariants.{Opened, HeardTill}
 use Rattle.jrn_record.specs.declared.records.Record.{Record}
+use Rattle.gw_owes.specs.Core.{new_core}
 use Rattle.gw_owes.specs.Events.{till_bytes_items, till_opened_items}
 use Rattle.gw_owes.specs.Items.{RoundItem}
 use Rattle.gw_rules.specs.Scene.{Scene}
@@ -16,6 +17,22 @@ use Rattle.gw_dispatch.specs.Round.{HoldsTills, InRound, known_at}
 use Rattle.gw_dispatch.specs.declared.engine.Dispatch.{Dispatch}
 use Rattle.gw_dispatch.specs.declared.engine.RoundEnd.{RoundEnd}
 use Rattle.gw_dispatch.specs.declared.engine.RoundEnd.TheVariants.{Went, Stopped}
+
+-- ---- once a run is opened
+
+-- a run with this setup goes on, and nothing has happened in it but its opening: no till is there, no terminal is linked, no poll was made, and no record is in flight
+pub record IsNewlyOpened (setup : Setup) (scene : Scene) : Type 0 where
+  pub setup_is : scene.setup ≡ Some setup
+  pub running : is_running scene.stage ≡ true
+  pub tills : scene.outside.tills ≡ []
+  pub links : scene.outside.links ≡ []
+  pub polls : scene.polls ≡ 0
+  pub core_is : scene.core ≡ new_core setup
+  pub flight : scene.flight ≡ None
+
+-- its opening is done, and nothing is owed
+abbrev pub IsRunOpened : Setup → View → Type 0
+IsRunOpened setup v = (scene : Scene) × Owing scene [] [] v × IsNewlyOpened setup scene
 
 -- ---- between rounds
 

@@ -5,12 +5,17 @@ ghost use Rattle.gw_base.specs.Setup.{IsSetup};
 ghost use Rattle.gw_base.specs.declared.setup.Setup.{Setup as TheSetup};
 ghost use Rattle.gw_site.specs.Failures.{Rose};
 ghost use Rattle.gw_site.specs.Turns.{IsWithinBuf};
-ghost use Rattle.gw_rules.specs.Triple.{Triple, RunTriple, IsRun, JustBegun};
+ghost use Rattle.gw_site.specs.Observed.{IfObserved};
+ghost use Rattle.gw_site.specs.Outside.{outside_of};
+ghost use Rattle.gw_rules.specs.Acts.{Unmeasured};
+ghost use Rattle.gw_rules.specs.Triple.{Triple, TripleBy, RunTriple, IsRun, JustBegun};
 ghost use Rattle.gw_rules.specs.View.{View};
-ghost use Rattle.gw_dispatch.specs.Rounds.{IsReady, BeforeChunk, BeforeOpen, BeforePtBytes, BeforePtEnd, IsBetweenRounds, IsPolled, IsHandled, AfterEvent, AfterRound};
-ghost use Rattle.gw_dispatch.specs.RunEnd.{EndedBy};
+ghost use Rattle.gw_dispatch.specs.Rounds.{IsRunOpened, IsReady, BeforeChunk, BeforeOpen, BeforePtBytes, BeforePtEnd, IsBetweenRounds, IsPolled, IsHandled, AfterEvent, AfterRound};
+ghost use Rattle.gw_dispatch.specs.RecordsOpening.{GoesOnFrom, EndsInFailure};
+ghost use Rattle.gw_dispatch.specs.RunEnd.{EndedBy, EndsByFound, HasBegun, EndsRounds, IsDueFrom, IsEndByFile, NoneBegan, ReportsFile, end_by};
 
 use crate::pts::Pts;
+use crate::records::{Records, Unopened};
 use crate::replier::{Replier, Served};
 use crate::tills::{Till, drop_till, index_of, open_till};
 use gw_base::Setup;
@@ -35,6 +40,14 @@ pub enum Ended {
     Done,
     /// The site could not be opened.
     NotOpened,
+    /// A call on the disk has failed.
+    Disk,
+    /// The journal's file has this length in bytes: more than its slots take, or its records leave fewer slots free than keys open.
+    TooLong { length: u64 },
+    /// This slot of the journal is open, and the file ends before the gate of the next.
+    Cut { slot: u32 },
+    /// This slot of the journal is the first that is no record, or one that does not fit those before it.
+    BadRecord { slot: u32 },
     /// Memory was refused.
     NoMemory,
 }
@@ -46,13 +59,14 @@ pub struct Dispatch {
     /// The tills that are there.
     tills: Vec<Till>,
     pts: Pts,
+    records: Records,
 }
 
 impl Dispatch {
-    /// What is held as a run with this setup begins: the readers of all terminals and the buffer of replies are made here, and nowhere later.
-    pub fn open(alloc: Global, setup: &Setup) -> Result<Dispatch, AllocError>
+    /// What is held once the opening of a run with this setup is done: the readers of all terminals and the buffer of replies are made here, and nowhere later.
+    pub fn open(alloc: Global, setup: &Setup, records: Records) -> Result<Dispatch, AllocError>
         requires { IsSetup setup.now }
-        ensures begun { IfOk result (λ dispatch. (v : View) → JustBegun setup.now v → IsBetweenRounds setup.now dispatch 0 v) }
+        ensures begun { IfOk result (λ dispatch. (v : View) → IsRunOpened setup.now v → IsBetweenRounds setup.now dispatch 0 v) }
         ensures ready { IfOk result IsReady }
         ensures name { IfOk result (λ dispatch. dispatch.replier.name ≡ setup.now.name) }
     {
@@ -63,6 +77,7 @@ impl Dispatch {
             replier: Replier { alloc, name, out },
             tills: Vec::new(alloc),
             pts,
+            records,
         })
     }
 
@@ -237,14 +252,20 @@ impl Dispatch {
     }
 }
 
-/// The rounds of a run with this setup, at most so many.
-fn rounds<S: Site>(alloc: Global, setup: &Setup, site: &mut S, most: u64) -> Ended
+/// The rounds of a run with this setup, at most so many, once its opening is done.
+pub(crate) fn rounds<S: Site>(
+    alloc: Global,
+    setup: &Setup,
+    site: &mut S,
+    records: Records,
+    most: u64,
+) -> Ended
     requires { IsSetup setup.now }
-    ensures triple { Triple (S.observed site.old) (S.observed site.new) (JustBegun setup.now) (EndedBy result most) }
-    ensures opened { result ≢ Ended.NotOpened }
+    ensures triple { Triple (S.observed site.old) (S.observed site.new) (IsRunOpened setup.now) (EndedBy result most) }
+    ensures ran { EndsRounds result }
     ensures later { (S.observed site.old).faults ≤ (S.observed site.new).faults }
 {
-    let mut dispatch = match Dispatch::open(alloc, setup) {
+    let mut dispatch = match Dispatch::open(alloc, setup, records) {
         Ok(dispatch) => dispatch,
         Err(AllocError) => return Ended::NoMemory,
     };
@@ -260,18 +281,52 @@ fn rounds<S: Site>(alloc: Global, setup: &Setup, site: &mut S, most: u64) -> End
     Ended::Done
 }
 
-/// One run over a site, of at most so many polls.
+/// How a run ends whose records were not opened.
+fn ended_by(cause: Unopened) -> Ended
+    ensures { result ≡ end_by cause }
+{
+    match cause {
+        Unopened::Disk => Ended::Disk,
+        Unopened::TooLong { length } => Ended::TooLong { length },
+        Unopened::Cut { slot } => Ended::Cut { slot },
+        Unopened::BadRecord { slot } => Ended::BadRecord { slot },
+        Unopened::Memory => Ended::NoMemory,
+    }
+}
+
+/// A run with this setup once its site is open: its records are opened, and then come its rounds, at most so many.
+fn journaled<S: Site>(alloc: Global, setup: &Setup, site: &mut S, most: u64) -> Ended
+    requires { IsSetup setup.now }
+    ensures triple { TripleBy (IsDueFrom setup.now Unmeasured) (S.observed site.old) (S.observed site.new) (JustBegun setup.now) (EndedBy result most) }
+    ensures begun { HasBegun result }
+    ensures disk { result ≡ Ended.Disk → Rose (S.observed site.old).faults (S.observed site.new).faults }
+    ensures file { IfObserved (S.observed site.old) (λ before. IsEndByFile setup.now.slots (outside_of before).file result) }
+    ensures failed { result ≡ Ended.Disk → IfObserved (S.observed site.old) (λ before. EndsInFailure (S.observed site.new)) }
+    ensures adds { ReportsFile result → IfObserved (S.observed site.old) (λ before. GoesOnFrom before (S.observed site.new)) }
+    ensures later { (S.observed site.old).faults ≤ (S.observed site.new).faults }
+{
+    match Records::open(alloc, site, setup.slots) {
+        Ok(records) => rounds(alloc, setup, site, records, most),
+        Err(cause) => ended_by(cause),
+    }
+}
+
+/// One run over a site, of at most so many polls. The records of its journal are opened before the first.
 ///
 /// The log of the site goes on by what is owed and by nothing else, and whatever is owed is done before the next poll. A site
 /// that goes dark ends the run.
 pub fn run<S: Site>(alloc: Global, setup: &Setup, site: &mut S, most: u64) -> Ended
     requires { IsSetup setup.now }
-    ensures lawful { RunTriple (S.observed site.old) (S.observed site.new) (IsRun setup.now) (EndedBy result most) }
+    ensures lawful { RunTriple setup.now (S.observed site.old) (S.observed site.new) (IsRun setup.now) (EndedBy result most) }
     ensures opened { result ≡ Ended.NotOpened → Rose (S.observed site.old).faults (S.observed site.new).faults }
+    ensures none { result ≡ Ended.NotOpened → IfObserved (S.observed site.old) (λ before. NoneBegan before (S.observed site.new)) }
+    ensures disk { result ≡ Ended.Disk → Rose (S.observed site.old).faults (S.observed site.new).faults }
+    ensures file { IfObserved (S.observed site.old) (λ before. EndsByFound setup.now.slots before (S.observed site.new) result) }
+    ensures failed { result ≡ Ended.Disk → IfObserved (S.observed site.old) (λ before. EndsInFailure (S.observed site.new)) }
     ensures later { (S.observed site.old).faults ≤ (S.observed site.new).faults }
 {
     match site.open(setup) {
-        Ok(()) => rounds(alloc, setup, site, most),
+        Ok(()) => journaled(alloc, setup, site, most),
         Err(Failed) => Ended::NotOpened,
     }
 }

@@ -2,9 +2,12 @@
 #![tactic(auto)]
 
 mod engine;
+mod keeping;
 mod perform;
 mod pts;
+mod records;
 mod replier;
 mod tills;
 
 pub use engine::{Dispatch, Ended, RoundEnd, run};
+pub use records::{Records, Unopened};

@@ -1,5 +1,6 @@
 -- The calls of the site that are owed, by what they mean and not by their bytes.
-use Rattle.std.specs.Prelude.{ℕ, List, [], ◌∷◌, Option, Some, None}
+use Rattle.std.specs.Prelude.{ℕ, ◌+◌, ◌*◌, List, [], ◌∷◌, ◌++◌, Option, Some, None}
+use Rattle.gw_site.specs.Steps.{SiteCall, SendTillCall, SendPtCall, LinkCall, CutTillCall, CutPtCall, WriteCall, SyncCall}
 use Rattle.gw_site.specs.declared.turn.Turn.{Turn}
 use Rattle.zvt_msg.specs.declared.command.Command.{Command}
 use Rattle.zvt_msg.specs.Message.{MessageValue}
@@ -8,7 +9,7 @@ use Rattle.zvt_msg.specs.MessageCanonical.{canonical_pt_message}
 use Rattle.jrn_record.specs.declared.records.Record.{Record}
 use Rattle.jrn_record.specs.Grammar.{record_body}
 use Rattle.jrn_log.specs.JournalTurns.{body_write, gate_write, first_gate_write}
-use Rattle.gw_owes.specs.Reply.{ReplyValue}
+use Rattle.gw_owes.specs.Reply.{ReplyValue, reply_value_bytes}
 
 -- what goes to a terminal
 pub data Sending : Type 0 where
@@ -61,3 +62,15 @@ write_turn (WriteBody slot the_record) = Some (body_write slot (record_body the_
 write_turn (WriteGate slot the_record) = Some (gate_write slot)
 write_turn WriteFirstGate = Some first_gate_write
 write_turn Sync = None
+
+-- the call on the site by which it is made, with its bytes
+abbrev pub site_call : OwedCall → SiteCall
+site_call (SendTill till reply) = SendTillCall till (reply_value_bytes reply)
+site_call (SendPt pt sending) = SendPtCall pt (sending_bytes sending)
+site_call (CutTill till) = CutTillCall till
+site_call (CutPt pt) = CutPtCall pt
+site_call (LinkPt pt) = LinkCall pt
+site_call (WriteBody slot the_record) = WriteCall (256 * slot + 1) (record_body the_record ++ 0 ∷ [])
+site_call (WriteGate slot the_record) = WriteCall (256 * slot) (165 ∷ [])
+site_call WriteFirstGate = WriteCall 0 (0 ∷ [])
+site_call Sync = SyncCall

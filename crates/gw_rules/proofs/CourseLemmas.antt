@@ -1,7 +1,6 @@
 -- Courses one after another, and the outside along a course.
-use Rattle.std.proofs.Common.{◌≡◌, List, [], ◌∷◌, ◌++◌, refl, sym, ◌∙◌, ap, subst, append_assoc, append-nil}
+use Rattle.std.proofs.Common.{◌≡◌, List, [], ◌∷◌, ◌++◌, refl, sym, ◌∙◌, ap}
 use Rattle.std.specs.Prelude.{true, false, map}
-use Rattle.gw_site.specs.Observed.{Origin}
 use Rattle.gw_site.specs.Outside.{outside_after, outside_from, outside_of}
 use Rattle.gw_site.specs.declared.turn.Turn.{Turn}
 use Rattle.gw_site.specs.declared.turn.Turn.TheVariants.{Start, OpenFailed, Polled, Opened, HeardTill, Closed, HeardPt, Lost, Stopped, Linked, LinkFailed, SentTill, SentPt, CutTill, CutPt, Wrote, Synced, DiskFailed, Crash}
@@ -9,7 +8,6 @@ use Rattle.gw_owes.specs.Items.{RoundItem}
 use Rattle.gw_rules.specs.Lawful.{IsCourse, turns_of, Stands}
 use Rattle.gw_rules.specs.Scene.{Scene}
 use Rattle.gw_rules.specs.Stage.{busy}
-use Rattle.gw_rules.specs.Triple.{TakesAlong}
 use Rattle.gw_site.specs.Sorts.{IsQuiet}
 use Rattle.gw_rules.specs.View.{View, Move, Begin, Read, Make, begin, after, after_turn, view_from, at_first}
 
@@ -30,19 +28,6 @@ turns_of-append [] ys = refl
 turns_of-append (Begin ∷ xs) ys = turns_of-append xs ys
 turns_of-append (Read as_read ∷ xs) ys = turns_of-append xs ys
 turns_of-append (Make turn ∷ xs) ys = ap (λ l. turn ∷ l) (turns_of-append xs ys)
-
-pub takes-append : (origin : Origin) (before : List Turn) (v : View) (xs ys : List Move) → TakesAlong origin before v xs → TakesAlong origin (before ++ turns_of xs) (view_from v xs) ys → TakesAlong origin before v (xs ++ ys)
-takes-append origin before v [] ys h k = subst (λ log. TakesAlong origin log v ys) (append-nil before) k
-takes-append origin before v (Begin ∷ xs) ys h k = takes-append origin before (after v Begin) xs ys h k
-takes-append origin before v (Read as_read ∷ xs) ys h k = takes-append origin before (after v (Read as_read)) xs ys h k
-takes-append origin before v (Make turn ∷ xs) ys h k =
-    (h.0, takes-append origin (before ++ turn ∷ []) (after_turn v turn) xs ys h.1 (subst (λ log. TakesAlong origin log (view_from (after_turn v turn) xs) ys) (sym (append_assoc before (turn ∷ []) (turns_of xs))) k))
-
-pub takes-prefix : (origin : Origin) (before : List Turn) (v : View) (xs ys : List Move) → TakesAlong origin before v (xs ++ ys) → TakesAlong origin before v xs
-takes-prefix origin before v [] ys h = tt
-takes-prefix origin before v (Begin ∷ xs) ys h = takes-prefix origin before (after v Begin) xs ys h
-takes-prefix origin before v (Read as_read ∷ xs) ys h = takes-prefix origin before (after v (Read as_read)) xs ys h
-takes-prefix origin before v (Make turn ∷ xs) ys h = (h.0, takes-prefix origin (before ++ turn ∷ []) (after_turn v turn) xs ys h.1)
 
 -- the course that makes these turns alone
 abbrev pub makes : List Turn → List Move

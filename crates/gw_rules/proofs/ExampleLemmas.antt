@@ -9,6 +9,7 @@ use Rattle.gw_site.proofs.ImageLemmas.{file_image}
 use Rattle.gw_site.specs.declared.turn.Turn.{Turn}
 use Rattle.gw_site.specs.declared.turn.Turn.TheVariants.{Start, OpenFailed, Polled, Opened, HeardTill, Closed, HeardPt, Lost, Stopped, Linked, LinkFailed, SentTill, SentPt, CutTill, CutPt, Wrote, Synced, DiskFailed, Crash}
 use Rattle.sale_frame.specs.Grammar.{frame}
+use Rattle.gw_ledger.specs.History.{history}
 use Rattle.gw_owes.specs.Calls.{OwedCall}
 use Rattle.gw_owes.specs.Items.{RoundItem}
 use Rattle.gw_owes.specs.ReadAs.{Silent}
@@ -20,7 +21,7 @@ use Rattle.gw_rules.proofs.CourseLemmas.{makes, turns_of-makes, turns_of-append,
 use Rattle.gw_rules.proofs.PrefixLemmas.{lawful-along, prefix-lawful}
 use Rattle.gw_rules.proofs.StageLemmas.{no-true}
 use Rattle.gw_rules.proofs.TestedLemmas.{passes_course, course-tested}
-use Rattle.gw_rules.proofs.TextLemmas.{bytes-tested, request-read, reply-bytes, silent-read, setup-formed}
+use Rattle.gw_rules.proofs.TextLemmas.{bytes-tested, request-read, reply-bytes, silent-read, setup-formed, few-formed}
 
 -- ---- a run begins
 
@@ -170,7 +171,8 @@ pub looks-may-fail : LooksMayFail
 looks-may-fail = (record { synced = refl; at_sync = inl refl; looking = inr refl }, record { synced = refl; at_sync = inl refl; looking = inr refl })
 
 pub refused-not-polled : RefusedIsNotPolled
-refused-not-polled ok = no-true ok.running
+unfolding history
+refused-not-polled = record { lawful = ((refl, few-formed), (refl, tt)); no_poll = λ ok. no-true ok.running }
 
 pub disk-failure-ends : DiskFailureEnds
 disk-failure-ends = record { start = λ ok. no-true (sym ok.0); open_failed = λ ok. no-true (sym ok); poll = λ ok. no-true ok.running }

@@ -24,13 +24,15 @@ use Rattle.jrn_log.proofs.DecodeLemmas.{decoded_are_slots}
 use Rattle.jrn_log.proofs.ForeignLemmas.{append_closed, append_leaves, opening_closed, opening_leaves, beginning_leaves, crash_leaves, file_can, others_leave}
 use Rattle.jrn_log.proofs.JournalLogLemmas.{opening_rests}
 use Rattle.gw_owes.specs.Calls.{OwedCall, SendTill, SendPt, LinkPt, WriteBody, WriteGate, WriteFirstGate, Sync, keep_calls, write_turn, CutTill as OwedCutTill, CutPt as OwedCutPt}
-use Rattle.gw_rules.specs.JournalFiles.{HasJournalFiles, EachHasJournalFiles, is_on_disk, spare_disk, opening_calls, OpeningLeavesJournalFiles, IsOpened, OpeningHasJournal, HasJournal, KeepingLeavesJournals, IsKept, KeepingHasJournal, journal_log, open_view, opened_moves, OpenedHasJournal, journal_view, kept_moves, KeptFileIsJournal}
+use Rattle.gw_rules.specs.JournalFiles.{HasJournalFiles, EachHasJournalFiles, is_on_disk, spare_disk, OpeningLeavesJournalFiles, IsOpened, OpeningHasJournal, HasJournal, KeepingLeavesJournals, IsKept, KeepingHasJournal, journal_log, OpenedHasJournal, journal_view, kept_moves, KeptFileIsJournal}
 use Rattle.gw_rules.specs.Lawful.{first_call, AllowedTurn, IsCourse, turns_of}
-use Rattle.gw_rules.specs.RowExample.{example_record}
+use Rattle.gw_rules.specs.Opening.{opening_calls}
+use Rattle.gw_rules.specs.RowExample.{example_record, terminal_setup}
 use Rattle.gw_rules.specs.Scene.{records_of, link_made_at, link_lost_at}
 use Rattle.gw_rules.specs.View.{View, Move, Begin, Read, Make, later, after, after_turn, view_from, at_first}
 use Rattle.gw_rules.proofs.CourseLemmas.{after-outside, begin-outside}
-use Rattle.gw_rules.proofs.OpensLemmas.{opening-owes}
+use Rattle.gw_rules.proofs.ExampleLemmas.{began-course}
+use Rattle.gw_rules.proofs.RowExampleLemmas.{formed}
 use Rattle.gw_rules.proofs.SpareLemmas.{begin-spares, made-at-spares, lost-at-spares}
 use Rattle.gw_rules.proofs.StageLemmas.{no-true}
 
@@ -328,19 +330,15 @@ synced-goes log calls (inl s) f = no-true (spare-first calls Sync s.spares f)
 synced-goes log calls (inr (inl o)) f = synced-opens log calls o f
 synced-goes log calls (inr (inr k)) f = synced-keeps log calls k f
 
--- a run that begins owes no call, or is to open a journal
+-- a run that begins is to open the journal
 start-goes : (v : View) (log : List Turn) (setup : Setup) → v.scene.outside ≡ outside_of log → Goes log v.calls → Goes (log ++ Start setup ∷ []) (after_turn v (Start setup)).calls
-start-goes v log setup e g = by_owed (opening-owes setup v.scene.outside.file (records_of v.scene))
+start-goes v log setup e g = inr (inl (inl (record { more = []; leaves = leaves; calls_are = ap (λ file. opening_calls (length file)) same ∙ sym (append-nil _); spares = refl })))
   where
     leaves : LeavesJournals (log ++ Start setup ∷ [])
     leaves = others_leave log (Start setup) (λ o. (refl, refl, refl)) (goes-leaves log v.calls g)
 
     same : v.scene.outside.file ≡ (outside_of (log ++ Start setup ∷ [])).file
     same = ap (λ (o : Outside). o.file) e ∙ ap (λ (o : Outside). o.file) (sym (outside_of-append log (Start setup ∷ [])))
-
-    by_owed : ((after_turn v (Start setup)).calls ≡ []) ⊎ ((after_turn v (Start setup)).calls ≡ opening_calls (length v.scene.outside.file)) → Goes (log ++ Start setup ∷ []) (after_turn v (Start setup)).calls
-    by_owed (inl none) = inl (record { spares = ap spare_disk none; leaves = leaves })
-    by_owed (inr calls) = inr (inl (inl (record { more = []; leaves = leaves; calls_are = calls ∙ ap (λ file. opening_calls (length file)) same ∙ sym (append-nil _); spares = refl })))
 
 turn-goes : (v : View) (log : List Turn) (turn : Turn) → v.scene.outside ≡ outside_of log → Goes log v.calls → AllowedTurn v turn → Goes (log ++ turn ∷ []) (after_turn v turn).calls
 turn-goes v log (Start setup) e g ok = start-goes v log setup e g
@@ -557,12 +555,8 @@ kept-file-is-journal = record {
   files = has-files (journal_log ++ turns_of kept_moves) (course-leaves journal_view journal_log kept_moves refl (keeping-goes journal_log journal_view example_record [] has-journal refl refl refl) kept-course);
 }
 
-opened-course : IsCourse open_view opened_moves
-opened-course = (refl, ((WriteFirstGate, refl, refl), (refl, tt)))
-
 pub opened-has-journal : OpenedHasJournal
 opened-has-journal = record {
-  lawful = opened-course;
-  log_is = refl;
+  lawful = record { turns = refl; lawful = began-course at_first terminal_setup refl formed refl };
   journal = record { outside_is = refl; no_flight = refl; at_rest = journal-rests; kept = decoded_are_slots (0 ∷ []); ends = record { bounded = leb-true 1 257 refl; closed = λ le. refl } };
 }

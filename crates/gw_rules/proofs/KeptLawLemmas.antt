@@ -1,7 +1,7 @@
 -- What is kept along a log of a gateway that keeps a journal, and along a lawful log.
 use Rattle.std.proofs.Common.{◌≡◌, ◌+◌, Bool, true, false, List, [], ◌∷◌, ◌++◌, length, refl, sym, ◌∙◌, ap, subst, arith, inl, inr, append_assoc, append-nil}
 use Rattle.std.proofs.lemmas.List.{length-map}
-use Rattle.std.specs.Prelude.{◌⊎◌, map, None, option_to_list}
+use Rattle.std.specs.Prelude.{map, None, option_to_list}
 use Rattle.gw_base.specs.declared.setup.Setup.{Setup}
 use Rattle.gw_site.specs.Outside.{Outside, outside_of}
 use Rattle.gw_site.specs.declared.turn.Turn.{Turn}
@@ -12,6 +12,7 @@ use Rattle.jrn_record.proofs.LawLemmas.{record_body-offsets}
 use Rattle.jrn_log.specs.Foreign.{EndsClosed}
 use Rattle.jrn_log.specs.Journal.{IsAtRest}
 use Rattle.jrn_log.specs.JournalLogs.{HasGateAfter, IsJournalLog}
+use Rattle.jrn_log.specs.JournalTurns.{first_gate}
 use Rattle.jrn_log.specs.Slots.{AreSlots}
 use Rattle.jrn_log.proofs.ForeignLemmas.{file_can, stable_can}
 use Rattle.jrn_log.proofs.JournalLogLemmas.{logs_leave, logs_open}
@@ -19,24 +20,24 @@ use Rattle.jrn_log.proofs.SlotLemmas.{one_slots, push_length}
 use Rattle.gw_owes.specs.Items.{RoundItem}
 use Rattle.gw_owes.specs.ReadAs.{ReadAs}
 use Rattle.gw_owes.specs.Row.{Row}
-use Rattle.gw_rules.specs.JournalFiles.{spare_disk, opening_calls}
-use Rattle.gw_rules.specs.KeptLaws.{RecordRules, AreInOrder, HasRoom, KeepsRecord, KeepsAtMostOne, opens_journal, KeepsOn, KeepsJournal, HadMoreSlots, HasKept, EachKeepsFile, EachImageHasKept, NoneKeptIsLost, NeverTruncated, NeverBad, LongOnlyWithFewerSlots, FullOnlyWithFewerSlots, EachRoundHasJournal, EachKeepsJournalFiles, EachLawfulHasKept}
-use Rattle.gw_rules.specs.Lawful.{AllowedTurn, Begins, IsCourse, turns_of}
-use Rattle.gw_rules.specs.Opening.{opening}
-use Rattle.gw_rules.specs.Scene.{Scene, records_of}
+use Rattle.gw_rules.specs.JournalFiles.{spare_disk, IsOpened}
+use Rattle.gw_rules.specs.KeptLaws.{RecordRules, AreInOrder, HasRoom, KeepsRecord, KeepsAtMostOne, opens_journal, KeepsOn, KeepsJournal, HadMoreSlots, HasKept, EachKeepsFile, EachImageHasKept, NoneKeptIsLost, NeverTruncated, NeverBad, LongOnlyWithFewerSlots, FullOnlyWithFewerSlots, EachRoundHasJournal, EachStartOpensJournal, EachKeepsJournalFiles, EachLawfulKeepsJournal, EachLawfulHasKept}
+use Rattle.gw_rules.specs.Lawful.{AllowedTurn, may_begin, Begins, IsCourse, turns_of}
+use Rattle.gw_rules.specs.Opening.{opening, opening_calls}
+use Rattle.gw_rules.specs.Scene.{Scene, records_of, row_at}
 use Rattle.gw_rules.specs.Stage.{Opening, AtPoll, is_round}
 use Rattle.gw_rules.specs.View.{View, Move, Begin, Read, Make, begin, begun, started, after, after_turn, view_from, at_first}
-use Rattle.gw_rules.proofs.KeptFileLemmas.{FreeSlots, free-none, in-order-more, kept-by-either, kept-by-more, kept-by-order, kept_by, none-truncated, one-byte-file, one-byte-files}
-use Rattle.gw_rules.proofs.OpensLemmas.{opening-owes}
+use Rattle.gw_rules.proofs.JournalLemmas.{opening-has-journal}
+use Rattle.gw_rules.proofs.KeptFileLemmas.{FreeSlots, file-gate, free-none, in-order-more, kept-by-either, kept-by-more, kept-by-order, kept_by, none-truncated, one-byte-file, one-byte-files}
 use Rattle.gw_rules.proofs.SpareLemmas.{begin-spares}
 use Rattle.gw_rules.proofs.StageLemmas.{no-true}
-use Rattle.gw_rules.proofs.KeptPhaseLemmas.{Body, Facts, FirstSync, Holds, IsOfLog, Phase, busy-off-poll, owes_all, rests-sparing, round-runs}
+use Rattle.gw_rules.proofs.KeptPhaseLemmas.{Body, Facts, FirstSync, Holds, IsOfLog, busy-off-poll, owes_all, rests-sparing, round-runs}
 use Rattle.gw_rules.proofs.KeptTurnLemmas.{idle-rests, no-more, outside-later, still-facts, turns}
 
 -- ---- along a log of a gateway that keeps a journal
 
-nothing-made : (journaled : Bool) (rules : RecordRules) → Holds journaled rules [] at_first
-nothing-made journaled rules = record {
+nothing-made : (rules : RecordRules) → Holds rules [] at_first
+nothing-made rules = record {
   outside_is = refl;
   facts = record {
     files = one-byte-files [] [] (omega arith) refl;
@@ -54,7 +55,7 @@ nothing-made journaled rules = record {
 opening-off-poll : (refused : Bool) → Opening refused ≡ AtPoll → ⊥
 opening-off-poll refused e = cc
 
-run-begins : (rules : RecordRules) (log : List Turn) (v : View) (setup : Setup) (refused : Bool) → Holds true rules log v → Holds true rules (log ++ Start setup ∷ []) (started v.scene setup (opens_journal v.scene.outside.file refused))
+run-begins : (rules : RecordRules) (log : List Turn) (v : View) (setup : Setup) (refused : Bool) → Holds rules log v → Holds rules (log ++ Start setup ∷ []) (started v.scene setup (opens_journal v.scene.outside.file refused))
 run-begins rules log v setup refused h =
     let outside : (after_turn v (Start setup)).scene.outside ≡ outside_of (log ++ Start setup ∷ []) = outside-later v log (Start setup) h.outside_is in
     record {
@@ -64,15 +65,15 @@ run-begins rules log v setup refused h =
       phase = inr (inr (FirstSync (ap (λ (o : Outside). opening_calls (length o.file)) outside), opening-off-poll refused));
     }
 
-message-is-read : (journaled : Bool) (rules : RecordRules) (log : List Turn) (v : View) (as_read : ReadAs) → Holds journaled rules log v → is_round v.scene.stage ≡ true → v.calls ≡ [] → Holds journaled rules log (after v (Read as_read))
-message-is-read journaled rules log v as_read h round e =
-    let r = idle-rests journaled rules log v h (round-runs v.scene.stage round) e in
+message-is-read : (rules : RecordRules) (log : List Turn) (v : View) (as_read : ReadAs) → Holds rules log v → is_round v.scene.stage ≡ true → v.calls ≡ [] → Holds rules log (after v (Read as_read))
+message-is-read rules log v as_read h round e =
+    let r = idle-rests rules log v h (round-runs v.scene.stage round) e in
     record { outside_is = h.outside_is; facts = h.facts; setup_is = h.setup_is; phase = inr (inl (record { is_open = r.is_open; spares = refl })) }
 
 -- an item begins that owes no call on the disk
-item-spares : (journaled : Bool) (rules : RecordRules) (log : List Turn) (v : View) (row : Row) (items : List RoundItem) → Holds journaled rules log v → Begins v → spare_disk row.calls ≡ true → Holds journaled rules log (begun v.scene row items)
-item-spares journaled rules log v row items h b spares =
-    let r = idle-rests journaled rules log v h (round-runs v.scene.stage b.idle.round) b.idle.calls in
+item-spares : (rules : RecordRules) (log : List Turn) (v : View) (row : Row) (items : List RoundItem) → Holds rules log v → Begins v → spare_disk row.calls ≡ true → Holds rules log (begun v.scene row items)
+item-spares rules log v row items h b spares =
+    let r = idle-rests rules log v h (round-runs v.scene.stage b.idle.round) b.idle.calls in
     record { outside_is = h.outside_is; facts = h.facts; setup_is = h.setup_is; phase = inr (inl (record { is_open = r.is_open; spares = spares })) }
 
 -- the setup of the run has the slots that the records need with one more
@@ -85,9 +86,9 @@ room-had rules log scene the_record of_log room = room-free rules log scene the_
     (let n : length (map record_body scene.kept) ≡ length scene.kept = length-map scene.kept record_body in let m : length (scene.kept ++ the_record ∷ []) ≡ length scene.kept + 1 = push_length scene.kept the_record in omega (arith, n, m))
 
 -- and one that owes that a record is kept
-item-keeps : (rules : RecordRules) (log : List Turn) (v : View) (row : Row) (items : List RoundItem) → Holds true rules log v → Begins v → KeepsRecord rules v.scene row.calls → Holds true rules log (begun v.scene row items)
+item-keeps : (rules : RecordRules) (log : List Turn) (v : View) (row : Row) (items : List RoundItem) → Holds rules log v → Begins v → KeepsRecord rules v.scene row.calls → Holds rules log (begun v.scene row items)
 item-keeps rules log v row items h b k =
-    let open_journal = (idle-rests true rules log v h (round-runs v.scene.stage b.idle.round) b.idle.calls).is_open refl in
+    let open_journal = (idle-rests rules log v h (round-runs v.scene.stage b.idle.round) b.idle.calls).is_open in
     let kept : AreInOrder rules [] v.scene.kept = subst (λ l. AreInOrder rules [] l) (no-more v.scene.kept v.scene.flight open_journal.no_flight) h.facts.in_order in
     let n : length v.scene.kept ≡ length (map record_body v.scene.kept) = sym (length-map v.scene.kept record_body) in
     record {
@@ -113,19 +114,19 @@ item-keeps rules log v row items h b k =
       ));
     }
 
-item-begins : (rules : RecordRules) (log : List Turn) (v : View) (row : Row) (items : List RoundItem) → Holds true rules log v → Begins v → KeepsAtMostOne rules v.scene row.calls → Holds true rules log (begun v.scene row items)
-item-begins rules log v row items h b (inl spares) = item-spares true rules log v row items h b spares
+item-begins : (rules : RecordRules) (log : List Turn) (v : View) (row : Row) (items : List RoundItem) → Holds rules log v → Begins v → KeepsAtMostOne rules v.scene row.calls → Holds rules log (begun v.scene row items)
+item-begins rules log v row items h b (inl spares) = item-spares rules log v row items h b spares
 item-begins rules log v row items h b (inr k) = item-keeps rules log v row items h b k
 
-holds-on : (rules : RecordRules) (base : List Turn) (first : View) (log : List Turn) (v : View) → Holds true rules base first → KeepsOn rules base first log v → Holds true rules log v
+holds-on : (rules : RecordRules) (base : List Turn) (first : View) (log : List Turn) (v : View) → Holds rules base first → KeepsOn rules base first log v → Holds rules log v
 holds-on rules base first _ _ h KeepsOn.NoMoves = h
 holds-on rules base first _ _ h (KeepsOn.RunBegins log v setup refused k ok) = run-begins rules log v setup refused (holds-on rules base first log v h k)
-holds-on rules base first _ _ h (KeepsOn.TurnComes log v turn k ok other) = turns true rules log v turn (holds-on rules base first log v h k) ok (λ setup e. absurd (other setup e))
-holds-on rules base first _ _ h (KeepsOn.MessageIsRead log v as_read k ok) = message-is-read true rules log v as_read (holds-on rules base first log v h k) ok.idle.round ok.idle.calls
+holds-on rules base first _ _ h (KeepsOn.TurnComes log v turn k ok other) = turns rules log v turn (holds-on rules base first log v h k) ok (λ setup e. absurd (other setup e))
+holds-on rules base first _ _ h (KeepsOn.MessageIsRead log v as_read k ok) = message-is-read rules log v as_read (holds-on rules base first log v h k) ok.idle.round ok.idle.calls
 holds-on rules base first _ _ h (KeepsOn.ItemBegins log v item items row k b is one) = item-begins rules log v row items (holds-on rules base first log v h k) b one
 
-holds : (rules : RecordRules) (log : List Turn) (v : View) → KeepsJournal rules log v → Holds true rules log v
-holds rules log v k = holds-on rules [] at_first log v (nothing-made true rules) k
+pub holds : (rules : RecordRules) (log : List Turn) (v : View) → KeepsJournal rules log v → Holds rules log v
+holds rules log v k = holds-on rules [] at_first log v (nothing-made rules) k
 
 -- ---- the records that are kept stay kept
 
@@ -171,41 +172,42 @@ keeps-later rules base first _ _ (KeepsOn.ItemBegins log v item items row k b is
 
 -- ---- along a lawful log
 
--- a run that begins owes no call, or is to open a journal
-lawful-start : (rules : RecordRules) (log : List Turn) (v : View) (setup : Setup) → Holds false rules log v → Holds false rules (log ++ Start setup ∷ []) (after_turn v (Start setup))
-lawful-start rules log v setup h = record {
-  outside_is = outside;
-  facts = still-facts rules log (Start setup) v.scene.kept v.scene.flight (λ o. (refl, refl, refl)) h.facts;
-  setup_is = record { before = log; rest = []; log_is = refl };
-  phase = by_owed (opening-owes setup v.scene.outside.file (records_of v.scene));
-}
-  where
-    outside : (after_turn v (Start setup)).scene.outside ≡ outside_of (log ++ Start setup ∷ [])
-    outside = outside-later v log (Start setup) h.outside_is
+-- one more move of a lawful log is one of a gateway that keeps a journal
+turn-goes-on : (rules : RecordRules) (log : List Turn) (v : View) (turn : Turn) → KeepsJournal rules log v → AllowedTurn v turn → KeepsJournal rules (log ++ turn ∷ []) (after_turn v turn)
+turn-goes-on rules log v (Start setup) k ok = KeepsOn.RunBegins log v setup (opening setup v.scene.outside.file (records_of v.scene)).refused k ok
+turn-goes-on rules log v OpenFailed k ok = KeepsOn.TurnComes log v OpenFailed k ok (λ setup e. cc)
+turn-goes-on rules log v (Polled now) k ok = KeepsOn.TurnComes log v (Polled now) k ok (λ setup e. cc)
+turn-goes-on rules log v (Opened till) k ok = KeepsOn.TurnComes log v (Opened till) k ok (λ setup e. cc)
+turn-goes-on rules log v (HeardTill till bytes) k ok = KeepsOn.TurnComes log v (HeardTill till bytes) k ok (λ setup e. cc)
+turn-goes-on rules log v (Closed till) k ok = KeepsOn.TurnComes log v (Closed till) k ok (λ setup e. cc)
+turn-goes-on rules log v (HeardPt pt bytes) k ok = KeepsOn.TurnComes log v (HeardPt pt bytes) k ok (λ setup e. cc)
+turn-goes-on rules log v (Lost pt) k ok = KeepsOn.TurnComes log v (Lost pt) k ok (λ setup e. cc)
+turn-goes-on rules log v Stopped k ok = KeepsOn.TurnComes log v Stopped k ok (λ setup e. cc)
+turn-goes-on rules log v (Linked pt) k ok = KeepsOn.TurnComes log v (Linked pt) k ok (λ setup e. cc)
+turn-goes-on rules log v (LinkFailed pt) k ok = KeepsOn.TurnComes log v (LinkFailed pt) k ok (λ setup e. cc)
+turn-goes-on rules log v (SentTill till bytes sent) k ok = KeepsOn.TurnComes log v (SentTill till bytes sent) k ok (λ setup e. cc)
+turn-goes-on rules log v (SentPt pt bytes sent) k ok = KeepsOn.TurnComes log v (SentPt pt bytes sent) k ok (λ setup e. cc)
+turn-goes-on rules log v (CutTill till) k ok = KeepsOn.TurnComes log v (CutTill till) k ok (λ setup e. cc)
+turn-goes-on rules log v (CutPt pt) k ok = KeepsOn.TurnComes log v (CutPt pt) k ok (λ setup e. cc)
+turn-goes-on rules log v (Wrote offset bytes) k ok = KeepsOn.TurnComes log v (Wrote offset bytes) k ok (λ setup e. cc)
+turn-goes-on rules log v Synced k ok = KeepsOn.TurnComes log v Synced k ok (λ setup e. cc)
+turn-goes-on rules log v DiskFailed k ok = KeepsOn.TurnComes log v DiskFailed k ok (λ setup e. cc)
+turn-goes-on rules log v (Crash file) k ok = KeepsOn.TurnComes log v (Crash file) k ok (λ setup e. cc)
 
-    by_owed : ((after_turn v (Start setup)).calls ≡ []) ⊎ ((after_turn v (Start setup)).calls ≡ opening_calls (length v.scene.outside.file))
-        → Phase false rules (log ++ Start setup ∷ []) v.scene.kept v.scene.flight (after_turn v (Start setup)).calls (after_turn v (Start setup)).scene.stage
-    by_owed (inl none) = inr (inl (record { is_open = λ e. no-true e; spares = ap spare_disk none }))
-    by_owed (inr calls) = inr (inr (FirstSync (calls ∙ ap (λ (o : Outside). opening_calls (length o.file)) outside), opening-off-poll (opening setup v.scene.outside.file (records_of v.scene)).refused))
+begin-goes-on : (rules : RecordRules) (log : List Turn) (v : View) (items : List RoundItem) → v.items ≡ items → KeepsJournal rules log v → Begins v → KeepsJournal rules log (begin v.scene items)
+begin-goes-on rules log v [] is k b = no-true (ap (may_begin v.scene) (sym is) ∙ b.first)
+begin-goes-on rules log v (item ∷ items) is k b = KeepsOn.ItemBegins log v item items (row_at v.scene item) k b is (inl (begin-spares v.scene (item ∷ items)))
 
-lawful-turn : (rules : RecordRules) (log : List Turn) (v : View) (turn : Turn) → Holds false rules log v → AllowedTurn v turn → Holds false rules (log ++ turn ∷ []) (after_turn v turn)
-lawful-turn rules log v turn h ok = turns false rules log v turn h ok (λ setup e. subst (λ t. Holds false rules (log ++ t ∷ []) (after_turn v t)) (sym e) (lawful-start rules log v setup h))
+course-goes-on : (rules : RecordRules) (log : List Turn) (v : View) (moves : List Move) → KeepsJournal rules log v → IsCourse v moves → KeepsJournal rules (log ++ turns_of moves) (view_from v moves)
+course-goes-on rules log v [] k c = subst (λ l. KeepsJournal rules l v) (sym (append-nil log)) k
+course-goes-on rules log v (Begin ∷ moves) k c = course-goes-on rules log (after v Begin) moves (begin-goes-on rules log v v.items refl k c.0) c.1
+course-goes-on rules log v (Read as_read ∷ moves) k c = course-goes-on rules log (after v (Read as_read)) moves (KeepsOn.MessageIsRead log v as_read k c.0) c.1
+course-goes-on rules log v (Make turn ∷ moves) k c =
+    subst (λ l. KeepsJournal rules l (view_from (after_turn v turn) moves)) (append_assoc log (turn ∷ []) (turns_of moves)) (course-goes-on rules (log ++ turn ∷ []) (after_turn v turn) moves (turn-goes-on rules log v turn k c.0) c.1)
 
-lawful-begins : (rules : RecordRules) (log : List Turn) (v : View) → Holds false rules log v → Begins v → Holds false rules log (after v Begin)
-lawful-begins rules log v h b =
-    let r = idle-rests false rules log v h (round-runs v.scene.stage b.idle.round) b.idle.calls in
-    by_items v.items (begin-spares v.scene v.items)
-  where
-    by_items : (items : List RoundItem) → spare_disk (begin v.scene items).calls ≡ true → Holds false rules log (begin v.scene items)
-    by_items [] spares = record { outside_is = h.outside_is; facts = h.facts; setup_is = h.setup_is; phase = inr (inl (record { is_open = λ e. no-true e; spares = spares })) }
-    by_items (first ∷ items) spares = record { outside_is = h.outside_is; facts = h.facts; setup_is = h.setup_is; phase = inr (inl (record { is_open = λ e. no-true e; spares = spares })) }
-
-course-holds : (rules : RecordRules) (log : List Turn) (v : View) (moves : List Move) → Holds false rules log v → IsCourse v moves → Holds false rules (log ++ turns_of moves) (view_from v moves)
-course-holds rules log v [] h c = subst (λ l. Holds false rules l v) (sym (append-nil log)) h
-course-holds rules log v (Begin ∷ moves) h c = course-holds rules log (after v Begin) moves (lawful-begins rules log v h c.0) c.1
-course-holds rules log v (Read as_read ∷ moves) h c = course-holds rules log (after v (Read as_read)) moves (message-is-read false rules log v as_read h c.0.idle.round c.0.idle.calls) c.1
-course-holds rules log v (Make turn ∷ moves) h c =
-    subst (λ l. Holds false rules l (view_from (after_turn v turn) moves)) (append_assoc log (turn ∷ []) (turns_of moves)) (course-holds rules (log ++ turn ∷ []) (after_turn v turn) moves (lawful-turn rules log v turn h c.0) c.1)
+pub each-lawful-keeps-journal : EachLawfulKeepsJournal
+each-lawful-keeps-journal rules log v s =
+    subst (λ w. KeepsJournal rules log w) s.view_is (subst (λ l. KeepsJournal rules l (view_from at_first s.course)) s.log_is (course-goes-on rules [] at_first s.course KeepsOn.NoMoves s.lawful))
 
 -- ---- the laws
 
@@ -226,7 +228,7 @@ facts-kept rules log scene f = record {
   full = λ file slots image needs. kept-by-either (FreeSlots rules log) scene.kept scene.flight file f.free f.all_free slots needs;
 }
 
-has-kept : (rules : RecordRules) (log : List Turn) (v : View) → KeepsJournal rules log v → HasKept rules log v.scene
+pub has-kept : (rules : RecordRules) (log : List Turn) (v : View) → KeepsJournal rules log v → HasKept rules log v.scene
 has-kept rules log v k = facts-kept rules log v.scene (holds rules log v k).facts
 
 pub each-keeps-file : EachKeepsFile
@@ -256,17 +258,27 @@ full-only-with-fewer-slots rules log v k = (has-kept rules log v k).full
 pub each-round-has-journal : EachRoundHasJournal
 each-round-has-journal rules log v k round spares =
     let h = holds rules log v k in
-    let r = rests-sparing true rules log v.scene.kept v.scene.flight v.calls v.scene.stage h.phase (round-runs v.scene.stage round) spares in
-    let journal = (r.is_open refl).journal in
+    let r = rests-sparing rules log v.scene.kept v.scene.flight v.calls v.scene.stage h.phase (round-runs v.scene.stage round) spares in
+    let journal = r.is_open.journal in
     let o = logs_open log (map record_body v.scene.kept) journal in
     let n : length (map record_body v.scene.kept) ≡ length v.scene.kept = length-map v.scene.kept record_body in
     record {
       outside_is = h.outside_is;
-      no_flight = (r.is_open refl).no_flight;
+      no_flight = r.is_open.no_flight;
       at_rest = subst (IsAtRest log) n o.at_rest;
       kept = o.kept;
       ends = subst (EndsClosed (outside_of log).file) n o.ends;
     }
+
+pub each-start-opens-journal : EachStartOpensJournal
+each-start-opens-journal rules log v setup k =
+    let after : List Turn = log ++ Start setup ∷ [] in
+    let next : View = after_turn v (Start setup) in
+    let h : Holds rules after next = run-begins rules log v setup (opening setup v.scene.outside.file (records_of v.scene)).refused (holds rules log v k) in
+    let file : v.scene.outside.file ≡ (outside_of after).file = ap (λ (o : Outside). o.file) h.outside_is in
+    let calls : next.calls ≡ opening_calls (length (outside_of after).file) ++ [] = ap (λ f. opening_calls (length f)) file ∙ sym (append-nil _) in
+    subst (λ f. IsOpened after next [] (Synced ∷ first_gate (length f))) (sym file)
+    (opening-has-journal after next [] h.outside_is (logs_leave after h.facts.state h.facts.journal) h.facts.files.file (file-gate after next.scene.kept next.scene.flight h.facts.files) calls)
 
 pub each-keeps-journal-files : EachKeepsJournalFiles
 each-keeps-journal-files rules log v k =
@@ -275,7 +287,4 @@ each-keeps-journal-files rules log v k =
     record { file = file_can log leaves; stable = stable_can log leaves; images = leaves }
 
 pub each-lawful-has-kept : EachLawfulHasKept
-each-lawful-has-kept rules log v s =
-    let h : Holds false rules log v =
-    subst (λ w. Holds false rules log w) s.view_is (subst (λ l. Holds false rules l (view_from at_first s.course)) s.log_is (course-holds rules [] at_first s.course (nothing-made false rules) s.lawful)) in
-    facts-kept rules log v.scene h.facts
+each-lawful-has-kept rules log v s = has-kept rules log v (each-lawful-keeps-journal rules log v s)

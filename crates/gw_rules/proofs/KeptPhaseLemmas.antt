@@ -1,5 +1,5 @@
 -- How far the calls on the disk are at each moment of a log along which records are kept, and what holds there.
-use Rattle.std.proofs.Common.{◌≡◌, ℕ, ◌≤◌, Bool, true, false, List, [], ◌∷◌, ◌++◌, length, refl, sym, ◌∙◌, ap, inl, inr}
+use Rattle.std.proofs.Common.{◌≡◌, ℕ, ◌≤◌, true, false, List, [], ◌∷◌, ◌++◌, length, refl, sym, ◌∙◌, ap, inl, inr}
 use Rattle.std.proofs.lemmas.Bool.{and_parts}
 use Rattle.std.specs.Prelude.{◌⊎◌, not, map, Option, Some, None}
 use Rattle.gw_base.specs.declared.setup.Setup.{Setup}
@@ -12,9 +12,10 @@ use Rattle.jrn_log.specs.JournalLogs.{IsJournalLog}
 use Rattle.jrn_log.specs.JournalTurns.{body_write, gate_write, first_gate_write}
 use Rattle.jrn_log.specs.Slots.{AreSlots}
 use Rattle.gw_owes.specs.Calls.{OwedCall, SendTill, SendPt, LinkPt, WriteBody, WriteGate, WriteFirstGate, Sync, write_turn, CutTill as OwedCutTill, CutPt as OwedCutPt}
-use Rattle.gw_rules.specs.JournalFiles.{is_on_disk, spare_disk, opening_calls}
+use Rattle.gw_rules.specs.JournalFiles.{is_on_disk, spare_disk}
 use Rattle.gw_rules.specs.KeptLaws.{RecordRules, AreInOrder, RanWith, HadMoreSlots}
 use Rattle.gw_rules.specs.Lawful.{first_call}
+use Rattle.gw_rules.specs.Opening.{opening_calls}
 use Rattle.gw_rules.specs.Stage.{Stage, Resting, Opening, Looking, AtPoll, Handling, Over, Broken, busy, is_round, is_running, stage_synced, stage_wrote}
 use Rattle.gw_rules.specs.View.{View, later}
 use Rattle.gw_rules.proofs.KeptFileLemmas.{Files, FreeSlots, LongFile, records_by}
@@ -118,9 +119,9 @@ pub record IsOpen (log : List Turn) (kept : List Record) (flight : Option Record
   pub journal : IsJournalLog log (Some (map record_body kept))
   pub no_flight : flight ≡ None
 
--- no call on the disk is owed; where runs open journals, the journal is open
-pub record Rests (journaled : Bool) (log : List Turn) (kept : List Record) (flight : Option Record) (calls : List OwedCall) : Type 0 where
-  pub is_open : journaled ≡ true → IsOpen log kept flight
+-- no call on the disk is owed, and the journal is open
+pub record Rests (log : List Turn) (kept : List Record) (flight : Option Record) (calls : List OwedCall) : Type 0 where
+  pub is_open : IsOpen log kept flight
   pub spares : spare_disk calls ≡ true
 
 -- the first sync of an opening was made on a file of at most one byte, these turns after it, and these calls are left
@@ -189,19 +190,19 @@ pub data Mid (rules : RecordRules) (log : List Turn) (kept : List Record) (fligh
   OpenGate : Appending body_synced owes_gate on_ground rules log kept flight calls → Mid rules log kept flight calls
   LastSync : Appending gate_made owes_last in_air rules log kept flight calls → Mid rules log kept flight calls
 
-abbrev pub Phase : Bool → RecordRules → List Turn → List Record → Option Record → List OwedCall → Stage → Type 0
-Phase journaled rules log kept flight calls stage = Calm calls stage ⊎ (Rests journaled log kept flight calls ⊎ (Mid rules log kept flight calls × (stage ≡ AtPoll → ⊥)))
+abbrev pub Phase : RecordRules → List Turn → List Record → Option Record → List OwedCall → Stage → Type 0
+Phase rules log kept flight calls stage = Calm calls stage ⊎ (Rests log kept flight calls ⊎ (Mid rules log kept flight calls × (stage ≡ AtPoll → ⊥)))
 
 -- the run's setup is one with which a run of the log began
 abbrev pub IsOfLog : List Turn → Option Setup → Type 0
 IsOfLog log None = Unit {0}
 IsOfLog log (Some setup) = RanWith setup log
 
-pub record Holds (journaled : Bool) (rules : RecordRules) (log : List Turn) (v : View) : Type 0 where
+pub record Holds (rules : RecordRules) (log : List Turn) (v : View) : Type 0 where
   pub outside_is : v.scene.outside ≡ outside_of log
   pub facts : Facts rules log v.scene.kept v.scene.flight
   pub setup_is : IsOfLog log v.scene.setup
-  pub phase : Phase journaled rules log v.scene.kept v.scene.flight v.calls v.scene.stage
+  pub phase : Phase rules log v.scene.kept v.scene.flight v.calls v.scene.stage
 
 -- ---- which phase it is
 
@@ -224,26 +225,26 @@ owes-disk rules log kept flight calls (OpenGate a) =
 owes-disk rules log kept flight calls (LastSync a) = record { first = Sync; rest = a.more; calls_are = a.calls_are; on_disk = refl }
 
 -- right after a poll, no call on the disk is owed
-pub rests-polled : (journaled : Bool) (rules : RecordRules) (log : List Turn) (kept : List Record) (flight : Option Record) (calls : List OwedCall) (stage : Stage) → Phase journaled rules log kept flight calls stage
-    → stage ≡ AtPoll → Rests journaled log kept flight calls
-rests-polled journaled rules log kept flight calls stage (inl c) e = no-true (sym c.over ∙ ap is_running e)
-rests-polled journaled rules log kept flight calls stage (inr (inl r)) e = r
-rests-polled journaled rules log kept flight calls stage (inr (inr m)) e = absurd (m.1 e)
+pub rests-polled : (rules : RecordRules) (log : List Turn) (kept : List Record) (flight : Option Record) (calls : List OwedCall) (stage : Stage) → Phase rules log kept flight calls stage
+    → stage ≡ AtPoll → Rests log kept flight calls
+rests-polled rules log kept flight calls stage (inl c) e = no-true (sym c.over ∙ ap is_running e)
+rests-polled rules log kept flight calls stage (inr (inl r)) e = r
+rests-polled rules log kept flight calls stage (inr (inr m)) e = absurd (m.1 e)
 
 -- nor where the next call isn't on it
-pub rests-owing : (journaled : Bool) (rules : RecordRules) (log : List Turn) (kept : List Record) (flight : Option Record) (calls : List OwedCall) (stage : Stage) (call : OwedCall) → Phase journaled rules log kept flight calls stage
-    → first_call calls ≡ Some call → is_on_disk call ≡ false → Rests journaled log kept flight calls
-rests-owing journaled rules log kept flight calls stage call (inl c) f off = no-call calls call c.calls_are f
-rests-owing journaled rules log kept flight calls stage call (inr (inl r)) f off = r
-rests-owing journaled rules log kept flight calls stage call (inr (inr m)) f off =
+pub rests-owing : (rules : RecordRules) (log : List Turn) (kept : List Record) (flight : Option Record) (calls : List OwedCall) (stage : Stage) (call : OwedCall) → Phase rules log kept flight calls stage
+    → first_call calls ≡ Some call → is_on_disk call ≡ false → Rests log kept flight calls
+rests-owing rules log kept flight calls stage call (inl c) f off = no-call calls call c.calls_are f
+rests-owing rules log kept flight calls stage call (inr (inl r)) f off = r
+rests-owing rules log kept flight calls stage call (inr (inr m)) f off =
     let d = owes-disk rules log kept flight calls m.0 in
     no-true (sym off ∙ ap is_on_disk (first-is calls d.rest d.first call d.calls_are f) ∙ d.on_disk)
 
 -- nor where the run goes on and the calls spare it
-pub rests-sparing : (journaled : Bool) (rules : RecordRules) (log : List Turn) (kept : List Record) (flight : Option Record) (calls : List OwedCall) (stage : Stage) → Phase journaled rules log kept flight calls stage
-    → is_running stage ≡ true → spare_disk calls ≡ true → Rests journaled log kept flight calls
-rests-sparing journaled rules log kept flight calls stage (inl c) e h = no-true (sym c.over ∙ e)
-rests-sparing journaled rules log kept flight calls stage (inr (inl r)) e h = r
-rests-sparing journaled rules log kept flight calls stage (inr (inr m)) e h =
+pub rests-sparing : (rules : RecordRules) (log : List Turn) (kept : List Record) (flight : Option Record) (calls : List OwedCall) (stage : Stage) → Phase rules log kept flight calls stage
+    → is_running stage ≡ true → spare_disk calls ≡ true → Rests log kept flight calls
+rests-sparing rules log kept flight calls stage (inl c) e h = no-true (sym c.over ∙ e)
+rests-sparing rules log kept flight calls stage (inr (inl r)) e h = r
+rests-sparing rules log kept flight calls stage (inr (inr m)) e h =
     let d = owes-disk rules log kept flight calls m.0 in
     absurd (off-disk calls d.first h (ap first_call d.calls_are) d.on_disk)

@@ -19,9 +19,10 @@ use Rattle.jrn_log.proofs.ImageLemmas.{Rest, after_body, after_gate, body_size}
 use Rattle.jrn_log.proofs.JournalLogLemmas.{logs_open}
 use Rattle.jrn_log.proofs.SlotLemmas.{one_byte_slots, one_slots}
 use Rattle.gw_owes.specs.Calls.{OwedCall, SendTill, SendPt, LinkPt, WriteBody, WriteGate, WriteFirstGate, Sync, write_turn, CutTill as OwedCutTill, CutPt as OwedCutPt}
-use Rattle.gw_rules.specs.JournalFiles.{is_on_disk, spare_disk, opening_calls}
+use Rattle.gw_rules.specs.JournalFiles.{is_on_disk, spare_disk}
 use Rattle.gw_rules.specs.KeptLaws.{RecordRules, AreInOrder, HadMoreSlots}
 use Rattle.gw_rules.specs.Lawful.{first_call, AllowedTurn}
+use Rattle.gw_rules.specs.Opening.{opening_calls}
 use Rattle.gw_rules.specs.Scene.{link_made_at, link_lost_at}
 use Rattle.gw_rules.specs.Stage.{AtPoll, is_running, stage_synced}
 use Rattle.gw_rules.specs.View.{View, later, flight_after, after_turn}
@@ -59,9 +60,9 @@ moved-facts rules log turn kept next_kept flight next_flight disk same_kept same
     subst (λ k. Facts rules (log ++ turn ∷ []) k next_flight) (sym same_kept) (subst (λ r. Facts rules (log ++ turn ∷ []) kept r) (sym same_flight) (still-facts rules log turn kept flight disk f))
 
 -- the run goes on no more after such a turn
-calms : (journaled : Bool) (rules : RecordRules) (log : List Turn) (v : View) (turn : Turn) → Holds journaled rules log v → LeavesDisk turn → (after_turn v turn).scene.kept ≡ v.scene.kept → (after_turn v turn).scene.flight ≡ v.scene.flight
-    → IsOfLog (log ++ turn ∷ []) (after_turn v turn).scene.setup → is_running (after_turn v turn).scene.stage ≡ false → (after_turn v turn).calls ≡ [] → Holds journaled rules (log ++ turn ∷ []) (after_turn v turn)
-calms journaled rules log v turn h disk kept flight setup over calls = record {
+calms : (rules : RecordRules) (log : List Turn) (v : View) (turn : Turn) → Holds rules log v → LeavesDisk turn → (after_turn v turn).scene.kept ≡ v.scene.kept → (after_turn v turn).scene.flight ≡ v.scene.flight
+    → IsOfLog (log ++ turn ∷ []) (after_turn v turn).scene.setup → is_running (after_turn v turn).scene.stage ≡ false → (after_turn v turn).calls ≡ [] → Holds rules (log ++ turn ∷ []) (after_turn v turn)
+calms rules log v turn h disk kept flight setup over calls = record {
   outside_is = outside-later v log turn h.outside_is;
   facts = moved-facts rules log turn v.scene.kept (after_turn v turn).scene.kept v.scene.flight (after_turn v turn).scene.flight disk kept flight h.facts;
   setup_is = setup;
@@ -69,24 +70,24 @@ calms journaled rules log v turn h disk kept flight setup over calls = record {
 }
 
 -- no call on the disk is owed before it nor after it
-stays : (journaled : Bool) (rules : RecordRules) (log : List Turn) (v : View) (turn : Turn) → Holds journaled rules log v → Rests journaled log v.scene.kept v.scene.flight v.calls → LeavesDisk turn
-    → (after_turn v turn).scene.kept ≡ v.scene.kept → (after_turn v turn).scene.flight ≡ v.scene.flight → (after_turn v turn).scene.setup ≡ v.scene.setup → spare_disk (after_turn v turn).calls ≡ true → Holds journaled rules (log ++ turn ∷ []) (after_turn v turn)
-stays journaled rules log v turn h r disk kept flight setup spares = record {
+stays : (rules : RecordRules) (log : List Turn) (v : View) (turn : Turn) → Holds rules log v → Rests log v.scene.kept v.scene.flight v.calls → LeavesDisk turn
+    → (after_turn v turn).scene.kept ≡ v.scene.kept → (after_turn v turn).scene.flight ≡ v.scene.flight → (after_turn v turn).scene.setup ≡ v.scene.setup → spare_disk (after_turn v turn).calls ≡ true → Holds rules (log ++ turn ∷ []) (after_turn v turn)
+stays rules log v turn h r disk kept flight setup spares = record {
   outside_is = outside-later v log turn h.outside_is;
   facts = moved-facts rules log turn v.scene.kept (after_turn v turn).scene.kept v.scene.flight (after_turn v turn).scene.flight disk kept flight h.facts;
   setup_is = subst (IsOfLog (log ++ turn ∷ [])) (sym setup) (later-setup log turn v.scene.setup h.setup_is);
   phase = inr (inl (record { is_open = is_open; spares = spares }));
 }
   where
-    is_open : journaled ≡ true → IsOpen (log ++ turn ∷ []) (after_turn v turn).scene.kept (after_turn v turn).scene.flight
-    is_open e = record {
-      journal = subst (λ k. IsJournalLog (log ++ turn ∷ []) (Some (map record_body k))) (sym kept) (IsJournalLog.OtherTurn log (Some (map record_body v.scene.kept)) turn (r.is_open e).journal disk);
-      no_flight = flight ∙ (r.is_open e).no_flight;
+    is_open : IsOpen (log ++ turn ∷ []) (after_turn v turn).scene.kept (after_turn v turn).scene.flight
+    is_open = record {
+      journal = subst (λ k. IsJournalLog (log ++ turn ∷ []) (Some (map record_body k))) (sym kept) (IsJournalLog.OtherTurn log (Some (map record_body v.scene.kept)) turn r.is_open.journal disk);
+      no_flight = flight ∙ r.is_open.no_flight;
     }
 
 -- the power has failed
-crashes : (journaled : Bool) (rules : RecordRules) (log : List Turn) (v : View) (file : List ℕ) → Holds journaled rules log v → Image v.scene.outside file → Holds journaled rules (log ++ Crash file ∷ []) (after_turn v (Crash file))
-crashes journaled rules log v file h is =
+crashes : (rules : RecordRules) (log : List Turn) (v : View) (file : List ℕ) → Holds rules log v → Image v.scene.outside file → Holds rules (log ++ Crash file ∷ []) (after_turn v (Crash file))
+crashes rules log v file h is =
     let image : Image (outside_of log) file = subst (λ (o : Outside). Image o file) h.outside_is is in
     let kept : List Record = kept_by v.scene.kept v.scene.flight file in
     let free : FreeSlots rules (log ++ Crash file ∷ []) kept = free-later rules log (Crash file ∷ []) kept (kept-by-either (FreeSlots rules log) v.scene.kept v.scene.flight file h.facts.free h.facts.all_free) in
@@ -125,15 +126,15 @@ no-more kept flight e = ap (λ (r : Option Record). kept ++ option_to_list r) e 
 
 -- ---- an opening
 
-synced-opening : (journaled : Bool) (rules : RecordRules) (log : List Turn) (v : View) → Holds journaled rules log v → v.calls ≡ opening_calls (length (outside_of log).file) → Holds journaled rules (log ++ Synced ∷ []) (after_turn v Synced)
-synced-opening journaled rules log v h e = record {
+synced-opening : (rules : RecordRules) (log : List Turn) (v : View) → Holds rules log v → v.calls ≡ opening_calls (length (outside_of log).file) → Holds rules (log ++ Synced ∷ []) (after_turn v Synced)
+synced-opening rules log v h e = record {
   outside_is = outside-later v log Synced h.outside_is;
   facts = synced-facts rules log v.scene.kept v.scene.flight None h.facts (IsJournalLog.Opening log h.facts.state [] (first_gate (length (outside_of log).file)) h.facts.journal refl);
   setup_is = later-setup log Synced v.scene.setup h.setup_is;
   phase = by_size (nat_le (length (outside_of log).file) 1) refl;
 }
   where
-    by_size : (test : Bool) → nat_le (length (outside_of log).file) 1 ≡ test → Phase journaled rules (log ++ Synced ∷ []) (records_by v.scene.kept v.scene.flight) None (later v.calls) (stage_synced v.scene.stage)
+    by_size : (test : Bool) → nat_le (length (outside_of log).file) 1 ≡ test → Phase rules (log ++ Synced ∷ []) (records_by v.scene.kept v.scene.flight) None (later v.calls) (stage_synced v.scene.stage)
     by_size true t = inr (inr (
       FirstGate (record {
         base = log;
@@ -153,15 +154,15 @@ synced-opening journaled rules log v h e = record {
         let none : first_gate (length (outside_of log).file) ≡ [] = rw t refl in
         let opened : IsJournalLog (log ++ Synced ∷ []) (Some (map record_body records)) =
         subst (λ turns. IsJournalLog (log ++ Synced ∷ turns) (Some (map record_body records))) none (IsJournalLog.Opened log h.facts.state (map record_body records) h.facts.journal h.facts.files.file gate) in
-        inr (inl (record { is_open = λ j. record { journal = opened; no_flight = refl }; spares = ap (λ l. spare_disk (later l)) e ∙ rw t refl }))
+        inr (inl (record { is_open = record { journal = opened; no_flight = refl }; spares = ap (λ l. spare_disk (later l)) e ∙ rw t refl }))
 
 -- the turns by which a file of at most one byte gets its first gate
 one-byte-gate : (file : List ℕ) → length file ≤ 1 → first_gate (length file) ≡ first_gate_write ∷ Synced ∷ []
 one-byte-gate file few = rw (le-leb (length file) 1 few) refl
 
-first-gate-written : (journaled : Bool) (rules : RecordRules) (log : List Turn) (v : View) → Holds journaled rules log v → Gating [] (WriteFirstGate ∷ Sync ∷ []) log v.scene.kept v.scene.flight v.calls
-    → Holds journaled rules (log ++ first_gate_write ∷ []) (after_turn v first_gate_write)
-first-gate-written journaled rules log v h g = record {
+first-gate-written : (rules : RecordRules) (log : List Turn) (v : View) → Holds rules log v → Gating [] (WriteFirstGate ∷ Sync ∷ []) log v.scene.kept v.scene.flight v.calls
+    → Holds rules (log ++ first_gate_write ∷ []) (after_turn v first_gate_write)
+first-gate-written rules log v h g = record {
   outside_is = outside-later v log first_gate_write h.outside_is;
   facts = subst (λ r. Facts rules (log ++ first_gate_write ∷ []) v.scene.kept r) (sym flight) (record {
     files = one-byte-files (log ++ first_gate_write ∷ []) v.scene.kept few none;
@@ -202,14 +203,14 @@ first-gate-written journaled rules log v h g = record {
         let bound = write-bound (outside_of g.base).file 0 (0 ∷ []) 1 g.few (omega arith) in
         subst (λ (o : Outside). length o.file ≤ 1) (sym (ap outside_of log_is ∙ outside_of-append g.base (Synced ∷ first_gate_write ∷ []))) bound
 
-first-gate-synced : (journaled : Bool) (rules : RecordRules) (log : List Turn) (v : View) → Holds journaled rules log v → Gating (first_gate_write ∷ []) (Sync ∷ []) log v.scene.kept v.scene.flight v.calls
-    → Holds journaled rules (log ++ Synced ∷ []) (after_turn v Synced)
-first-gate-synced journaled rules log v h g = record {
+first-gate-synced : (rules : RecordRules) (log : List Turn) (v : View) → Holds rules log v → Gating (first_gate_write ∷ []) (Sync ∷ []) log v.scene.kept v.scene.flight v.calls
+    → Holds rules (log ++ Synced ∷ []) (after_turn v Synced)
+first-gate-synced rules log v h g = record {
   outside_is = outside-later v log Synced h.outside_is;
   facts = synced-facts rules log v.scene.kept v.scene.flight (Some (map record_body v.scene.kept)) h.facts opened;
   setup_is = later-setup log Synced v.scene.setup h.setup_is;
   phase = inr (inl (record {
-    is_open = λ j. record { journal = subst (λ k. IsJournalLog (log ++ Synced ∷ []) (Some (map record_body k))) (sym (no-more v.scene.kept v.scene.flight g.no_flight)) opened; no_flight = refl };
+    is_open = record { journal = subst (λ k. IsJournalLog (log ++ Synced ∷ []) (Some (map record_body k))) (sym (no-more v.scene.kept v.scene.flight g.no_flight)) opened; no_flight = refl };
     spares = ap (λ l. spare_disk (later l)) g.calls_are;
   }));
 }
@@ -273,9 +274,9 @@ left_gate slot body = gate_write slot ∷ Synced ∷ []
 abbrev left_last : ℕ → List ℕ → List Turn
 left_last slot body = Synced ∷ []
 
-body-written : (journaled : Bool) (rules : RecordRules) (log : List Turn) (v : View) → Holds journaled rules log v → (a : Appending none_made owes_all on_ground rules log v.scene.kept v.scene.flight v.calls)
-    → Holds journaled rules (log ++ body_write (length (map record_body v.scene.kept)) (record_body a.the_record) ∷ []) (after_turn v (body_write (length (map record_body v.scene.kept)) (record_body a.the_record)))
-body-written journaled rules log v h a =
+body-written : (rules : RecordRules) (log : List Turn) (v : View) → Holds rules log v → (a : Appending none_made owes_all on_ground rules log v.scene.kept v.scene.flight v.calls)
+    → Holds rules (log ++ body_write (length (map record_body v.scene.kept)) (record_body a.the_record) ∷ []) (after_turn v (body_write (length (map record_body v.scene.kept)) (record_body a.the_record)))
+body-written rules log v h a =
     let slot : ℕ = length (map record_body v.scene.kept) in
     let body : List ℕ = record_body a.the_record in
     let turn : Turn = body_write slot body in
@@ -300,9 +301,9 @@ body-written journaled rules log v h a =
       phase = inr (inr (BodySync next, wrote-off-poll v.scene.stage));
     }
 
-body-is-synced : (journaled : Bool) (rules : RecordRules) (log : List Turn) (v : View) → Holds journaled rules log v → Appending body_made owes_sync on_ground rules log v.scene.kept v.scene.flight v.calls
-    → Holds journaled rules (log ++ Synced ∷ []) (after_turn v Synced)
-body-is-synced journaled rules log v h a =
+body-is-synced : (rules : RecordRules) (log : List Turn) (v : View) → Holds rules log v → Appending body_made owes_sync on_ground rules log v.scene.kept v.scene.flight v.calls
+    → Holds rules (log ++ Synced ∷ []) (after_turn v Synced)
+body-is-synced rules log v h a =
     let next : Appending body_synced owes_gate on_ground rules (log ++ Synced ∷ []) v.scene.kept None (later v.calls) =
     append-on body_made body_synced owes_sync owes_gate on_ground on_ground rules log Synced v.scene.kept v.scene.flight None v.calls a refl refl refl in
     let same : records_by v.scene.kept v.scene.flight ≡ v.scene.kept = no-more v.scene.kept v.scene.flight a.flight_is in
@@ -313,9 +314,9 @@ body-is-synced journaled rules log v h a =
       phase = inr (inr (OpenGate (subst (λ k. Appending body_synced owes_gate on_ground rules (log ++ Synced ∷ []) k None (later v.calls)) (sym same) next), synced-off-poll v.scene.stage));
     }
 
-gate-written : (journaled : Bool) (rules : RecordRules) (log : List Turn) (v : View) → Holds journaled rules log v → (a : Appending body_synced owes_gate on_ground rules log v.scene.kept v.scene.flight v.calls)
-    → Holds journaled rules (log ++ gate_write (length (map record_body v.scene.kept)) ∷ []) (after_turn v (gate_write (length (map record_body v.scene.kept))))
-gate-written journaled rules log v h a =
+gate-written : (rules : RecordRules) (log : List Turn) (v : View) → Holds rules log v → (a : Appending body_synced owes_gate on_ground rules log v.scene.kept v.scene.flight v.calls)
+    → Holds rules (log ++ gate_write (length (map record_body v.scene.kept)) ∷ []) (after_turn v (gate_write (length (map record_body v.scene.kept))))
+gate-written rules log v h a =
     let slot : ℕ = length (map record_body v.scene.kept) in
     let body : List ℕ = record_body a.the_record in
     let turn : Turn = gate_write slot in
@@ -341,9 +342,9 @@ gate-written journaled rules log v h a =
       phase = inr (inr (LastSync next, wrote-off-poll v.scene.stage));
     }
 
-gate-is-synced : (journaled : Bool) (rules : RecordRules) (log : List Turn) (v : View) → Holds journaled rules log v → Appending gate_made owes_last in_air rules log v.scene.kept v.scene.flight v.calls
-    → Holds journaled rules (log ++ Synced ∷ []) (after_turn v Synced)
-gate-is-synced journaled rules log v h a =
+gate-is-synced : (rules : RecordRules) (log : List Turn) (v : View) → Holds rules log v → Appending gate_made owes_last in_air rules log v.scene.kept v.scene.flight v.calls
+    → Holds rules (log ++ Synced ∷ []) (after_turn v Synced)
+gate-is-synced rules log v h a =
     let bodies : List (List ℕ) = map record_body v.scene.kept in
     let body : List ℕ = record_body a.the_record in
     let same : records_by v.scene.kept v.scene.flight ≡ v.scene.kept ++ a.the_record ∷ [] = ap (λ (r : Option Record). v.scene.kept ++ option_to_list r) a.flight_is in
@@ -355,7 +356,7 @@ gate-is-synced journaled rules log v h a =
       outside_is = outside-later v log Synced h.outside_is;
       facts = synced-facts rules log v.scene.kept v.scene.flight (Some (map record_body (records_by v.scene.kept v.scene.flight))) h.facts appended;
       setup_is = later-setup log Synced v.scene.setup h.setup_is;
-      phase = inr (inl (record { is_open = λ j. record { journal = appended; no_flight = refl }; spares = ap (λ l. spare_disk (later l)) a.calls_are ∙ a.spares }));
+      phase = inr (inl (record { is_open = record { journal = appended; no_flight = refl }; spares = ap (λ l. spare_disk (later l)) a.calls_are ∙ a.spares }));
     }
 
 -- ---- each turn
@@ -370,27 +371,27 @@ write-of calls rest first call turn e f w = ap write_turn (sym (first-is calls r
 never-writes : {A : Type 0} (turn : Turn) → None ≡ Some turn → A
 never-writes turn e = absurd (let n : None ≡ Some turn = e in cc)
 
-writes : (journaled : Bool) (rules : RecordRules) (log : List Turn) (v : View) (turn : Turn) (call : OwedCall) → Holds journaled rules log v
-    → Phase journaled rules log v.scene.kept v.scene.flight v.calls v.scene.stage → first_call v.calls ≡ Some call → write_turn call ≡ Some turn → Holds journaled rules (log ++ turn ∷ []) (after_turn v turn)
-writes journaled rules log v turn call h (inl c) f w = no-call v.calls call c.calls_are f
-writes journaled rules log v turn call h (inr (inl r)) f w = absurd (off-disk v.calls call r.spares f (writes-on-disk call turn w))
-writes journaled rules log v turn call h (inr (inr m)) f w = by_step m.0
+writes : (rules : RecordRules) (log : List Turn) (v : View) (turn : Turn) (call : OwedCall) → Holds rules log v
+    → Phase rules log v.scene.kept v.scene.flight v.calls v.scene.stage → first_call v.calls ≡ Some call → write_turn call ≡ Some turn → Holds rules (log ++ turn ∷ []) (after_turn v turn)
+writes rules log v turn call h (inl c) f w = no-call v.calls call c.calls_are f
+writes rules log v turn call h (inr (inl r)) f w = absurd (off-disk v.calls call r.spares f (writes-on-disk call turn w))
+writes rules log v turn call h (inr (inr m)) f w = by_step m.0
   where
-    by_step : Mid rules log v.scene.kept v.scene.flight v.calls → Holds journaled rules (log ++ turn ∷ []) (after_turn v turn)
+    by_step : Mid rules log v.scene.kept v.scene.flight v.calls → Holds rules (log ++ turn ∷ []) (after_turn v turn)
     by_step (FirstSync e) = never-writes turn (write-of v.calls _ Sync call turn e f w)
     by_step (FirstGate g) =
         let is : turn ≡ first_gate_write = some-same first_gate_write turn (write-of v.calls _ WriteFirstGate call turn g.calls_are f w) in
-        subst (λ t. Holds journaled rules (log ++ t ∷ []) (after_turn v t)) (sym is) (first-gate-written journaled rules log v h g)
+        subst (λ t. Holds rules (log ++ t ∷ []) (after_turn v t)) (sym is) (first-gate-written rules log v h g)
     by_step (GateSync g) = never-writes turn (write-of v.calls _ Sync call turn g.calls_are f w)
     by_step (Body a) =
         let slot : ℕ = length (map record_body v.scene.kept) in
         let is : turn ≡ body_write slot (record_body a.the_record) = some-same (body_write slot (record_body a.the_record)) turn (write-of v.calls _ (WriteBody slot a.the_record) call turn a.calls_are f w) in
-        subst (λ t. Holds journaled rules (log ++ t ∷ []) (after_turn v t)) (sym is) (body-written journaled rules log v h a)
+        subst (λ t. Holds rules (log ++ t ∷ []) (after_turn v t)) (sym is) (body-written rules log v h a)
     by_step (BodySync a) = never-writes turn (write-of v.calls _ Sync call turn a.calls_are f w)
     by_step (OpenGate a) =
         let slot : ℕ = length (map record_body v.scene.kept) in
         let is : turn ≡ gate_write slot = some-same (gate_write slot) turn (write-of v.calls _ (WriteGate slot a.the_record) call turn a.calls_are f w) in
-        subst (λ t. Holds journaled rules (log ++ t ∷ []) (after_turn v t)) (sym is) (gate-written journaled rules log v h a)
+        subst (λ t. Holds rules (log ++ t ∷ []) (after_turn v t)) (sym is) (gate-written rules log v h a)
     by_step (LastSync a) = never-writes turn (write-of v.calls _ Sync call turn a.calls_are f w)
 
 not-first-gate : {A : Type 0} → Sync ≡ WriteFirstGate → A
@@ -402,65 +403,65 @@ not-body slot the_record e = absurd (let n : Sync ≡ WriteBody slot the_record 
 not-gate : {A : Type 0} (slot : ℕ) (the_record : Record) → Sync ≡ WriteGate slot the_record → A
 not-gate slot the_record e = absurd (let n : Sync ≡ WriteGate slot the_record = e in cc)
 
-syncs : (journaled : Bool) (rules : RecordRules) (log : List Turn) (v : View) → Holds journaled rules log v → Phase journaled rules log v.scene.kept v.scene.flight v.calls v.scene.stage → first_call v.calls ≡ Some Sync
-    → Holds journaled rules (log ++ Synced ∷ []) (after_turn v Synced)
-syncs journaled rules log v h (inl c) f = no-call v.calls Sync c.calls_are f
-syncs journaled rules log v h (inr (inl r)) f = absurd (off-disk v.calls Sync r.spares f refl)
-syncs journaled rules log v h (inr (inr m)) f = by_step m.0
+syncs : (rules : RecordRules) (log : List Turn) (v : View) → Holds rules log v → Phase rules log v.scene.kept v.scene.flight v.calls v.scene.stage → first_call v.calls ≡ Some Sync
+    → Holds rules (log ++ Synced ∷ []) (after_turn v Synced)
+syncs rules log v h (inl c) f = no-call v.calls Sync c.calls_are f
+syncs rules log v h (inr (inl r)) f = absurd (off-disk v.calls Sync r.spares f refl)
+syncs rules log v h (inr (inr m)) f = by_step m.0
   where
-    by_step : Mid rules log v.scene.kept v.scene.flight v.calls → Holds journaled rules (log ++ Synced ∷ []) (after_turn v Synced)
-    by_step (FirstSync e) = synced-opening journaled rules log v h e
+    by_step : Mid rules log v.scene.kept v.scene.flight v.calls → Holds rules (log ++ Synced ∷ []) (after_turn v Synced)
+    by_step (FirstSync e) = synced-opening rules log v h e
     by_step (FirstGate g) = not-first-gate (first-is v.calls _ WriteFirstGate Sync g.calls_are f)
-    by_step (GateSync g) = first-gate-synced journaled rules log v h g
+    by_step (GateSync g) = first-gate-synced rules log v h g
     by_step (Body a) = not-body (length (map record_body v.scene.kept)) a.the_record (first-is v.calls _ (WriteBody (length (map record_body v.scene.kept)) a.the_record) Sync a.calls_are f)
-    by_step (BodySync a) = body-is-synced journaled rules log v h a
+    by_step (BodySync a) = body-is-synced rules log v h a
     by_step (OpenGate a) = not-gate (length (map record_body v.scene.kept)) a.the_record (first-is v.calls _ (WriteGate (length (map record_body v.scene.kept)) a.the_record) Sync a.calls_are f)
-    by_step (LastSync a) = gate-is-synced journaled rules log v h a
+    by_step (LastSync a) = gate-is-synced rules log v h a
 
 -- the phase of what holds
-polled-rests : (journaled : Bool) (rules : RecordRules) (log : List Turn) (v : View) → Holds journaled rules log v → v.scene.stage ≡ AtPoll → Rests journaled log v.scene.kept v.scene.flight v.calls
-polled-rests journaled rules log v h e = rests-polled journaled rules log v.scene.kept v.scene.flight v.calls v.scene.stage h.phase e
+polled-rests : (rules : RecordRules) (log : List Turn) (v : View) → Holds rules log v → v.scene.stage ≡ AtPoll → Rests log v.scene.kept v.scene.flight v.calls
+polled-rests rules log v h e = rests-polled rules log v.scene.kept v.scene.flight v.calls v.scene.stage h.phase e
 
-owing-rests : (journaled : Bool) (rules : RecordRules) (log : List Turn) (v : View) (call : OwedCall) → Holds journaled rules log v → first_call v.calls ≡ Some call → is_on_disk call ≡ false → Rests journaled log v.scene.kept v.scene.flight v.calls
-owing-rests journaled rules log v call h f off = rests-owing journaled rules log v.scene.kept v.scene.flight v.calls v.scene.stage call h.phase f off
+owing-rests : (rules : RecordRules) (log : List Turn) (v : View) (call : OwedCall) → Holds rules log v → first_call v.calls ≡ Some call → is_on_disk call ≡ false → Rests log v.scene.kept v.scene.flight v.calls
+owing-rests rules log v call h f off = rests-owing rules log v.scene.kept v.scene.flight v.calls v.scene.stage call h.phase f off
 
-pub idle-rests : (journaled : Bool) (rules : RecordRules) (log : List Turn) (v : View) → Holds journaled rules log v → is_running v.scene.stage ≡ true → v.calls ≡ [] → Rests journaled log v.scene.kept v.scene.flight v.calls
-idle-rests journaled rules log v h running e = rests-sparing journaled rules log v.scene.kept v.scene.flight v.calls v.scene.stage h.phase running (ap spare_disk e)
+pub idle-rests : (rules : RecordRules) (log : List Turn) (v : View) → Holds rules log v → is_running v.scene.stage ≡ true → v.calls ≡ [] → Rests log v.scene.kept v.scene.flight v.calls
+idle-rests rules log v h running e = rests-sparing rules log v.scene.kept v.scene.flight v.calls v.scene.stage h.phase running (ap spare_disk e)
 
 -- what a start leads to is said by itself
-pub turns : (journaled : Bool) (rules : RecordRules) (log : List Turn) (v : View) (turn : Turn) → Holds journaled rules log v → AllowedTurn v turn
-    → ((setup : Setup) → turn ≡ Start setup → Holds journaled rules (log ++ turn ∷ []) (after_turn v turn)) → Holds journaled rules (log ++ turn ∷ []) (after_turn v turn)
-turns journaled rules log v (Start setup) h ok starts = starts setup refl
-turns journaled rules log v OpenFailed h ok starts = calms journaled rules log v OpenFailed h (λ o. (refl, refl, refl)) refl refl tt refl refl
-turns journaled rules log v (Polled now) h ok starts = stays journaled rules log v (Polled now) h (idle-rests journaled rules log v h ok.running ok.calls) (λ o. (refl, refl, refl)) refl refl refl refl
-turns journaled rules log v (Opened till) h ok starts = stays journaled rules log v (Opened till) h (polled-rests journaled rules log v h ok.0) (λ o. (refl, refl, refl)) refl refl refl refl
-turns journaled rules log v (HeardTill till bytes) h ok starts = stays journaled rules log v (HeardTill till bytes) h (polled-rests journaled rules log v h ok.0.polled) (λ o. (refl, refl, refl)) refl refl refl refl
-turns journaled rules log v (Closed till) h ok starts = stays journaled rules log v (Closed till) h (polled-rests journaled rules log v h ok.polled) (λ o. (refl, refl, refl)) refl refl refl refl
-turns journaled rules log v (HeardPt pt bytes) h ok starts = stays journaled rules log v (HeardPt pt bytes) h (polled-rests journaled rules log v h ok.0.polled) (λ o. (refl, refl, refl)) refl refl refl refl
-turns journaled rules log v (Lost pt) h ok starts = stays journaled rules log v (Lost pt) h (polled-rests journaled rules log v h ok.polled) (λ o. (refl, refl, refl)) refl refl refl refl
-turns journaled rules log v Stopped h ok starts = calms journaled rules log v Stopped h (λ o. (refl, refl, refl)) refl refl (later-setup log Stopped v.scene.setup h.setup_is) refl refl
-turns journaled rules log v (Linked pt) h ok starts =
-    let r = owing-rests journaled rules log v (LinkPt pt) h ok refl in
-    stays journaled rules log v (Linked pt) h r (λ o. (refl, refl, refl)) refl refl refl (spares-both (link_made_at v.scene pt).calls (later v.calls) (made-at-spares v.scene pt) (spares-later v.calls r.spares))
-turns journaled rules log v (LinkFailed pt) h ok starts =
-    stays journaled rules log v (LinkFailed pt) h (owing-rests journaled rules log v (LinkPt pt) h ok refl) (λ o. (refl, refl, refl)) refl refl refl (spares-both (link_lost_at v.scene pt).calls [] (lost-at-spares v.scene pt) refl)
-turns journaled rules log v (SentTill till bytes true) h ok starts =
-    let r = owing-rests journaled rules log v (SendTill till ok.0) h ok.1 refl in
-    stays journaled rules log v (SentTill till bytes true) h r (λ o. (refl, refl, refl)) refl refl refl (spares-later v.calls r.spares)
-turns journaled rules log v (SentTill till bytes false) h ok starts =
-    stays journaled rules log v (SentTill till bytes false) h (owing-rests journaled rules log v (SendTill till ok.0) h ok.1 refl) (λ o. (refl, refl, refl)) refl refl refl refl
-turns journaled rules log v (SentPt pt bytes true) h ok starts =
-    let r = owing-rests journaled rules log v (SendPt pt ok.0) h ok.1 refl in
-    stays journaled rules log v (SentPt pt bytes true) h r (λ o. (refl, refl, refl)) refl refl refl (spares-later v.calls r.spares)
-turns journaled rules log v (SentPt pt bytes false) h ok starts =
-    stays journaled rules log v (SentPt pt bytes false) h (owing-rests journaled rules log v (SendPt pt ok.0) h ok.1 refl) (λ o. (refl, refl, refl)) refl refl refl refl
-turns journaled rules log v (CutTill till) h ok starts =
-    let r = owing-rests journaled rules log v (OwedCutTill till) h ok refl in
-    stays journaled rules log v (CutTill till) h r (λ o. (refl, refl, refl)) refl refl refl (spares-later v.calls r.spares)
-turns journaled rules log v (CutPt pt) h ok starts =
-    let r = owing-rests journaled rules log v (OwedCutPt pt) h ok refl in
-    stays journaled rules log v (CutPt pt) h r (λ o. (refl, refl, refl)) refl refl refl (spares-both (link_lost_at v.scene pt).calls (later v.calls) (lost-at-spares v.scene pt) (spares-later v.calls r.spares))
-turns journaled rules log v (Wrote offset bytes) h ok starts = writes journaled rules log v (Wrote offset bytes) ok.0 h h.phase ok.1 ok.2
-turns journaled rules log v Synced h ok starts = syncs journaled rules log v h h.phase ok
-turns journaled rules log v DiskFailed h ok starts = calms journaled rules log v DiskFailed h (λ o. (refl, refl, refl)) refl refl (later-setup log DiskFailed v.scene.setup h.setup_is) refl refl
-turns journaled rules log v (Crash file) h ok starts = crashes journaled rules log v file h ok.0
+pub turns : (rules : RecordRules) (log : List Turn) (v : View) (turn : Turn) → Holds rules log v → AllowedTurn v turn
+    → ((setup : Setup) → turn ≡ Start setup → Holds rules (log ++ turn ∷ []) (after_turn v turn)) → Holds rules (log ++ turn ∷ []) (after_turn v turn)
+turns rules log v (Start setup) h ok starts = starts setup refl
+turns rules log v OpenFailed h ok starts = calms rules log v OpenFailed h (λ o. (refl, refl, refl)) refl refl tt refl refl
+turns rules log v (Polled now) h ok starts = stays rules log v (Polled now) h (idle-rests rules log v h ok.running ok.calls) (λ o. (refl, refl, refl)) refl refl refl refl
+turns rules log v (Opened till) h ok starts = stays rules log v (Opened till) h (polled-rests rules log v h ok.0) (λ o. (refl, refl, refl)) refl refl refl refl
+turns rules log v (HeardTill till bytes) h ok starts = stays rules log v (HeardTill till bytes) h (polled-rests rules log v h ok.0.polled) (λ o. (refl, refl, refl)) refl refl refl refl
+turns rules log v (Closed till) h ok starts = stays rules log v (Closed till) h (polled-rests rules log v h ok.polled) (λ o. (refl, refl, refl)) refl refl refl refl
+turns rules log v (HeardPt pt bytes) h ok starts = stays rules log v (HeardPt pt bytes) h (polled-rests rules log v h ok.0.polled) (λ o. (refl, refl, refl)) refl refl refl refl
+turns rules log v (Lost pt) h ok starts = stays rules log v (Lost pt) h (polled-rests rules log v h ok.polled) (λ o. (refl, refl, refl)) refl refl refl refl
+turns rules log v Stopped h ok starts = calms rules log v Stopped h (λ o. (refl, refl, refl)) refl refl (later-setup log Stopped v.scene.setup h.setup_is) refl refl
+turns rules log v (Linked pt) h ok starts =
+    let r = owing-rests rules log v (LinkPt pt) h ok refl in
+    stays rules log v (Linked pt) h r (λ o. (refl, refl, refl)) refl refl refl (spares-both (link_made_at v.scene pt).calls (later v.calls) (made-at-spares v.scene pt) (spares-later v.calls r.spares))
+turns rules log v (LinkFailed pt) h ok starts =
+    stays rules log v (LinkFailed pt) h (owing-rests rules log v (LinkPt pt) h ok refl) (λ o. (refl, refl, refl)) refl refl refl (spares-both (link_lost_at v.scene pt).calls [] (lost-at-spares v.scene pt) refl)
+turns rules log v (SentTill till bytes true) h ok starts =
+    let r = owing-rests rules log v (SendTill till ok.0) h ok.1 refl in
+    stays rules log v (SentTill till bytes true) h r (λ o. (refl, refl, refl)) refl refl refl (spares-later v.calls r.spares)
+turns rules log v (SentTill till bytes false) h ok starts =
+    stays rules log v (SentTill till bytes false) h (owing-rests rules log v (SendTill till ok.0) h ok.1 refl) (λ o. (refl, refl, refl)) refl refl refl refl
+turns rules log v (SentPt pt bytes true) h ok starts =
+    let r = owing-rests rules log v (SendPt pt ok.0) h ok.1 refl in
+    stays rules log v (SentPt pt bytes true) h r (λ o. (refl, refl, refl)) refl refl refl (spares-later v.calls r.spares)
+turns rules log v (SentPt pt bytes false) h ok starts =
+    stays rules log v (SentPt pt bytes false) h (owing-rests rules log v (SendPt pt ok.0) h ok.1 refl) (λ o. (refl, refl, refl)) refl refl refl refl
+turns rules log v (CutTill till) h ok starts =
+    let r = owing-rests rules log v (OwedCutTill till) h ok refl in
+    stays rules log v (CutTill till) h r (λ o. (refl, refl, refl)) refl refl refl (spares-later v.calls r.spares)
+turns rules log v (CutPt pt) h ok starts =
+    let r = owing-rests rules log v (OwedCutPt pt) h ok refl in
+    stays rules log v (CutPt pt) h r (λ o. (refl, refl, refl)) refl refl refl (spares-both (link_lost_at v.scene pt).calls (later v.calls) (lost-at-spares v.scene pt) (spares-later v.calls r.spares))
+turns rules log v (Wrote offset bytes) h ok starts = writes rules log v (Wrote offset bytes) ok.0 h h.phase ok.1 ok.2
+turns rules log v Synced h ok starts = syncs rules log v h h.phase ok
+turns rules log v DiskFailed h ok starts = calms rules log v DiskFailed h (λ o. (refl, refl, refl)) refl refl (later-setup log DiskFailed v.scene.setup h.setup_is) refl refl
+turns rules log v (Crash file) h ok starts = crashes rules log v file h ok.0

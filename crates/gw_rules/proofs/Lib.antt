@@ -1,4 +1,6 @@
 -- The lemmas of lawful logs, and the steps along one.
+pub mod ActLawLemmas
+pub mod ActLemmas
 pub mod AloneExampleLemmas
 pub mod AloneLemmas
 pub mod BusyLemmas
@@ -26,6 +28,7 @@ pub mod KeptLemmas
 pub mod KeptPhaseLemmas
 pub mod KeptTurnLemmas
 pub mod LeanLemmas
+pub mod LedgerRuleLemmas
 pub mod LinkLawLemmas
 pub mod LinkStateLemmas
 pub mod LinkedLemmas

@@ -84,7 +84,7 @@ other-not-looking v call d next other e = not-opening v call d next other (looki
 
 -- a run that begins opens its journal
 pub start-owes-disk : (v : View) (setup : Setup) → OwesDisk (after_turn v (Start setup))
-start-owes-disk v setup = record { disk = λ e. opens-all (λ calls. all_on_disk calls ≡ true) refl refl refl setup v.scene.outside.file (records_of v.scene) }
+start-owes-disk v setup = record { disk = λ e. opens-all (λ calls. all_on_disk calls ≡ true) refl refl setup v.scene.outside.file (records_of v.scene) }
 
 turn-disk : (v : View) (turn : Turn) → OwesDisk v → AllowedTurn v turn → OwesDisk (after_turn v turn)
 turn-disk v (Start setup) d ok = start-owes-disk v setup

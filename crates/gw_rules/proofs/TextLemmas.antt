@@ -34,7 +34,7 @@ use Rattle.sale_msg.specs.Grammar.{IsTillMessage, HeaderHolds, Asks, parts_of}
 use Rattle.sale_reply.specs.Reply.{message_tree, header_tree, result_tree}
 use Rattle.gw_owes.specs.ReadAs.{IsReadAs, Silent}
 use Rattle.gw_owes.specs.Reply.{reply_value_tree, reply_value_bytes}
-use Rattle.gw_rules.specs.Example.{example_setup, status_request, status_reply, silent_message, status_header, status_asked, not_found}
+use Rattle.gw_rules.specs.Example.{example_setup, few_setup, status_request, status_reply, silent_message, status_header, status_asked, not_found}
 use Rattle.gw_rules.proofs.StageLemmas.{no-true}
 
 -- ---- what holds of each number in a list is tested by computing
@@ -313,3 +313,6 @@ setup-formed = record {
   each = All-from_recursion IsPt [] tt;
   distinct = tt;
 }
+
+pub few-formed : IsSetup few_setup
+few-formed = record { name = setup-formed.name; line = setup-formed.line; wait = setup-formed.wait; slots = (omega arith, omega arith); count = setup-formed.count; each = setup-formed.each; distinct = tt }

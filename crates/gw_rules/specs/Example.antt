@@ -1,8 +1,9 @@
 -- Example logs, lawful and unlawful.
-use Rattle.std.specs.Prelude.{◌≡◌, ℕ, suc, zero, ◌+◌, pos, true, false, List, [], ◌∷◌, ◌++◌, map, take, Some, None, codes}
+use Rattle.std.specs.Prelude.{◌≡◌, ℕ, suc, zero, ◌+◌, pos, true, false, List, [], ◌∷◌, ◌++◌, map, replicate, take, Some, None, codes}
 use Rattle.sale_frame.specs.Grammar.{frame}
 use Rattle.gw_base.specs.declared.condition.Condition.TheVariants.{NotFound}
 use Rattle.gw_base.specs.declared.setup.Setup.{Setup}
+use Rattle.gw_site.specs.Outside.{nothing_yet}
 use Rattle.gw_site.specs.declared.turn.Turn.{Turn}
 use Rattle.gw_site.specs.declared.turn.Turn.TheVariants.{Start, OpenFailed, Polled, Opened, HeardTill, SentTill, CutTill, Stopped, Synced, DiskFailed, Crash}
 use Rattle.sale_values.specs.declared.header.Header.{Header}
@@ -50,13 +51,13 @@ not_found = failure_reply status_header NotFound
 
 -- ---- a run that begins
 
--- the turns by which a run on a file of at most one byte opens its journal: none yet
+-- the turns by which a run on a file of at most one byte opens its journal
 abbrev pub first_turns : List Turn
-first_turns = []
+first_turns = Synced ∷ first_gate_write ∷ Synced ∷ []
 
 -- the file that they leave
 abbrev pub first_file : List ℕ
-first_file = []
+first_file = 0 ∷ []
 
 -- the turns by which a run with this setup begins on a file of at most one byte
 abbrev pub began : Setup → List Turn
@@ -196,9 +197,17 @@ NothingToLookAtLater = IsUnlawfulAfter opened_log DiskFailed
 abbrev pub opening_view : View
 opening_view = started at_first.scene example_setup (record { calls = Sync ∷ WriteFirstGate ∷ Sync ∷ []; refused = false })
 
+-- a gateway with two slots
+abbrev pub few_setup : Setup
+few_setup = record example_setup { slots = 2 }
+
+-- A file that is too long for two slots. Another program has written it: after a lawful log, along which no record is kept yet, the file has one byte at most.
+abbrev pub foreign_view : View
+foreign_view = record at_first { scene = record at_first.scene { outside = record nothing_yet { file = replicate 514 0; stable = replicate 514 0 } } }
+
 -- a run opens a journal, whose file is refused
 abbrev pub refused_view : View
-refused_view = started at_first.scene example_setup (record { calls = Sync ∷ []; refused = true })
+refused_view = after_turn foreign_view (Start few_setup)
 
 -- while the file is looked at, after the first sync, a look may fail, and it may before the sync in its place
 pub record LookMayFail (v : View) : Type 0 where
@@ -210,9 +219,10 @@ pub record LookMayFail (v : View) : Type 0 where
 abbrev pub LooksMayFail : Type 0
 LooksMayFail = LookMayFail opening_view × LookMayFail refused_view
 
--- a run whose file is refused makes no poll
-abbrev pub RefusedIsNotPolled : Type 0
-RefusedIsNotPolled = ¬ AllowedTurn (after_turn refused_view Synced) (Polled (pos 0))
+-- a run whose file is refused syncs it and makes no poll
+pub record RefusedIsNotPolled : Type 0 where
+  pub lawful : IsCourse foreign_view (Make (Start few_setup) ∷ Make Synced ∷ [])
+  pub no_poll : ¬ AllowedTurn (after_turn refused_view Synced) (Polled (pos 0))
 
 -- a run opens a journal, whose file has its first gate
 abbrev pub gated_view : View

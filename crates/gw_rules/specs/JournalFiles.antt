@@ -1,18 +1,20 @@
 -- Which files of the journal a power failure leaves: along lawful logs, and from where a journal is to be opened or a record to be kept; and that an opening gives the journal in which records are kept.
-use Rattle.std.specs.Prelude.{◌≡◌, ℕ, nat_le, Bool, true, false, not, ◌&&◌, if◌then◌else◌, List, [], ◌∷◌, ◌++◌, length, map, None}
+use Rattle.std.specs.Prelude.{◌≡◌, Bool, true, false, not, ◌&&◌, List, [], ◌∷◌, ◌++◌, length, map, None}
 use Rattle.gw_site.specs.Outside.{outside_of}
 use Rattle.gw_site.specs.declared.turn.Turn.{Turn}
-use Rattle.gw_site.specs.declared.turn.Turn.TheVariants.{Start, Synced}
+use Rattle.gw_site.specs.declared.turn.Turn.TheVariants.{Synced}
 use Rattle.jrn_record.specs.Grammar.{record_body}
 use Rattle.jrn_record.specs.Limits.{IsRecord}
 use Rattle.jrn_record.specs.declared.records.Record.{Record}
 use Rattle.jrn_log.specs.Foreign.{CanBeJournal, LeavesJournals, EndsClosed, append_turns}
 use Rattle.jrn_log.specs.Journal.{IsAtRest, AreKept}
 use Rattle.jrn_log.specs.JournalLogs.{HasGateAfter}
-use Rattle.jrn_log.specs.JournalTurns.{first_gate, first_gate_write}
+use Rattle.jrn_log.specs.JournalTurns.{first_gate}
 use Rattle.jrn_log.specs.Slots.{AreSlots}
 use Rattle.gw_owes.specs.Calls.{OwedCall, SendTill, SendPt, CutTill, CutPt, LinkPt, WriteBody, WriteGate, WriteFirstGate, Sync, keep_calls}
+use Rattle.gw_rules.specs.Example.{IsCourseAlong, began, began_moves}
 use Rattle.gw_rules.specs.Lawful.{IsCourse, turns_of, IsLawful}
+use Rattle.gw_rules.specs.Opening.{opening_calls}
 use Rattle.gw_rules.specs.RowExample.{terminal_setup, example_record, keep_view, gate_moves}
 use Rattle.gw_rules.specs.Scene.{records_of}
 use Rattle.gw_rules.specs.View.{View, Move, Make, view_from, at_first}
@@ -50,11 +52,7 @@ spare_disk (call ∷ calls) = not (is_on_disk call) && spare_disk calls
 
 -- ---- a journal that is opened
 
--- the calls by which a run opens a journal whose file has so many bytes: a sync, and the first gate where the file has at most one byte
-abbrev pub opening_calls : ℕ → List OwedCall
-opening_calls size = Sync ∷ (if nat_le size 1 then WriteFirstGate ∷ Sync ∷ [] else [])
-
--- Where a view owes that a journal is opened, each lawful course from it leaves such files after each of its turns. It goes by views, since no lawful log opens a journal yet.
+-- Where a view owes that a journal is opened, each lawful course from it leaves such files after each of its turns. It goes by views, so also from where no lawful log leads, as where another program has written the file.
 abbrev pub OpeningLeavesJournalFiles : Type 0
 OpeningLeavesJournalFiles =
     (log : List Turn) (v : View) (calls : List OwedCall) (moves : List Move) → v.scene.outside ≡ outside_of log → LeavesJournals log
@@ -107,23 +105,14 @@ OpeningHasJournal =
 
 -- ---- a closed example
 
--- a journal was opened on no file
+-- a run begins and opens a journal on no file
 abbrev pub journal_log : List Turn
-journal_log = Start terminal_setup ∷ Synced ∷ first_gate_write ∷ Synced ∷ []
+journal_log = began terminal_setup
 
--- a run begins, and is to open a journal on no file
-abbrev pub open_view : View
-open_view = record (view_from at_first (Make (Start terminal_setup) ∷ [])) { calls = opening_calls 0 }
-
--- the file is synced, and its first gate is written and synced
-abbrev pub opened_moves : List Move
-opened_moves = Make Synced ∷ Make first_gate_write ∷ Make Synced ∷ []
-
--- that opening is lawful and gives the journal in which a record is kept
+-- its moves are lawful and give the journal in which a record is kept
 pub record OpenedHasJournal : Type 0 where
-  pub lawful : IsCourse open_view opened_moves
-  pub log_is : Start terminal_setup ∷ turns_of opened_moves ≡ journal_log
-  pub journal : HasJournal journal_log (view_from open_view opened_moves)
+  pub lawful : IsCourseAlong journal_log (began_moves terminal_setup)
+  pub journal : HasJournal journal_log (view_from at_first (began_moves terminal_setup))
 
 -- a record is to be kept in its first slot
 abbrev pub journal_view : View

@@ -4,19 +4,20 @@ use Rattle.gw_base.specs.declared.setup.Setup.{Setup}
 use Rattle.gw_site.specs.Image.{Image}
 use Rattle.gw_site.specs.Outside.{outside_of}
 use Rattle.gw_site.specs.declared.turn.Turn.{Turn}
-use Rattle.gw_site.specs.declared.turn.Turn.TheVariants.{Start}
+use Rattle.gw_site.specs.declared.turn.Turn.TheVariants.{Start, Synced}
 use Rattle.jrn_record.specs.Grammar.{record_body}
 use Rattle.jrn_record.specs.Limits.{IsRecord}
 use Rattle.jrn_record.specs.declared.records.Record.{Record}
 use Rattle.jrn_log.specs.Journal.{AreKept}
+use Rattle.jrn_log.specs.JournalTurns.{first_gate}
 use Rattle.jrn_log.specs.Slots.{AreSlots, IsTruncatedSlot, IsFileTooLong}
 use Rattle.gw_owes.specs.Calls.{OwedCall, keep_calls}
 use Rattle.gw_owes.specs.Items.{RoundItem}
 use Rattle.gw_owes.specs.ReadAs.{ReadAs}
 use Rattle.gw_owes.specs.Row.{Row}
-use Rattle.gw_rules.specs.JournalFiles.{HasJournalFiles, spare_disk, opening_calls, HasJournal}
+use Rattle.gw_rules.specs.JournalFiles.{HasJournalFiles, spare_disk, HasJournal, IsOpened}
 use Rattle.gw_rules.specs.Lawful.{AllowedTurn, Begins, IsRead, Stands}
-use Rattle.gw_rules.specs.Opening.{Opens, kept_of}
+use Rattle.gw_rules.specs.Opening.{Opens, kept_of, opening_calls}
 use Rattle.gw_rules.specs.Scene.{Scene, records_of}
 use Rattle.gw_rules.specs.Stage.{is_round}
 use Rattle.gw_rules.specs.View.{View, Read, begun, started, after, after_turn, at_first}
@@ -175,10 +176,19 @@ FullOnlyWithFewerSlots = (rules : RecordRules) (log : List Turn) (v : View) → 
 abbrev pub EachRoundHasJournal : Type 0
 EachRoundHasJournal = (rules : RecordRules) (log : List Turn) (v : View) → KeepsJournal rules log v → is_round v.scene.stage ≡ true → spare_disk v.calls ≡ true → HasJournal log v
 
+-- a run that begins may make its opening, and has the journal with the records of the file then
+abbrev pub EachStartOpensJournal : Type 0
+EachStartOpensJournal =
+    (rules : RecordRules) (log : List Turn) (v : View) (setup : Setup) → KeepsJournal rules log v → IsOpened (log ++ Start setup ∷ []) (after_turn v (Start setup)) [] (Synced ∷ first_gate (length v.scene.outside.file))
+
 -- the file, that of the last sync, and whatever a power failure leaves are files that a journal can have left
 abbrev pub EachKeepsJournalFiles : Type 0
 EachKeepsJournalFiles = (rules : RecordRules) (log : List Turn) (v : View) → KeepsJournal rules log v → HasJournalFiles log
 
--- the same after each lawful log; none of its rows keeps a record yet
+-- Each lawful log is one of a gateway that keeps a journal, whichever the rules: each of its runs opens it. None of its rows keeps a record yet.
+abbrev pub EachLawfulKeepsJournal : Type 0
+EachLawfulKeepsJournal = (rules : RecordRules) (log : List Turn) (v : View) → Stands log v → KeepsJournal rules log v
+
+-- so all of this is so after each lawful log
 abbrev pub EachLawfulHasKept : Type 0
 EachLawfulHasKept = (rules : RecordRules) (log : List Turn) (v : View) → Stands log v → HasKept rules log v.scene

@@ -1,4 +1,7 @@
 -- The definitions of lawful logs: what is owed after each turn, and which turn may come next.
+pub mod ActExample
+pub mod ActLaws
+pub mod Acts
 pub mod AloneExample
 pub mod CauseExample
 pub mod ChunkExample
@@ -15,6 +18,7 @@ pub mod KeptLaws
 pub mod Lawful
 pub mod Laws
 pub mod Lean
+pub mod LedgerRules
 pub mod LinkLaws
 pub mod Opening
 pub mod OutsideLaws

@@ -5,7 +5,7 @@ use Rattle.std.specs.Prelude.{Bool, true, false, not}
 pub data Stage : Type 0 where
   -- there is no run
   Resting : Stage
-  -- the run has begun, and where it opens a journal the first sync is owed; whether the file is refused
+  -- the run has begun, and the first sync of its journal is owed; whether the file is refused
   Opening : Bool → Stage
   -- that sync was made, and the journal's file is looked at; whether it is refused
   Looking : Bool → Stage

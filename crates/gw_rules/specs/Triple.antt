@@ -1,70 +1,53 @@
 -- The contract of whatever drives a site: a triple over the view, from before its calls to after them.
-use Rattle.std.specs.Prelude.{◌≡◌, ◌⊎◌, ℕ, ℤ, map, Result, Ok, Err, true, false, List, [], ◌∷◌, ◌++◌, Some, None}
+use Rattle.std.specs.Prelude.{◌≡◌, ◌⊎◌, ℕ, ℤ, map, Bool, Result, Ok, Err, true, false, List, [], ◌∷◌, ◌++◌, Some, None}
 use Rattle.gw_base.specs.declared.setup.Setup.{Setup}
-use Rattle.gw_site.specs.Observed.{Observed, Origin}
+use Rattle.gw_site.specs.Observed.{Observed}
 use Rattle.gw_site.specs.declared.turn.Turn.{Turn}
-use Rattle.gw_site.specs.declared.turn.Turn.TheVariants.{Start, OpenFailed, Polled, Opened, HeardTill, Closed, HeardPt, Lost, Stopped, Linked, LinkFailed, SentTill, SentPt, CutTill as TurnCutTill, CutPt, Wrote, Synced, DiskFailed, Crash}
-use Rattle.gw_site.specs.Turns.{event_turns, IsPromised, IsTaken}
+use Rattle.gw_site.specs.declared.turn.Turn.TheVariants.{Start, OpenFailed, Polled, Linked, LinkFailed, SentTill, SentPt, CutPt, Crash}
+use Rattle.gw_site.specs.Turns.{event_turns, IsPromised}
 use Rattle.gw_site.specs.declared.site.What.{What}
-use Rattle.gw_owes.specs.Calls.{OwedCall, Sending, SendTill, SendPt, CutTill, CutPt as OwedCutPt, sending_bytes}
-use Rattle.gw_owes.specs.Reply.{ReplyValue, reply_value_bytes}
+use Rattle.gw_owes.specs.Calls.{OwedCall, CutTill, CutPt as OwedCutPt}
 use Rattle.gw_owes.specs.Core.{new_core}
 use Rattle.gw_owes.specs.Items.{RoundItem}
 use Rattle.gw_owes.specs.Row.{Row}
-use Rattle.gw_rules.specs.Lawful.{IsCourse, IsNext, turns_of, Stands, IsClear}
+use Rattle.gw_site.specs.Steps.{Takes}
+use Rattle.gw_rules.specs.Acts.{Act, AreDue, AreOwed, IsDone, Unopened}
+use Rattle.gw_rules.specs.Lawful.{IsCourse, turns_of, Stands, IsClear}
 use Rattle.gw_rules.specs.Opening.{opening}
 use Rattle.gw_rules.specs.Scene.{Scene, records_of, link_made_at, link_lost_at}
 use Rattle.gw_rules.specs.Stage.{Opening}
 use Rattle.gw_site.specs.Sorts.{IsQuiet}
-use Rattle.gw_rules.specs.View.{View, Move, Begin, Read, Make, after, after_turn, view_from, called}
+use Rattle.gw_rules.specs.View.{View, Move, Make, view_from, called}
 
--- after this log, where the turn is that of a send that failed, what it has taken of the bytes owed is what the origin says
-abbrev pub TakesOwed : Origin → List Turn → View → Turn → Type 0
-TakesOwed origin before v (Start setup) = Unit {0}
-TakesOwed origin before v OpenFailed = Unit {0}
-TakesOwed origin before v (Polled now) = Unit {0}
-TakesOwed origin before v (Opened till) = Unit {0}
-TakesOwed origin before v (HeardTill till bytes) = Unit {0}
-TakesOwed origin before v (Closed till) = Unit {0}
-TakesOwed origin before v (HeardPt pt bytes) = Unit {0}
-TakesOwed origin before v (Lost pt) = Unit {0}
-TakesOwed origin before v Stopped = Unit {0}
-TakesOwed origin before v (Linked pt) = Unit {0}
-TakesOwed origin before v (LinkFailed pt) = Unit {0}
-TakesOwed origin before v (SentTill till bytes true) = Unit {0}
-TakesOwed origin before v (SentTill till bytes false) = (reply : ReplyValue) × IsNext v (SendTill till reply) × IsTaken (origin.till_limit before till) (reply_value_bytes reply) bytes
-TakesOwed origin before v (SentPt pt bytes true) = Unit {0}
-TakesOwed origin before v (SentPt pt bytes false) = (sending : Sending) × IsNext v (SendPt pt sending) × IsTaken (origin.pt_limit before pt) (sending_bytes sending) bytes
-TakesOwed origin before v (TurnCutTill till) = Unit {0}
-TakesOwed origin before v (CutPt pt) = Unit {0}
-TakesOwed origin before v (Wrote offset bytes) = Unit {0}
-TakesOwed origin before v Synced = Unit {0}
-TakesOwed origin before v DiskFailed = Unit {0}
-TakesOwed origin before v (Crash file) = Unit {0}
-
--- along the moves, which go on from this log and view, each send that failed has taken what the origin says
-abbrev pub TakesAlong : Origin → List Turn → View → List Move → Type 0
-TakesAlong origin before v [] = Unit {0}
-TakesAlong origin before v (Begin ∷ moves) = TakesAlong origin before (after v Begin) moves
-TakesAlong origin before v (Read as_read ∷ moves) = TakesAlong origin before (after v (Read as_read)) moves
-TakesAlong origin before v (Make turn ∷ moves) = TakesOwed origin before v turn × TakesAlong origin (before ++ turn ∷ []) (after_turn v turn) moves
-
--- the log goes on from this view by allowed moves, none of which begins a run or fails the power, and in which each send that failed has taken what the origin says; where the site isn't dark then, Q holds of the view
-pub record Extends (before : List Turn) (v : View) (new : Observed) (Q : View → Type 0) : Type 0 where
+-- the log goes on from this view by allowed moves, none of which begins a run or fails the power; what is done is due by this; and where the site isn't dark then, Q holds of the view
+pub record ExtendsBy (Due : Bool → View → List Act → Type 0) (old : Observed) (before : List Turn) (v : View) (new : Observed) (Q : View → Type 0) : Type 0 where
   pub moves : List Move
   pub log_is : new.log ≡ Some (before ++ turns_of moves)
   pub lawful : IsCourse v moves
-  pub takes : TakesAlong new.origin before v moves
   pub quiet : IsQuiet (turns_of moves)
+  pub done : IsDone (Due new.dark) old.plan new.plan v moves
   pub owed : new.dark ≡ false → Q (view_from v moves)
 
--- Where a lawful log is observed, and P holds of its view unless the site is dark, the log goes on lawfully, and Q holds of the view then unless the site is dark. A dark site adds nothing and stays dark.
-pub record Triple (old new : Observed) (P Q : View → Type 0) : Type 0 where
-  pub observed : (before : List Turn) (v : View) → old.log ≡ Some before → Stands before v → (old.dark ≡ false → P v) → Extends before v new Q
+-- Where a lawful log is observed, and P holds of its view unless the site is dark, the log goes on lawfully, by what is due, and Q holds of the view then unless the site is dark. A dark site adds nothing and stays dark.
+pub record TripleBy (Due : Bool → View → List Act → Type 0) (old new : Observed) (P Q : View → Type 0) : Type 0 where
+  pub observed : (before : List Turn) (v : View) → old.log ≡ Some before → Stands before v → (old.dark ≡ false → P v) → ExtendsBy Due old before v new Q
   pub unobserved : old.log ≡ None → new.log ≡ None
   pub stays : old.dark ≡ true → new.dark ≡ true
   pub still : old.dark ≡ true → new.log ≡ old.log
+  pub rests : old.dark ≡ true → Takes old.plan new.plan []
   pub origin : new.origin ≡ old.origin
+
+-- what is done is owed
+abbrev pub IsOwedBy : Bool → View → List Act → Type 0
+IsOwedBy dark v acts = AreOwed v acts
+
+-- the log goes on so by what is owed
+abbrev pub Extends : Observed → List Turn → View → Observed → (View → Type 0) → Type 0
+Extends old before v new Q = ExtendsBy IsOwedBy old before v new Q
+
+-- the triple by what is owed
+abbrev pub Triple : Observed → Observed → (View → Type 0) → (View → Type 0) → Type 0
+Triple old new P Q = TripleBy IsOwedBy old new P Q
 
 -- the view has this scene, these calls and these items
 abbrev pub Owing : Scene → List OwedCall → List RoundItem → View → Type 0
@@ -134,18 +117,30 @@ IsBegun setup turns = (turns ≡ []) ⊎ IsStarted setup turns
 abbrev pub IsRun : Setup → List Turn → Type 0
 IsRun setup turns = (turns ≡ []) ⊎ ((turns ≡ OpenFailed ∷ []) ⊎ IsStarted setup turns)
 
--- the log goes on from this view by allowed moves, with turns of this shape, and each send that failed has taken what the origin says; where there are none the site is dark, and where it isn't, Q holds of the view
-pub record Ran (before : List Turn) (v : View) (new : Observed) (Shape : List Turn → Type 0) (Q : View → Type 0) : Type 0 where
+-- the log goes on from this view by allowed moves, with turns of this shape; what is done is due by this; where there are no turns the site is dark, and where it isn't, Q holds of the view
+pub record RanBy (Due : Bool → View → List Act → Type 0) (old : Observed) (before : List Turn) (v : View) (new : Observed) (Shape : List Turn → Type 0) (Q : View → Type 0) : Type 0 where
   pub moves : List Move
   pub log_is : new.log ≡ Some (before ++ turns_of moves)
   pub lawful : IsCourse v moves
-  pub takes : TakesAlong new.origin before v moves
   pub shape : Shape (turns_of moves)
+  pub done : IsDone (Due new.dark) old.plan new.plan v moves
   pub none : turns_of moves ≡ [] → new.dark ≡ true
   pub owed : new.dark ≡ false → Q (view_from v moves)
 
--- Where a lawful and clear log is observed, one run at most is added to it, lawfully.
-pub record RunTriple (old new : Observed) (Shape : List Turn → Type 0) (Q : View → Type 0) : Type 0 where
-  pub observed : (before : List Turn) (v : View) → old.log ≡ Some before → Stands before v → IsClear v → Ran before v new Shape Q
+-- Where a lawful and clear log is observed, one run at most is added to it, lawfully, by what is due.
+pub record RunTripleBy (Due : Bool → View → List Act → Type 0) (old new : Observed) (Shape : List Turn → Type 0) (Q : View → Type 0) : Type 0 where
+  pub observed : (before : List Turn) (v : View) → old.log ≡ Some before → Stands before v → IsClear v → RanBy Due old before v new Shape Q
   pub unobserved : old.log ≡ None → new.log ≡ None
   pub origin : new.origin ≡ old.origin
+
+-- what is done is due in a gateway whose runs start with this setup, from the opening of the site on
+abbrev pub IsDueFromOpening : Setup → Bool → View → List Act → Type 0
+IsDueFromOpening own dark v acts = AreDue own v Unopened acts
+
+-- the log goes on so by a run with this setup
+abbrev pub Ran : Setup → Observed → List Turn → View → Observed → (List Turn → Type 0) → (View → Type 0) → Type 0
+Ran own old before v new Shape Q = RanBy (IsDueFromOpening own) old before v new Shape Q
+
+-- one run at most, with this setup
+abbrev pub RunTriple : Setup → Observed → Observed → (List Turn → Type 0) → (View → Type 0) → Type 0
+RunTriple own old new Shape Q = RunTripleBy (IsDueFromOpening own) old new Shape Q

@@ -4,8 +4,11 @@
 ghost use Rattle.gw_rules.specs.Example.{BadFrameIsLawful, CrashLeavesNoOther, CrashedIsLawful, CrowdedIsLawful, DiskFailureEnds, FailedSendIsLawful, GateEndsLooking, LooksMayFail, NoRunWhereNotOpened, NothingToLookAt, NothingToLookAtLater, PollBeforeCut, PollBeforeReply, PollEndsLooking, PollWhileCrowded, RefusedIsNotPolled, RestartedIsLawful, SilentIsLawful, StatusIsLawful, UnaskedReply};
 ghost use Rattle.gw_rules.specs.JournalFiles.{EachHasJournalFiles, KeepingHasJournal, KeepingLeavesJournals, KeptFileIsJournal, OpenedHasJournal, OpeningHasJournal, OpeningLeavesJournalFiles};
 ghost use Rattle.gw_rules.specs.KeptExample.{FlightIsKept, UnsyncedKeepsNone};
-ghost use Rattle.gw_rules.specs.KeptLaws.{EachImageHasKept, EachKeepsFile, EachKeepsJournalFiles, EachLawfulHasKept, EachRoundHasJournal, FullOnlyWithFewerSlots, LongOnlyWithFewerSlots, NeverBad, NeverTruncated, NoneKeptIsLost};
+ghost use Rattle.gw_rules.specs.KeptLaws.{EachImageHasKept, EachKeepsFile, EachKeepsJournalFiles, EachLawfulHasKept, EachLawfulKeepsJournal, EachRoundHasJournal, EachStartOpensJournal, FullOnlyWithFewerSlots, LongOnlyWithFewerSlots, NeverBad, NeverTruncated, NoneKeptIsLost};
+ghost use Rattle.gw_rules.specs.LedgerRules.{EachFileFolds, EachImageFolds, LawfulRefusedOnlyWithFewerSlots, RefusedAtLimits, RefusedOnlyWithFewerSlots};
 ghost use Rattle.gw_rules.specs.RowExample.{BothAreItems, ClosedGateDrops, FailedSendCutsLink, FailedSyncCrashes, GateIsInFlight, GoneTillIsForgotten, LinkIsDueAgain, LinkRegisters, LostEndOfDayReplies, LostIsDue, LostTransactionKeepsAsker, OpenGateKeeps, PollBeforeUnframedCut, RowItemsComeFirst, SendingsAreSpelled, StartLeavesFlight, SyncKeeps, UnframedIsLawful, UnlinkedIsLawful, WaitsByDeadline};
+ghost use Rattle.gw_rules.specs.ActExample.{LongerIsRead, NothingBeforeSync, OpeningIsDue, OwedBytesAreSent};
+ghost use Rattle.gw_rules.specs.ActLaws.{OneCallIsDue, OneCallIsOwed, TurnsAreOfSteps};
 ghost use Rattle.gw_rules.specs.AloneExample.{OutsideLeavesOther, TooLongEndsOwnLink};
 ghost use Rattle.gw_rules.specs.CauseExample.{OutsideIsCause, OutsideIsCut, PollBeforeOutsideCut, PollBeforeTooLongCut, SplitReport, TooLongIsCause, TooLongIsCut};
 ghost use Rattle.gw_rules.specs.ChunkExample.{PollBeforeSplitEnquiry, SplitIsEnquired};
@@ -47,6 +50,22 @@ pub fn law_setup()
 /// the cut of its connection.
 pub fn law_calls()
     ensures calls { CallsEndInOne }
+{}
+
+/// A run does acts: items begin and are read, and the site takes steps, whose turns one after the other are the run's. One call at
+/// most is owed; and from the opening of the site on one is due, but where the journal's file may be read: two calls that are due at the
+/// same moment are the same, or one of them reads the file. So the acts say of a run what its log alone doesn't: that the file was
+/// looked at, which leaves no turn, and which call comes next, with its bytes. In examples, an opening on an empty file is
+/// a sync, the question for its length, its first gate and its sync; nothing comes before the sync; a longer file is read before
+/// the first poll; and of what is sent each byte is owed.
+pub fn law_acts()
+    ensures turns { TurnsAreOfSteps }
+    ensures one_owed { OneCallIsOwed }
+    ensures one_call { OneCallIsDue }
+    ensures opening { OpeningIsDue }
+    ensures sync_first { NothingBeforeSync }
+    ensures longer { LongerIsRead }
+    ensures owed_bytes { OwedBytesAreSent }
 {}
 
 /// What is heard in a lawful log is bytes. What newly heard bytes bring is said by the frames, and by the APDUs, of all bytes
@@ -193,11 +212,13 @@ pub fn law_journal_files()
 /// Whatever a power failure leaves has them, and then at most the one in flight; no record that is kept is ever lost. What it leaves has no
 /// truncated slot, and each of its slots has a record that lies within its limits and may follow those before it. It is too long,
 /// or leaves fewer slots free than keys open, only for a setup with fewer slots than one before it. So an opening has cause to
-/// refuse only what another program has written, or a run with more slots. While a round goes on and no call on the disk is owed, the journal is
-/// open with the records that are kept.
+/// refuse only what another program has written, or a run with more slots. Each run that begins may make its opening, which gives it the
+/// journal with the records of the file; and while a round goes on and no call on the disk is owed, the journal is open with the records
+/// that are kept.
 ///
-/// No row of a lawful log keeps a record yet: of these logs, whose file is empty, `lawful` says the same. `left` says that the files are
-/// those that a journal can have left; `example` has a closed log, and `unsynced` calls that keep no record.
+/// Each run of a lawful log opens the journal, so `lawful` says that each lawful log is one of these, and `lawful_kept` that what is kept
+/// is said of it; no row keeps a record yet. `left` says that the files are those that a journal can have left; `example` has a closed log,
+/// and `unsynced` calls that keep no record.
 pub fn law_kept_files()
     ensures file { EachKeepsFile }
     ensures images { EachImageHasKept }
@@ -206,11 +227,25 @@ pub fn law_kept_files()
     ensures bad { NeverBad }
     ensures long { LongOnlyWithFewerSlots }
     ensures full { FullOnlyWithFewerSlots }
+    ensures starts { EachStartOpensJournal }
     ensures round { EachRoundHasJournal }
     ensures left { EachKeepsJournalFiles }
-    ensures lawful { EachLawfulHasKept }
+    ensures lawful { EachLawfulKeepsJournal }
+    ensures lawful_kept { EachLawfulHasKept }
     ensures example { FlightIsKept }
     ensures unsynced { UnsyncedKeepsNone }
+{}
+
+/// The ledger of the records that are kept can be built at each opening: those of the file, and those of whatever a power failure leaves,
+/// are folded. An opening finds the file refused, as too long for the slots or as leaving fewer slots free than keys open, only where an
+/// earlier run of the log had more slots; so it is after each lawful log. Examples: with two slots a file of 513 bytes is
+/// the longest; and that of one Intent, whose key is open, needs two slots.
+pub fn law_openings()
+    ensures folds { EachFileFolds }
+    ensures images { EachImageFolds }
+    ensures refused { RefusedOnlyWithFewerSlots }
+    ensures lawful { LawfulRefusedOnlyWithFewerSlots }
+    ensures example { RefusedAtLimits }
 {}
 
 /// A request gets its reply, and nothing is sent and no poll comes instead; where the send of the reply fails, the till is
@@ -230,8 +265,8 @@ pub fn law_till_examples()
 
 /// A run may begin in the middle of another; a power failure leaves an image of the file and nothing else; a call on the
 /// disk fails only where the file is looked at or a sync is owed, and a look may fail whether the file is refused or not,
-/// until the first poll or the first gate. After such a failure nothing comes before a power failure, and where the site can't
-/// be opened there is no run.
+/// until the first poll or the first gate. A run whose file is refused syncs it and makes no poll. After such a failure nothing comes
+/// before a power failure, and where the site can't be opened there is no run.
 pub fn law_run_examples()
     ensures restarted { RestartedIsLawful }
     ensures crashed { CrashedIsLawful }

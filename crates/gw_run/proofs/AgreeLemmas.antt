@@ -1,15 +1,13 @@
 -- The two tables of what is served agree: a script is served exactly where each line of its text is.
 use Rattle.std.proofs.Common.{◌≡◌, ℕ, suc, ◌+◌, List, [], ◌∷◌, ◌++◌, length, refl, sym, ◌∙◌, ap, subst, arith, true, false}
-use Rattle.std.proofs.lemmas.Bool.{and_parts, lt-leb}
-use Rattle.std.proofs.lemmas.List.Folds.{list_all-append}
-use Rattle.std.specs.List.{list_all}
+use Rattle.std.proofs.lemmas.Bool.{lt-leb}
 use Rattle.std.specs.Prelude.{Bool, ◌&&◌, ◌||◌, nat_le, nat_lt, not, if◌then◌else◌, is_none, is_some, Option, Some, None, Result, Ok, Err, option_and_then, option_map}
 use Rattle.gw_base.specs.declared.setup.Pt.{Pt}
 use Rattle.gw_script.specs.Decode.{is_empty, split_lines}
 use Rattle.gw_script.specs.site.Decode.{entry_of, lacks_poi, no_lines, script_from, script_goes_on, with_entry, with_setting}
 use Rattle.gw_script.specs.site.ScriptLine.{SetupLine, Name, Queue, Wait, Slots, Terminal, PlayedLine, Entry, Blank, Setting, Playing, Given, Script}
 use Rattle.gw_run.specs.Laws.{TablesAgree}
-use Rattle.gw_run.specs.Served.{first_unserved, is_served, is_served_entry, is_served_given, is_served_line, is_served_setting, is_terminal, names_terminal}
+use Rattle.gw_run.specs.Served.{first_unserved, is_served, is_served_entry, is_served_given, is_served_setting, is_terminal, names_terminal}
 
 -- a terminal was given
 abbrev named : Script → Bool
@@ -21,9 +19,6 @@ record Grows (before : Script) (entry : Option Entry) (after : Script) : Type 0 
   on : is_served before ≡ true → is_served_entry (named before) entry ≡ true → is_served after ≡ true
   names : named after ≡ (named before || names_terminal entry)
 
-both_true : (a b : Bool) → a ≡ true → b ≡ true → (a && b) ≡ true
-both_true a b e f = ap (λ x. x && b) e ∙ f
-
 or_false : (b : Bool) → b ≡ (b || false)
 or_false true = refl
 or_false false = refl
@@ -34,34 +29,28 @@ never e = absurd (let h : false ≡ true = e in cc)
 -- ---- what the setup lines give
 
 -- what they give is served, by its parts
-abbrev table : Option ℕ → Option ℕ → Option ℕ → List Pt → Bool
-table queue wait slots terminals = is_none queue && is_none wait && is_none slots && nat_le (length terminals) 1
+abbrev table : Option ℕ → Option ℕ → List Pt → Bool
+table queue wait terminals = is_none queue && is_none wait && nat_le (length terminals) 1
 
-no_queue : (n : ℕ) (wait slots : Option ℕ) (terminals : List Pt) → table (Some n) wait slots terminals ≡ false
-no_queue n wait slots terminals = refl
+no_queue : (n : ℕ) (wait : Option ℕ) (terminals : List Pt) → table (Some n) wait terminals ≡ false
+no_queue n wait terminals = refl
 
-no_wait : (queue : Option ℕ) (n : ℕ) (slots : Option ℕ) (terminals : List Pt) → table queue (Some n) slots terminals ≡ false
-no_wait None n slots terminals = refl
-no_wait (Some q) n slots terminals = refl
-
-no_slots : (queue wait : Option ℕ) (n : ℕ) (terminals : List Pt) → table queue wait (Some n) terminals ≡ false
-no_slots None None n terminals = refl
-no_slots None (Some w) n terminals = refl
-no_slots (Some q) wait n terminals = refl
+no_wait : (queue : Option ℕ) (n : ℕ) (terminals : List Pt) → table queue (Some n) terminals ≡ false
+no_wait None n terminals = refl
+no_wait (Some q) n terminals = refl
 
 past_one : (first : Pt) (pts : List Pt) (pt : Pt) → nat_le (length ((first ∷ pts) ++ pt ∷ [])) 1 ≡ false
 past_one first [] pt = refl
 past_one first (next ∷ pts) pt = lt-leb (length ((first ∷ next ∷ pts) ++ pt ∷ [])) 1 (omega arith)
 
-no_second : (queue wait slots : Option ℕ) (first : Pt) (pts : List Pt) (pt : Pt) → table queue wait slots ((first ∷ pts) ++ pt ∷ []) ≡ false
-no_second None None None first pts pt = past_one first pts pt
-no_second None None (Some s) first pts pt = refl
-no_second None (Some w) slots first pts pt = refl
-no_second (Some q) wait slots first pts pt = refl
+no_second : (queue wait : Option ℕ) (first : Pt) (pts : List Pt) (pt : Pt) → table queue wait ((first ∷ pts) ++ pt ∷ []) ≡ false
+no_second None None first pts pt = past_one first pts pt
+no_second None (Some w) first pts pt = refl
+no_second (Some q) wait first pts pt = refl
 
 -- a script of which the setup isn't served isn't
 unserved : (script : Script) → is_served_given script.given ≡ false → is_served script ≡ true → false ≡ true
-unserved script e served = sym e ∙ (and_parts (is_served_given script.given) (list_all is_served_line script.lines) served).0
+unserved script e served = sym e ∙ served
 
 some-script : (a b : Script) → Some a ≡ Some b → a ≡ b
 some-script a b e = cc
@@ -81,12 +70,12 @@ refused before line after given not_line not_given is names = subst (Grows befor
 
 second : (before : Script) (terminals : List Pt) → before.given.terminals ≡ terminals → (pt : Pt) → Grows before (Some (Setting (Terminal pt))) (giving before (record before.given { terminals = terminals ++ pt ∷ [] }))
 second before [] is pt = record {
-  back = λ served. (subst (λ t. (table before.given.queue before.given.wait before.given.slots t && list_all is_served_line before.lines) ≡ true) (sym is) served, ap (λ (t : List Pt). not (not (is_empty t))) is);
-  on = λ served entry. subst (λ t. (table before.given.queue before.given.wait before.given.slots t && list_all is_served_line before.lines) ≡ true) is served;
+  back = λ served. (subst (λ t. table before.given.queue before.given.wait t ≡ true) (sym is) served, ap (λ (t : List Pt). not (not (is_empty t))) is);
+  on = λ served entry. subst (λ t. table before.given.queue before.given.wait t ≡ true) is served;
   names = ap (λ (t : List Pt). not (is_empty t) || true) (sym is);
 }
 second before (first ∷ pts) is pt = refused before (Terminal pt) (giving before (record before.given { terminals = (first ∷ pts) ++ pt ∷ [] })) (record before.given { terminals = (first ∷ pts) ++ pt ∷ [] })
-    (ap (λ (t : List Pt). not (not (is_empty t))) is) (no_second before.given.queue before.given.wait before.given.slots first pts pt) refl (ap (λ (t : List Pt). not (is_empty t) || true) (sym is))
+    (ap (λ (t : List Pt). not (not (is_empty t))) is) (no_second before.given.queue before.given.wait first pts pt) refl (ap (λ (t : List Pt). not (is_empty t) || true) (sym is))
 
 no-script : {A : Type 0} (script : Script) → ◌≡◌ {A = Option Script} None (Some script) → A
 no-script script e = absurd (let h : ◌≡◌ {A = Option Script} None (Some script) = e in cc)
@@ -101,17 +90,17 @@ setting-grows before (Queue n) after e = by_test (is_some before.given.queue) e
   where
     by_test : (test : Bool) → option_map (giving before) (if test then None else Some (record before.given { queue = Some n })) ≡ Some after → Grows before (Some (Setting (Queue n))) after
     by_test true e = no-script after e
-    by_test false e = refused before (Queue n) after (record before.given { queue = Some n }) refl (no_queue n before.given.wait before.given.slots before.given.terminals) (some-script _ after e) (or_false (named before))
+    by_test false e = refused before (Queue n) after (record before.given { queue = Some n }) refl (no_queue n before.given.wait before.given.terminals) (some-script _ after e) (or_false (named before))
 setting-grows before (Wait n) after e = by_test (is_some before.given.wait) e
   where
     by_test : (test : Bool) → option_map (giving before) (if test then None else Some (record before.given { wait = Some n })) ≡ Some after → Grows before (Some (Setting (Wait n))) after
     by_test true e = no-script after e
-    by_test false e = refused before (Wait n) after (record before.given { wait = Some n }) refl (no_wait before.given.queue n before.given.slots before.given.terminals) (some-script _ after e) (or_false (named before))
+    by_test false e = refused before (Wait n) after (record before.given { wait = Some n }) refl (no_wait before.given.queue n before.given.terminals) (some-script _ after e) (or_false (named before))
 setting-grows before (Slots n) after e = by_test (is_some before.given.slots) e
   where
     by_test : (test : Bool) → option_map (giving before) (if test then None else Some (record before.given { slots = Some n })) ≡ Some after → Grows before (Some (Setting (Slots n))) after
     by_test true e = no-script after e
-    by_test false e = refused before (Slots n) after (record before.given { slots = Some n }) refl (no_slots before.given.queue before.given.wait n before.given.terminals) (some-script _ after e) (or_false (named before))
+    by_test false e = subst (Grows before (Some (Setting (Slots n)))) (some-script (giving before (record before.given { slots = Some n })) after e) (record { back = λ served. (served, refl); on = λ served entry. served; names = or_false (named before) })
 setting-grows before (Terminal pt) after e = by_test (nat_lt (length before.given.terminals) 32 && lacks_poi before.given.terminals pt.poi) e
   where
     by_test : (test : Bool) → option_map (giving before) (if test then Some (record before.given { terminals = before.given.terminals ++ pt ∷ [] }) else None) ≡ Some after → Grows before (Some (Setting (Terminal pt))) after
@@ -119,17 +108,7 @@ setting-grows before (Terminal pt) after e = by_test (nat_lt (length before.give
     by_test false e = no-script after e
 
 line-grows : (before : Script) (line : PlayedLine) → Grows before (Some (Playing line)) (record before { lines = before.lines ++ line ∷ [] })
-line-grows before line = record {
-  back = λ served.
-      let (given, all) = and_parts (is_served_given before.given) (list_all is_served_line (before.lines ++ line ∷ [])) served in
-      let (lines, one) = and_parts (list_all is_served_line before.lines) (list_all is_served_line (line ∷ [])) (sym (list_all-append is_served_line before.lines (line ∷ [])) ∙ all) in
-      (both_true (is_served_given before.given) (list_all is_served_line before.lines) given lines, (and_parts (is_served_line line) (list_all is_served_line []) one).0);
-  on = λ served entry.
-      let (given, lines) = and_parts (is_served_given before.given) (list_all is_served_line before.lines) served in
-      both_true (is_served_given before.given) (list_all is_served_line (before.lines ++ line ∷ [])) given
-      (list_all-append is_served_line before.lines (line ∷ []) ∙ both_true (list_all is_served_line before.lines) (list_all is_served_line (line ∷ [])) lines (both_true (is_served_line line) (list_all is_served_line []) entry refl));
-  names = or_false (named before);
-}
+line-grows before line = record { back = λ served. (served, refl); on = λ served entry. served; names = or_false (named before) }
 
 grows : (before : Script) (entry : Entry) (after : Script) → with_entry before entry ≡ Some after → Grows before (Some entry) after
 grows before Blank after e = subst (Grows before (Some Blank)) (some-script before after e) (record { back = λ served. (served, refl); on = λ served entry. served; names = or_false (named before) })

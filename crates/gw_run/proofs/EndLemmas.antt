@@ -1,8 +1,7 @@
 -- How a lawful log ends, how many polls it has, and what its course is after its start.
 use Rattle.std.proofs.Common.{◌≡◌, ◌+◌, ◌≤◌, List, [], ◌∷◌, ◌++◌, length, refl, sym, ◌∙◌, ap, subst, arith, inl, inr, true, false}
-use Rattle.std.specs.Prelude.{◌⊎◌, Some, None}
+use Rattle.std.specs.Prelude.{◌⊎◌, Bool, Some, None}
 use Rattle.gw_base.specs.declared.setup.Setup.{Setup}
-use Rattle.gw_site.specs.Observed.{Origin}
 use Rattle.gw_site.specs.Sorts.{is_between, IsQuiet}
 use Rattle.gw_site.specs.declared.turn.Turn.{Turn}
 use Rattle.gw_site.specs.declared.turn.Turn.TheVariants.{Start, OpenFailed, Polled, Opened, HeardTill, Closed, HeardPt, Lost, Stopped, Linked, LinkFailed, SentTill, SentPt, CutTill, CutPt, Wrote, Synced, DiskFailed, Crash}
@@ -12,10 +11,11 @@ use Rattle.gw_owes.specs.ReadAs.{ReadAs}
 use Rattle.gw_script.specs.site.ByLines.{IsRunToStop}
 use Rattle.gw_rules.specs.Scene.{Scene}
 use Rattle.gw_rules.specs.Stage.{Stage, Resting, Opening, Looking, AtPoll, Handling, Over, Broken, is_round, is_running, is_looking, busy, stage_synced, stage_wrote}
-use Rattle.gw_rules.specs.Triple.{TakesAlong}
 use Rattle.gw_rules.specs.View.{View, Move, Begin, Read, Make, begin, after, after_turn, view_from, at_first}
-use Rattle.gw_rules.specs.Lawful.{AllowedTurn, IsIdle, IsCourse, turns_of, Stands, IsNext, first_call}
-use Rattle.gw_run.specs.ScriptLog.{IsLawfulWith, IsStopped}
+use Rattle.gw_rules.specs.Lawful.{AllowedTurn, IsIdle, IsCourse, turns_of, Stands, IsLawful, IsNext, first_call}
+use Rattle.gw_rules.proofs.CourseLemmas.{begin-stage}
+use Rattle.gw_rules.proofs.StageLemmas.{round-busy}
+use Rattle.gw_run.specs.ScriptLog.{HasLastTurn, IsStopped}
 
 polls-turn : (v : View) (turn : Turn) → (after_turn v turn).scene.polls ≤ v.scene.polls + 1
 polls-turn v (Start setup) = omega arith
@@ -54,91 +54,120 @@ polls-from v (Make turn ∷ moves) = let a = polls-turn v turn in let b = polls-
 pub polls-most : (log : List Turn) (v : View) → Stands log v → v.scene.polls ≤ length log
 polls-most log v s = let h = polls-from at_first s.course in rw (← s.view_is, ← s.log_is) (omega arith)
 
+-- nothing is owed at this stage, and this turn alone leads to it
+pub record IsEnd (end : Stage) (last : Turn) : Type 0 where
+  pub no_opening : (refused : Bool) → Opening refused ≡ end → ⊥
+  pub no_looking : (refused : Bool) → Looking refused ≡ end → ⊥
+  pub no_rest : Resting ≡ end → ⊥
+  pub no_poll : AtPoll ≡ end → ⊥
+  pub no_handling : Handling ≡ end → ⊥
+  pub stopped : Over ≡ end → Stopped ≡ last
+  pub disk_failed : Broken ≡ end → DiskFailed ≡ last
+
+pub over-end : IsEnd Over Stopped
+over-end = record { no_opening = λ refused e. cc; no_looking = λ refused e. cc; no_rest = λ e. cc; no_poll = λ e. cc; no_handling = λ e. cc; stopped = λ e. refl; disk_failed = λ e. absurd (let h : Broken ≡ Over = e in cc) }
+
+pub broken-end : IsEnd Broken DiskFailed
+broken-end = record { no_opening = λ refused e. cc; no_looking = λ refused e. cc; no_rest = λ e. cc; no_poll = λ e. cc; no_handling = λ e. cc; stopped = λ e. absurd (let h : Over ≡ Broken = e in cc); disk_failed = λ e. refl }
+
+-- at this stage, no call is owed
+abbrev pub IsCalmAt : Stage → View → Type 0
+IsCalmAt end v = v.scene.stage ≡ end → v.calls ≡ []
+
 -- where the run is over, no call is owed
 abbrev pub OverCalm : View → Type 0
-OverCalm v = v.scene.stage ≡ Over → v.calls ≡ []
+OverCalm v = IsCalmAt Over v
 
--- nothing that follows a poll ends a run, nor a sync or a write
-pub busy-over : (s : Stage) → busy s ≡ Over → s ≡ Over
-busy-over Resting e = e
-busy-over (Opening refused) e = absurd (let h : Opening refused ≡ Over = e in cc)
-busy-over (Looking refused) e = absurd (let h : Looking refused ≡ Over = e in cc)
-busy-over AtPoll e = absurd (let h : Handling ≡ Over = e in cc)
-busy-over Handling e = e
-busy-over Over e = e
-busy-over Broken e = e
+-- nothing that follows a poll leads to it, nor a sync or a write
+busy-back : (end : Stage) (last : Turn) → IsEnd end last → (s : Stage) → busy s ≡ end → s ≡ end
+busy-back end last x Resting e = e
+busy-back end last x (Opening refused) e = e
+busy-back end last x (Looking refused) e = e
+busy-back end last x AtPoll e = absurd (x.no_handling e)
+busy-back end last x Handling e = e
+busy-back end last x Over e = e
+busy-back end last x Broken e = e
 
-synced-over : (s : Stage) → stage_synced s ≡ Over → s ≡ Over
-synced-over Resting e = e
-synced-over (Opening refused) e = absurd (let h : Looking refused ≡ Over = e in cc)
-synced-over (Looking refused) e = absurd (let h : Looking refused ≡ Over = e in cc)
-synced-over AtPoll e = absurd (let h : Handling ≡ Over = e in cc)
-synced-over Handling e = e
-synced-over Over e = e
-synced-over Broken e = e
+synced-back : (end : Stage) (last : Turn) → IsEnd end last → (s : Stage) → stage_synced s ≡ end → s ≡ end
+synced-back end last x Resting e = e
+synced-back end last x (Opening refused) e = absurd (x.no_looking refused e)
+synced-back end last x (Looking refused) e = e
+synced-back end last x AtPoll e = absurd (x.no_handling e)
+synced-back end last x Handling e = e
+synced-back end last x Over e = e
+synced-back end last x Broken e = e
 
-wrote-over : (s : Stage) → stage_wrote s ≡ Over → s ≡ Over
-wrote-over Resting e = e
-wrote-over (Opening refused) e = absurd (let h : Opening refused ≡ Over = e in cc)
-wrote-over (Looking refused) e = absurd (let h : Handling ≡ Over = e in cc)
-wrote-over AtPoll e = absurd (let h : Handling ≡ Over = e in cc)
-wrote-over Handling e = e
-wrote-over Over e = e
-wrote-over Broken e = e
+wrote-back : (end : Stage) (last : Turn) → IsEnd end last → (s : Stage) → stage_wrote s ≡ end → s ≡ end
+wrote-back end last x Resting e = e
+wrote-back end last x (Opening refused) e = e
+wrote-back end last x (Looking refused) e = absurd (x.no_handling e)
+wrote-back end last x AtPoll e = absurd (x.no_handling e)
+wrote-back end last x Handling e = e
+wrote-back end last x Over e = e
+wrote-back end last x Broken e = e
 
--- a call that is owed rules out that the run is over
-next-over : (v : View) (call : OwedCall) → OverCalm v → IsNext v call → v.scene.stage ≡ Over → ⊥
-next-over v call calm next e = let h : None ≡ Some call = sym (ap first_call (calm e)) ∙ next in cc
+-- a call that is owed rules out that the run is at its end
+next-end : (end : Stage) (v : View) (call : OwedCall) → IsCalmAt end v → IsNext v call → v.scene.stage ≡ end → ⊥
+next-end end v call calm next e = let h : None ≡ Some call = sym (ap first_call (calm e)) ∙ next in cc
 
--- the turn by which a run is over is Stopped
+-- the turn that leads to the end is this one
+end-turn : (end : Stage) (last : Turn) → IsEnd end last → (v : View) (turn : Turn) → IsCalmAt end v → AllowedTurn v turn → (after_turn v turn).scene.stage ≡ end → (turn ≡ last) × ((after_turn v turn).calls ≡ [])
+end-turn end last x v (Start setup) calm ok e = absurd (x.no_opening _ e)
+end-turn end last x v OpenFailed calm ok e = absurd (x.no_rest e)
+end-turn end last x v (Polled now) calm ok e = absurd (x.no_poll e)
+end-turn end last x v (Opened till) calm ok e = absurd (x.no_handling e)
+end-turn end last x v (HeardTill till bytes) calm ok e = absurd (x.no_handling e)
+end-turn end last x v (Closed till) calm ok e = absurd (x.no_handling e)
+end-turn end last x v (HeardPt pt bytes) calm ok e = absurd (x.no_handling e)
+end-turn end last x v (Lost pt) calm ok e = absurd (x.no_handling e)
+end-turn end last x v Stopped calm ok e = (x.stopped e, refl)
+end-turn end last x v (Linked pt) calm ok e = absurd (next-end end v _ calm ok (busy-back end last x v.scene.stage e))
+end-turn end last x v (LinkFailed pt) calm ok e = absurd (next-end end v _ calm ok (busy-back end last x v.scene.stage e))
+end-turn end last x v (SentTill till bytes true) calm ok e = absurd (next-end end v _ calm ok.1 (busy-back end last x v.scene.stage e))
+end-turn end last x v (SentTill till bytes false) calm ok e = absurd (next-end end v _ calm ok.1 (busy-back end last x v.scene.stage e))
+end-turn end last x v (SentPt pt bytes true) calm ok e = absurd (next-end end v _ calm ok.1 (busy-back end last x v.scene.stage e))
+end-turn end last x v (SentPt pt bytes false) calm ok e = absurd (next-end end v _ calm ok.1 (busy-back end last x v.scene.stage e))
+end-turn end last x v (CutTill till) calm ok e = absurd (next-end end v _ calm ok (busy-back end last x v.scene.stage e))
+end-turn end last x v (CutPt pt) calm ok e = absurd (next-end end v _ calm ok (busy-back end last x v.scene.stage e))
+end-turn end last x v (Wrote at bytes) calm ok e = absurd (next-end end v _ calm ok.1 (wrote-back end last x v.scene.stage e))
+end-turn end last x v Synced calm ok e = absurd (next-end end v _ calm ok (synced-back end last x v.scene.stage e))
+end-turn end last x v DiskFailed calm ok e = (x.disk_failed e, refl)
+end-turn end last x v (Crash file) calm ok e = absurd (x.no_rest e)
+
+-- where an item may begin, the run isn't at its end
+idle-end : (end : Stage) (last : Turn) → IsEnd end last → (v : View) → IsIdle v → busy v.scene.stage ≡ end → ⊥
+idle-end end last x v idle e = x.no_handling (sym (round-busy v.scene.stage idle.round) ∙ e)
+
+-- the log of a course that leads to the end ends with the turn
+end-from : (end : Stage) (last : Turn) → IsEnd end last → (v : View) (moves : List Move) → IsCalmAt end v → IsCourse v moves → (view_from v moves).scene.stage ≡ end → ((v.scene.stage ≡ end) × (turns_of moves ≡ [])) ⊎ HasLastTurn last (turns_of moves)
+end-from end last x v [] calm h e = inl (e, refl)
+end-from end last x v (Begin ∷ moves) calm h e =
+    let none : (after v Begin).scene.stage ≡ end → ⊥ = λ o. idle-end end last x v h.0.idle (sym (begin-stage v.scene v.items) ∙ o) in
+    elim (end-from end last x (after v Begin) moves (λ o. absurd (none o)) h.1 e) [ inl o ↦ absurd (none o.0) | inr ends ↦ inr ends ]
+end-from end last x v (Read as_read ∷ moves) calm h e =
+    let none : (after v (Read as_read)).scene.stage ≡ end → ⊥ = λ o. idle-end end last x v h.0.idle o in
+    elim (end-from end last x (after v (Read as_read)) moves (λ o. absurd (none o)) h.1 e) [ inl o ↦ absurd (none o.0) | inr ends ↦ inr ends ]
+end-from end last x v (Make turn ∷ moves) calm h e = elim (end-from end last x (after_turn v turn) moves (λ o. (end-turn end last x v turn calm h.0 o).1) h.1 e)
+    [ inl o ↦ inr ([], rw ((end-turn end last x v turn calm h.0 o.0).0, o.1) refl) | inr ends ↦ inr (turn ∷ ends.0, ap (λ rest. turn ∷ rest) ends.1) ]
+
+end-ends : (end : Stage) (last : Turn) → IsEnd end last → (log : List Turn) (v : View) → Stands log v → v.scene.stage ≡ end → HasLastTurn last log
+end-ends end last x log v s e = subst (HasLastTurn last) s.log_is (elim (end-from end last x at_first s.course (λ o. refl) s.lawful (ap (λ (w : View). w.scene.stage) s.view_is ∙ e))
+    [ inl o ↦ absurd (x.no_rest o.0) | inr ends ↦ ends ])
+
+-- where the run is over, the log ends with Stopped
+pub over-ends : (log : List Turn) (v : View) → Stands log v → v.scene.stage ≡ Over → IsStopped log
+over-ends log v s e = end-ends Over Stopped over-end log v s e
+
+-- where a call on the disk has failed, the log ends with that
+pub broken-ends : (log : List Turn) (v : View) → Stands log v → v.scene.stage ≡ Broken → HasLastTurn DiskFailed log
+broken-ends log v s e = end-ends Broken DiskFailed broken-end log v s e
+
 pub over-turn : (v : View) (turn : Turn) → OverCalm v → AllowedTurn v turn → (after_turn v turn).scene.stage ≡ Over → (turn ≡ Stopped) × ((after_turn v turn).calls ≡ [])
-over-turn v (Start setup) calm ok e = absurd (let h : Opening false ≡ Over = e in cc)
-over-turn v OpenFailed calm ok e = absurd (let h : Resting ≡ Over = e in cc)
-over-turn v (Polled now) calm ok e = absurd (let h : AtPoll ≡ Over = e in cc)
-over-turn v (Opened till) calm ok e = absurd (let h : Handling ≡ Over = e in cc)
-over-turn v (HeardTill till bytes) calm ok e = absurd (let h : Handling ≡ Over = e in cc)
-over-turn v (Closed till) calm ok e = absurd (let h : Handling ≡ Over = e in cc)
-over-turn v (HeardPt pt bytes) calm ok e = absurd (let h : Handling ≡ Over = e in cc)
-over-turn v (Lost pt) calm ok e = absurd (let h : Handling ≡ Over = e in cc)
-over-turn v Stopped calm ok e = (refl, refl)
-over-turn v (Linked pt) calm ok e = absurd (next-over v _ calm ok (busy-over v.scene.stage e))
-over-turn v (LinkFailed pt) calm ok e = absurd (next-over v _ calm ok (busy-over v.scene.stage e))
-over-turn v (SentTill till bytes true) calm ok e = absurd (next-over v _ calm ok.1 (busy-over v.scene.stage e))
-over-turn v (SentTill till bytes false) calm ok e = absurd (next-over v _ calm ok.1 (busy-over v.scene.stage e))
-over-turn v (SentPt pt bytes true) calm ok e = absurd (next-over v _ calm ok.1 (busy-over v.scene.stage e))
-over-turn v (SentPt pt bytes false) calm ok e = absurd (next-over v _ calm ok.1 (busy-over v.scene.stage e))
-over-turn v (CutTill till) calm ok e = absurd (next-over v _ calm ok (busy-over v.scene.stage e))
-over-turn v (CutPt pt) calm ok e = absurd (next-over v _ calm ok (busy-over v.scene.stage e))
-over-turn v (Wrote at bytes) calm ok e = absurd (next-over v _ calm ok.1 (wrote-over v.scene.stage e))
-over-turn v Synced calm ok e = absurd (next-over v _ calm ok (synced-over v.scene.stage e))
-over-turn v DiskFailed calm ok e = absurd (let h : Broken ≡ Over = e in cc)
-over-turn v (Crash file) calm ok e = absurd (let h : Resting ≡ Over = e in cc)
+over-turn v turn calm ok e = end-turn Over Stopped over-end v turn calm ok e
 
 -- where an item may begin, the run isn't over
 pub idle-over : (v : View) → IsIdle v → v.scene.stage ≡ Over → ⊥
 idle-over v idle e = let h : false ≡ true = sym (ap is_round e) ∙ idle.round in cc
-
-pub begin-stage : (scene : Scene) (items : List RoundItem) → (begin scene items).scene.stage ≡ busy scene.stage
-begin-stage scene [] = refl
-begin-stage scene (item ∷ items) = refl
-
--- where an item begins, the run isn't over then
-pub begin-over : (v : View) → IsIdle v → (after v Begin).scene.stage ≡ Over → ⊥
-begin-over v idle e = idle-over v idle (busy-over v.scene.stage (sym (begin-stage v.scene v.items) ∙ e))
-
-over-from : (v : View) (moves : List Move) → OverCalm v → IsCourse v moves → (view_from v moves).scene.stage ≡ Over → ((v.scene.stage ≡ Over) × (turns_of moves ≡ [])) ⊎ IsStopped (turns_of moves)
-over-from v [] calm h e = inl (e, refl)
-over-from v (Begin ∷ moves) calm h e = elim (over-from (after v Begin) moves (λ o. absurd (begin-over v h.0.idle o)) h.1 e)
-    [ inl o ↦ absurd (begin-over v h.0.idle o.0) | inr ends ↦ inr ends ]
-over-from v (Read as_read ∷ moves) calm h e = elim (over-from (after v (Read as_read)) moves (λ o. absurd (idle-over v h.0.idle (busy-over v.scene.stage o))) h.1 e)
-    [ inl o ↦ absurd (idle-over v h.0.idle (busy-over v.scene.stage o.0)) | inr ends ↦ inr ends ]
-over-from v (Make turn ∷ moves) calm h e = elim (over-from (after_turn v turn) moves (λ o. (over-turn v turn calm h.0 o).1) h.1 e)
-    [ inl o ↦ inr ([], rw ((over-turn v turn calm h.0 o.0).0, o.1) refl) | inr ends ↦ inr (turn ∷ ends.0, ap (λ rest. turn ∷ rest) ends.1) ]
-
--- where the run is over, the log ends with Stopped
-pub over-ends : (log : List Turn) (v : View) → Stands log v → v.scene.stage ≡ Over → IsStopped log
-over-ends log v s e = subst IsStopped s.log_is (elim (over-from at_first s.course (λ o. absurd (let h : Resting ≡ Over = o in cc)) s.lawful (ap (λ (w : View). w.scene.stage) s.view_is ∙ e))
-    [ inl o ↦ absurd (let h : Resting ≡ Over = o.0 in cc) | inr ends ↦ ends ])
 
 -- ---- where the run is over
 
@@ -188,10 +217,10 @@ over-rest v (Read as_read ∷ moves) calm over h quiet = absurd (idle-over v h.0
 over-rest v (Make turn ∷ moves) calm over h quiet = absurd (over-last v turn calm over h.0 quiet.0)
 
 pub calm-begin : (v : View) → IsIdle v → OverCalm (after v Begin)
-calm-begin v idle e = absurd (begin-over v idle e)
+calm-begin v idle e = absurd (idle-end Over Stopped over-end v idle (sym (begin-stage v.scene v.items) ∙ e))
 
 pub calm-read : (v : View) (as_read : ReadAs) → IsIdle v → OverCalm (after v (Read as_read))
-calm-read v as_read idle e = absurd (idle-over v idle (busy-over v.scene.stage e))
+calm-read v as_read idle e = absurd (idle-end Over Stopped over-end v idle e)
 
 pub calm-turn : (v : View) (turn : Turn) → OverCalm v → AllowedTurn v turn → OverCalm (after_turn v turn)
 calm-turn v turn calm ok e = (over-turn v turn calm ok e).1
@@ -199,31 +228,31 @@ calm-turn v turn calm ok e = (over-turn v turn calm ok e).1
 -- ---- the course after a start
 
 -- the log starts with this setup, and goes on along these moves
-pub record StartsOn (origin : Origin) (setup : Setup) (log : List Turn) : Type 0 where
+pub record StartsOn (setup : Setup) (log : List Turn) : Type 0 where
   pub moves : List Move
   pub log_is : log ≡ Start setup ∷ turns_of moves
+  pub allowed : AllowedTurn at_first (Start setup)
   pub lawful : IsCourse (after_turn at_first (Start setup)) moves
-  pub takes : TakesAlong origin (Start setup ∷ []) (after_turn at_first (Start setup)) moves
 
-starts-from : (origin : Origin) (setup : Setup) (course : List Move) (run log : List Turn) → turns_of course ≡ log → log ≡ Start setup ∷ run → IsCourse at_first course → TakesAlong origin [] at_first course → StartsOn origin setup log
-starts-from origin setup [] run log e f h t = absurd (let n : [] ≡ Start setup ∷ run = e ∙ f in cc)
-starts-from origin setup (Begin ∷ moves) run log e f h t = absurd (let n : false ≡ true = h.0.idle.round in cc)
-starts-from origin setup (Read as_read ∷ moves) run log e f h t = absurd (let n : false ≡ true = h.0.idle.round in cc)
-starts-from origin setup (Make turn ∷ moves) run log e f h t =
+starts-from : (setup : Setup) (course : List Move) (run log : List Turn) → turns_of course ≡ log → log ≡ Start setup ∷ run → IsCourse at_first course → StartsOn setup log
+starts-from setup [] run log e f h = absurd (let n : [] ≡ Start setup ∷ run = e ∙ f in cc)
+starts-from setup (Begin ∷ moves) run log e f h = absurd (let n : false ≡ true = h.0.idle.round in cc)
+starts-from setup (Read as_read ∷ moves) run log e f h = absurd (let n : false ≡ true = h.0.idle.round in cc)
+starts-from setup (Make turn ∷ moves) run log e f h =
     let n : turn ∷ turns_of moves ≡ Start setup ∷ run = e ∙ f in
     let heads : turn ≡ Start setup = cc in
     record {
       moves = moves;
       log_is = sym e ∙ ap (λ first. first ∷ turns_of moves) heads;
+      allowed = subst (AllowedTurn at_first) heads h.0;
       lawful = subst (λ first. IsCourse (after_turn at_first first) moves) heads h.1;
-      takes = subst (λ first. TakesAlong origin (first ∷ []) (after_turn at_first first) moves) heads t.1;
     }
 
-pub starts-on : (origin : Origin) (setup : Setup) (run log : List Turn) → IsLawfulWith origin log → log ≡ Start setup ∷ run → StartsOn origin setup log
-starts-on origin setup run log lawful e = starts-from origin setup lawful.course run log lawful.log_is e lawful.lawful lawful.takes
+pub starts-on : (setup : Setup) (run log : List Turn) → IsLawful log → log ≡ Start setup ∷ run → StartsOn setup log
+starts-on setup run log (v, s) e = starts-from setup s.course run log s.log_is e s.lawful
 
 pub start-calm : (setup : Setup) → OverCalm (after_turn at_first (Start setup))
-start-calm setup e = refl
+start-calm setup e = absurd (over-end.no_opening _ e)
 
 pub stops-later : (turn : Turn) (turns : List Turn) → (turn ≡ Stopped → ⊥) → IsStopped (turn ∷ turns) → IsStopped turns
 stops-later turn turns other ([], e) = absurd (other (let n : turn ∷ turns ≡ Stopped ∷ [] = e in cc))

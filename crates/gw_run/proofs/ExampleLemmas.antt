@@ -1,5 +1,5 @@
--- The examples: the scripts are read, their logs play them, and have their texts.
-use Rattle.std.proofs.Common.{◌≡◌, List, true, false, [], ◌∷◌, refl, sym, arith, subst}
+-- The examples: the scripts are read, the logs are those of them, and have their texts.
+use Rattle.std.proofs.Common.{◌≡◌, List, true, false, [], ◌∷◌, ◌++◌, refl, arith, inl, inr}
 use Rattle.std.proofs.lemmas.List.Elements.{All-from_recursion}
 use Rattle.std.specs.Prelude.{pos, Ok}
 use Rattle.std.specs.Str.{is_utf8, chars}
@@ -9,26 +9,25 @@ use Rattle.gw_base.specs.Setup.{IsPt, IsSetup}
 use Rattle.gw_base.proofs.BcdLemmas.{passes_bcd}
 use Rattle.hex.specs.Hex.{decode_pairs, encode_with}
 use Rattle.sale_frame.specs.Grammar.{frame}
-use Rattle.gw_site.specs.Turns.{IsTaken}
-use Rattle.gw_site.specs.declared.turn.Turn.{Turn}
 use Rattle.gw_site.specs.declared.turn.Turn.TheVariants.{Start, Polled, Opened, HeardTill, Lost, Stopped, Linked, LinkFailed, SentTill, SentPt, CutPt}
-use Rattle.gw_owes.specs.Calls.{Ask}
-use Rattle.gw_owes.specs.Terminals.{registration}
-use Rattle.gw_script.specs.site.Hazards.{takes_most}
-use Rattle.gw_script.specs.site.Limits.{hazard_read, script_origin}
-use Rattle.gw_script.specs.site.Playing.{Sync, PlaysLines}
-use Rattle.gw_script.specs.site.ScriptLine.{Open, FromTill, Lose, Tick, FailLink, FailSendPt, At, Poll, Fail, Script, nothing_given, setup_of}
-use Rattle.gw_rules.specs.Lawful.{IsCourse}
-use Rattle.gw_rules.specs.Triple.{TakesAlong}
-use Rattle.gw_rules.specs.View.{Move, Begin, Make, at_first}
-use Rattle.gw_rules.specs.Example.{status_request, status_reply, status_log, status_course}
+use Rattle.gw_script.specs.site.ByLines.{GoesByLines}
+use Rattle.gw_script.specs.site.ScriptLine.{Open, FromTill, Lose, Tick, FailLink, FailSendPt, At, Poll, Fail, Script, nothing_given}
+use Rattle.gw_rules.specs.Acts.{moves_of}
+use Rattle.gw_rules.specs.Example.{began_moves, example_setup, first_turns, status_request, status_reply, status_log, status_course}
+use Rattle.gw_rules.specs.Lawful.{IsCourse, turns_of}
 use Rattle.gw_rules.specs.RowExample.{register_bytes}
+use Rattle.gw_rules.specs.View.{Move, Make, after, at_first, view_from}
+use Rattle.gw_rules.specs.TerminalLogExample.{items_begin}
+use Rattle.gw_rules.proofs.CourseLemmas.{course-append}
 use Rattle.gw_rules.proofs.ExampleLemmas.{status-lawful}
+use Rattle.gw_rules.proofs.PrefixLemmas.{lawful-along}
 use Rattle.gw_rules.proofs.RowExampleLemmas.{formed}
+use Rattle.gw_rules.proofs.TestedLemmas.{course-tested}
 use Rattle.gw_rules.proofs.TextLemmas.{ident-tested}
 use Rattle.gw_run.specs.Served.{served_script}
 use Rattle.gw_run.specs.Example.{status_script, links_script, links_pt, links_setup, links_log, StatusIsOfScript, StatusHasText, LinksIsOfScript, LinksHasText}
-use Rattle.gw_run.proofs.ServedLemmas.{script-read}
+use Rattle.gw_run.proofs.ByLinesLemmas.{log-by-lines}
+use Rattle.gw_run.proofs.ExampleActLemmas.{Doing, ItemsBegin, Step, acts_of, due-of, before_last, onward, power-of, turns-of}
 
 -- ---- a status
 
@@ -40,54 +39,29 @@ status-served : served_script status_script ≡ Ok status_read
 unfolding status_request is_utf8 chars encode decode_pairs
 status-served = refl
 
-status-plays : PlaysLines status_read.lines status_log
-status-plays = (
-  _,
-  (
-    Sync,
-    (record { no_event = refl; no_failure = refl; power = refl }, refl),
-    (
-      Sync,
-      (record { no_event = refl; no_failure = refl; power = refl }, refl, refl),
-      (
-        Sync,
-        refl,
-        (
-          Sync,
-          (record { no_event = refl; no_failure = refl; power = refl }, refl, refl),
-          (
-            Sync,
-            refl,
-            (
-              Sync,
-              (record { no_event = refl; no_failure = refl; power = refl }, tt),
-              (
-                Sync,
-                (record { no_event = refl; no_failure = refl; power = refl }, refl, refl),
-                (Sync, refl, refl),
-              ),
-            ),
-          ),
-        ),
-      ),
-    ),
-  ),
-)
-
-pub status-of-script : StatusIsOfScript
-status-of-script = record {
-  script = status_read;
-  played = record {
-    script_is = status-served;
-    lawful = record { course = status_course; log_is = status-lawful.turns; lawful = status-lawful.lawful; takes = (tt, (tt, (tt, (tt, (tt, (tt, (tt, (tt, tt)))))))) };
-    plays = ∣ status-plays ∣₁;
-  };
-  one_run = (_, refl, (refl, (refl, (refl, (refl, (refl, (refl, (refl, tt))))))));
-  stopped = (Start (setup_of nothing_given) ∷ Polled (pos 0) ∷ Opened 1 ∷ Polled (pos 0) ∷ HeardTill 1 (frame status_request) ∷ SentTill 1 (frame status_reply) true ∷ Polled (pos 0) ∷ [], refl);
+status-goes : GoesByLines status_read.lines status_log
+status-goes = record {
+  setup = example_setup;
+  calls = first_turns;
+  later = Polled (pos 0) ∷ Opened 1 ∷ Polled (pos 0) ∷ HeardTill 1 (frame status_request) ∷ SentTill 1 (frame status_reply) true ∷ Polled (pos 0) ∷ Stopped ∷ [];
+  are_calls = (tt, (tt, (tt, tt)));
+  log_is = refl;
+  goes_on = inr (record {
+    calls = [];
+    later = Polled (pos 0) ∷ HeardTill 1 (frame status_request) ∷ SentTill 1 (frame status_reply) true ∷ Polled (pos 0) ∷ Stopped ∷ [];
+    not_skipped = λ less. absurd (omega (arith, less));
+    are_calls = tt;
+    turns_are = refl;
+    goes_on = inr (record { calls = SentTill 1 (frame status_reply) true ∷ []; later = Polled (pos 0) ∷ Stopped ∷ []; not_skipped = λ e. (let h : true ≡ false = e in cc); are_calls = (refl, tt); turns_are = refl; goes_on = refl });
+  });
 }
 
+pub status-of-script : StatusIsOfScript
+status-of-script = (log-by-lines status_script status_read status_log status-served tt).1
+    (lawful-along status_log status_course status-lawful.turns status-lawful.lawful, (_, refl, (refl, (refl, (refl, (refl, (refl, (refl, (refl, (refl, (refl, (refl, tt))))))))))), status-goes)
+
 pub status-has-text : StatusHasText
-unfolding status_request status_reply digits
+unfolding status_request status_reply digits encode_with
 status-has-text = refl
 
 -- ---- a terminal
@@ -102,64 +76,6 @@ links_read = record {
 links-served : served_script links_script ≡ Ok links_read
 unfolding is_utf8 chars encode decode_pairs
 links-served = refl
-
-links-plays : PlaysLines links_read.lines links_log
-links-plays = (
-  _,
-  (
-    Sync,
-    (record { no_event = refl; no_failure = refl; power = refl }, refl),
-    (
-      Sync,
-      (record { no_event = refl; no_failure = refl; power = refl }, refl, refl),
-      (
-        Sync,
-        (record { no_event = refl; no_failure = refl; power = refl }, refl),
-        (
-          Sync,
-          (record { no_event = refl; no_failure = refl; power = refl }, tt),
-          (
-            Sync,
-            (record { no_event = refl; no_failure = refl; power = refl }, refl, refl),
-            (
-              Sync,
-              refl,
-              (
-                Sync,
-                (record { no_event = refl; no_failure = refl; power = refl }, refl, refl),
-                (
-                  Sync,
-                  (record { no_event = refl; no_failure = refl; power = refl }, refl),
-                  (
-                    Sync,
-                    (record { no_event = refl; no_failure = refl; power = refl }, omega arith),
-                    (
-                      Sync,
-                      record { no_event = refl; no_failure = refl; power = refl },
-                      (
-                        Sync,
-                        (record { no_event = refl; no_failure = refl; power = refl }, refl, refl),
-                        (
-                          Sync,
-                          (record { no_event = refl; no_failure = refl; power = refl }, refl),
-                          (
-                            Sync,
-                            (record { no_event = refl; no_failure = refl; power = refl }, refl, refl),
-                            (Sync, refl, refl),
-                          ),
-                        ),
-                      ),
-                    ),
-                  ),
-                ),
-              ),
-            ),
-          ),
-        ),
-      ),
-    ),
-  ),
-)
 
 links-pt-formed : IsPt links_pt
 links-pt-formed = record {
@@ -182,101 +98,39 @@ links-formed = record {
   distinct = (All-from_recursion _ [] tt, tt);
 }
 
--- a poll, at which what may be late and what may be due passes
-abbrev links_course : List Move
-links_course =
-    Make (Start links_setup)
-    ∷ Make (Polled (pos 0)) ∷ Begin ∷ Begin ∷ Make (Linked 0) ∷ Make (SentPt 0 register_bytes true)
-    ∷ Make (Polled (pos 0)) ∷ Make (Lost 0) ∷ Begin ∷ Begin ∷ Begin
-    ∷ Make (Polled (pos 5)) ∷ Begin ∷ Begin ∷ Make (Linked 0) ∷ Make (SentPt 0 (6 ∷ 0 ∷ 6 ∷ []) false) ∷ Make (CutPt 0)
-    ∷ Make (Polled (pos 10)) ∷ Begin ∷ Begin ∷ Make (LinkFailed 0)
-    ∷ Make (Polled (pos 10)) ∷ Make Stopped
-    ∷ []
+-- what is done: the site is opened and the file looked at; at each poll what may be late and what may be due passes, and after a link is lost that too
+abbrev links_done : List Doing
+links_done = Step ∷ Step ∷ Step ∷ Step ∷ Step ∷ Step ∷ ItemsBegin 2 ∷ Step ∷ Step ∷ Step ∷ ItemsBegin 3 ∷ Step ∷ ItemsBegin 2 ∷ Step ∷ Step ∷ Step ∷ Step ∷ ItemsBegin 2 ∷ Step ∷ Step ∷ []
 
-links-lawful : IsCourse at_first links_course
-links-lawful = (
-  (refl, links-formed),
-  (
-    record { running = refl; calls = refl; items = refl },
-    (
-      record { idle = record { round = refl; calls = refl }; first = refl },
-      (
-        record { idle = record { round = refl; calls = refl }; first = refl },
-        (
-          refl,
-          (
-            (Ask (registration links_pt), refl, refl),
-            (
-              record { running = refl; calls = refl; items = refl },
-              (
-                record { polled = refl; connected_is = refl },
-                (
-                  record { idle = record { round = refl; calls = refl }; first = refl },
-                  (
-                    record { idle = record { round = refl; calls = refl }; first = refl },
-                    (
-                      record { idle = record { round = refl; calls = refl }; first = refl },
-                      (
-                        record { running = refl; calls = refl; items = refl },
-                        (
-                          record { idle = record { round = refl; calls = refl }; first = refl },
-                          (
-                            record { idle = record { round = refl; calls = refl }; first = refl },
-                            (
-                              refl,
-                              (
-                                (Ask (registration links_pt), refl, (18 ∷ 52 ∷ 86 ∷ 186 ∷ 9 ∷ 120 ∷ [], refl)),
-                                (
-                                  refl,
-                                  (
-                                    record { running = refl; calls = refl; items = refl },
-                                    (
-                                      record { idle = record { round = refl; calls = refl }; first = refl },
-                                      (
-                                        record { idle = record { round = refl; calls = refl }; first = refl },
-                                        (refl, (record { running = refl; calls = refl; items = refl }, (refl, tt))),
-                                      ),
-                                    ),
-                                  ),
-                                ),
-                              ),
-                            ),
-                          ),
-                        ),
-                      ),
-                    ),
-                  ),
-                ),
-              ),
-            ),
-          ),
-        ),
-      ),
-    ),
-  ),
-)
+links-turns : turns_of (moves_of (acts_of links_done links_setup links_read.lines)) ≡ links_log
+links-turns = refl
 
--- the log up to the send that fails
-abbrev links_before : List Turn
-links_before = Start links_setup ∷ Polled (pos 0) ∷ Linked 0 ∷ SentPt 0 register_bytes true ∷ Polled (pos 0) ∷ Lost 0 ∷ Polled (pos 5) ∷ Linked 0 ∷ []
+-- the moves up to the loss of the link, and those after it
+abbrev links_first : List Move
+links_first = began_moves links_setup ++ Make (Polled (pos 0)) ∷ (items_begin 2 ++ Make (Linked 0) ∷ Make (SentPt 0 register_bytes true) ∷ Make (Polled (pos 0)) ∷ [])
 
--- it takes three bytes
-links-taken : IsTaken ((script_origin links_script).pt_limit links_before 0) register_bytes (6 ∷ 0 ∷ 6 ∷ [])
-links-taken = subst (λ read. IsTaken (takes_most (hazard_read read links_before).fail_pts 0) register_bytes (6 ∷ 0 ∷ 6 ∷ [])) (sym (script-read links_script links_read links-served)) refl
+abbrev links_later : List Move
+links_later =
+    items_begin 3
+    ++ Make (Polled (pos 5))
+    ∷ (items_begin 2
+    ++ Make (Linked 0) ∷ Make (SentPt 0 (6 ∷ 0 ∷ 6 ∷ []) false) ∷ Make (CutPt 0) ∷ Make (Polled (pos 10))
+    ∷ (items_begin 2 ++ Make (LinkFailed 0) ∷ Make (Polled (pos 10)) ∷ Make Stopped ∷ []))
 
-links-takes : TakesAlong (script_origin links_script) [] at_first links_course
-links-takes = (tt, (tt, (tt, (tt, (tt, (tt, (tt, (tt, ((Ask (registration links_pt), refl, links-taken), (tt, (tt, (tt, (tt, (tt, tt))))))))))))))
+links-lawful : IsCourse at_first (links_first ++ Make (Lost 0) ∷ links_later)
+links-lawful =
+    course-append at_first links_first (Make (Lost 0) ∷ links_later) ((refl, links-formed), course-tested (after at_first (Make (Start links_setup))) (onward links_first) refl)
+    (record { polled = refl; connected_is = refl }, course-tested (after (view_from at_first links_first) (Make (Lost 0))) links_later refl)
 
 pub links-of-script : LinksIsOfScript
 links-of-script = record {
   script = links_read;
-  played = record {
-    script_is = links-served;
-    lawful = record { course = links_course; log_is = refl; lawful = links-lawful; takes = links-takes };
-    plays = ∣ links-plays ∣₁;
-  };
-  one_run = (_, refl, (refl, (refl, (refl, (refl, (refl, (refl, (refl, (refl, (refl, (refl, (refl, (refl, (refl, tt))))))))))))));
-  stopped = (Start links_setup ∷ Polled (pos 0) ∷ Linked 0 ∷ SentPt 0 register_bytes true ∷ Polled (pos 0) ∷ Lost 0 ∷ Polled (pos 5) ∷ Linked 0 ∷ SentPt 0 (6 ∷ 0 ∷ 6 ∷ []) false ∷ CutPt 0 ∷ Polled (pos 10) ∷ LinkFailed 0 ∷ Polled (pos 10) ∷ [], refl);
+  script_is = links-served;
+  acts = acts_of links_done links_setup links_read.lines;
+  done = record { lawful = links-lawful; due = due-of links_done links_setup links_read.lines; log_is = links-turns };
+  turns = turns-of links_done links_setup links_read.lines;
+  ends = inl (before_last links_log, refl);
+  power = power-of links_done links_setup links_read.lines refl;
 }
 
 pub links-has-text : LinksHasText

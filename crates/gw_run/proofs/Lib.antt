@@ -1,13 +1,23 @@
 -- The lemmas of the top call: scripts read and played, the text of a log, and its end.
 pub mod AgreeLemmas
+pub mod ByLinesActLemmas
 pub mod ByLinesLemmas
 pub mod EndLemmas
+pub mod ExampleActLemmas
 pub mod ExampleLemmas
+pub mod OneLogKeptLemmas
 pub mod OneLogLemmas
-pub mod OneLogPlayLemmas
+pub mod OneLogStepLemmas
+pub mod PlainLemmas
+pub mod PlayLawLemmas
 pub mod PlayedLemmas
+pub mod PowerExampleLemmas
 pub mod ReadyExampleLemmas
+pub mod RefusedLemmas
 pub mod ReplayLemmas
+pub mod RunEndLemmas
+pub mod RunsLemmas
 pub mod ServedLemmas
+pub mod SiteRunLemmas
 pub mod TextLemmas
 pub mod TopLemmas

@@ -1,139 +1,102 @@
--- A served script has one log at most: after each move of a course one move alone may come, but that at a poll an item may begin before the event, after which the event never comes.
-use Rattle.std.proofs.Common.{◌≡◌, ℕ, List, [], ◌∷◌, ◌++◌, take, refl, sym, ◌∙◌, ap, subst, true, false}
-use Rattle.std.specs.Prelude.{ℤ, Bool, not, Option, Some, None, is_some, Ok}
-use Rattle.gw_site.specs.Observed.{Origin}
-use Rattle.gw_site.specs.Outside.{Outside, outside_after, nothing_yet}
-use Rattle.gw_site.specs.Sorts.{is_between, IsQuiet}
-use Rattle.gw_site.specs.Turns.{IsTaken}
+-- A script has one log at most: where the power is there, one call alone is due, but that the file may be read once more, which leaves nothing; and where it has failed, what begins before it is there again makes no difference.
+use Rattle.std.proofs.Common.{◌≡◌, ℕ, zero, suc, ◌+◌, ◌≤◌, length, List, [], ◌∷◌, ◌++◌, refl, sym, ◌∙◌, ap, subst, inl, inr, true, false, arith, append-nil}
+use Rattle.std.specs.Prelude.{◌⊎◌, Bool, Option, Some, None, if◌then◌else◌, map, Ok}
+use Rattle.gw_base.specs.declared.setup.Setup.{Setup}
+use Rattle.gw_site.specs.Outside.{outside_of}
+use Rattle.gw_site.specs.Steps.{ImageKind, SiteCall, ReadCall, SiteStep, Made, PowerBack, TakenStep}
 use Rattle.gw_site.specs.declared.turn.Turn.{Turn}
-use Rattle.gw_site.specs.declared.turn.Turn.TheVariants.{Start, OpenFailed, Polled, Opened, HeardTill, Closed, HeardPt, Lost, Stopped, Linked, LinkFailed, SentTill, SentPt, CutTill, CutPt, Wrote, Synced, DiskFailed, Crash}
-use Rattle.jrn_record.specs.Grammar.{record_body}
-use Rattle.jrn_log.specs.JournalTurns.{body_write, gate_write, first_gate_write}
-use Rattle.gw_owes.specs.Calls as calls
-use Rattle.gw_owes.specs.Calls.{OwedCall, SendTill, SendPt, LinkPt, WriteBody, WriteGate, WriteFirstGate, Sync as SyncOwed, sending_bytes, write_turn}
-use Rattle.gw_owes.specs.ReadAs.{ReadAs, IsReadAs}
-use Rattle.gw_owes.specs.Reply.{reply_value_bytes}
-use Rattle.gw_owes.proofs.ReadLemmas.{reads-one}
-use Rattle.gw_rules.specs.Stage.{Stage, AtPoll, Handling, Over, busy}
-use Rattle.gw_rules.specs.View.{View, Move, Begin, Read, Make, after, after_turn, view_from, at_first}
-use Rattle.gw_rules.specs.Lawful.{AllowedTurn, Begins, IsRead, IsIdle, IsCourse, turns_of, IsNext, first_call, first_message, may_begin}
-use Rattle.gw_rules.specs.Triple.{TakesAlong, TakesOwed}
-use Rattle.gw_script.specs.site.Hazards.{is_failing, sent_of, takes_most}
-use Rattle.gw_script.specs.site.Limits.{script_origin}
-use Rattle.gw_script.specs.site.Playing.{Sync, Play, Fits, Idle, Sends, after_poll, begins, play_after}
+use Rattle.gw_site.specs.declared.turn.Turn.TheVariants.{DiskFailed, Crash}
+use Rattle.gw_script.specs.site.Calls.{call_turns, play_from}
+use Rattle.gw_script.specs.site.Hazards.{crash_file}
+use Rattle.gw_script.specs.site.Playing as playing
+use Rattle.gw_script.specs.site.Playing.{Play, begins, restarted}
 use Rattle.gw_script.specs.site.ScriptLine.{Script, setup_of}
-use Rattle.gw_script.specs.site.Decode.{script_of}
-use Rattle.gw_run.specs.Served.{served_script}
-use Rattle.gw_run.specs.ScriptLog.{IsStopped, IsRunWith, IsLawfulWith, PlaysServed}
+use Rattle.gw_script.specs.site.StepTurns.{place_after_step, power_turns, turns_by, with_those_after}
+use Rattle.gw_script.proofs.site.QuietLemmas.{on_or_off}
+use Rattle.gw_owes.specs.Calls.{site_call}
+use Rattle.gw_owes.specs.Items.{RoundItem}
+use Rattle.gw_owes.specs.ReadAs.{ReadAs, IsReadAs}
+use Rattle.gw_owes.proofs.ReadLemmas.{reads-one}
+use Rattle.gw_rules.specs.Acts.{Act, ToBegin, ToRead, ToTake, Look, Unopened, Unmeasured, Measured, Looked, IsDueCall, IsMeasuring, IsOwedCall, IsReading, look_after_step, moves_of}
+use Rattle.gw_rules.specs.Lawful.{Begins, IsIdle, IsRead, first_message, may_begin, turns_of}
+use Rattle.gw_rules.specs.Scene.{Scene}
+use Rattle.gw_rules.specs.Stage.{is_looking}
+use Rattle.gw_rules.specs.View.{View, Begin, Read, Make, after, after_turn, at_first, begin, crashed, idle, view_from}
+use Rattle.gw_rules.proofs.CourseLemmas.{begin-stage}
+use Rattle.gw_rules.proofs.StageLemmas.{looking-not-round, no-call, no-true, round-busy}
 use Rattle.gw_run.specs.Laws.{OneLog, LogHasScript}
-use Rattle.gw_run.proofs.EndLemmas.{OverCalm, StartsOn, begin-stage, calm-begin, calm-read, calm-turn, idle-next, idle-over, over-rest, start-calm, starts-on, stops-later}
-use Rattle.gw_run.proofs.OneLogPlayLemmas.{FitsFrom, FitsKnown, IsAfter, Limits, after-more, known-fits, limits}
-use Rattle.gw_run.proofs.ServedLemmas.{lines-served, script-read}
+use Rattle.gw_run.specs.ScriptLog.{IsEnded, IsLogOf}
+use Rattle.gw_run.specs.Served.{served_script}
+use Rattle.gw_run.proofs.OneLogKeptLemmas.{Kept, kept-after, kept-round, kept-unopened}
+use Rattle.gw_run.proofs.OneLogStepLemmas.{EndsAt, Goes, IsCallStep, ends-at, first-call, first-step, goes-begin, goes-on, goes-read, rests-idle, to-read-looks, turns-before}
 
--- ---- the turn that may come
+-- ---- the acts after a step
 
--- the turn of a link that is tried
-abbrev tried_link : ℕ → Bool → Turn
-tried_link pt true = LinkFailed pt
-tried_link pt false = Linked pt
+-- the acts go on, and nothing may come after them
+record GoesOn (own : Setup) (v : View) (look : Look) (past : List Turn) (p : Play) (acts : List Act) : Type 0 where
+  goes : Goes own v look past p acts
+  ends : EndsAt own v look acts
 
--- the turn of a send, which fails where it takes so many bytes at most
-abbrev sent_till : ℕ → List ℕ → Option ℕ → Turn
-sent_till till bytes most = SentTill till (sent_of most bytes) (not (is_some most))
+-- so they do after a step with these turns
+abbrev After : Setup → View → Look → List Turn → Play → List Act → SiteStep → List Turn → Type 0
+After own v look past p acts step turns = GoesOn own (view_from v (map Make turns)) (look_after_step own v look step) (past ++ turns) (place_after_step past p step) acts
 
--- the same of a terminal
-abbrev sent_pt : ℕ → List ℕ → Option ℕ → Turn
-sent_pt pt bytes most = SentPt pt (sent_of most bytes) (not (is_some most))
+after-step : (own : Setup) (v : View) (look : Look) (past : List Turn) (p : Play) (taken : TakenStep) (acts : List Act) → GoesOn own v look past p (ToTake taken ∷ acts) → After own v look past p acts taken.step taken.turns
+after-step own v look past p taken acts g = record { goes = goes-on own v look past p taken acts g.goes; ends = g.ends }
 
--- the turn of a call, by what is armed
-abbrev outcome : Play → OwedCall → Turn
-outcome p (SendTill till reply) = sent_till till (reply_value_bytes reply) (takes_most p.hazard.fail_tills till)
-outcome p (SendPt pt sending) = sent_pt pt (sending_bytes sending) (takes_most p.hazard.fail_pts pt)
-outcome p (calls.CutTill till) = CutTill till
-outcome p (calls.CutPt pt) = CutPt pt
-outcome p (LinkPt pt) = tried_link pt (is_failing p.hazard.fail_links pt)
-outcome p (WriteBody slot the_record) = body_write slot (record_body the_record)
-outcome p (WriteGate slot the_record) = gate_write slot
-outcome p WriteFirstGate = first_gate_write
-outcome p SyncOwed = Synced
+after-same : (own : Setup) (v : View) (look : Look) (past : List Turn) (p : Play) (acts : List Act) (step other : SiteStep) (turns made : List Turn) → step ≡ other → turns ≡ made → After own v look past p acts step turns → After own v look past p acts other made
+after-same own v look past p acts step other turns made e f x = subst (λ s. After own v look past p acts s made) e (subst (After own v look past p acts step) f x)
 
-some-turn : (first turn : Turn) → Some first ≡ Some turn → turn ≡ first
-some-turn first turn e = cc
+-- ---- where the power has failed
 
--- the turn of a write is its outcome
-write-outcome : (p : Play) (call : OwedCall) (turn : Turn) → write_turn call ≡ Some turn → turn ≡ outcome p call
-write-outcome p (SendTill till reply) turn e = absurd (let h : None ≡ Some turn = e in cc)
-write-outcome p (SendPt pt sending) turn e = absurd (let h : None ≡ Some turn = e in cc)
-write-outcome p (calls.CutTill till) turn e = absurd (let h : None ≡ Some turn = e in cc)
-write-outcome p (calls.CutPt pt) turn e = absurd (let h : None ≡ Some turn = e in cc)
-write-outcome p (LinkPt pt) turn e = absurd (let h : None ≡ Some turn = e in cc)
-write-outcome p (WriteBody slot the_record) turn e = some-turn (body_write slot (record_body the_record)) turn e
-write-outcome p (WriteGate slot the_record) turn e = some-turn (gate_write slot) turn e
-write-outcome p WriteFirstGate turn e = some-turn first_gate_write turn e
-write-outcome p SyncOwed turn e = absurd (let h : None ≡ Some turn = e in cc)
+-- the power is there again after these acts, with the file that is left, and then they go on
+record AfterPower (own : Setup) (v : View) (past : List Turn) (p : Play) (kind : ImageKind) (acts : List Act) : Type 0 where
+  later : List Act
+  shorter : suc (length later) ≤ length acts
+  log_is : turns_of (moves_of acts) ≡ Crash (crash_file kind (outside_of past)) ∷ turns_of (moves_of later)
+  goes : GoesOn own (after_turn v (Crash (crash_file kind (outside_of past)))) Unopened (past ++ Crash (crash_file kind (outside_of past)) ∷ []) (restarted p) later
 
--- a send takes what is armed
-whole-till : (till : ℕ) (bytes sent : List ℕ) (most : Option ℕ) → sent ≡ bytes → Sends most sent true → SentTill till sent true ≡ sent_till till bytes most
-whole-till till bytes sent None e sends = ap (λ these. SentTill till these true) e
-whole-till till bytes sent (Some most) e sends = absurd sends
+begin-crash : (scene : Scene) (items : List RoundItem) (file : List ℕ) → crashed (begin scene items).scene file ≡ crashed scene file
+begin-crash scene [] file = refl
+begin-crash scene (item ∷ items) file = refl
 
-whole-pt : (pt : ℕ) (bytes sent : List ℕ) (most : Option ℕ) → sent ≡ bytes → Sends most sent true → SentPt pt sent true ≡ sent_pt pt bytes most
-whole-pt pt bytes sent None e sends = ap (λ these. SentPt pt these true) e
-whole-pt pt bytes sent (Some most) e sends = absurd sends
+power-waits : (past : List Turn) (p : Play) (kind : ImageKind) → p.off ≡ Some kind → turns_by past p (PowerBack ∷ []) ≡ [] → ⊥
+power-waits past p kind off e =
+    let h : with_those_after (Some (Crash (crash_file kind (outside_of past)) ∷ [])) (λ turns. []) ≡ [] = sym (ap (λ o. with_those_after (power_turns (outside_of past) o) (λ turns. [])) off) ∙ e in
+    let k : (Crash (crash_file kind (outside_of past)) ∷ []) ∷ [] ≡ [] = h in
+    cc
 
-cut-till : (till : ℕ) (bytes sent : List ℕ) (limit most : Option ℕ) → limit ≡ most → IsTaken limit bytes sent → Sends most sent false → SentTill till sent false ≡ sent_till till bytes most
-cut-till till bytes sent limit None e taken sends = absurd sends
-cut-till till bytes sent limit (Some most) e taken sends = let cut : sent ≡ take most bytes = subst (λ known. IsTaken known bytes sent) e taken in ap (λ these. SentTill till these false) cut
+one-kind : (kind other : ImageKind) → Some kind ≡ Some other → kind ≡ other
+one-kind kind other e = cc
 
-cut-pt : (pt : ℕ) (bytes sent : List ℕ) (limit most : Option ℕ) → limit ≡ most → IsTaken limit bytes sent → Sends most sent false → SentPt pt sent false ≡ sent_pt pt bytes most
-cut-pt pt bytes sent limit None e taken sends = absurd sends
-cut-pt pt bytes sent limit (Some most) e taken sends = let cut : sent ≡ take most bytes = subst (λ known. IsTaken known bytes sent) e taken in ap (λ these. SentPt pt these false) cut
-
--- the one turn that may come: the event that is due, else the outcome of the first call that is owed, else a poll
-abbrev expected : ℤ → List Turn → Play → List OwedCall → Turn
-expected moment (turn ∷ turns) p calls = turn
-expected moment [] p (call ∷ calls) = outcome p call
-expected moment [] p [] = Polled moment
-
--- the outcome of the first call
-first-outcome : (moment : ℤ) (p : Play) (calls : List OwedCall) (call : OwedCall) → first_call calls ≡ Some call → outcome p call ≡ expected moment [] p calls
-first-outcome moment p [] call e = absurd (let h : None ≡ Some call = e in cc)
-first-outcome moment p (first ∷ calls) call e = ap (outcome p) (let h : Some first ≡ Some call = e in let k : call ≡ first = cc in k)
-
--- where no event is due, the outcome of the call that is owed comes
-next-expected : (v : View) (o : Outside) (p : Play) (call : OwedCall) → Idle p → IsNext v call → outcome p call ≡ expected (after_poll o p).moment p.due p v.calls
-next-expected v o p call idle next = first-outcome (after_poll o p).moment p v.calls call next ∙ ap (λ due. expected (after_poll o p).moment due p v.calls) (sym idle.no_event)
-
--- where no event is due and no call is owed, a poll comes
-poll-expected : (moment : ℤ) (due : List Turn) (p : Play) (calls : List OwedCall) → due ≡ [] → calls ≡ [] → Polled moment ≡ expected moment due p calls
-poll-expected moment due p calls e f = rw (e, f) refl
-
-is-expected : (origin : Origin) (before : List Turn) (v : View) (o : Outside) (p : Play) (turn : Turn) → Limits origin before p → AllowedTurn v turn → TakesOwed origin before v turn → is_between turn ≡ false → FitsKnown o p turn → turn ≡ expected (after_poll o p).moment p.due p v.calls
-is-expected origin before v o p (Start setup) l ok takes quiet f = absurd (let h : true ≡ false = quiet in cc)
-is-expected origin before v o p OpenFailed l ok takes quiet f = absurd (let h : true ≡ false = quiet in cc)
-is-expected origin before v o p (Polled now) l ok takes quiet f = ap Polled f.fits.2 ∙ poll-expected (after_poll o p).moment p.due p v.calls f.fits.0.no_event ok.calls
-is-expected origin before v o p (Opened till) l ok takes quiet f = rw f.fits refl
-is-expected origin before v o p (HeardTill till bytes) l ok takes quiet f = rw f.fits refl
-is-expected origin before v o p (Closed till) l ok takes quiet f = rw f.fits refl
-is-expected origin before v o p (HeardPt pt bytes) l ok takes quiet f = rw f.fits refl
-is-expected origin before v o p (Lost pt) l ok takes quiet f = rw f.fits refl
-is-expected origin before v o p Stopped l ok takes quiet f = rw f.fits refl
-is-expected origin before v o p (Linked pt) l ok takes quiet f = ap (tried_link pt) (sym f.fits.1) ∙ next-expected v o p (LinkPt pt) f.fits.0 ok
-is-expected origin before v o p (LinkFailed pt) l ok takes quiet f = ap (tried_link pt) (sym f.fits.1) ∙ next-expected v o p (LinkPt pt) f.fits.0 ok
-is-expected origin before v o p (SentTill till bytes true) l ok takes quiet f =
-    whole-till till (reply_value_bytes ok.0) bytes (takes_most p.hazard.fail_tills till) ok.2 f.fits.1 ∙ next-expected v o p (SendTill till ok.0) f.fits.0 ok.1
-is-expected origin before v o p (SentTill till bytes false) l ok takes quiet f =
-    cut-till till (reply_value_bytes takes.0) bytes (origin.till_limit before till) (takes_most p.hazard.fail_tills till) (l.till till) takes.2 f.fits.1 ∙ next-expected v o p (SendTill till takes.0) f.fits.0 takes.1
-is-expected origin before v o p (SentPt pt bytes true) l ok takes quiet f =
-    whole-pt pt (sending_bytes ok.0) bytes (takes_most p.hazard.fail_pts pt) ok.2 f.fits.1 ∙ next-expected v o p (SendPt pt ok.0) f.fits.0 ok.1
-is-expected origin before v o p (SentPt pt bytes false) l ok takes quiet f =
-    cut-pt pt (sending_bytes takes.0) bytes (origin.pt_limit before pt) (takes_most p.hazard.fail_pts pt) (l.pt pt) takes.2 f.fits.1 ∙ next-expected v o p (SendPt pt takes.0) f.fits.0 takes.1
-is-expected origin before v o p (CutTill till) l ok takes quiet f = next-expected v o p (calls.CutTill till) f.fits ok
-is-expected origin before v o p (CutPt pt) l ok takes quiet f = next-expected v o p (calls.CutPt pt) f.fits ok
-is-expected origin before v o p (Wrote offset bytes) l ok takes quiet f = write-outcome p ok.0 (Wrote offset bytes) ok.2 ∙ next-expected v o p ok.0 f.fits ok.1
-is-expected origin before v o p Synced l ok takes quiet f = next-expected v o p SyncOwed f.fits.0 ok
-is-expected origin before v o p DiskFailed l ok takes quiet f = absurd (let h : false ≡ true = f.known in cc)
-is-expected origin before v o p (Crash file) l ok takes quiet f = absurd (let h : true ≡ false = quiet in cc)
+to-power : (own : Setup) (acts : List Act) (v : View) (look : Look) (past : List Turn) (p : Play) (kind : ImageKind) → p.off ≡ Some kind → GoesOn own v look past p acts → AfterPower own v past p kind acts
+to-power own [] v look past p kind off g = absurd (power-waits past p kind off g.goes.turns)
+to-power own (ToBegin ∷ acts) v look past p kind off g =
+    let x = to-power own acts (after v Begin) look past p kind off (record { goes = goes-begin own v look past p acts g.goes; ends = g.ends }) in
+    let file = crash_file kind (outside_of past) in
+    let s = x.shorter in
+    record {
+      later = x.later;
+      shorter = omega (arith, s);
+      log_is = x.log_is;
+      goes = subst (λ scene. GoesOn own (idle scene) Unopened (past ++ Crash file ∷ []) (restarted p) x.later) (begin-crash v.scene v.items file) x.goes;
+    }
+to-power own (ToRead as_read ∷ acts) v look past p kind off g =
+    let x = to-power own acts (after v (Read as_read)) look past p kind off (record { goes = goes-read own v look past p as_read acts g.goes; ends = g.ends }) in
+    let s = x.shorter in
+    record { later = x.later; shorter = omega (arith, s); log_is = x.log_is; goes = x.goes }
+to-power own (ToTake taken ∷ acts) v look past p kind off g = elim (first-step own v look past p taken acts g.goes) [
+  | inl s ↦ on_or_off p kind s.fits.0.power off
+  | inr s ↦ (
+      let same : s.kind ≡ kind = one-kind s.kind kind (sym s.off ∙ off) in
+      let made : taken.turns ≡ Crash (crash_file kind (outside_of past)) ∷ [] = s.turns_are ∙ ap (λ k. Crash (crash_file k (outside_of past)) ∷ []) same in
+      record {
+        later = acts;
+        shorter = omega arith;
+        log_is = turns-before taken.turns (moves_of acts) ∙ ap (λ t. t ++ turns_of (moves_of acts)) made;
+        goes = after-same own v look past p acts taken.step PowerBack taken.turns (Crash (crash_file kind (outside_of past)) ∷ []) s.step_is made (after-step own v look past p taken acts g);
+      })
+]
 
 -- ---- where an item may begin
 
@@ -148,218 +111,224 @@ begins-waits v b = record { idle = b.idle; some = λ e. (let h : false ≡ true 
 read-waits : (v : View) (as_read : ReadAs) → IsRead v as_read → Waits v
 read-waits v as_read r = record { idle = r.idle; some = λ e. (let h : None ≡ Some r.bytes = sym (ap first_message e) ∙ r.message in cc) }
 
--- an event is due at a poll
-record IsDueAtPoll (v : View) (p : Play) : Type 0 where
-  event : Turn
-  due : p.due ≡ event ∷ []
-  at_poll : v.scene.stage ≡ AtPoll
+waits-owed : (v : View) (call : SiteCall) → Waits v → IsOwedCall v call → ⊥
+waits-owed v call w (inl (owed, next, is)) = no-call v.calls owed w.idle.calls next
+waits-owed v call w (inr (may, is)) = w.some may.items
 
--- where an item may begin, no turn may come but the event of a poll
-item-first : (v : View) (o : Outside) (p : Play) (turn : Turn) → Waits v → AllowedTurn v turn → is_between turn ≡ false → FitsKnown o p turn → IsDueAtPoll v p
-item-first v o p (Start setup) w ok quiet f = absurd (let h : true ≡ false = quiet in cc)
-item-first v o p OpenFailed w ok quiet f = absurd (let h : true ≡ false = quiet in cc)
-item-first v o p (Polled now) w ok quiet f = absurd (w.some ok.items)
-item-first v o p (Opened till) w ok quiet f = record { event = Opened till; due = f.fits; at_poll = ok.0 }
-item-first v o p (HeardTill till bytes) w ok quiet f = record { event = HeardTill till bytes; due = f.fits; at_poll = ok.0.polled }
-item-first v o p (Closed till) w ok quiet f = record { event = Closed till; due = f.fits; at_poll = ok.polled }
-item-first v o p (HeardPt pt bytes) w ok quiet f = record { event = HeardPt pt bytes; due = f.fits; at_poll = ok.0.polled }
-item-first v o p (Lost pt) w ok quiet f = record { event = Lost pt; due = f.fits; at_poll = ok.polled }
-item-first v o p Stopped w ok quiet f = record { event = Stopped; due = f.fits; at_poll = ok }
-item-first v o p (Linked pt) w ok quiet f = absurd (idle-next v _ w.idle.calls ok)
-item-first v o p (LinkFailed pt) w ok quiet f = absurd (idle-next v _ w.idle.calls ok)
-item-first v o p (SentTill till bytes true) w ok quiet f = absurd (idle-next v _ w.idle.calls ok.1)
-item-first v o p (SentTill till bytes false) w ok quiet f = absurd (idle-next v _ w.idle.calls ok.1)
-item-first v o p (SentPt pt bytes true) w ok quiet f = absurd (idle-next v _ w.idle.calls ok.1)
-item-first v o p (SentPt pt bytes false) w ok quiet f = absurd (idle-next v _ w.idle.calls ok.1)
-item-first v o p (CutTill till) w ok quiet f = absurd (idle-next v _ w.idle.calls ok)
-item-first v o p (CutPt pt) w ok quiet f = absurd (idle-next v _ w.idle.calls ok)
-item-first v o p (Wrote offset bytes) w ok quiet f = absurd (idle-next v _ w.idle.calls ok.1)
-item-first v o p Synced w ok quiet f = absurd (idle-next v _ w.idle.calls ok)
-item-first v o p DiskFailed w ok quiet f = absurd (let h : false ≡ true = f.known in cc)
-item-first v o p (Crash file) w ok quiet f = absurd (let h : true ≡ false = quiet in cc)
+waits-reading : (slots : ℕ) (v : View) (call : SiteCall) → Waits v → IsReading slots v call → ⊥
+waits-reading slots v call w r = looking-not-round v.scene.stage (to-read-looks slots v r.to_read) w.idle.round
 
--- ---- courses of one run
+waits-measuring : (v : View) (call : SiteCall) → Waits v → (looks : Bool) → is_looking v.scene.stage ≡ looks → IsMeasuring looks v call → ⊥
+waits-measuring v call w true e due = looking-not-round v.scene.stage e w.idle.round
+waits-measuring v call w false e due = waits-owed v call w due
 
--- a course of one run that plays on after this log and ends where the run is over
-record Rest (origin : Origin) (before : List Turn) (v : View) (o : Outside) (p : Play) (moves : List Move) : Type 0 where
-  lawful : IsCourse v moves
-  takes : TakesAlong origin before v moves
-  quiet : IsQuiet (turns_of moves)
-  plays : FitsFrom o p (turns_of moves)
-  over : (view_from v moves).scene.stage ≡ Over
+-- no call is due then
+waits-due : (own : Setup) (v : View) (look : Look) (p : Play) (call : SiteCall) → Kept own v look p → Waits v → IsDueCall own v look call → ⊥
+waits-due own v Unopened p call kept w due = no-true (sym (kept.unopened refl) ∙ w.idle.round)
+waits-due own v Unmeasured p call kept w due = waits-measuring v call w (is_looking v.scene.stage) refl due
+waits-due own v Measured p call kept w due = waits-reading own.slots v call w due
+waits-due own v Looked p call kept w (inl due) = waits-owed v call w due
+waits-due own v Looked p call kept w (inr due) = waits-reading own.slots v call w due
 
-rest-make : (origin : Origin) (before : List Turn) (v : View) (o : Outside) (p : Play) (turn : Turn) (moves : List Move) → Rest origin before v o p (Make turn ∷ moves) → Rest origin (before ++ turn ∷ []) (after_turn v turn) (outside_after o turn) (play_after o Sync p turn) moves
-rest-make origin before v o p turn moves r = record { lawful = r.lawful.1; takes = r.takes.1; quiet = r.quiet.1; plays = r.plays.1; over = r.over }
+begin-kept : (own : Setup) (v : View) (look : Look) (p : Play) → Kept own v look p → IsIdle v → Kept own (after v Begin) look p
+begin-kept own v look p kept idle = kept-round own v (after v Begin) look p idle.round (begin-stage v.scene v.items ∙ round-busy v.scene.stage idle.round) kept
 
-rest-begin : (origin : Origin) (before : List Turn) (v : View) (o : Outside) (p : Play) (moves : List Move) → Rest origin before v o p (Begin ∷ moves) → Rest origin before (after v Begin) o p moves
-rest-begin origin before v o p moves r = record { lawful = r.lawful.1; takes = r.takes; quiet = r.quiet; plays = r.plays; over = r.over }
+read-kept : (own : Setup) (v : View) (look : Look) (p : Play) (as_read : ReadAs) → Kept own v look p → IsIdle v → Kept own (after v (Read as_read)) look p
+read-kept own v look p as_read kept idle = kept-round own v (after v (Read as_read)) look p idle.round (round-busy v.scene.stage idle.round) kept
 
-rest-read : (origin : Origin) (before : List Turn) (v : View) (o : Outside) (p : Play) (as_read : ReadAs) (moves : List Move) → Rest origin before v o p (Read as_read ∷ moves) → Rest origin before (after v (Read as_read)) o p moves
-rest-read origin before v o p as_read moves r = record { lawful = r.lawful.1; takes = r.takes; quiet = r.quiet; plays = r.plays; over = r.over }
+-- a message is read in one way
+one-message : (bytes other : List ℕ) → Some bytes ≡ Some other → bytes ≡ other
+one-message bytes other e = cc
 
--- nothing follows where the run is over
-rest-over : (origin : Origin) (before : List Turn) (v : View) (o : Outside) (p : Play) (moves : List Move) → OverCalm v → v.scene.stage ≡ Over → Rest origin before v o p moves → [] ≡ turns_of moves
-rest-over origin before v o p moves calm over r = sym (over-rest v moves calm over r.lawful r.quiet)
+one-reading : (v : View) (a b : ReadAs) → IsRead v a → IsRead v b → a ≡ b
+one-reading v a b x y =
+    let same = one-message y.bytes x.bytes (sym y.message ∙ x.message) in
+    reads-one x.bytes a b x.reads (subst (λ bytes. IsReadAs bytes b) same y.reads)
 
-handling-poll : (s : Stage) → s ≡ Handling → s ≡ AtPoll → ⊥
-handling-poll s e f = let h : Handling ≡ AtPoll = sym e ∙ f in cc
+-- ---- two calls that are due
 
-not-idle : (p : Play) (event : Turn) → p.due ≡ event ∷ [] → p.due ≡ [] → ⊥
-not-idle p event due idle = let h : event ∷ [] ≡ [] = sym due ∙ idle in cc
+-- the file was looked at, and is read once more
+record IsExtraRead (own : Setup) (v : View) (look : Look) (call : SiteCall) : Type 0 where
+  looked : look ≡ Looked
+  reading : IsReading own.slots v call
 
--- an event that is due comes at a poll alone, and nothing else comes before it
-due-last : (v : View) (o : Outside) (p : Play) (event turn : Turn) → v.scene.stage ≡ Handling → p.due ≡ event ∷ [] → AllowedTurn v turn → Fits o Sync p turn → ⊥
-due-last v o p event (Start setup) s due ok f = not-idle p event due f.0.no_event
-due-last v o p event OpenFailed s due ok f = not-idle p event due f.0.no_event
-due-last v o p event (Polled now) s due ok f = not-idle p event due f.0.no_event
-due-last v o p event (Opened till) s due ok f = handling-poll v.scene.stage s ok.0
-due-last v o p event (HeardTill till bytes) s due ok f = handling-poll v.scene.stage s ok.0.polled
-due-last v o p event (Closed till) s due ok f = handling-poll v.scene.stage s ok.polled
-due-last v o p event (HeardPt pt bytes) s due ok f = handling-poll v.scene.stage s ok.0.polled
-due-last v o p event (Lost pt) s due ok f = handling-poll v.scene.stage s ok.polled
-due-last v o p event Stopped s due ok f = handling-poll v.scene.stage s ok
-due-last v o p event (Linked pt) s due ok f = not-idle p event due f.0.no_event
-due-last v o p event (LinkFailed pt) s due ok f = not-idle p event due f.0.no_event
-due-last v o p event (SentTill till bytes sent) s due ok f = not-idle p event due f.0.no_event
-due-last v o p event (SentPt pt bytes sent) s due ok f = not-idle p event due f.0.no_event
-due-last v o p event (CutTill till) s due ok f = not-idle p event due f.no_event
-due-last v o p event (CutPt pt) s due ok f = not-idle p event due f.no_event
-due-last v o p event (Wrote offset bytes) s due ok f = not-idle p event due f.no_event
-due-last v o p event Synced s due ok f = not-idle p event due f.0.no_event
-due-last v o p event DiskFailed s due ok f = not-idle p event due f.0.no_event
-due-last v o p event (Crash file) s due ok f = not-idle p event due f.no_event
+-- they are the same, or both read the file, or one does and the other is owed
+abbrev Pair : Setup → View → Look → SiteCall → SiteCall → Type 0
+Pair own v look a b = (a ≡ b) ⊎ ((IsReading own.slots v a × IsReading own.slots v b) ⊎ (IsExtraRead own v look a ⊎ IsExtraRead own v look b))
 
--- an event that is due once its round is handled never comes, so the run isn't over
-dead : (origin : Origin) (before : List Turn) (v : View) (o : Outside) (p : Play) (event : Turn) (moves : List Move) → v.scene.stage ≡ Handling → p.due ≡ event ∷ [] → Rest origin before v o p moves → ⊥
-dead origin before v o p event [] s due r = let h : Handling ≡ Over = sym s ∙ r.over in cc
-dead origin before v o p event (Begin ∷ moves) s due r = dead origin before (after v Begin) o p event moves (begin-stage v.scene v.items ∙ ap busy s) due (rest-begin origin before v o p moves r)
-dead origin before v o p event (Read as_read ∷ moves) s due r = dead origin before (after v (Read as_read)) o p event moves (ap busy s) due (rest-read origin before v o p as_read moves r)
-dead origin before v o p event (Make turn ∷ moves) s due r = due-last v o p event turn s due r.lawful.0 r.plays.0.fits
+one-owed : (v : View) (a b : SiteCall) → IsOwedCall v a → IsOwedCall v b → a ≡ b
+one-owed v a b (inl (x, next, is)) (inl (y, other, it)) =
+    let h : Some x ≡ Some y = sym next ∙ other in
+    let same : x ≡ y = cc in
+    is ∙ ap site_call same ∙ sym it
+one-owed v a b (inl (x, next, is)) (inr (may, it)) = no-call v.calls x may.calls next
+one-owed v a b (inr (may, is)) (inl (y, other, it)) = no-call v.calls y may.calls other
+one-owed v a b (inr (may, is)) (inr (other, it)) = is ∙ sym it
 
--- a course that begins or reads at a poll whose event is due
-begin-dead : (origin : Origin) (before : List Turn) (v : View) (o : Outside) (p : Play) (moves : List Move) → IsDueAtPoll v p → Rest origin before v o p (Begin ∷ moves) → ⊥
-begin-dead origin before v o p moves d r = dead origin before (after v Begin) o p d.event moves (begin-stage v.scene v.items ∙ ap busy d.at_poll) d.due (rest-begin origin before v o p moves r)
+one-measuring : (v : View) (a b : SiteCall) (looks : Bool) → IsMeasuring looks v a → IsMeasuring looks v b → a ≡ b
+one-measuring v a b true x y = x ∙ sym y
+one-measuring v a b false x y = one-owed v a b x y
 
-read-dead : (origin : Origin) (before : List Turn) (v : View) (o : Outside) (p : Play) (as_read : ReadAs) (moves : List Move) → IsDueAtPoll v p → Rest origin before v o p (Read as_read ∷ moves) → ⊥
-read-dead origin before v o p as_read moves d r = dead origin before (after v (Read as_read)) o p d.event moves (ap busy d.at_poll) d.due (rest-read origin before v o p as_read moves r)
+pair : (own : Setup) (v : View) (look : Look) (a b : SiteCall) → IsDueCall own v look a → IsDueCall own v look b → Pair own v look a b
+pair own v Unopened a b x y = inl (x ∙ sym y)
+pair own v Unmeasured a b x y = inl (one-measuring v a b (is_looking v.scene.stage) x y)
+pair own v Measured a b x y = inr (inl (x, y))
+pair own v Looked a b (inl x) (inl y) = inl (one-owed v a b x y)
+pair own v Looked a b (inl x) (inr y) = inr (inr (inr (record { looked = refl; reading = y })))
+pair own v Looked a b (inr x) (inl y) = inr (inr (inl (record { looked = refl; reading = x })))
+pair own v Looked a b (inr x) (inr y) = inr (inl (x, y))
 
--- where an item may begin, a turn comes only at a poll whose event is due
-make-first : (origin : Origin) (before : List Turn) (v : View) (o : Outside) (p : Play) (turn : Turn) (moves : List Move) → Waits v → Rest origin before v o p (Make turn ∷ moves) → IsDueAtPoll v p
-make-first origin before v o p turn moves w r = item-first v o p turn w r.lawful.0 r.quiet.0 r.plays.0
+-- a read of a file that was looked at leaves all as it is
+record Skips (own : Setup) (v : View) (look : Look) (past : List Turn) (p : Play) (taken : TakenStep) (acts : List Act) : Type 0 where
+  goes : GoesOn own v look past p acts
+  log_is : turns_of (moves_of (ToTake taken ∷ acts)) ≡ turns_of (moves_of acts)
 
--- a message is read one way
-read-one : (v : View) (one other : ReadAs) → IsRead v one → IsRead v other → one ≡ other
-read-one v one other x y =
-    let e : Some y.bytes ≡ Some x.bytes = sym y.message ∙ x.message in
-    let same : y.bytes ≡ x.bytes = cc in
-    reads-one x.bytes one other x.reads (subst (λ bytes. IsReadAs bytes other) same y.reads)
-
-read-or-begin : (v : View) (as_read : ReadAs) → IsRead v as_read → Begins v → ⊥
-read-or-begin v as_read r b = let h : false ≡ true = sym r.waits ∙ b.first in cc
-
--- the first turns of two such courses are the same
-same-turn : (origin : Origin) (before : List Turn) (v : View) (o : Outside) (p : Play) (turn other : Turn) (xs ys : List Move) → Limits origin before p → Rest origin before v o p (Make turn ∷ xs) → Rest origin before v o p (Make other ∷ ys) → other ≡ turn
-same-turn origin before v o p turn other xs ys l x y =
-    is-expected origin before v o p other l y.lawful.0 y.takes.0 y.quiet.0 y.plays.0 ∙ sym (is-expected origin before v o p turn l x.lawful.0 x.takes.0 x.quiet.0 x.plays.0)
-
-module _ (text : List ℕ) (script : Script) (read : script_of text ≡ Ok script) where
-  abbrev origin : Origin
-  origin = script_origin text
-
-  -- two such courses take the same turns
-  same-turns : (before : List Turn) (v : View) (o : Outside) (p : Play) (xs ys : List Move) → IsAfter script.lines before o p → OverCalm v → Rest origin before v o p xs → Rest origin before v o p ys → turns_of xs ≡ turns_of ys
-  same-turns before v o p [] ys a calm x y = rest-over origin before v o p ys calm x.over y
-  same-turns before v o p (Begin ∷ xs) [] a calm x y = sym (rest-over origin before v o p (Begin ∷ xs) calm y.over x)
-  same-turns before v o p (Begin ∷ xs) (Begin ∷ ys) a calm x y = same-turns before (after v Begin) o p xs ys a (calm-begin v x.lawful.0.idle) (rest-begin origin before v o p xs x) (rest-begin origin before v o p ys y)
-  same-turns before v o p (Begin ∷ xs) (Read as_read ∷ ys) a calm x y = absurd (read-or-begin v as_read y.lawful.0 x.lawful.0)
-  same-turns before v o p (Begin ∷ xs) (Make turn ∷ ys) a calm x y = absurd (begin-dead origin before v o p xs (make-first origin before v o p turn ys (begins-waits v x.lawful.0) y) x)
-  same-turns before v o p (Read as_read ∷ xs) [] a calm x y = sym (rest-over origin before v o p (Read as_read ∷ xs) calm y.over x)
-  same-turns before v o p (Read as_read ∷ xs) (Begin ∷ ys) a calm x y = absurd (read-or-begin v as_read x.lawful.0 y.lawful.0)
-  same-turns before v o p (Read one ∷ xs) (Read other ∷ ys) a calm x y =
-      let same : other ≡ one = read-one v other one y.lawful.0 x.lawful.0 in
-      same-turns before (after v (Read one)) o p xs ys a (calm-read v one x.lawful.0.idle) (rest-read origin before v o p one xs x)
-      (rest-read origin before v o p one ys (subst (λ as_read. Rest origin before v o p (Read as_read ∷ ys)) same y))
-  same-turns before v o p (Read as_read ∷ xs) (Make turn ∷ ys) a calm x y = absurd (read-dead origin before v o p as_read xs (make-first origin before v o p turn ys (read-waits v as_read x.lawful.0) y) x)
-  same-turns before v o p (Make turn ∷ xs) [] a calm x y = sym (rest-over origin before v o p (Make turn ∷ xs) calm y.over x)
-  same-turns before v o p (Make turn ∷ xs) (Begin ∷ ys) a calm x y = absurd (begin-dead origin before v o p ys (make-first origin before v o p turn xs (begins-waits v y.lawful.0) x) y)
-  same-turns before v o p (Make turn ∷ xs) (Read as_read ∷ ys) a calm x y = absurd (read-dead origin before v o p as_read ys (make-first origin before v o p turn xs (read-waits v as_read y.lawful.0) x) y)
-  same-turns before v o p (Make turn ∷ xs) (Make other ∷ ys) a calm x y =
-      let same = same-turn origin before v o p turn other xs ys (limits text script before o p read a) x y in
-      let later = same-turns (before ++ turn ∷ []) (after_turn v turn) (outside_after o turn) (play_after o Sync p turn) xs ys (after-more script.lines before o p turn x.plays.0.known a) (calm-turn v turn calm x.lawful.0)
-      (rest-make origin before v o p turn xs x) (rest-make origin before v o p turn ys (subst (λ t. Rest origin before v o p (Make t ∷ ys)) same y)) in
-      ap (λ first. first ∷ turns_of xs) (sym same) ∙ ap (λ turns. other ∷ turns) later
-
--- ---- where the run is over
-
--- after Stopped no item begins
-over-still : (v : View) (moves : List Move) → v.scene.stage ≡ Over → turns_of moves ≡ [] → IsCourse v moves → (view_from v moves).scene.stage ≡ Over
-over-still v [] over e h = over
-over-still v (Begin ∷ moves) over e h = absurd (idle-over v h.0.idle over)
-over-still v (Read as_read ∷ moves) over e h = absurd (idle-over v h.0.idle over)
-over-still v (Make turn ∷ moves) over e h = absurd (let n : turn ∷ turns_of moves ≡ [] = e in cc)
-
--- a course that ends with Stopped ends where the run is over
-stopped-over : (v : View) (moves : List Move) (prefix : List Turn) → turns_of moves ≡ prefix ++ Stopped ∷ [] → IsCourse v moves → (view_from v moves).scene.stage ≡ Over
-stopped-over v [] [] e h = absurd (let n : [] ≡ Stopped ∷ [] = e in cc)
-stopped-over v [] (turn ∷ prefix) e h = absurd (let n : [] ≡ turn ∷ (prefix ++ Stopped ∷ []) = e in cc)
-stopped-over v (Begin ∷ moves) prefix e h = stopped-over (after v Begin) moves prefix e h.1
-stopped-over v (Read as_read ∷ moves) prefix e h = stopped-over (after v (Read as_read)) moves prefix e h.1
-stopped-over v (Make turn ∷ moves) [] e h =
-    let heads : Stopped ≡ turn = (let n : turn ∷ turns_of moves ≡ Stopped ∷ [] = e in cc) in
-    let tails : turns_of moves ≡ [] = (let n : turn ∷ turns_of moves ≡ Stopped ∷ [] = e in cc) in
-    over-still (after_turn v turn) moves (subst (λ t. (after_turn v t).scene.stage ≡ Over) heads refl) tails h.1
-stopped-over v (Make turn ∷ moves) (first ∷ prefix) e h =
-    let tails : turns_of moves ≡ prefix ++ Stopped ∷ [] = (let n : turn ∷ turns_of moves ≡ first ∷ (prefix ++ Stopped ∷ []) = e in cc) in
-    stopped-over (after_turn v turn) moves prefix tails h.1
-
--- ---- the law
-
--- what a log is that plays a script to its end
-record IsWhole (text : List ℕ) (script : Script) (log : List Turn) : Type 0 where
-  lawful : IsLawfulWith (script_origin text) log
-  plays : FitsFrom nothing_yet (begins script.lines) log
-  one_run : IsRunWith (setup_of script.given) log
-  stopped : IsStopped log
-
--- the run of such a log, after its start
-record RunOf (text : List ℕ) (script : Script) (log : List Turn) : Type 0 where
-  starts : StartsOn (script_origin text) (setup_of script.given) log
-  rest : Rest (script_origin text) (Start (setup_of script.given) ∷ []) (after_turn at_first (Start (setup_of script.given))) (outside_after nothing_yet (Start (setup_of script.given)))
-      (play_after nothing_yet Sync (begins script.lines) (Start (setup_of script.given))) starts.moves
-
-run-of : (text : List ℕ) (script : Script) (log : List Turn) → IsWhole text script log → RunOf text script log
-run-of text script log w =
-    let setup = setup_of script.given in
-    let s = starts-on (script_origin text) setup w.one_run.0 log w.lawful w.one_run.1 in
-    let run_is : w.one_run.0 ≡ turns_of s.moves = (let n : Start setup ∷ w.one_run.0 ≡ Start setup ∷ turns_of s.moves = sym w.one_run.1 ∙ s.log_is in cc) in
-    let fits : FitsFrom nothing_yet (begins script.lines) (Start setup ∷ turns_of s.moves) = subst (FitsFrom nothing_yet (begins script.lines)) s.log_is w.plays in
-    let ends = stops-later (Start setup) (turns_of s.moves) (λ n. cc) (subst IsStopped s.log_is w.stopped) in
+skip-read : (own : Setup) (v : View) (look : Look) (past : List Turn) (p : Play) (taken : TakenStep) (acts : List Act) (s : IsCallStep own v look past p taken.step taken.turns) → Kept own v look p → GoesOn own v look past p (ToTake taken ∷ acts) → IsExtraRead own v look s.call → Skips own v look past p taken acts
+skip-read own v look past p taken acts s kept g r =
+    let no_failure : p.hazard.fail_read ≡ false = kept.read r.looked s.fits.0.power r.reading.to_read in
+    let call_is : s.call ≡ ReadCall r.reading.offset r.reading.size = r.reading.call_is in
+    let made : taken.turns ≡ (if p.hazard.fail_read then DiskFailed ∷ [] else []) = s.fits.1 ∙ ap (call_turns (outside_of past) p) call_is in
+    let there = after-same own v look past p acts taken.step (Made (ReadCall r.reading.offset r.reading.size)) taken.turns (if p.hazard.fail_read then DiskFailed ∷ [] else []) (s.step_is ∙ ap Made call_is) made (after-step own v look past p taken acts g) in
+    let plain : GoesOn own v Looked (past ++ []) p acts =
+    subst (λ fails. GoesOn own (view_from v (map Make (if fails then DiskFailed ∷ [] else []))) Looked (past ++ (if fails then DiskFailed ∷ [] else [])) (play_from (outside_of past) playing.Read p (if fails then DiskFailed ∷ [] else [])) acts) no_failure there in
     record {
-      starts = s;
-      rest = record { lawful = s.lawful; takes = s.takes; quiet = subst IsQuiet run_is w.one_run.2; plays = fits.1; over = stopped-over _ s.moves ends.0 ends.1 s.lawful };
+      goes = subst (λ l. GoesOn own v l past p acts) (sym r.looked) (subst (λ log. GoesOn own v Looked log p acts) (append-nil past) plain);
+      log_is = turns-before taken.turns (moves_of acts) ∙ ap (λ t. t ++ turns_of (moves_of acts)) (made ∙ ap (λ fails. if fails then DiskFailed ∷ [] else []) no_failure);
     }
 
-one-of : (text : List ℕ) (script : Script) (log other : List Turn) → served_script text ≡ Ok script → IsWhole text script log → IsWhole text script other → log ≡ other
-one-of text script log other e x y =
-    let setup = setup_of script.given in
-    let one = run-of text script log x in
-    let two = run-of text script other y in
-    let after_start : IsAfter script.lines (Start setup ∷ []) (outside_after nothing_yet (Start setup)) (play_after nothing_yet Sync (begins script.lines) (Start setup)) = record { known = refl; outside = refl; place = refl } in
-    let same = same-turns text script (script-read text script e) _ _ _ _ one.starts.moves two.starts.moves after_start (start-calm setup) one.rest two.rest in
-    one.starts.log_is ∙ ap (λ run. Start setup ∷ run) same ∙ sym two.starts.log_is
+-- after calls that both read the file all is the same
+after-reads : (own : Setup) (v : View) (look : Look) (past : List Turn) (p : Play) (acts : List Act) (a b : SiteCall) → IsReading own.slots v a → IsReading own.slots v b →
+    (call_turns (outside_of past) p a ≡ call_turns (outside_of past) p b) × (After own v look past p acts (Made b) (call_turns (outside_of past) p b) → After own v look past p acts (Made a) (call_turns (outside_of past) p a))
+after-reads own v look past p acts a b x y =
+    subst (λ call. (call_turns (outside_of past) p call ≡ call_turns (outside_of past) p b) × (After own v look past p acts (Made b) (call_turns (outside_of past) p b) → After own v look past p acts (Made call) (call_turns (outside_of past) p call))) (sym x.call_is)
+    (subst (λ call. (call_turns (outside_of past) p (ReadCall x.offset x.size) ≡ call_turns (outside_of past) p call) × (After own v look past p acts (Made call) (call_turns (outside_of past) p call) → After own v look past p acts (Made (ReadCall x.offset x.size)) (call_turns (outside_of past) p (ReadCall x.offset x.size)))) (sym y.call_is)
+    (refl, λ there. there))
 
-whole : (text : List ℕ) (script : Script) (log : List Turn) → PlaysServed text script log → IsRunWith (setup_of script.given) log → IsStopped log → IsWhole text script log
-whole text script log x run stopped = record { lawful = x.lawful; plays = known-fits script.lines log (lines-served text script x.script_is) x.plays; one_run = run; stopped = stopped }
+-- ---- one log
+
+-- two lists of acts from one place on, with no more acts than this in both, have one log
+abbrev Claim : ℕ → Type 0
+Claim n = (own : Setup) (v : View) (look : Look) (past : List Turn) (p : Play) (xs ys : List Act) → length xs + length ys ≤ n → Kept own v look p → GoesOn own v look past p xs → GoesOn own v look past p ys → turns_of (moves_of xs) ≡ turns_of (moves_of ys)
+
+-- two steps that make the same call
+same-call : (n : ℕ) → Claim n → (own : Setup) (v : View) (look : Look) (past : List Turn) (p : Play) (xs ys : List Act) (call : SiteCall) (made : List Turn) → length xs + length ys ≤ n → Kept own v look p → p.due ≡ [] → p.off ≡ None → IsDueCall own v look call → made ≡ call_turns (outside_of past) p call
+    → After own v look past p xs (Made call) (call_turns (outside_of past) p call) → After own v look past p ys (Made call) (call_turns (outside_of past) p call) → made ++ turns_of (moves_of xs) ≡ made ++ turns_of (moves_of ys)
+same-call n again own v look past p xs ys call made size kept none on due is x y =
+    ap (λ l. made ++ l) (again own _ _ _ _ xs ys size (kept-after own v look (outside_of past) p call kept none on due) x y)
+
+calls-same : (n : ℕ) → Claim n → (own : Setup) (v : View) (look : Look) (past : List Turn) (p : Play) (one : TakenStep) (xs : List Act) (two : TakenStep) (ys : List Act) → suc (length xs) + suc (length ys) ≤ suc n → Kept own v look p → p.off ≡ None
+    → GoesOn own v look past p (ToTake one ∷ xs) → GoesOn own v look past p (ToTake two ∷ ys) → turns_of (moves_of (ToTake one ∷ xs)) ≡ turns_of (moves_of (ToTake two ∷ ys))
+calls-same n again own v look past p one xs two ys size kept on g h = by_pair (pair own v look s.call t.call s.due t.due)
+  where
+    s : IsCallStep own v look past p one.step one.turns
+    s = first-call own v look past p one xs on g.goes
+
+    t : IsCallStep own v look past p two.step two.turns
+    t = first-call own v look past p two ys on h.goes
+
+    after_one : After own v look past p xs (Made s.call) (call_turns (outside_of past) p s.call)
+    after_one = after-same own v look past p xs one.step (Made s.call) one.turns (call_turns (outside_of past) p s.call) s.step_is s.fits.1 (after-step own v look past p one xs g)
+
+    after_two : After own v look past p ys (Made t.call) (call_turns (outside_of past) p t.call)
+    after_two = after-same own v look past p ys two.step (Made t.call) two.turns (call_turns (outside_of past) p t.call) t.step_is t.fits.1 (after-step own v look past p two ys h)
+
+    joined : one.turns ≡ two.turns → After own v look past p ys (Made s.call) (call_turns (outside_of past) p s.call) → turns_of (moves_of (ToTake one ∷ xs)) ≡ turns_of (moves_of (ToTake two ∷ ys))
+    joined same there =
+        turns-before one.turns (moves_of xs)
+        ∙ same-call n again own v look past p xs ys s.call one.turns (omega (arith, size)) kept s.fits.0.no_event on s.due s.fits.1 after_one there
+        ∙ ap (λ made. made ++ turns_of (moves_of ys)) same
+        ∙ sym (turns-before two.turns (moves_of ys))
+
+    by_pair : Pair own v look s.call t.call → turns_of (moves_of (ToTake one ∷ xs)) ≡ turns_of (moves_of (ToTake two ∷ ys))
+    by_pair (inl e) = joined (s.fits.1 ∙ ap (call_turns (outside_of past) p) e ∙ sym t.fits.1) (subst (λ call. After own v look past p ys (Made call) (call_turns (outside_of past) p call)) (sym e) after_two)
+    by_pair (inr (inl (x, y))) =
+        let same = after-reads own v look past p ys s.call t.call x y in
+        joined (s.fits.1 ∙ same.0 ∙ sym t.fits.1) (same.1 after_two)
+    by_pair (inr (inr (inl x))) =
+        let skip = skip-read own v look past p one xs s kept g x in
+        skip.log_is ∙ again own v look past p xs (ToTake two ∷ ys) (omega (arith, size)) kept skip.goes h
+    by_pair (inr (inr (inr y))) =
+        let skip = skip-read own v look past p two ys t kept h y in
+        again own v look past p (ToTake one ∷ xs) ys (omega (arith, size)) kept g skip.goes ∙ sym skip.log_is
+
+-- while the power is there
+on-same : (n : ℕ) → Claim n → (own : Setup) (v : View) (look : Look) (past : List Turn) (p : Play) (xs ys : List Act) → length xs + length ys ≤ suc n → Kept own v look p → p.off ≡ None → GoesOn own v look past p xs → GoesOn own v look past p ys → turns_of (moves_of xs) ≡ turns_of (moves_of ys)
+on-same n again own v look past p [] [] size kept on g h = refl
+on-same n again own v look past p [] (ToBegin ∷ ys) size kept on g h = absurd (rests-idle own v look g.ends h.goes.lawful.0.idle)
+on-same n again own v look past p [] (ToRead b ∷ ys) size kept on g h = absurd (rests-idle own v look g.ends h.goes.lawful.0.idle)
+on-same n again own v look past p [] (ToTake two ∷ ys) size kept on g h = let t = first-call own v look past p two ys on h.goes in absurd (g.ends.none t.call t.due)
+on-same n again own v look past p (ToBegin ∷ xs) [] size kept on g h = absurd (rests-idle own v look h.ends g.goes.lawful.0.idle)
+on-same n again own v look past p (ToRead a ∷ xs) [] size kept on g h = absurd (rests-idle own v look h.ends g.goes.lawful.0.idle)
+on-same n again own v look past p (ToTake one ∷ xs) [] size kept on g h = let s = first-call own v look past p one xs on g.goes in absurd (h.ends.none s.call s.due)
+on-same n again own v look past p (ToBegin ∷ xs) (ToBegin ∷ ys) size kept on g h =
+    again own (after v Begin) look past p xs ys (omega (arith, size)) (begin-kept own v look p kept g.goes.lawful.0.idle)
+    (record { goes = goes-begin own v look past p xs g.goes; ends = g.ends }) (record { goes = goes-begin own v look past p ys h.goes; ends = h.ends })
+on-same n again own v look past p (ToBegin ∷ xs) (ToRead b ∷ ys) size kept on g h = no-true (sym h.goes.lawful.0.waits ∙ g.goes.lawful.0.first)
+on-same n again own v look past p (ToRead a ∷ xs) (ToBegin ∷ ys) size kept on g h = no-true (sym g.goes.lawful.0.waits ∙ h.goes.lawful.0.first)
+on-same n again own v look past p (ToRead a ∷ xs) (ToRead b ∷ ys) size kept on g h =
+    let same = one-reading v b a h.goes.lawful.0 g.goes.lawful.0 in
+    let y : GoesOn own (after v (Read b)) look past p ys = record { goes = goes-read own v look past p b ys h.goes; ends = h.ends } in
+    again own (after v (Read a)) look past p xs ys (omega (arith, size)) (read-kept own v look p a kept g.goes.lawful.0.idle)
+    (record { goes = goes-read own v look past p a xs g.goes; ends = g.ends }) (subst (λ r. GoesOn own (after v (Read r)) look past p ys) same y)
+on-same n again own v look past p (ToBegin ∷ xs) (ToTake two ∷ ys) size kept on g h =
+    let t = first-call own v look past p two ys on h.goes in absurd (waits-due own v look p t.call kept (begins-waits v g.goes.lawful.0) t.due)
+on-same n again own v look past p (ToRead a ∷ xs) (ToTake two ∷ ys) size kept on g h =
+    let t = first-call own v look past p two ys on h.goes in absurd (waits-due own v look p t.call kept (read-waits v a g.goes.lawful.0) t.due)
+on-same n again own v look past p (ToTake one ∷ xs) (ToBegin ∷ ys) size kept on g h =
+    let s = first-call own v look past p one xs on g.goes in absurd (waits-due own v look p s.call kept (begins-waits v h.goes.lawful.0) s.due)
+on-same n again own v look past p (ToTake one ∷ xs) (ToRead b ∷ ys) size kept on g h =
+    let s = first-call own v look past p one xs on g.goes in absurd (waits-due own v look p s.call kept (read-waits v b h.goes.lawful.0) s.due)
+on-same n again own v look past p (ToTake one ∷ xs) (ToTake two ∷ ys) size kept on g h = calls-same n again own v look past p one xs two ys size kept on g h
+
+by-power : (n : ℕ) → Claim n → (own : Setup) (v : View) (look : Look) (past : List Turn) (p : Play) (xs ys : List Act) → length xs + length ys ≤ suc n → Kept own v look p → (off : Option ImageKind) → p.off ≡ off → GoesOn own v look past p xs → GoesOn own v look past p ys → turns_of (moves_of xs) ≡ turns_of (moves_of ys)
+by-power n again own v look past p xs ys size kept None on g h = on-same n again own v look past p xs ys size kept on g h
+by-power n again own v look past p xs ys size kept (Some kind) off g h =
+    let x = to-power own xs v look past p kind off g in
+    let y = to-power own ys v look past p kind off h in
+    let a = x.shorter in
+    let b = y.shorter in
+    x.log_is
+    ∙ ap (λ l. Crash (crash_file kind (outside_of past)) ∷ l) (again own _ Unopened _ (restarted p) x.later y.later (omega (arith, size, a, b)) (kept-unopened own _ (restarted p) refl) x.goes y.goes)
+    ∙ sym y.log_is
+
+same-log : (n : ℕ) → Claim n
+same-log zero own v look past p [] [] size kept g h = refl
+same-log zero own v look past p [] (act ∷ ys) size kept g h = absurd (omega (arith, size))
+same-log zero own v look past p (act ∷ xs) ys size kept g h = absurd (omega (arith, size))
+same-log (suc n) own v look past p xs ys size kept g h = by-power n (same-log n) own v look past p xs ys size kept p.off refl g h
+
+-- ---- the law
 
 -- two scripts of one text are the same
 pub one-script : (text : List ℕ) (script other : Script) → served_script text ≡ Ok script → served_script text ≡ Ok other → script ≡ other
 one-script text script other e f = let h : Ok script ≡ Ok other = sym e ∙ f in cc
 
+-- the acts of the log of a script, from the beginning
+record IsWhole (script : Script) (log : List Turn) : Type 0 where
+  acts : List Act
+  goes : GoesOn (setup_of script.given) at_first Unopened [] (begins script.lines) acts
+  log_is : turns_of (moves_of acts) ≡ log
+
+whole : (text : List ℕ) (log : List Turn) (x : IsLogOf text log) → IsWhole x.script log
+whole text log x =
+    let goes : Goes (setup_of x.script.given) at_first Unopened [] (begins x.script.lines) x.acts = record { lawful = x.done.lawful; due = x.done.due; turns = x.power } in
+    record {
+      acts = x.acts;
+      goes = record { goes = goes; ends = ends-at (setup_of x.script.given) x.acts at_first Unopened [] (begins x.script.lines) goes (subst IsEnded (sym x.done.log_is) x.ends) };
+      log_is = x.done.log_is;
+    }
+
+whole-same : (script : Script) (log other : List Turn) → IsWhole script log → IsWhole script other → log ≡ other
+whole-same script log other x y =
+    let own = setup_of script.given in
+    sym x.log_is
+    ∙ same-log (length x.acts + length y.acts) own at_first Unopened [] (begins script.lines) x.acts y.acts (omega arith) (kept-unopened own at_first (begins script.lines) refl) x.goes y.goes
+    ∙ y.log_is
+
 pub one-log : OneLog
 one-log text log other x y =
-    let same = one-script text y.script x.script y.played.script_is x.played.script_is in
-    let two = subst (λ script. IsWhole text script other) same (whole text y.script other y.played y.one_run y.stopped) in
-    one-of text x.script log other x.played.script_is (whole text x.script log x.played x.one_run x.stopped) two
+    let same = one-script text y.script x.script y.script_is x.script_is in
+    whole-same x.script log other (whole text log x) (subst (λ script. IsWhole script other) same (whole text other y))
 
 pub log-has-script : LogHasScript
-log-has-script text log x = (x.script, x.played.script_is)
+log-has-script text log x = (x.script, x.script_is)

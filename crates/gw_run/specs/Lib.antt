@@ -2,8 +2,10 @@
 pub mod Example
 pub mod Laws
 pub mod LogWritten
+pub mod PowerExample
 pub mod ReadyExample
 pub mod Replay
+pub mod RunEnds
 pub mod ScriptLog
 pub mod Served
 pub mod ServedExample

@@ -1,42 +1,23 @@
 -- Which lines of a script are served. A text with another line is refused, with the number of its first line that isn't served or is of another form.
 use Rattle.std.specs.Prelude.{ℕ, ◌+◌, min, nat_le, Bool, true, false, not, ◌&&◌, ◌||◌, if◌then◌else◌, List, [], ◌∷◌, length, Option, Some, None, is_none, Result, Ok, Err}
-use Rattle.std.specs.List.{list_all}
 use Rattle.gw_script.specs.Decode.{split_lines}
 use Rattle.gw_script.specs.site.Decode.{entry_of, script_of}
-use Rattle.gw_script.specs.site.ScriptLine.{SetupLine, Name, Queue, Wait, Slots, Terminal, Failing, FailOpen, FailLink, FailSendTill, FailSendPt, FailWrite, FailSync, FailLength, FailRead, PlayedLine, At, Poll, Fail, Power, Entry, Blank, Setting, Playing, Given, Script}
+use Rattle.gw_script.specs.site.ScriptLine.{SetupLine, Name, Queue, Wait, Slots, Terminal, Entry, Blank, Setting, Playing, Given, Script}
 
--- links and sends may fail; openings and calls on the disk may not yet
-abbrev pub is_served_failing : Failing → Bool
-is_served_failing FailOpen = false
-is_served_failing (FailLink pt) = true
-is_served_failing (FailSendTill till most) = true
-is_served_failing (FailSendPt pt most) = true
-is_served_failing FailWrite = false
-is_served_failing FailSync = false
-is_served_failing FailLength = false
-is_served_failing FailRead = false
-
--- the power may not fail yet
-abbrev pub is_served_line : PlayedLine → Bool
-is_served_line (At now) = true
-is_served_line (Poll event) = true
-is_served_line (Fail failing) = is_served_failing failing
-is_served_line (Power calls kind) = false
-
--- the setup lines give no more than a name and one terminal
+-- the setup lines give no line and no wait of waiting requests, and no more than one terminal
 abbrev pub is_served_given : Given → Bool
-is_served_given given = is_none given.queue && is_none given.wait && is_none given.slots && nat_le (length given.terminals) 1
+is_served_given given = is_none given.queue && is_none given.wait && nat_le (length given.terminals) 1
 
--- all lines of the script are served
+-- the script is served: its setup lines are, and each line that is played is
 abbrev pub is_served : Script → Bool
-is_served script = is_served_given script.given && list_all is_served_line script.lines
+is_served script = is_served_given script.given
 
--- the setup line is served, where one that names a terminal came before it or not: no more than a name and one terminal are given
+-- the setup line is served, where one that names a terminal came before it or not: no line, no wait, and no more than one terminal are given
 abbrev pub is_served_setting : Bool → SetupLine → Bool
 is_served_setting named (Name name) = true
 is_served_setting named (Queue n) = false
 is_served_setting named (Wait n) = false
-is_served_setting named (Slots n) = false
+is_served_setting named (Slots n) = true
 is_served_setting named (Terminal pt) = not named
 
 -- the setup line names a terminal
@@ -59,7 +40,7 @@ abbrev pub is_served_entry : Bool → Option Entry → Bool
 is_served_entry named None = true
 is_served_entry named (Some Blank) = true
 is_served_entry named (Some (Setting line)) = is_served_setting named line
-is_served_entry named (Some (Playing line)) = is_served_line line
+is_served_entry named (Some (Playing line)) = true
 
 -- the number of the first of these lines that isn't served; where all are, that of the line after them
 abbrev pub first_unserved : Bool → ℕ → List (List ℕ) → ℕ

@@ -15,10 +15,20 @@ pub enum Ending {
     Line(u32),
     /// The input could not be read: 66.
     Input,
+    /// The site could not be opened: 69.
+    NotOpened,
     /// Memory was refused: 71.
     Memory,
     /// The output could not be written: 73.
     OutputFailed,
+    /// A call on the disk has failed: 74.
+    Disk,
+    /// The journal's file has so many bytes, and is too long for the slots, or leaves fewer free than keys are open: 76.
+    LongJournal(u64),
+    /// The journal's file ends in this slot, which is open: 76.
+    CutJournal(u32),
+    /// This slot of the journal is open and has no record, or one that may not follow those before it: 76.
+    BadSlot(u32),
 }
 
 impl Ending {
@@ -31,8 +41,11 @@ impl Ending {
             Ending::Words => 64,
             Ending::Long | Ending::Line(_) => 65,
             Ending::Input => 66,
+            Ending::NotOpened => 69,
             Ending::Memory => 71,
             Ending::OutputFailed => 73,
+            Ending::Disk => 74,
+            Ending::LongJournal(_) | Ending::CutJournal(_) | Ending::BadSlot(_) => 76,
         }
     }
 }

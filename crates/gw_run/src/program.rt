@@ -1,13 +1,14 @@
 //! The mode `replay`, from its words to its last line.
 ghost use Rattle.std.specs.Prelude.{◌≡◌, ◌≢◌, ◌⊎◌, ◌≤◌, ◌++◌, List, ℕ, Some, Ok, Err, false, IsTrue, ◌↔◌, IfOk, IfErr, IsErrOf, length, map, string_bytes};
 ghost use Rattle.gw_site.specs.Failures.{Rose};
+ghost use Rattle.gw_site.specs.declared.turn.Turn.{Turn};
 ghost use Rattle.gw_script.specs.Decode.{script_limit};
 ghost use Rattle.gw_script.specs.site.Decode.{script_of};
 ghost use Rattle.gw_script.specs.site.ScriptLine.{Script};
 ghost use Rattle.gw_run.specs.LogWritten.{Adds};
-ghost use Rattle.gw_run.specs.Replay.{IsFresh, IsInputRead, IsInputFault, IsPlayEnd, IsTextEnd, IsTextFault, ReplayCause, ReplayPrinted, TextPrinted};
+ghost use Rattle.gw_run.specs.Replay.{IsEndAfter, IsFresh, IsInputRead, IsInputFault, IsPlayEnd, IsTextEnd, IsTextFault, ReplayCause, ReplayPrinted, TextPrinted};
 ghost use Rattle.gw_run.specs.Served.{is_served, served_script};
-ghost use Rattle.gw_run.specs.Top.{IsAccepted, IfBytesObserved, IsEnded, IsScriptLeft, stream_observed};
+ghost use Rattle.gw_run.specs.Top.{IsAccepted, IfBytesObserved, IsEnded, IsLogWithin, IsPlayStatus, IsScriptLeft, IsStatusAfter, stream_observed};
 ghost use Rattle.sim_site.specs.Sites.{played_script, sim_observed};
 
 use crate::ending::Ending;
@@ -82,7 +83,7 @@ fn wrong_line(alloc: Global, text: &[u8], line: u32) -> Ending
 /// The site that plays the script of this text, where all of it is served; else what is reported of the text.
 fn site_of(alloc: Global, text: &[u8]) -> Result<SimSite, Ending>
     requires within { length text.now ≤ script_limit }
-    ensures fresh { IfOk result (λ site. IsFresh (sim_observed site) text.now) }
+    ensures fresh { IfOk result (λ site. IsFresh (sim_observed site) text.now (played_script site)) }
     ensures served { IfOk result (λ site. served_script text.now ≡ Ok (played_script site)) }
     ensures fault { IfErr result (IsTextFault text.now) }
 {
@@ -103,7 +104,7 @@ fn site_of(alloc: Global, text: &[u8]) -> Result<SimSite, Ending>
 /// As [`site_of`], of a text that isn't kept: its memory is given back before the script is played.
 fn site_of_input(alloc: Global, text: Vec<u8>) -> Result<SimSite, Ending>
     requires within { length text.items ≤ script_limit }
-    ensures fresh { IfOk result (λ site. IsFresh (sim_observed site) text.items) }
+    ensures fresh { IfOk result (λ site. IsFresh (sim_observed site) text.items (played_script site)) }
     ensures served { IfOk result (λ site. served_script text.items ≡ Ok (played_script site)) }
     ensures fault { IfErr result (IsTextFault text.items) }
 {
@@ -133,6 +134,7 @@ fn replay<I: Source, O: Sink>(alloc: Global, input: &mut I, out: &mut O) -> Endi
         (stream_observed I.left I.faults input.old input.new)
         (stream_observed O.written O.faults out.old out.new) }
     ensures complete { IsScriptLeft (I.left input.old) → ¬ Rose (I.faults input.old) (I.faults input.new) → ¬ Rose (O.faults out.old) (O.faults out.new) → IsPlayEnd result }
+    ensures log { (text : List ℕ) (log : List Turn) → I.left input.old ≡ Some text → IsLogWithin text log → ¬ Rose (I.faults input.old) (I.faults input.new) → ¬ Rose (O.faults out.old) (O.faults out.new) → IsEndAfter log result }
     ensures output_failed { result ≡ Ending.OutputFailed → Rose (O.faults out.old) (O.faults out.new) }
     ensures input_later { I.faults input.old ≤ I.faults input.new }
     ensures out_later { O.faults out.old ≤ O.faults out.new }
@@ -146,16 +148,20 @@ fn replay<I: Source, O: Sink>(alloc: Global, input: &mut I, out: &mut O) -> Endi
 /// Runs the gateway in the mode that the words name, and gives its exit status.
 ///
 /// The one mode is `replay`: it reads a script from the input, plays it, and writes the text of its log.
+/// The engine runs over the script's site, and is started again, with the same setup, after each power failure.
 /// The last line that it writes is `status N`, and before that is a line with the fault where there is one. The statuses are:
 /// - 0: the script was played to its end;
 /// - 64: the words are none, or others (`words`);
 /// - 65: the input is no script, or has a line that isn't served yet (`script N` with the number of the first such line, or
 ///   `script long`);
 /// - 66: the input could not be read (`input`);
+/// - 69: the script's site could not be opened in its last run (`open`);
 /// - 71: memory was refused (`memory`);
-/// - 73: the output could not be written, whose last line may be incomplete.
+/// - 73: the output could not be written, whose last line may be incomplete;
+/// - 74: a call on the disk has failed in the last run (`disk`).
 ///
-/// The site that is handed in gets no call.
+/// A journal that is refused has status 76 (`journal long N`, `journal cut N` or `journal slot N`); that of a script never is, as all its
+/// runs have the same slots. The site that is handed in gets no call.
 pub fn top<S: Site, I: Source, O: Sink>(
     alloc: Global,
     words: &[Text],
@@ -167,8 +173,11 @@ pub fn top<S: Site, I: Source, O: Sink>(
         (stream_observed I.left I.faults input.old input.new)
         (stream_observed O.written O.faults out.old out.new) }
 
-    // Nothing but 0, or 71 without memory, where the input is a script and nothing fails.
-    ensures complete { IsAccepted words.now → IsScriptLeft (I.left input.old) → ¬ Rose (I.faults input.old) (I.faults input.new) → ¬ Rose (O.faults out.old) (O.faults out.new) → (result ≡ 0) ⊎ (result ≡ 71) }
+    // Nothing but 0, 69 or 74, or 71 without memory, where the input is a script and neither input nor output fails.
+    ensures complete { IsAccepted words.now → IsScriptLeft (I.left input.old) → ¬ Rose (I.faults input.old) (I.faults input.new) → ¬ Rose (O.faults out.old) (O.faults out.new) → IsPlayStatus result }
+
+    // And nothing but what the log of the script says, or 71.
+    ensures log { IsAccepted words.now → (text : List ℕ) (log : List Turn) → I.left input.old ≡ Some text → IsLogWithin text log → ¬ Rose (I.faults input.old) (I.faults input.new) → ¬ Rose (O.faults out.old) (O.faults out.new) → IsStatusAfter log result }
 
     // With words that aren't accepted nothing is read.
     ensures unread { ¬ IsAccepted words.now → input.new ≡ input.old }

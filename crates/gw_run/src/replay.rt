@@ -1,64 +1,97 @@
 //! The play of a script, and what it writes.
-ghost use Rattle.std.specs.Prelude.{◌≡◌, ◌≢◌, ◌⊎◌, ◌≤◌, not, true, List, ℕ, Ok};
+ghost use Rattle.std.specs.Prelude.{◌≡◌, ◌≢◌, ◌⊎◌, ◌≤◌, true, false, List, ℕ, Ok, IfOk, OnErr};
+ghost use Rattle.gw_base.specs.Setup.{IsSetup};
 ghost use Rattle.gw_site.specs.Failures.{Rose};
-ghost use Rattle.gw_site.specs.Observed.{IfObserved};
-ghost use Rattle.gw_script.specs.site.ScriptLine.{Script};
+ghost use Rattle.gw_script.specs.site.ScriptLine.{Script, setup_of};
 ghost use Rattle.gw_run.specs.LogWritten.{Adds};
-ghost use Rattle.gw_run.specs.Replay.{HasRun, IsFresh, IsPlayEnd, IsPlayOf, PlayPrinted};
+ghost use Rattle.gw_run.specs.Replay.{HasEnd, HasPlayed, HasRun, HasRunAgain, IsFresh, IsPlayEnd, IsPlayOf, IsUnbegun, IsWrittenEnd, PlayPrinted};
 ghost use Rattle.gw_run.specs.Served.{served_script};
-ghost use Rattle.sim_site.specs.Sites.{sim_observed};
+ghost use Rattle.gw_run.specs.Top.{ShowsEnd};
+ghost use Rattle.sim_site.specs.Sites.{is_crashed, log_of, played_script, sim_observed};
 
 use crate::ending::Ending;
 use crate::last_lines::write_last_lines;
+use crate::one_run::run_ended;
 use crate::text::{Unwritten, write_log};
-use gw_dispatch::{Ended, run};
+use gw_base::Setup;
 use gw_site::{Sink, Turn};
 use sim_site::SimSite;
 use std::alloc::{AllocError, Global};
 
-/// Whether the site has not gone dark: its log could grow, and the power is there.
-fn is_lit(site: &SimSite) -> bool
-    ensures { result ≡ not (sim_observed site.now).dark }
-{
-    !site.short() && !site.crashed()
-}
-
-/// Runs the engine over the site of a script, of which nothing was played. False where memory was refused.
-fn run_script(alloc: Global, site: &mut SimSite) -> bool
-    ensures run { (text : List ℕ) (script : Script) → served_script text ≡ Ok script → IsFresh (sim_observed site.old) text → IfObserved (sim_observed site.new) (HasRun text script result) }
+/// The first run over the site of a script.
+fn run_first(alloc: Global, setup: &Setup, site: &mut SimSite) -> Ending
+    requires setup { IsSetup setup.now }
+    requires own { setup.now ≡ setup_of (played_script site.old).given }
+    requires unplayed { IsUnbegun (played_script site.old) (sim_observed site.old) }
+    ensures run { HasRun (played_script site.old) result (sim_observed site.new) (log_of site.new) }
     ensures origin { (sim_observed site.new).origin ≡ (sim_observed site.old).origin }
 {
-    let setup = match site.setup(alloc) {
-        Ok(setup) => setup,
-        Err(AllocError) => return false,
-    };
-    match run(alloc, &setup, site, u64::MAX) {
-        Ended::Done => is_lit(site),
-        Ended::NotOpened | Ended::NoMemory => false,
+    run_ended(alloc, setup, site, u64::MAX)
+}
+
+/// One more run over the site of a script, once the power is there again.
+fn run_again(alloc: Global, setup: &Setup, site: &mut SimSite) -> Result<Ending, AllocError>
+    requires setup { IsSetup setup.now }
+    requires crashed { is_crashed site.old ≡ true }
+    ensures run { (script : Script) → setup.now ≡ setup_of script.given → HasPlayed script (sim_observed site.old).plan (log_of site.old)
+        → IfOk result (λ ending. HasRunAgain script ending (log_of site.old) (sim_observed site.new) (log_of site.new)) }
+    ensures refused { OnErr result (sim_observed site.new ≡ sim_observed site.old) }
+    ensures origin { (sim_observed site.new).origin ≡ (sim_observed site.old).origin }
+{
+    match site.restart(alloc) {
+        Ok(()) => Ok(run_ended(alloc, setup, site, u64::MAX)),
+        Err(AllocError) => Err(AllocError),
     }
 }
 
-/// How a play ends whose log is written whole.
-fn play_ending(whole: bool) -> Ending
-    ensures which { ((whole ≡ true) × (result ≡ Ending.Played)) ⊎ (result ≡ Ending.Memory) }
-    ensures end { IsPlayEnd result }
-    ensures whole { result ≢ Ending.OutputFailed }
+/// The end after the last run: that of the run, but that memory was refused where the log could not grow.
+fn end_of(site: &SimSite, ending: Ending) -> Ending
+    requires { is_crashed site.now ≡ false }
+    ensures which { (result ≡ Ending.Memory) ⊎ ((result ≡ ending) × ((sim_observed site.now).dark ≡ false)) }
 {
-    if whole {
-        Ending::Played
-    } else {
-        Ending::Memory
+    if site.short() { Ending::Memory } else { ending }
+}
+
+/// All runs over the site of a script: the engine is started again, with the same setup, after each power failure.
+fn play_runs(alloc: Global, setup: &Setup, site: &mut SimSite) -> Ending
+    requires setup { IsSetup setup.now }
+    requires own { setup.now ≡ setup_of (played_script site.old).given }
+    requires unplayed { IsUnbegun (played_script site.old) (sim_observed site.old) }
+    ensures run { HasRun (played_script site.old) result (sim_observed site.new) (log_of site.new) }
+    ensures lit { result ≢ Ending.Memory → (sim_observed site.new).dark ≡ false }
+    ensures origin { (sim_observed site.new).origin ≡ (sim_observed site.old).origin }
+{
+    let mut ending = run_first(alloc, setup, site);
+    while site.crashed() {
+        match run_again(alloc, setup, site) {
+            Ok(last) => ending = last,
+            Err(AllocError) => return Ending::Memory,
+        }
+    }
+    end_of(site, ending)
+}
+
+/// Plays the script of a site, of which nothing was played.
+fn play_script(alloc: Global, site: &mut SimSite) -> Ending
+    requires { IsUnbegun (played_script site.old) (sim_observed site.old) }
+    ensures run { HasRun (played_script site.old) result (sim_observed site.new) (log_of site.new) }
+    ensures lit { result ≢ Ending.Memory → (sim_observed site.new).dark ≡ false }
+    ensures origin { (sim_observed site.new).origin ≡ (sim_observed site.old).origin }
+{
+    match site.setup(alloc) {
+        Ok(setup) => play_runs(alloc, &setup, site),
+        Err(AllocError) => Ending::Memory,
     }
 }
 
 /// Writes the text of the log and the lines after it.
-fn write_play<O: Sink>(alloc: Global, log: &[Turn], whole: bool, out: &mut O) -> Ending
-    ensures printed { (script : List ℕ) → IsPlayOf script whole log.now → Adds (O.written out.old) (O.written out.new) (PlayPrinted script result) }
-    ensures end { IsPlayEnd result }
+fn write_play<O: Sink>(alloc: Global, log: &[Turn], ending: Ending, out: &mut O) -> Ending
+    requires { (ending ≡ Ending.Memory) ⊎ ShowsEnd ending log.now }
+    ensures printed { (text : List ℕ) → IsPlayOf text ending log.now → Adds (O.written out.old) (O.written out.new) (PlayPrinted text result) }
+    ensures which { IsWrittenEnd ending result }
     ensures output_failed { result ≡ Ending.OutputFailed → Rose (O.faults out.old) (O.faults out.new) }
     ensures later { O.faults out.old ≤ O.faults out.new }
 {
-    let ending = play_ending(whole);
     match write_log(alloc, log, out) {
         Ok(()) => write_last_lines(alloc, ending, out),
         Err(Unwritten::Memory) => write_last_lines(alloc, Ending::Memory, out),
@@ -68,11 +101,15 @@ fn write_play<O: Sink>(alloc: Global, log: &[Turn], whole: bool, out: &mut O) ->
 
 /// Plays the script of a site, of which nothing was played, and writes its log.
 pub(crate) fn play<O: Sink>(alloc: Global, site: &mut SimSite, out: &mut O) -> Ending
-    ensures printed { (text : List ℕ) (script : Script) → served_script text ≡ Ok script → IsFresh (sim_observed site.old) text → Adds (O.written out.old) (O.written out.new) (PlayPrinted text result) }
-    ensures end { IsPlayEnd result }
+    requires { IsUnbegun (played_script site.old) (sim_observed site.old) }
+    ensures printed { (text : List ℕ) → served_script text ≡ Ok (played_script site.old) → IsFresh (sim_observed site.old) text (played_script site.old)
+        → Adds (O.written out.old) (O.written out.new) (PlayPrinted text result) }
+    ensures end { (text : List ℕ) → served_script text ≡ Ok (played_script site.old) → IsFresh (sim_observed site.old) text (played_script site.old)
+        → HasEnd text result }
+    ensures which { IsPlayEnd result }
     ensures output_failed { result ≡ Ending.OutputFailed → Rose (O.faults out.old) (O.faults out.new) }
     ensures later { O.faults out.old ≤ O.faults out.new }
 {
-    let whole = run_script(alloc, site);
-    write_play(alloc, site.log().as_slice(), whole, out)
+    let ending = play_script(alloc, site);
+    write_play(alloc, site.log().as_slice(), ending, out)
 }

@@ -1,64 +1,26 @@
 //! Which lines of a script are served.
 ghost use Rattle.std.specs.Prelude.{◌≡◌, ◌≤◌, ◌||◌, false, if◌then◌else◌, length, Some, None, IfOk};
-ghost use Rattle.std.specs.List.{list_all};
 ghost use Rattle.gw_script.specs.Decode.{script_limit, split_lines};
 ghost use Rattle.gw_script.specs.site.Decode.{entry_of};
-ghost use Rattle.gw_run.specs.Served.{first_unserved, is_served, is_served_entry, is_served_failing, is_served_given, is_served_line, is_served_setting, is_terminal, names_terminal};
+ghost use Rattle.gw_run.specs.Served.{first_unserved, is_served, is_served_entry, is_served_given, is_served_setting, is_terminal, names_terminal};
 ghost use Rattle.sim_script.specs.Read.{read_line_value};
-ghost use Rattle.sim_script.specs.Values.{failing_value, given_value, script_line_value, setting_value, whole_script_value};
+ghost use Rattle.sim_script.specs.Values.{given_value, setting_value, whole_script_value};
 
-use sim_script::{
-    FailingCall, Given, ReadEntry, Script, ScriptLine, SetupLine, entry_of, first_text,
-};
+use sim_script::{Given, ReadEntry, Script, SetupLine, entry_of, first_text};
 use std::alloc::{AllocError, Global};
 
-/// Whether a line that makes this call fail is served.
-fn is_served_failing(call: FailingCall) -> bool
-    ensures { result ≡ is_served_failing (failing_value call) }
-{
-    match call {
-        FailingCall::Link(_) | FailingCall::SendTill(..) | FailingCall::SendPt(..) => true,
-        FailingCall::Open
-        | FailingCall::Write
-        | FailingCall::Sync
-        | FailingCall::Length
-        | FailingCall::Read => false,
-    }
-}
-
-/// Whether a line that is played is served.
-fn is_served_line(line: &ScriptLine) -> bool
-    ensures { result ≡ is_served_line (script_line_value line.now) }
-{
-    match line {
-        ScriptLine::At(_) | ScriptLine::Poll(_) => true,
-        ScriptLine::Fail(call) => is_served_failing(*call),
-        ScriptLine::Power(..) => false,
-    }
-}
-
-/// Whether all of these lines are served.
-fn are_served(lines: &[ScriptLine]) -> bool
-    ensures { result ≡ list_all (λ line. is_served_line (script_line_value line)) lines.now }
-{
-    lines.iter().all(|line| is_served_line(line))
-}
-
-/// Whether setup lines are served that give this: no more than a name and one terminal, until requests wait and records are kept.
+/// Whether setup lines are served that give this: no more than a name, slots and one terminal, until requests wait.
 fn is_served_given(given: &Given) -> bool
     ensures { result ≡ is_served_given (given_value given.now) }
 {
-    given.queue.is_none()
-        && given.wait.is_none()
-        && given.slots.is_none()
-        && given.terminals.len() <= 1
+    given.queue.is_none() && given.wait.is_none() && given.terminals.len() <= 1
 }
 
-/// Whether all lines of a script are served.
+/// Whether a script is served: its setup lines are, and each line that is played is.
 pub(crate) fn is_served(script: &Script) -> bool
     ensures { result ≡ is_served (whole_script_value script.now) }
 {
-    is_served_given(&script.given) && are_served(&script.lines)
+    is_served_given(&script.given)
 }
 
 /// Whether a setup line is served, where one that names a terminal came before it or not.
@@ -66,9 +28,9 @@ fn is_served_setting(named: bool, line: &SetupLine) -> bool
     ensures { result ≡ is_served_setting named (setting_value line.now) }
 {
     match line {
-        SetupLine::Name(_) => true,
+        SetupLine::Name(_) | SetupLine::Slots(_) => true,
         SetupLine::Terminal(_) => !named,
-        SetupLine::Queue(_) | SetupLine::Wait(_) | SetupLine::Slots(_) => false,
+        SetupLine::Queue(_) | SetupLine::Wait(_) => false,
     }
 }
 
@@ -99,9 +61,8 @@ fn is_served_entry(named: bool, entry: &ReadEntry) -> bool
     ensures { result ≡ is_served_entry named (Some (read_line_value entry.now)) }
 {
     match entry {
-        ReadEntry::Blank => true,
+        ReadEntry::Blank | ReadEntry::Playing(_) => true,
         ReadEntry::Setting(line) => is_served_setting(named, line),
-        ReadEntry::Playing(line) => is_served_line(line),
     }
 }
 

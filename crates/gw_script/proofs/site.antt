@@ -6,7 +6,6 @@ pub mod EventLemmas
 pub mod ExactLemmas
 pub mod FormLemmas
 pub mod LeadsLemmas
-pub mod LimitLemmas
 pub mod LinesLemmas
 pub mod PowerLemmas
 pub mod QuietLemmas

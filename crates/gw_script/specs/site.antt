@@ -9,7 +9,6 @@ pub mod Example
 pub mod Grammar
 pub mod Hazards
 pub mod Laws
-pub mod Limits
 pub mod Playing
 pub mod PowerExample
 pub mod Powers

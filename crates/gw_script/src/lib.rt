@@ -4,14 +4,14 @@
 ghost use Rattle.gw_script.specs.Example.{TextOfMessage, TextOfPrefix};
 ghost use Rattle.gw_script.specs.Laws.{TextOfBytes, TextOfFrame};
 ghost use Rattle.gw_script.specs.site.ByLines.{GoingByLinesPlays, PlainLinesGoOn};
-ghost use Rattle.gw_script.specs.site.CallExample.{BesideTheScript, LimitIsArmed, LimitIsUnknown, LooksAndWrites, NoFileOverAnother, OtherSetupIsNotItsOwn, PlanIsDone, PollReachesPower, PowerIsOff, SendToPtIsCut, SendsTakeExactly, SendsTakeNoFewer, StartsWithItsOwn, SyncGoesOn};
+ghost use Rattle.gw_script.specs.site.CallExample.{BesideTheScript, LooksAndWrites, NoFileOverAnother, OtherSetupIsNotItsOwn, PlanIsDone, PollReachesPower, PowerIsOff, SendToPtIsCut, SendsTakeExactly, SendsTakeNoFewer, StartsWithItsOwn, SyncGoesOn};
 ghost use Rattle.gw_script.specs.site.Callers.{OneLogOfCaller};
 ghost use Rattle.gw_script.specs.site.Events.{RunHasEvents};
 ghost use Rattle.gw_script.specs.site.Example.{AllFormsAreRead, DefaultsHold, EarlyLinesFail, MisplacedAreReported, NumbersRise, PowerFailsAfterTwo, PowerFailsAtOnce, PowerFailsNoLater, SendsFail, SyncMustFail, TwiceIsReported, WritesFail, WrongLinesAreReported};
 ghost use Rattle.gw_script.specs.site.PowerExample.{PowerFailsOnceOfTwo, PowerFailsTwice, TwoFailuresAreLeft};
 ghost use Rattle.gw_script.specs.site.Powers.{EachFailureLeavesFewer, FailuresAddUp, PowerFailsOncePerLine};
 ghost use Rattle.gw_script.specs.site.RunExample.{FailingRunHasEvents, PlainRunGoes};
-ghost use Rattle.gw_script.specs.site.Laws.{CallsGoOn, CallsPlay, GoesOnBeside, LimitsAreArmed, OneLogOfCalls, PlaysOn, PowerGoesOn, PrefixesPlay, ReadsSiteScripts, SendsAreCut, SendsTakeTheirs, SplitsLines};
+ghost use Rattle.gw_script.specs.site.Laws.{CallsGoOn, CallsPlay, GoesOnBeside, OneLogOfCalls, PlaysOn, PowerGoesOn, PrefixesPlay, ReadsSiteScripts, SendsAreCut, SendsTakeTheirs, SplitsLines};
 ghost use Rattle.gw_script.specs.site.StepTurnExample.{DiskHasItsTurns, NoCallWithoutPower, PowerIsNext, StepsBesideHaveTurns, WriteFailsNext};
 ghost use Rattle.gw_script.specs.site.StepTurnLaws.{CallOrPower, FirstHasItsTurns, IdleIsDecided, LongerTurnsBegin, LongestIsTaken, MoreHaveTheirTurns, StepHasItsTurns, StepsHaveTheirTurns};
 
@@ -121,14 +121,6 @@ pub fn law_site_turns()
     ensures write { WriteFailsNext }
     ensures dark { NoCallWithoutPower }
     ensures beside { StepsBesideHaveTurns }
-{}
-
-/// How many bytes a send that fails takes at most is what fail lines have armed at the place up to which the script is played,
-/// where no disk and no power has failed. Closed logs show it.
-pub fn law_site_limits()
-    ensures armed { LimitsAreArmed }
-    ensures known { LimitIsArmed }
-    ensures unknown { LimitIsUnknown }
 {}
 
 /// The power fails at most once for each `power` line of a script, whatever calls are made, and each power failure leaves fewer

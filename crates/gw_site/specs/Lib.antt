@@ -6,5 +6,6 @@ pub mod Memory
 pub mod Observed
 pub mod Outside
 pub mod Sorts
+pub mod Steps
 pub mod Streams
 pub mod Turns

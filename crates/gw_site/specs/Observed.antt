@@ -1,27 +1,18 @@
 -- What a proof may see of a site, and how its calls make its log grow.
-use Rattle.std.specs.Prelude.{◌≡◌, ◌⊎◌, ℕ, Bool, true, false, List, [], ◌++◌, Option, Some, None}
+use Rattle.std.specs.Prelude.{◌≡◌, ◌⊎◌, ℕ, Bool, true, false, List, [], ◌∷◌, ◌++◌, Option, Some, None}
 use Rattle.gw_bytes.specs.Bytes.{IsPrefix}
+use Rattle.gw_site.specs.Steps.{Plan, SiteCall, Made, Takes}
 use Rattle.gw_site.specs.declared.turn.Turn.{Turn}
 
--- what determines what a site plays
-pub record Origin : Type 0 where
-  -- the bytes of its script
-  pub script : List ℕ
-  -- how many bytes a send to this till takes at most if it fails after this log, where that is known
-  pub till_limit : List Turn → ℕ → Option ℕ
-  -- how many bytes a send to this terminal takes at most if it fails after this log, where that is known
-  pub pt_limit : List Turn → ℕ → Option ℕ
-
--- the origin of a site of which nothing of the kind is known, as of sockets
-abbrev pub no_origin : Origin
-no_origin = record { script = []; till_limit = λ log till. None; pt_limit = λ log pt. None }
-
--- what a proof may see of a site: what went in and out, oldest first, where that is observed; how often a call has failed; whether it is dark; and what determines what it plays
+-- what a proof may see of a site: what went in and out, oldest first, where that is observed; how often a call has failed; and whether it is dark
 pub record Observed : Type 0 where
   pub log : Option (List Turn)
   pub faults : ℕ
   pub dark : Bool
-  pub origin : Origin
+  -- the bytes of the script that determines what it plays; none where it plays no script, as sockets
+  pub origin : List ℕ
+  -- the turns of each of further steps, where they are known
+  pub plan : Option Plan
 
 -- what a call adds to the log, by whether the site was dark before and is dark after it: all of its turns; a prefix of them in the call in which it goes dark; nothing where it was dark
 abbrev pub Added : Bool → Bool → List Turn → List Turn → Type 0
@@ -52,10 +43,15 @@ pub record GrowsBy (Add : Bool → Bool → List Turn → List Turn → Type 0) 
 abbrev pub Grows : Observed → Observed → (List Turn → Type 0) → Type 0
 Grows old new Call = GrowsBy Added old new (λ before. Call)
 
--- a call has turns that depend on the log before it
-abbrev pub GrowsAfter : Observed → Observed → (List Turn → List Turn → Type 0) → Type 0
-GrowsAfter old new Call = GrowsBy Added old new Call
-
--- opening has all of its turns or none
+-- opening has all of its turns or none, which depend on the log before it
 abbrev pub GrowsWhole : Observed → Observed → (List Turn → List Turn → Type 0) → Type 0
 GrowsWhole old new Call = GrowsBy AddedWhole old new Call
+
+-- the step of a call on a site, by whether it was dark before: a dark site takes none; else the call has the turns by which the log has grown
+abbrev pub TakesCall : Bool → Observed → Observed → SiteCall → Type 0
+TakesCall true old new call = Takes old.plan new.plan []
+TakesCall false old new call = (before added : List Turn) → old.log ≡ Some before → new.log ≡ Some (before ++ added) → Takes old.plan new.plan (record { step = Made call; turns = added } ∷ [])
+
+-- the call is a step of what the site plays
+abbrev pub IsStep : Observed → Observed → SiteCall → Type 0
+IsStep old new call = TakesCall old.dark old new call

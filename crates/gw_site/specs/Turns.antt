@@ -1,6 +1,5 @@
 -- The turns of each call of a site, and what an event promises.
-use Rattle.std.specs.Prelude.{◌≡◌, ◌⊎◌, ℕ, ◌<◌, ◌≤◌, List, [], ◌∷◌, take, true, false, Option, Some, None, Result, Ok, Err}
-use Rattle.gw_site.specs.Observed.{Origin}
+use Rattle.std.specs.Prelude.{◌≡◌, ◌⊎◌, ℕ, ◌<◌, ◌≤◌, List, [], ◌∷◌, take, true, false, Result, Ok, Err}
 use Rattle.gw_site.specs.Outside.{Outside, is_connected, outside_of}
 use Rattle.gw_site.specs.Image.{Image}
 use Rattle.gw_bytes.specs.Bytes.{AreBytes, IsPrefix}
@@ -54,20 +53,15 @@ IsPromised o (PtClosed pt) = is_connected o.links pt ≡ true
 IsPromised o Nothing = Unit {0}
 IsPromised o StoppedEvent = Unit {0}
 
--- what a send that fails takes of its bytes: a prefix of them; where it is known how many it takes at most, exactly so many, or all where there are no more
-abbrev pub IsTaken : Option ℕ → List ℕ → List ℕ → Type 0
-IsTaken None bytes taken = IsPrefix taken bytes
-IsTaken (Some most) bytes taken = taken ≡ take most bytes
+-- a send to a till: all bytes, or where it failed the prefix of them that it has taken
+abbrev pub SentTillTurns : {E : Type 0} → ℕ → List ℕ → Result (Unit {0}) E → List Turn → Type 0
+SentTillTurns till bytes (Ok done) turns = turns ≡ SentTill till bytes true ∷ []
+SentTillTurns till bytes (Err failed) turns = (taken : List ℕ) × IsPrefix taken bytes × (turns ≡ SentTill till taken false ∷ [])
 
--- a send to a till, after this log: all bytes, or where it failed what it has taken of them
-abbrev pub SentTillTurns : {E : Type 0} → Origin → ℕ → List ℕ → Result (Unit {0}) E → List Turn → List Turn → Type 0
-SentTillTurns origin till bytes (Ok done) before turns = turns ≡ SentTill till bytes true ∷ []
-SentTillTurns origin till bytes (Err failed) before turns = (taken : List ℕ) × IsTaken (origin.till_limit before till) bytes taken × (turns ≡ SentTill till taken false ∷ [])
-
--- a send to a terminal, after this log: all bytes, or where it failed what it has taken of them
-abbrev pub SentPtTurns : {E : Type 0} → Origin → ℕ → List ℕ → Result (Unit {0}) E → List Turn → List Turn → Type 0
-SentPtTurns origin pt bytes (Ok done) before turns = turns ≡ SentPt pt bytes true ∷ []
-SentPtTurns origin pt bytes (Err failed) before turns = (taken : List ℕ) × IsTaken (origin.pt_limit before pt) bytes taken × (turns ≡ SentPt pt taken false ∷ [])
+-- a send to a terminal: all bytes, or where it failed the prefix of them that it has taken
+abbrev pub SentPtTurns : {E : Type 0} → ℕ → List ℕ → Result (Unit {0}) E → List Turn → Type 0
+SentPtTurns pt bytes (Ok done) turns = turns ≡ SentPt pt bytes true ∷ []
+SentPtTurns pt bytes (Err failed) turns = (taken : List ℕ) × IsPrefix taken bytes × (turns ≡ SentPt pt taken false ∷ [])
 
 -- linking a terminal leaves a turn whether it is linked or not
 abbrev pub LinkTurns : {E : Type 0} → ℕ → Result (Unit {0}) E → List Turn → Type 0

@@ -1,7 +1,6 @@
 //! A site that isn't there.
 ghost use Rattle.std.specs.Prelude.{◌≡◌, pos, length, [], None, false};
 ghost use Rattle.gw_site.specs.Failures.{HasFailed};
-ghost use Rattle.gw_site.specs.Observed.{no_origin};
 
 use crate::{Failed, Polled, Site, What};
 use gw_base::Setup;
@@ -38,7 +37,7 @@ impl Default for NoSite {
 }
 
 impl Site for NoSite {
-    ghost observed = { λ site. record { log = None; faults = site.faults; dark = false; origin = no_origin } };
+    ghost observed = { λ site. record { log = None; faults = site.faults; dark = false; origin = []; plan = None } };
 
     fn open(&mut self, _setup: &Setup) -> Result<(), Failed>
         ensures { HasFailed self.old.faults self.new.faults result }

@@ -12,4 +12,6 @@ pub mod PrefixLemmas
 pub mod ReadLemmas
 pub mod SequenceLemmas
 pub mod SlotLemmas
+pub mod StepExampleLemmas
+pub mod StepLemmas
 pub mod TurnLemmas

@@ -205,6 +205,12 @@ pub sized_before : (old mid : Observed) (size : ℕ) (Q : List ℕ → Type 0) �
     IfObserved old (λ log. Q (outside_of log).file)
 sized_before old mid size Q x n h log e = synced_same old mid (λ file. size ≡ length file → Q file) x h log e (n log e)
 
+-- and what is known of its size is known after the sync
+pub sized_after : (old mid : Observed) (size : ℕ) → Grows old mid (λ turns. turns ≡ Synced ∷ []) → IfObserved old (λ log. size ≡ length (outside_of log).file) → IfObserved mid (λ log. size ≡ length (outside_of log).file)
+sized_after old mid size x n between f =
+    let b = observed_before Added old mid (λ before turns. turns ≡ Synced ∷ []) between x f in
+    n b.0 b.1 ∙ synced_same old mid (λ file. length file ≡ length (outside_of between).file) x (λ log h. ap (λ log. length (outside_of log).file) (observed_same mid log between h f)) b.0 b.1
+
 pub sync_fails : (old new : Observed) → Grows old new (λ turns. (turns ≡ DiskFailed ∷ []) ⊎ (turns ≡ Synced ∷ DiskFailed ∷ [])) → GrowsBy Added old new (λ before. FaultTurns (outside_of before).file Disk)
 sync_fails old new x = grows-by old new _ _ x (λ log observed turns t. failed (outside_of log).file turns t)
   where

@@ -6,6 +6,7 @@ ghost use Rattle.gw_site.specs.Observed.{Added, Grows, GrowsBy, IfObserved};
 ghost use Rattle.jrn_log.specs.Slots.{AreSlots};
 ghost use Rattle.jrn_log.specs.Journal.{AreKept, StandsFor};
 ghost use Rattle.jrn_log.specs.JournalTurns.{AppendTurns, OpeningTurns};
+ghost use Rattle.jrn_log.specs.JournalSteps.{Phase, ToSync, ToMeasure, ToWrite, Done, TakesSteps, RestsDark, reached, measured_phase, opening_reaches, TakesOpening, TakesAppend};
 ghost use Rattle.jrn_log.specs.Opening.{OpensWith, IsExactlyTooLong, IsExactlyTruncated};
 ghost use Rattle.jrn_log.specs.Images.{AppendImages, OpeningImages};
 ghost use Rattle.jrn_log.specs.inner.FileReader.{IsFileRead, TurnsAfterLength, SyncedLengthTurns};
@@ -26,6 +27,8 @@ use std::marker::Model;
 fn synced_length<S: Site>(site: &mut S) -> Result<u64, Failed>
     ensures size { IfObserved (S.observed site.old) (λ log. IfOk result (λ size. size ≡ length (outside_of log).file)) }
     ensures turns { Grows (S.observed site.old) (S.observed site.new) (SyncedLengthTurns result) }
+    ensures steps { (rest : Phase) → IfObserved (S.observed site.old) (λ before. TakesSteps (ToSync (ToMeasure rest)) (reached rest result) before (S.observed site.old) (S.observed site.new)) }
+    ensures rests { RestsDark (S.observed site.old) (S.observed site.new) }
     ensures cause { HasCause (S.observed site.old).faults (S.observed site.new).faults result }
 {
     match site.sync() {
@@ -38,6 +41,8 @@ fn synced_length<S: Site>(site: &mut S) -> Result<u64, Failed>
 fn begin_file<S: Site>(alloc: Global, site: &mut S) -> Result<Bodies, OpenFault>
     ensures none { IfOk result (λ bodies. bodies ≡ []) }
     ensures turns { Grows (S.observed site.old) (S.observed site.new) (TurnsAfterLength 0 result) }
+    ensures steps { IfObserved (S.observed site.old) (λ before. TakesSteps (ToWrite 0 (0 ∷ []) (ToSync Done)) (reached Done result) before (S.observed site.old) (S.observed site.new)) }
+    ensures rests { RestsDark (S.observed site.old) (S.observed site.new) }
     ensures disk { OnErr result (result ≡ Err OpenFault.Disk) }
     ensures cause { HasCause (S.observed site.old).faults (S.observed site.new).faults result }
 {
@@ -57,6 +62,8 @@ fn sized_bodies<S: Site>(
     ensures few { IfOk result (λ bodies. length bodies ≤ slots) }
     ensures sized { IfObserved (S.observed site.old) (λ log. size ≡ length (outside_of log).file → IsFileRead slots (outside_of log).file result) }
     ensures turns { Grows (S.observed site.old) (S.observed site.new) (TurnsAfterLength size result) }
+    ensures steps { IfObserved (S.observed site.old) (λ before. size ≡ length (outside_of before).file → TakesSteps (measured_phase slots size) (opening_reaches size result) before (S.observed site.old) (S.observed site.new)) }
+    ensures rests { RestsDark (S.observed site.old) (S.observed site.new) }
     ensures disk { result ≡ Err OpenFault.Disk → Rose (S.observed site.old).faults (S.observed site.new).faults }
     ensures later { (S.observed site.old).faults ≤ (S.observed site.new).faults }
 {
@@ -115,6 +122,8 @@ impl Journal {
 
         // What it adds to the log, what it leaves, and what a power failure in it leaves.
         ensures turns { GrowsBy Added (S.observed site.old) (S.observed site.new) (λ before. OpeningTurns (outside_of before).file result) }
+        ensures steps { IfObserved (S.observed site.old) (λ before. TakesOpening slots (length (outside_of before).file) before (S.observed site.old) (S.observed site.new) result) }
+        ensures rests { RestsDark (S.observed site.old) (S.observed site.new) }
         ensures stands { IfOk result (λ opened. StandsFor opened.0 (S.observed site.new)) }
         ensures images { IfObserved (S.observed site.old) (λ before. IfObserved (S.observed site.new) (λ after. (bodies : List (List ℕ))
             → AreSlots (outside_of before).file bodies → OpeningImages before after bodies)) }
@@ -149,6 +158,8 @@ impl Journal {
 
         // What it adds to the log, what it leaves, and what a power failure in it leaves.
         ensures turns { Grows (S.observed site.old) (S.observed site.new) (AppendTurns self.old.len body.now result) }
+        ensures steps { IfObserved (S.observed site.old) (λ before. TakesAppend self.old.len body.now before (S.observed site.old) (S.observed site.new) result) }
+        ensures rests { RestsDark (S.observed site.old) (S.observed site.new) }
         ensures stands { OnOk result (StandsFor self.new (S.observed site.new)) }
         ensures kept { OnOk result ((S.observed site.new).dark ≡ false → IfObserved (S.observed site.old) (λ before. IfObserved (S.observed site.new) (λ after. (bodies : List (List ℕ))
             → AreKept before bodies → AreKept after (bodies ++ body.now ∷ [])))) }

@@ -2,6 +2,7 @@
 #![tactic(auto)]
 
 ghost use Rattle.jrn_log.specs.Laws.{EachHasSlots, SlotsAreOne, DecodedAreSlots, AppendKeepsImages, AppendRests};
+ghost use Rattle.jrn_log.specs.StepExample.{NoFileIsOpened, FileIsRead, LongFileIsNotRead, LengthFails, SyncComesFirst};
 
 mod fault;
 mod foreign;
@@ -29,4 +30,14 @@ pub fn law_slots()
 pub fn law_append()
     ensures images { AppendKeepsImages }
     ensures rests { AppendRests }
+{}
+
+/// Openings, step by step: of no file, of a file with two bodies, of one that is too long, and of one whose length can't be
+/// asked. None begins with anything but the sync.
+pub fn law_opening_steps()
+    ensures no_file { NoFileIsOpened }
+    ensures read { FileIsRead }
+    ensures long { LongFileIsNotRead }
+    ensures fails { LengthFails }
+    ensures sync_first { SyncComesFirst }
 {}

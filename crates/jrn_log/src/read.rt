@@ -3,7 +3,8 @@ ghost use Rattle.std.specs.Prelude.{◌≡◌, ◌≢◌, ◌+◌, ◌*◌, ◌^
 ghost use Rattle.gw_site.specs.Failures.{Rose};
 ghost use Rattle.gw_site.specs.Outside.{outside_of, file_part};
 ghost use Rattle.gw_site.specs.Observed.{Grows, IfObserved};
-ghost use Rattle.jrn_log.specs.inner.FileReader.{BeginsWithSlots, AreSlotsTaken, IsChunkRead, AreBodiesRead, ReadTurns};
+ghost use Rattle.jrn_log.specs.JournalSteps.{Phase, ToRead, TakesSteps, RestsDark};
+ghost use Rattle.jrn_log.specs.inner.FileReader.{BeginsWithSlots, AreSlotsTaken, IsChunkRead, AreBodiesRead, ReadTurns, IsToRead, read_phase};
 
 use crate::fault::OpenFault;
 use crate::layout::{BODY_SIZE, OPEN, SLOT_SIZE, SLOTS_OF_CHUNK};
@@ -92,6 +93,8 @@ fn read_chunk<S: Site>(
     ensures found { IfObserved (S.observed site.old) (λ log. size ≡ length (outside_of log).file
         → BeginsWithSlots (outside_of log).file bodies.old.items → IsChunkRead (outside_of log).file bodies.new.items result) }
     ensures turns { Grows (S.observed site.old) (S.observed site.new) (ReadTurns result) }
+    ensures steps { (first : Phase) → IsToRead first → IfObserved (S.observed site.old) (λ before. TakesSteps first (read_phase result) before (S.observed site.old) (S.observed site.new)) }
+    ensures rests { RestsDark (S.observed site.old) (S.observed site.new) }
     ensures disk { result ≡ Err OpenFault.Disk → Rose (S.observed site.old).faults (S.observed site.new).faults }
     ensures later { (S.observed site.old).faults ≤ (S.observed site.new).faults }
 {
@@ -113,6 +116,8 @@ pub(crate) fn read_bodies<S: Site>(
     ensures within { IfOk result (λ bodies. 256 * length bodies < size) }
     ensures reads { IfObserved (S.observed site.old) (λ log. size ≡ length (outside_of log).file → AreBodiesRead (outside_of log).file result) }
     ensures turns { Grows (S.observed site.old) (S.observed site.new) (ReadTurns result) }
+    ensures steps { IfObserved (S.observed site.old) (λ before. TakesSteps ToRead (read_phase result) before (S.observed site.old) (S.observed site.new)) }
+    ensures rests { RestsDark (S.observed site.old) (S.observed site.new) }
     ensures disk { result ≡ Err OpenFault.Disk → Rose (S.observed site.old).faults (S.observed site.new).faults }
     ensures later { (S.observed site.old).faults ≤ (S.observed site.new).faults }
 {

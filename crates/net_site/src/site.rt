@@ -1,7 +1,6 @@
 //! The site.
 ghost use Rattle.std.specs.Prelude.{◌≡◌, ◌↔◌, ◌≤◌, All, length, [], None, true, false, IfOk, IsErr, is_ok, OnOk, OnErr, Contains, slice_set};
 ghost use Rattle.gw_site.specs.Failures.{HasCause, faults_after};
-ghost use Rattle.gw_site.specs.Observed.{no_origin};
 ghost use Rattle.gw_site.specs.Turns.{IsWithinBuf};
 ghost use Rattle.net_site.specs.Holding.{AllGone, Brings, IsLinked, MakesLink, OpensSite, UsesDisk, closed, without_till};
 
@@ -334,7 +333,7 @@ impl<
 
 impl<R: Net<Listener = TcpListener, Stream = TcpStream> + Files<File = File> + Clock + Drop> Site
     for NetSite<R> {
-    ghost observed = { λ site. record { log = None; faults = site.faults; dark = false; origin = no_origin } };
+    ghost observed = { λ site. record { log = None; faults = site.faults; dark = false; origin = []; plan = None } };
 
     fn open(&mut self, setup: &Setup) -> Result<(), Failed>
         ensures opens { OpensSite setup.now self.old self.new result }

@@ -1,6 +1,7 @@
 -- The lines of a script, as the grammar sees them.
 use Rattle.std.specs.Prelude.{List, map}
-use Rattle.gw_script.specs.site.ScriptLine.{SetupLine, Name, Queue, Wait, Slots, Terminal, Event, Open, Close, FromTill, FromPt, Lose, Tick, Failing, FailOpen, FailLink, FailSendTill, FailSendPt, FailWrite, FailSync, FailLength, FailRead, ImageKind, Old, New, Junk, PlayedLine, At, Poll, Fail, Power, Given, Script}
+use Rattle.gw_site.specs.Steps.{ImageKind, Old, New, Junk}
+use Rattle.gw_script.specs.site.ScriptLine.{SetupLine, Name, Queue, Wait, Slots, Terminal, Event, Open, Close, FromTill, FromPt, Lose, Tick, Failing, FailOpen, FailLink, FailSendTill, FailSendPt, FailWrite, FailSync, FailLength, FailRead, PlayedLine, At, Poll, Fail, Power, Given, Script}
 use Rattle.sim_script.specs.declared.line.Script.{Script as ReadScript}
 use Rattle.sim_script.specs.declared.line.Given.{Given as ReadGiven}
 use Rattle.sim_script.specs.declared.line.SetupLine.{SetupLine as ReadSetupLine}

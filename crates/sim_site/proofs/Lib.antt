@@ -7,8 +7,8 @@ pub mod JunkLemmas
 pub mod PlaceLemmas
 pub mod PlayedLemmas
 pub mod RangeLemmas
-pub mod SendLemmas
 pub mod SetupLemmas
 pub mod SiteLemmas
 pub mod SoughtLemmas
+pub mod StepLemmas
 pub mod WriteLemmas

@@ -4,9 +4,10 @@ use Rattle.std.specs.Prelude.{Bool, ◌-◌, nat_le, not, if◌then◌else◌, O
 use Rattle.gw_base.specs.declared.setup.Setup.{Setup}
 use Rattle.gw_site.specs.Outside.{Outside}
 use Rattle.gw_site.specs.declared.turn.Turn.TheVariants.{Start, OpenFailed, Linked, LinkFailed, Wrote, Synced, DiskFailed}
+use Rattle.gw_site.specs.Steps.{LengthCall, LinkCall, OpenCall, ReadCall, SendPtCall, SendTillCall, SyncCall, WriteCall}
 use Rattle.gw_script.specs.site.Hazards.{Armed, Hazard, is_failing, links_without, sends_without, takes_most}
 use Rattle.gw_script.specs.site.Playing.{Length, Play, Read, Sync, Write, counted, is_off, one_call_less, powered, send_failed_pt, send_failed_till}
-use Rattle.gw_script.specs.site.Calls.{LengthCall, LinkCall, OpenCall, ReadCall, SendPtCall, SendTillCall, SyncCall, WriteCall, place_after, play_from}
+use Rattle.gw_script.specs.site.Calls.{place_after, play_from}
 use Rattle.sim_site.proofs.HazardLemmas.{none_failing, none_without}
 
 pub open_moves : (o : Outside) (p : Play) (setup : Setup) → counted (record p { hazard = record p.hazard { fail_open = false } }) ≡ place_after o p (OpenCall setup)

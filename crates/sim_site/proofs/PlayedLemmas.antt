@@ -11,10 +11,11 @@ use Rattle.gw_site.specs.declared.site.What.TheVariants.{TillOpened, TillBytes, 
 use Rattle.gw_site.specs.declared.turn.Turn.{Turn}
 use Rattle.gw_site.specs.declared.turn.Turn.TheVariants.{OpenFailed, Start, Crash, Linked, LinkFailed, Polled, SentTill, SentPt, Wrote, Synced, DiskFailed}
 use Rattle.gw_site.proofs.OutsideLemmas.{outside_of-append}
-use Rattle.gw_script.specs.site.Calls.{IsReached, Holding, Made, PollCall, PowerBack, Reaches, SiteCall, SiteStep, StopAfter, are_scripted, call_turns, place_after, polled_place, polled_turns, set_to_fail}
+use Rattle.gw_site.specs.Steps.{Holding, Made, PollCall, PowerBack, SiteCall, SiteStep, StopAfter, ImageKind}
+use Rattle.gw_script.specs.site.Calls.{IsReached, Reaches, are_scripted, call_turns, place_after, polled_place, polled_turns, set_to_fail}
 use Rattle.gw_script.specs.site.Hazards.{armed, crash_file, is_reached, sent_of}
 use Rattle.gw_script.specs.site.Playing.{Idle, Play, PlaysLines, after_poll, applies, begins, brings, fails_next, is_off, met, powered, restarted}
-use Rattle.gw_script.specs.site.ScriptLine.{Failing, ImageKind, PlayedLine, At, Poll, Fail, Power}
+use Rattle.gw_script.specs.site.ScriptLine.{Failing, PlayedLine, At, Poll, Fail, Power}
 use Rattle.gw_script.proofs.site.CallLemmas.{calls-go-on, calls-play, goes-on-beside, power-goes-on, scripted_append}
 use Rattle.gw_script.proofs.site.LeadsLemmas.{prefixes-play}
 use Rattle.sim_script.specs.Values.{image_value, lines_value}

@@ -1,31 +1,26 @@
 -- How the calls on a site make its log grow.
 use Rattle.std.proofs.Common.{◌≡◌, ℕ, List, [], ◌∷◌, ◌++◌, refl, sym, ◌∙◌, ap, subst, true, false, append-nil, inl, inr, take, drop, take-append-drop}
-use Rattle.std.specs.Prelude.{◌⊎◌, Bool, Option, not, option_and_then, option_map, ◌||◌, if◌then◌else◌, Some, None, Result, Ok, Err, IsErr, IfOk, OnOk, OnErr, is_some}
+use Rattle.std.specs.Prelude.{Bool, Option, not, option_and_then, ◌||◌, if◌then◌else◌, Some, None, Result, Ok, Err, IsErr, IfOk, OnOk, OnErr, is_some}
 use Rattle.std.specs.Str.{is_utf8}
-use Rattle.gw_bytes.specs.Bytes.{AreBytes}
 use Rattle.gw_base.specs.declared.setup.Setup.{Setup}
-use Rattle.gw_site.specs.Observed.{Observed, Origin, Added, AddedWhole, Grows, GrowsAfter, GrowsBy, GrowsWhole}
+use Rattle.gw_site.specs.Observed.{Observed, Added, AddedWhole, Grows, GrowsBy, GrowsWhole}
 use Rattle.gw_site.specs.declared.site.Failed.{Failed}
 use Rattle.gw_site.specs.declared.site.What.{What}
 use Rattle.gw_site.specs.declared.site.What.TheVariants.{Stopped}
-use Rattle.gw_site.specs.Image.{Image}
 use Rattle.gw_site.specs.Outside.{outside_of}
-use Rattle.gw_site.specs.Turns.{IsTaken, SentPtTurns, SentTillTurns, WroteTurns}
+use Rattle.gw_site.specs.Turns.{SentPtTurns, SentTillTurns, WroteTurns}
 use Rattle.gw_site.specs.declared.turn.Turn.{Turn}
-use Rattle.gw_site.specs.declared.turn.Turn.TheVariants.{Crash, DiskFailed, SentPt, SentTill, Wrote}
-use Rattle.gw_site.proofs.ImageLemmas.{file_image, junk_image, stable_image}
+use Rattle.gw_site.specs.declared.turn.Turn.TheVariants.{DiskFailed, SentPt, SentTill, Wrote}
 use Rattle.gw_site.proofs.GrowsLemmas.{all_grows}
-use Rattle.gw_script.specs.site.Calls.{SiteCall, WriteCall, call_turns}
+use Rattle.gw_site.specs.Steps.{SiteCall, WriteCall}
+use Rattle.gw_script.specs.site.Calls.{call_turns}
 use Rattle.gw_script.specs.site.Decode.{no_lines, script_goes_on, script_of, spelled, with_entry}
-use Rattle.gw_script.specs.site.Hazards.{crash_file, sent_of}
-use Rattle.gw_script.specs.site.Limits.{script_origin}
-use Rattle.gw_script.specs.site.Playing.{restarted}
-use Rattle.gw_script.specs.site.ScriptLine.{ImageKind, Old, New, Junk, Script, setup_of}
-use Rattle.sim_script.specs.Values.{image_value, whole_script_value}
-use Rattle.sim_script.specs.declared.line.ImageKind.{ImageKind as ReadImageKind}
+use Rattle.gw_script.specs.site.Hazards.{sent_of}
+use Rattle.gw_script.specs.site.ScriptLine.{Script, setup_of}
+use Rattle.sim_script.specs.Values.{whole_script_value}
 use Rattle.sim_site.specs.Dark.{is_dark}
 use Rattle.sim_site.specs.Made.{IsLit, IsCallMade, IsPollMade, IsRefused, IsCallReported, IsSameScript, IsUnchanged, IsWriteRefused, outside_at, play_at}
-use Rattle.sim_site.specs.Sites.{GoesOn, IsOriginSetup, IsRestarted, IsReturned, observed_with, origin_beside, origin_of}
+use Rattle.sim_site.specs.Sites.{GoesOn, IsOriginSetup, IsReturned, observed_with, origin_beside, origin_of}
 use Rattle.sim_site.specs.declared.played.Played.{Played}
 use Rattle.sim_site.specs.declared.site.SimSite.{SimSite}
 
@@ -38,7 +33,7 @@ pub short_dark : (played : Played) → played.short ≡ true → is_dark played 
 short_dark played short = ap (λ s. s || is_some played.place.off) short
 
 pub origin_same : (old new : Played) → IsSameScript old new → origin_of new ≡ origin_of old
-origin_same old new same = ap (λ s. if s then script_origin new.text.value else origin_beside) same.scripted ∙ ap (λ (text : List ℕ). if old.scripted then script_origin text else origin_beside) same.text
+origin_same old new same = ap (λ s. if s then new.text.value else origin_beside) same.scripted ∙ ap (λ (text : List ℕ). if old.scripted then text else origin_beside) same.text
 
 -- ---- what is added
 
@@ -72,15 +67,6 @@ same_grows Add old new Call turns call add d l o = record {
 pub dark_grows : (old new : Observed) (Call : List Turn → Type 0) (turns : List Turn) → Call turns → new.dark ≡ true → new.log ≡ old.log → new.origin ≡ old.origin → Grows old new Call
 dark_grows old new Call turns call d l o = same_grows Added old new (λ before. Call) turns (λ before. call) (nothing_added old.dark new.dark turns d) d l o
 
--- likewise, where the turns depend on the log before it
-pub dark_grows_after : (old new : Observed) (Call : List Turn → List Turn → Type 0) (before turns : List Turn) → Call before turns → old.log ≡ Some before → new.dark ≡ true → new.log ≡ old.log → new.origin ≡ old.origin → GrowsAfter old new Call
-dark_grows_after old new Call before turns call is d l o = record {
-  observed = λ b f. let same : b ≡ before = (let h : Some b ≡ Some before = sym f ∙ is in cc) in (turns, [], rw same call, nothing_added old.dark new.dark turns d, (l ∙ f ∙ ap Some (sym (append-nil b))));
-  unobserved = λ f. l ∙ f;
-  stays = λ f. d;
-  origin = o;
-}
-
 -- opening, likewise
 pub dark_opens : (old new : Observed) (Call : List Turn → List Turn → Type 0) (turns : List Turn) → ((before : List Turn) → Call before turns) → new.dark ≡ true → new.log ≡ old.log → new.origin ≡ old.origin → GrowsWhole old new Call
 dark_opens old new Call turns call d l o = same_grows AddedWhole old new Call turns call (none_added old.dark new.dark turns d) d l o
@@ -95,11 +81,11 @@ part_grows old new Call before turns added rest call split d n l e o = record {
 }
 
 -- a call that was made
-pub made_grows : (f g : ℕ) (old new : Played) (call : SiteCall) (Call : List Turn → List Turn → Type 0) → IsLit old → IsCallMade old new call → IsSameScript old new → Call old.log (call_turns (outside_at old) (play_at old) call) → GrowsAfter (observed_with f old) (observed_with g new) Call
+pub made_grows : (f g : ℕ) (old new : Played) (call : SiteCall) (Call : List Turn → Type 0) → IsLit old → IsCallMade old new call → IsSameScript old new → Call (call_turns (outside_at old) (play_at old) call) → Grows (observed_with f old) (observed_with g new) Call
 made_grows f g old new call Call lit made same has =
     let turns = call_turns (outside_at old) (play_at old) call in
     let dark = lit_there old lit in
-    all_grows Added (observed_with f old) (observed_with g new) Call old.log turns (subst (λ d. Added d (is_dark new) turns turns) (sym dark) (all_added (is_dark new) turns)) dark refl (ap Some made.log) (origin_same old new same) has
+    all_grows Added (observed_with f old) (observed_with g new) (λ before. Call) old.log turns (subst (λ d. Added d (is_dark new) turns turns) (sym dark) (all_added (is_dark new) turns)) dark refl (ap Some made.log) (origin_same old new same) has
 
 -- opening that was made
 pub made_opens : (f g : ℕ) (old new : Played) (call : SiteCall) (Call : List Turn → List Turn → Type 0) → IsLit old → IsCallMade old new call → IsSameScript old new → Call old.log (call_turns (outside_at old) (play_at old) call) → GrowsWhole (observed_with f old) (observed_with g new) Call
@@ -109,27 +95,20 @@ made_opens f g old new call Call lit made same has =
     all_grows AddedWhole (observed_with f old) (observed_with g new) Call old.log turns (subst (λ d. AddedWhole d (is_dark new) turns turns) (sym dark) (all_added_whole (is_dark new) turns)) dark refl (ap Some made.log) (origin_same old new same) has
 
 -- a call for which memory was refused
-pub refused_grows : (f g : ℕ) (old new : Played) (Call : List Turn → List Turn → Type 0) (turns : List Turn) → IsRefused old new → IsSameScript old new → Call old.log turns → GrowsAfter (observed_with f old) (observed_with g new) Call
-refused_grows f g old new Call turns refused same has = dark_grows_after (observed_with f old) (observed_with g new) Call old.log turns has refl (short_dark new refused.short) (ap Some refused.log) (origin_same old new same)
-
--- a call that is reported as it was made, whose turns depend on the log before it
-pub reported_after : (Call : Result (Unit {0}) Failed → List Turn → List Turn → Type 0) (f g : ℕ) (old new : Played) (call : SiteCall) (test : Bool) (failed : List Turn) {E : Type 0} (made : Result Bool E) (result : Result (Unit {0}) Failed) →
-    IsLit old → OnOk made (IsCallMade old new call) → IfOk made (λ fails. fails ≡ test) → OnErr made (IsRefused old new) → IsSameScript old new → IsCallReported made result →
-    (test ≡ false → (done : Unit {0}) → Call (Ok done) old.log (call_turns (outside_at old) (play_at old) call)) → (test ≡ true → (error : Failed) → Call (Err error) old.log (call_turns (outside_at old) (play_at old) call)) → ((error : Failed) → Call (Err error) old.log failed) →
-    GrowsAfter (observed_with f old) (observed_with g new) (Call result)
-reported_after Call f g old new call test failed (Ok true) (Ok done) lit made fails refused same reported went fell short = absurd (let h : false ≡ true = reported in cc)
-reported_after Call f g old new call test failed (Ok true) (Err error) lit made fails refused same reported went fell short = made_grows f g old new call (Call (Err error)) lit made same (fell (sym fails) error)
-reported_after Call f g old new call test failed (Ok false) (Ok done) lit made fails refused same reported went fell short = made_grows f g old new call (Call (Ok done)) lit made same (went (sym fails) done)
-reported_after Call f g old new call test failed (Ok false) (Err error) lit made fails refused same reported went fell short = absurd (let h : false ≡ true = reported in cc)
-reported_after Call f g old new call test failed (Err refusal) (Ok done) lit made fails refused same reported went fell short = absurd (let h : false ≡ true = reported in cc)
-reported_after Call f g old new call test failed (Err refusal) (Err error) lit made fails refused same reported went fell short = refused_grows f g old new (Call (Err error)) failed refused same (short error)
+pub refused_grows : (f g : ℕ) (old new : Played) (Call : List Turn → Type 0) (turns : List Turn) → IsRefused old new → IsSameScript old new → Call turns → Grows (observed_with f old) (observed_with g new) Call
+refused_grows f g old new Call turns refused same has = dark_grows (observed_with f old) (observed_with g new) Call turns has (short_dark new refused.short) (ap Some refused.log) (origin_same old new same)
 
 -- a call that is reported as it was made
 pub reported_grows : (Call : Result (Unit {0}) Failed → List Turn → Type 0) (f g : ℕ) (old new : Played) (call : SiteCall) (test : Bool) (failed : List Turn) {E : Type 0} (made : Result Bool E) (result : Result (Unit {0}) Failed) →
     IsLit old → OnOk made (IsCallMade old new call) → IfOk made (λ fails. fails ≡ test) → OnErr made (IsRefused old new) → IsSameScript old new → IsCallReported made result →
     (test ≡ false → (done : Unit {0}) → Call (Ok done) (call_turns (outside_at old) (play_at old) call)) → (test ≡ true → (error : Failed) → Call (Err error) (call_turns (outside_at old) (play_at old) call)) → ((error : Failed) → Call (Err error) failed) →
     Grows (observed_with f old) (observed_with g new) (Call result)
-reported_grows Call f g old new call test failed made result lit m fails refused same reported went fell short = reported_after (λ r before. Call r) f g old new call test failed made result lit m fails refused same reported went fell short
+reported_grows Call f g old new call test failed (Ok true) (Ok done) lit made fails refused same reported went fell short = absurd (let h : false ≡ true = reported in cc)
+reported_grows Call f g old new call test failed (Ok true) (Err error) lit made fails refused same reported went fell short = made_grows f g old new call (Call (Err error)) lit made same (fell (sym fails) error)
+reported_grows Call f g old new call test failed (Ok false) (Ok done) lit made fails refused same reported went fell short = made_grows f g old new call (Call (Ok done)) lit made same (went (sym fails) done)
+reported_grows Call f g old new call test failed (Ok false) (Err error) lit made fails refused same reported went fell short = absurd (let h : false ≡ true = reported in cc)
+reported_grows Call f g old new call test failed (Err refusal) (Ok done) lit made fails refused same reported went fell short = absurd (let h : false ≡ true = reported in cc)
+reported_grows Call f g old new call test failed (Err refusal) (Err error) lit made fails refused same reported went fell short = refused_grows f g old new (Call (Err error)) failed refused same (short error)
 
 -- a call for which no memory was refused was made
 pub was_made : {A E : Type 0} (old new : Played) (call : SiteCall) (made : Result A E) → OnOk made (IsCallMade old new call) → OnErr made (new.short ≡ true) → new.short ≡ false → IsCallMade old new call
@@ -183,8 +162,8 @@ on_ok (Err error) f h = tt
 -- ---- more calls
 
 -- a call on a dark site
-pub dark_there_grows : (f g : ℕ) (old new : Played) (Call : List Turn → List Turn → Type 0) (turns : List Turn) → new ≡ old → is_dark old ≡ true → Call old.log turns → GrowsAfter (observed_with f old) (observed_with g new) Call
-dark_there_grows f g old new Call turns e d has = subst (λ p. GrowsAfter (observed_with f old) (observed_with g p) Call) (sym e) (dark_grows_after (observed_with f old) (observed_with g old) Call old.log turns has refl d refl refl)
+pub dark_there_grows : (f g : ℕ) (old new : Played) (Call : List Turn → Type 0) (turns : List Turn) → new ≡ old → is_dark old ≡ true → Call turns → Grows (observed_with f old) (observed_with g new) Call
+dark_there_grows f g old new Call turns e d has = subst (λ p. Grows (observed_with f old) (observed_with g p) Call) (sym e) (dark_grows (observed_with f old) (observed_with g old) Call turns has d refl refl)
 
 -- opening that is reported as it was made
 pub reported_opens : (Call : Result (Unit {0}) Failed → List Turn → List Turn → Type 0) (f g : ℕ) (old new : Played) (call : SiteCall) (test : Bool) (failed : List Turn) {E : Type 0} (made : Result Bool E) (result : Result (Unit {0}) Failed) →
@@ -203,8 +182,8 @@ pub reported_write : (f g : ℕ) (old new : Played) (offset : ℕ) (bytes : List
     IsLit old → OnOk made (IsCallMade old new (WriteCall offset bytes)) → IfOk made (λ fails. fails ≡ old.place.hazard.write) → OnErr made (IsWriteRefused old new offset bytes) → OnErr made (new.short ≡ true) → IsSameScript old new → IsCallReported made result →
     Grows (observed_with f old) (observed_with g new) (WroteTurns offset bytes result)
 reported_write f g old new offset bytes (Ok true) (Ok done) lit made fails refused short same reported = absurd (let h : false ≡ true = reported in cc)
-reported_write f g old new offset bytes (Ok true) (Err error) lit made fails refused short same reported = made_grows f g old new (WriteCall offset bytes) (λ before. WroteTurns {E = Failed} offset bytes (Err error)) lit made same (ap (λ b. if b then Wrote offset bytes ∷ DiskFailed ∷ [] else Wrote offset bytes ∷ []) (sym fails))
-reported_write f g old new offset bytes (Ok false) (Ok done) lit made fails refused short same reported = made_grows f g old new (WriteCall offset bytes) (λ before. WroteTurns {E = Failed} offset bytes (Ok done)) lit made same (ap (λ b. if b then Wrote offset bytes ∷ DiskFailed ∷ [] else Wrote offset bytes ∷ []) (sym fails))
+reported_write f g old new offset bytes (Ok true) (Err error) lit made fails refused short same reported = made_grows f g old new (WriteCall offset bytes) (WroteTurns {E = Failed} offset bytes (Err error)) lit made same (ap (λ b. if b then Wrote offset bytes ∷ DiskFailed ∷ [] else Wrote offset bytes ∷ []) (sym fails))
+reported_write f g old new offset bytes (Ok false) (Ok done) lit made fails refused short same reported = made_grows f g old new (WriteCall offset bytes) (WroteTurns {E = Failed} offset bytes (Ok done)) lit made same (ap (λ b. if b then Wrote offset bytes ∷ DiskFailed ∷ [] else Wrote offset bytes ∷ []) (sym fails))
 reported_write f g old new offset bytes (Ok false) (Err error) lit made fails refused short same reported = absurd (let h : false ≡ true = reported in cc)
 reported_write f g old new offset bytes (Err refusal) (Ok done) lit made fails refused short same reported = absurd (let h : false ≡ true = reported in cc)
 reported_write f g old new offset bytes (Err refusal) (Err error) lit made fails (inl log) short same reported =
@@ -214,35 +193,22 @@ reported_write f g old new offset bytes (Err refusal) (Err error) lit made fails
 
 -- ---- sends
 
--- what a send may take that isn't made
-abbrev pub none_taken : Option ℕ → List ℕ → List ℕ
-none_taken None bytes = []
-none_taken (Some most) bytes = take most bytes
+-- a send takes all of its bytes, or where it failed a prefix of them
+pub till_sent : (till : ℕ) (bytes : List ℕ) (most : Option ℕ) (done : Unit {0}) → is_some most ≡ false → SentTillTurns {E = Failed} till bytes (Ok done) (SentTill till (sent_of most bytes) (not (is_some most)) ∷ [])
+till_sent till bytes None done e = refl
+till_sent till bytes (Some most) done e = absurd (let h : true ≡ false = e in cc)
 
-pub is_none_taken : (limit : Option ℕ) (bytes : List ℕ) → IsTaken limit bytes (none_taken limit bytes)
-is_none_taken None bytes = (bytes, refl)
-is_none_taken (Some most) bytes = refl
+pub till_cut : (till : ℕ) (bytes : List ℕ) (most : Option ℕ) (error : Failed) → is_some most ≡ true → SentTillTurns till bytes (Err error) (SentTill till (sent_of most bytes) (not (is_some most)) ∷ [])
+till_cut till bytes None error e = absurd (let h : false ≡ true = e in cc)
+till_cut till bytes (Some most) error e = (take most bytes, (drop most bytes, sym (take-append-drop most bytes)), refl)
 
-is_taken : (limit : Option ℕ) (most : ℕ) (bytes : List ℕ) → (limit ≡ None) ⊎ (limit ≡ Some most) → IsTaken limit bytes (take most bytes)
-is_taken limit most bytes (inl none) = subst (λ l. IsTaken l bytes (take most bytes)) (sym none) (drop most bytes, sym (take-append-drop most bytes))
-is_taken limit most bytes (inr same) = subst (λ l. IsTaken l bytes (take most bytes)) (sym same) refl
+pub pt_sent : (pt : ℕ) (bytes : List ℕ) (most : Option ℕ) (done : Unit {0}) → is_some most ≡ false → SentPtTurns {E = Failed} pt bytes (Ok done) (SentPt pt (sent_of most bytes) (not (is_some most)) ∷ [])
+pt_sent pt bytes None done e = refl
+pt_sent pt bytes (Some most) done e = absurd (let h : true ≡ false = e in cc)
 
--- what a send takes is all of its bytes, or where it fails what is known of it by the log
-pub till_sent : (origin : Origin) (log : List Turn) (till : ℕ) (bytes : List ℕ) (most : Option ℕ) (done : Unit {0}) → is_some most ≡ false → SentTillTurns {E = Failed} origin till bytes (Ok done) log (SentTill till (sent_of most bytes) (not (is_some most)) ∷ [])
-till_sent origin log till bytes None done e = refl
-till_sent origin log till bytes (Some most) done e = absurd (let h : true ≡ false = e in cc)
-
-pub till_cut : (origin : Origin) (log : List Turn) (till : ℕ) (bytes : List ℕ) (most : Option ℕ) (error : Failed) → (origin.till_limit log till ≡ None) ⊎ (origin.till_limit log till ≡ most) → is_some most ≡ true → SentTillTurns origin till bytes (Err error) log (SentTill till (sent_of most bytes) (not (is_some most)) ∷ [])
-till_cut origin log till bytes None error known e = absurd (let h : false ≡ true = e in cc)
-till_cut origin log till bytes (Some most) error known e = (take most bytes, is_taken (origin.till_limit log till) most bytes known, refl)
-
-pub pt_sent : (origin : Origin) (log : List Turn) (pt : ℕ) (bytes : List ℕ) (most : Option ℕ) (done : Unit {0}) → is_some most ≡ false → SentPtTurns {E = Failed} origin pt bytes (Ok done) log (SentPt pt (sent_of most bytes) (not (is_some most)) ∷ [])
-pt_sent origin log pt bytes None done e = refl
-pt_sent origin log pt bytes (Some most) done e = absurd (let h : true ≡ false = e in cc)
-
-pub pt_cut : (origin : Origin) (log : List Turn) (pt : ℕ) (bytes : List ℕ) (most : Option ℕ) (error : Failed) → (origin.pt_limit log pt ≡ None) ⊎ (origin.pt_limit log pt ≡ most) → is_some most ≡ true → SentPtTurns origin pt bytes (Err error) log (SentPt pt (sent_of most bytes) (not (is_some most)) ∷ [])
-pt_cut origin log pt bytes None error known e = absurd (let h : false ≡ true = e in cc)
-pt_cut origin log pt bytes (Some most) error known e = (take most bytes, is_taken (origin.pt_limit log pt) most bytes known, refl)
+pub pt_cut : (pt : ℕ) (bytes : List ℕ) (most : Option ℕ) (error : Failed) → is_some most ≡ true → SentPtTurns pt bytes (Err error) (SentPt pt (sent_of most bytes) (not (is_some most)) ∷ [])
+pt_cut pt bytes None error e = absurd (let h : false ≡ true = e in cc)
+pt_cut pt bytes (Some most) error e = (take most bytes, (drop most bytes, sym (take-append-drop most bytes)), refl)
 
 -- ---- looks
 
@@ -266,30 +232,10 @@ goes_on old new after call e made = record { turns = ap (λ (p : Played). p.log)
 -- ---- the site itself
 
 pub observed_same : (f : ℕ) (old new : Played) → IsUnchanged old new → observed_with f new ≡ observed_with f old
-observed_same f old new u = rw (u.log, u.short, u.place, u.scripted, u.text) refl
+observed_same f old new u = rw (u.log, u.short, u.place, u.scripted, u.text, u.script) refl
 
 pub play_same : (old new : Played) → IsUnchanged old new → play_at new ≡ play_at old
 play_same old new u = rw (u.script, u.place) refl
-
-pub image_there : (kind : ImageKind) (log : List Turn) → Image (outside_of log) (crash_file kind (outside_of log))
-image_there Old log = stable_image log
-image_there New log = file_image log
-image_there (Junk byte) log = junk_image byte log
-
-pub restarted_there : {E : Type 0} (result : Result (Unit {0}) E) (old new : SimSite) (kind : ReadImageKind) → old.played.place.off ≡ Some kind → OnOk result (new.played.log ≡ old.played.log ++ Crash (crash_file (image_value kind) (outside_at old.played)) ∷ []) →
-    OnOk result (AreBytes (crash_file (image_value kind) (outside_at old.played))) → OnOk result (play_at new.played ≡ restarted (play_at old.played)) → OnOk result (new.played.place.off ≡ None) → new.played.short ≡ false → IsSameScript old.played new.played → OnOk result (IsRestarted old new)
-restarted_there (Ok done) old new kind off log bytes place power whole same = record {
-  kind = image_value kind;
-  failed = ap (option_map image_value) off;
-  log = log;
-  image = image_there (image_value kind) old.played.log;
-  bytes = bytes;
-  place = place;
-  lit = lit_there new.played (record { whole = whole; power = power });
-  script = ap whole_script_value same.script;
-  origin = origin_same old.played new.played same;
-}
-restarted_there (Err error) old new kind off log bytes place power whole same = tt
 
 -- no script has the text of a site that doesn't play its script alone
 no_text : script_of (255 ∷ []) ≡ Err 1
@@ -302,10 +248,10 @@ no_text = by_test (is_utf8 (255 ∷ []))
 ok_same : (a b : Script) → ◌≡◌ {A = Result Script ℕ} (Ok a) (Ok b) → a ≡ b
 ok_same a b e = cc
 
-pub origin_own : (played : Played) (script : Script) → script_of (origin_of played).script ≡ Ok script → (played.scripted ≡ true) × (whole_script_value played.script ≡ script)
+pub origin_own : (played : Played) (script : Script) → script_of (origin_of played) ≡ Ok script → (played.scripted ≡ true) × (whole_script_value played.script ≡ script)
 origin_own played script e = by_test played.scripted refl e
   where
-    by_test : (test : Bool) → played.scripted ≡ test → script_of (if test then script_origin played.text.value else origin_beside).script ≡ Ok script → (played.scripted ≡ true) × (whole_script_value played.script ≡ script)
+    by_test : (test : Bool) → played.scripted ≡ test → script_of (if test then played.text.value else origin_beside) ≡ Ok script → (played.scripted ≡ true) × (whole_script_value played.script ≡ script)
     by_test true own same = (own, ok_same (whole_script_value played.script) script (sym played.read_is ∙ same))
     by_test false own same = absurd (let h : Err 1 ≡ Ok script = sym no_text ∙ same in cc)
 
@@ -313,6 +259,6 @@ pub some_same : (a b : List Turn) → Some a ≡ Some b → a ≡ b
 some_same a b e = cc
 
 -- the setup that the script gives is that of the text
-pub setup_own : {E : Type 0} (played : Played) (result : Result Setup E) → IfOk result (λ setup. setup ≡ setup_of (whole_script_value played.script).given) → IfOk result (λ setup. IsOriginSetup (origin_of played).script setup)
+pub setup_own : {E : Type 0} (played : Played) (result : Result Setup E) → IfOk result (λ setup. setup ≡ setup_of (whole_script_value played.script).given) → IfOk result (λ setup. IsOriginSetup (origin_of played) setup)
 setup_own played (Ok setup) is = λ script e. is ∙ ap (λ (x : Script). setup_of x.given) (origin_own played script e).1
 setup_own played (Err error) is = tt

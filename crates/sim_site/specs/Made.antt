@@ -6,7 +6,8 @@ use Rattle.gw_site.specs.Turns.{IsPromised, IsWithinBuf, event_turns}
 use Rattle.gw_site.specs.declared.site.What.{What}
 use Rattle.gw_site.specs.declared.site.What.TheVariants.{Stopped}
 use Rattle.gw_site.specs.declared.turn.Turn.TheVariants.{Polled, Wrote}
-use Rattle.gw_script.specs.site.Calls.{SiteCall, call_turns, place_after}
+use Rattle.gw_site.specs.Steps.{SiteCall}
+use Rattle.gw_script.specs.site.Calls.{call_turns, place_after}
 use Rattle.gw_script.specs.site.Playing.{Play, after_poll, begins}
 use Rattle.sim_script.specs.Values.{lines_value}
 use Rattle.sim_script.specs.declared.line.ScriptLine.{ScriptLine}

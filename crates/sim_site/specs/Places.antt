@@ -1,9 +1,10 @@
 -- How far a site has played its script.
 use Rattle.std.specs.Prelude.{◌≡◌, Bool, true, false, List, [], drop, option_map}
 use Rattle.gw_site.specs.Outside.{Outside}
+use Rattle.gw_site.specs.Steps.{SiteCall}
 use Rattle.gw_script.specs.site.Playing.{Play, early_lines}
 use Rattle.gw_script.specs.site.ScriptLine.{PlayedLine}
-use Rattle.gw_script.specs.site.Calls.{SiteCall, place_after}
+use Rattle.gw_script.specs.site.Calls.{place_after}
 use Rattle.sim_script.specs.declared.line.ScriptLine.{ScriptLine}
 use Rattle.sim_script.specs.Values.{image_value, lines_value}
 use Rattle.sim_site.specs.declared.place.Place.{Place}

@@ -1,35 +1,45 @@
 -- What can be said of a site in memory.
-use Rattle.std.specs.Prelude.{◌≡◌, ℕ, Bool, false, not, ◌&&◌, if◌then◌else◌, List, [], ◌∷◌, ◌++◌, Some, Ok, is_some, true, ◌||◌, Result, IsOk, IsErr}
+use Rattle.std.specs.Prelude.{◌≡◌, ℕ, Bool, false, not, ◌&&◌, if◌then◌else◌, List, [], ◌∷◌, ◌++◌, Option, Some, None, Ok, is_some, true, ◌||◌, Result, IsOk, IsErr}
 use Rattle.gw_bytes.specs.Bytes.{AreBytes}
 use Rattle.gw_base.specs.declared.setup.Setup.{Setup}
 use Rattle.gw_site.specs.Image.{Image}
-use Rattle.gw_site.specs.Observed.{Observed, Origin, no_origin}
+use Rattle.gw_site.specs.Observed.{Observed}
 use Rattle.gw_site.specs.Outside.{Outside, outside_of}
 use Rattle.gw_site.specs.declared.turn.Turn.{Turn}
 use Rattle.gw_site.specs.declared.turn.Turn.TheVariants.{Crash}
-use Rattle.gw_script.specs.site.Calls.{IsPlayedTo, SiteCall, call_turns, place_after}
+use Rattle.gw_site.specs.Steps.{SiteCall, ImageKind, Plan, PowerBack, SiteStep, Takes}
+use Rattle.gw_script.specs.site.Calls.{IsPlayedTo, call_turns, place_after}
 use Rattle.gw_script.specs.site.Decode.{script_of}
 use Rattle.gw_script.specs.site.Hazards.{crash_file}
-use Rattle.gw_script.specs.site.Limits.{script_origin}
 use Rattle.gw_script.specs.site.Playing.{Play, PlaysLines, restarted}
-use Rattle.gw_script.specs.site.ScriptLine.{ImageKind, Script, setup_of}
+use Rattle.gw_script.specs.site.ScriptLine.{Script, setup_of}
+use Rattle.gw_script.specs.site.StepTurns.{turns_by}
 use Rattle.sim_script.specs.Values.{whole_script_value}
 use Rattle.sim_site.specs.Dark.{is_dark}
 use Rattle.sim_site.specs.Places.{place_value}
 use Rattle.sim_site.specs.declared.played.Played.{Played}
 use Rattle.sim_site.specs.declared.site.SimSite.{SimSite}
 
--- the origin of a site on which something happened beside the script: its text is one that no script has
-abbrev pub origin_beside : Origin
-origin_beside = record no_origin { script = 255 ∷ [] }
+-- the origin of a site on which something happened beside the script: a text that no script has
+abbrev pub origin_beside : List ℕ
+origin_beside = 255 ∷ []
 
 -- what determines what is played: the text, unless the power was set to fail or a file was put on the disk beside the script
-abbrev pub origin_of : Played → Origin
-origin_of played = if played.scripted then script_origin played.text.value else origin_beside
+abbrev pub origin_of : Played → List ℕ
+origin_of played = if played.scripted then played.text.value else origin_beside
 
--- the log that has played the script, how often a call has failed, whether the site is dark, and what determines what is played
+-- the turns of each of further steps after this log, from this place on; none are known where the log could not grow
+abbrev pub plan_from : Bool → List Turn → Play → Option Plan
+plan_from true log place = None
+plan_from false log place = Some (turns_by log place)
+
+-- the turns of each of further steps
+abbrev pub plan_of : Played → Option Plan
+plan_of played = plan_from played.short played.log (place_value played.script.lines.items played.place)
+
+-- the log that has played the script, how often a call has failed, whether the site is dark, what determines what is played, and the turns of further steps
 abbrev pub observed_with : ℕ → Played → Observed
-observed_with faults played = record { log = Some played.log; faults = faults; dark = is_dark played; origin = origin_of played }
+observed_with faults played = record { log = Some played.log; faults = faults; dark = is_dark played; origin = origin_of played; plan = plan_of played }
 
 -- what a proof observes of a site
 abbrev pub sim_observed : SimSite → Observed
@@ -81,6 +91,11 @@ IsResult old new fails result = (sim_observed old).dark ≡ false → IsReturned
 pub record IsStill (old new : SimSite) : Type 0 where
   pub log : log_of new ≡ log_of old
   pub place : place_of new ≡ place_of old
+  pub full : is_log_full new ≡ is_log_full old
+
+-- the step was taken, and these are its turns
+abbrev pub TakesStep : SimSite → SimSite → SiteStep → List Turn → Type 0
+TakesStep old new step turns = Takes (sim_observed old).plan (sim_observed new).plan (record { step = step; turns = turns } ∷ [])
 
 -- the power is there again: the log has its failure with the image that the script says, and the script goes on in the next run
 pub record IsRestarted (old new : SimSite) : Type 0 where
@@ -91,6 +106,8 @@ pub record IsRestarted (old new : SimSite) : Type 0 where
   pub bytes : AreBytes (crash_file kind (outside_there old))
   pub place : place_of new ≡ restarted (place_of old)
   pub lit : (sim_observed new).dark ≡ false
+  pub short : is_log_full new ≡ false
+  pub taken : TakesStep old new PowerBack (Crash (crash_file kind (outside_there old)) ∷ [])
   pub script : played_script new ≡ played_script old
   pub origin : (sim_observed new).origin ≡ (sim_observed old).origin
 

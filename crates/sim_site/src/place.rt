@@ -2,7 +2,8 @@
 ghost use Rattle.std.specs.Prelude.{◌≡◌, ◌||◌, ◌==◌, List, ℕ, None, IfOk, is_some};
 ghost use Rattle.std.specs.List.{list_all};
 ghost use Rattle.gw_base.specs.declared.setup.Setup.{Setup};
-ghost use Rattle.gw_script.specs.site.Calls.{CutPtCall, CutTillCall, LengthCall, LinkCall, OpenCall, ReadCall, SendPtCall, SendTillCall, SyncCall, WriteCall, set_to_fail};
+ghost use Rattle.gw_site.specs.Steps.{CutPtCall, CutTillCall, LengthCall, LinkCall, OpenCall, ReadCall, SendPtCall, SendTillCall, SyncCall, WriteCall};
+ghost use Rattle.gw_script.specs.site.Calls.{set_to_fail};
 ghost use Rattle.gw_script.specs.site.Hazards.{is_failing, takes_most};
 ghost use Rattle.gw_script.specs.Decode.{is_empty};
 ghost use Rattle.gw_script.specs.site.Playing.{begins, counted, early_lines, restarted};

@@ -4,6 +4,7 @@ ghost use Rattle.std.specs.Option.{option_to_list};
 ghost use Rattle.gw_bytes.specs.Bytes.{AreBytes};
 ghost use Rattle.gw_site.specs.Outside.{Outside, outside_from, outside_of};
 ghost use Rattle.gw_site.specs.declared.turn.Turn.TheVariants.{Crash, DiskFailed, Linked, LinkFailed, OpenFailed, Polled, Start, Synced, Wrote};
+ghost use Rattle.gw_site.specs.Steps.{CutPtCall, CutTillCall, LengthCall, LinkCall, OpenCall, PollCall, ReadCall, SendPtCall, SendTillCall, SyncCall, WriteCall};
 ghost use Rattle.gw_script.specs.site.Calls.{set_to_fail};
 ghost use Rattle.gw_script.specs.site.Decode.{script_of};
 ghost use Rattle.gw_script.specs.Decode.{is_empty};
@@ -163,7 +164,6 @@ fn sync(disk: &mut Disk, fails: bool) -> Result<(), AllocError>
 impl Played {
     ghost use Rattle.std.specs.Prelude.{IsSome};
     ghost use Rattle.gw_site.specs.Turns.{IsPromised, IsWithinBuf};
-    ghost use Rattle.gw_script.specs.site.Calls.{CutPtCall, CutTillCall, LengthCall, LinkCall, OpenCall, PollCall, ReadCall, SendPtCall, SendTillCall, SyncCall, WriteCall};
     ghost use Rattle.sim_site.specs.Hazards.{links_value, sends_value};
     ghost use Rattle.sim_site.specs.Dark.{is_dark};
     ghost use Rattle.sim_site.specs.Made.{IsLit, IsCallMade, IsUnplayed, IsPollRefused, IsPollMade, IsRefused, IsSameScript, IsUnchanged, IsWriteRefused, outside_at, play_at};

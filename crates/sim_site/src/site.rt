@@ -2,16 +2,17 @@
 ghost use Rattle.std.specs.Prelude.{◌≡◌, ◌≤◌, ◌<◌, ◌⊎◌, ◌↔◌, ◌∷◌, ◌||◌, ◌==◌, ℕ, [], length, Some, Ok, true, false, IfOk, IfErr, OnOk, OnErr, IsErr, IsErrOf};
 ghost use Rattle.gw_base.specs.Setup.{IsSetup};
 ghost use Rattle.gw_site.specs.Failures.{HasCause, Rose};
-ghost use Rattle.gw_site.specs.Observed.{Grows, GrowsAfter, GrowsWhole, IfObserved};
+ghost use Rattle.gw_site.specs.Observed.{Grows, GrowsWhole, IfObserved, IsStep};
 ghost use Rattle.gw_site.specs.Outside.{file_part, outside_of};
 ghost use Rattle.gw_site.specs.Turns.{DiskTurns, IsPromised, IsTurn, IsWithinBuf, LinkTurns, OpenTurns, PolledTurns, SentPtTurns, SentTillTurns, SyncedTurns, WroteTurns};
 ghost use Rattle.gw_site.specs.declared.turn.Turn.TheVariants.{Crash, CutPt, CutTill};
+ghost use Rattle.gw_site.specs.Steps.{CutPtCall, CutTillCall, Holding, LengthCall, LinkCall, OpenCall, PollCall, ReadCall, SendPtCall, SendTillCall, StopAfter, SyncCall, WriteCall};
 ghost use Rattle.gw_script.specs.Decode.{is_empty, script_limit};
-ghost use Rattle.gw_script.specs.site.Calls.{CutPtCall, CutTillCall, IsReached, LengthCall, LinkCall, OpenCall, PollCall, ReadCall, SendPtCall, SendTillCall, SyncCall, WriteCall, set_to_fail};
+ghost use Rattle.gw_script.specs.site.Calls.{IsReached, set_to_fail};
 ghost use Rattle.gw_script.specs.site.Decode.{script_of};
-ghost use Rattle.gw_script.specs.site.Limits.{script_origin};
 ghost use Rattle.gw_script.specs.site.Playing.{begins};
 ghost use Rattle.gw_script.specs.site.ScriptLine.{setup_of};
+ghost use Rattle.gw_script.specs.site.StepTurns.{site_turns};
 ghost use Rattle.sim_script.specs.Read.{IsScriptFault};
 ghost use Rattle.sim_script.specs.Values.{image_value, whole_script_value};
 ghost use Rattle.sim_site.specs.Steps.{IsReachedPart};
@@ -54,11 +55,11 @@ fn risen(faults: u64) -> u64
 
 impl SimSite {
     ghost use Rattle.sim_site.specs.Made.{IsCallReported};
-    ghost use Rattle.sim_site.specs.Sites.{IsOriginPlayedTo, IsOriginSetup, IsRestarted, IsSame, PlaysOrigin, is_crashed, is_log_full, log_of, origin_beside, outside_there, place_of, played_script, sim_observed};
+    ghost use Rattle.sim_site.specs.Sites.{IsOriginPlayedTo, IsOriginSetup, IsRestarted, IsSame, PlaysOrigin, TakesStep, is_crashed, is_log_full, log_of, origin_beside, outside_there, place_of, played_script, sim_observed};
 
     /// A site that plays the script of these bytes.
     pub fn from_script(alloc: Global, bytes: &[u8]) -> Result<SimSite, ScriptFault>
-        ensures site { IfOk result (λ site. sim_observed site ≡ record { log = Some []; faults = 0; dark = false; origin = script_origin bytes.now }) }
+        ensures site { IfOk result (λ site. sim_observed site ≡ record { log = Some []; faults = 0; dark = false; origin = bytes.now; plan = Some (site_turns (played_script site).lines) }) }
         ensures log { IfOk result (λ site. log_of site ≡ []) }
         ensures script { IfOk result (λ site. script_of bytes.now ≡ Ok (played_script site)) }
         ensures place { IfOk result (λ site. place_of site ≡ begins (played_script site).lines) }
@@ -82,7 +83,7 @@ impl SimSite {
     /// A site that plays the script that was read.
     fn of(alloc: Global, bytes: &[u8], script: Script) -> Result<SimSite, AllocError>
         requires { script_of bytes.now ≡ Ok (whole_script_value script) }
-        ensures site { IfOk result (λ site. sim_observed site ≡ record { log = Some []; faults = 0; dark = false; origin = script_origin bytes.now }) }
+        ensures site { IfOk result (λ site. sim_observed site ≡ record { log = Some []; faults = 0; dark = false; origin = bytes.now; plan = Some (site_turns (played_script site).lines) }) }
         ensures log { IfOk result (λ site. log_of site ≡ []) }
         ensures script { IfOk result (λ site. script_of bytes.now ≡ Ok (played_script site)) }
         ensures place { IfOk result (λ site. place_of site ≡ begins (played_script site).lines) }
@@ -114,6 +115,7 @@ impl SimSite {
     pub fn holding(&mut self, alloc: Global, file: &[u8]) -> Result<(), AllocError>
         requires { log_of self.old ≡ [] }
         ensures log { OnOk result (log_of self.new ≡ Crash file.now ∷ []) }
+        ensures taken { OnOk result (TakesStep self.old self.new (Holding file.now) (Crash file.now ∷ [])) }
         ensures place { place_of self.new ≡ place_of self.old }
         ensures script { played_script self.new ≡ played_script self.old }
         ensures dark { (sim_observed self.new).dark ≡ (sim_observed self.old).dark }
@@ -131,6 +133,7 @@ impl SimSite {
     pub fn stop_after(&mut self, calls: u64, image: ImageKind)
         ensures place { place_of self.new ≡ set_to_fail calls (image_value image) (place_of self.old) }
         ensures log { log_of self.new ≡ log_of self.old }
+        ensures taken { TakesStep self.old self.new (StopAfter calls (image_value image)) [] }
         ensures script { played_script self.new ≡ played_script self.old }
         ensures dark { (sim_observed self.new).dark ≡ ((sim_observed self.old).dark || (calls == 0)) }
         ensures short { is_log_full self.new ≡ is_log_full self.old }
@@ -174,7 +177,7 @@ impl SimSite {
     /// A copy of the setup with which the next run starts.
     pub fn setup(&self, alloc: Global) -> Result<Setup, AllocError>
         ensures given { IfOk result (λ setup. setup ≡ setup_of (played_script self.now).given) }
-        ensures own { IfOk result (λ setup. IsOriginSetup (sim_observed self.now).origin.script setup) }
+        ensures own { IfOk result (λ setup. IsOriginSetup (sim_observed self.now).origin setup) }
         ensures limits { IfOk result IsSetup }
     {
         self.played.script.given.setup(alloc)
@@ -187,8 +190,8 @@ impl SimSite {
         ensures log { result.now ≡ log_of self.now }
         ensures steps { is_log_full self.now ≡ false → ∥ IsReached (played_script self.now).lines result.now (place_of self.now) ∥₁ }
         ensures part { ∥ IsReachedPart (played_script self.now).lines result.now ∥₁ }
-        ensures plays { PlaysOrigin (sim_observed self.now).origin.script result.now }
-        ensures calls { is_log_full self.now ≡ false → IsOriginPlayedTo (sim_observed self.now).origin.script result.now (place_of self.now) }
+        ensures plays { PlaysOrigin (sim_observed self.now).origin result.now }
+        ensures calls { is_log_full self.now ≡ false → IsOriginPlayedTo (sim_observed self.now).origin result.now (place_of self.now) }
     {
         &self.played.log
     }
@@ -229,17 +232,19 @@ impl SimSite {
 impl Site for SimSite {
     ghost use Rattle.std.specs.Prelude.{is_some};
     ghost use Rattle.gw_script.specs.site.Hazards.{is_failing, takes_most};
-    ghost use Rattle.sim_site.specs.Sites.{IsCalled, IsResult, IsStill, place_of, sim_observed};
+    ghost use Rattle.sim_site.specs.Sites.{IsCalled, IsResult, IsStill, place_of, played_script, sim_observed};
 
     ghost observed = { sim_observed };
 
     fn open(&mut self, setup: &Setup) -> Result<(), Failed>
         ensures turns { GrowsWhole (sim_observed self.old) (sim_observed self.new) (OpenTurns setup.now result) }
+        ensures step { IsStep (sim_observed self.old) (sim_observed self.new) (OpenCall setup.now) }
         ensures cause { HasCause (sim_observed self.old).faults (sim_observed self.new).faults result }
         ensures dark { (sim_observed self.old).dark ≡ true → IsErr result }
         ensures call { IsCalled self.old self.new (OpenCall setup.now) }
         ensures result { IsResult self.old self.new ((place_of self.old).hazard.fail_open) result }
         ensures still { (sim_observed self.old).dark ≡ true → IsStill self.old self.new }
+        ensures script { played_script self.new ≡ played_script self.old }
     {
         if self.played.is_dark() {
             return Err(self.fail());
@@ -250,6 +255,7 @@ impl Site for SimSite {
 
     fn poll(&mut self, buf: &mut [u8; 4096]) -> Polled
         ensures turns { Grows (sim_observed self.old) (sim_observed self.new) (PolledTurns result buf.new) }
+        ensures step { IsStep (sim_observed self.old) (sim_observed self.new) PollCall }
         ensures promise { IfObserved (sim_observed self.old) (λ log. IsPromised (outside_of log) result.what) }
         ensures count { IsWithinBuf result.what }
         ensures buf { length buf.new ≡ 4096 }
@@ -258,6 +264,7 @@ impl Site for SimSite {
         ensures call { IsCalled self.old self.new PollCall }
         ensures stops { (sim_observed self.new).dark ≡ true → result.what ≡ What.Stopped }
         ensures still { (sim_observed self.old).dark ≡ true → IsStill self.old self.new }
+        ensures script { played_script self.new ≡ played_script self.old }
     {
         if self.played.is_dark() {
             return self.stopped();
@@ -272,12 +279,14 @@ impl Site for SimSite {
     }
 
     fn send_till(&mut self, till: u64, bytes: &[u8]) -> Result<(), Failed>
-        ensures turns { GrowsAfter (sim_observed self.old) (sim_observed self.new) (SentTillTurns (sim_observed self.old).origin till bytes.now result) }
+        ensures turns { Grows (sim_observed self.old) (sim_observed self.new) (SentTillTurns till bytes.now result) }
+        ensures step { IsStep (sim_observed self.old) (sim_observed self.new) (SendTillCall till bytes.now) }
         ensures cause { HasCause (sim_observed self.old).faults (sim_observed self.new).faults result }
         ensures dark { (sim_observed self.old).dark ≡ true → IsErr result }
         ensures call { IsCalled self.old self.new (SendTillCall till bytes.now) }
         ensures result { IsResult self.old self.new (is_some (takes_most (place_of self.old).hazard.fail_tills till)) result }
         ensures still { (sim_observed self.old).dark ≡ true → IsStill self.old self.new }
+        ensures script { played_script self.new ≡ played_script self.old }
     {
         if self.played.is_dark() {
             return Err(self.fail());
@@ -287,12 +296,14 @@ impl Site for SimSite {
     }
 
     fn send_pt(&mut self, pt: u16, bytes: &[u8]) -> Result<(), Failed>
-        ensures turns { GrowsAfter (sim_observed self.old) (sim_observed self.new) (SentPtTurns (sim_observed self.old).origin pt bytes.now result) }
+        ensures turns { Grows (sim_observed self.old) (sim_observed self.new) (SentPtTurns pt bytes.now result) }
+        ensures step { IsStep (sim_observed self.old) (sim_observed self.new) (SendPtCall pt bytes.now) }
         ensures cause { HasCause (sim_observed self.old).faults (sim_observed self.new).faults result }
         ensures dark { (sim_observed self.old).dark ≡ true → IsErr result }
         ensures call { IsCalled self.old self.new (SendPtCall pt bytes.now) }
         ensures result { IsResult self.old self.new (is_some (takes_most (place_of self.old).hazard.fail_pts pt)) result }
         ensures still { (sim_observed self.old).dark ≡ true → IsStill self.old self.new }
+        ensures script { played_script self.new ≡ played_script self.old }
     {
         if self.played.is_dark() {
             return Err(self.fail());
@@ -303,11 +314,13 @@ impl Site for SimSite {
 
     fn link_pt(&mut self, pt: u16) -> Result<(), Failed>
         ensures turns { Grows (sim_observed self.old) (sim_observed self.new) (LinkTurns pt result) }
+        ensures step { IsStep (sim_observed self.old) (sim_observed self.new) (LinkCall pt) }
         ensures cause { HasCause (sim_observed self.old).faults (sim_observed self.new).faults result }
         ensures dark { (sim_observed self.old).dark ≡ true → IsErr result }
         ensures call { IsCalled self.old self.new (LinkCall pt) }
         ensures result { IsResult self.old self.new (is_failing (place_of self.old).hazard.fail_links pt) result }
         ensures still { (sim_observed self.old).dark ≡ true → IsStill self.old self.new }
+        ensures script { played_script self.new ≡ played_script self.old }
     {
         if self.played.is_dark() {
             return Err(self.fail());
@@ -318,9 +331,11 @@ impl Site for SimSite {
 
     fn cut_till(&mut self, till: u64)
         ensures turns { Grows (sim_observed self.old) (sim_observed self.new) (IsTurn (CutTill till)) }
+        ensures step { IsStep (sim_observed self.old) (sim_observed self.new) (CutTillCall till) }
         ensures cause { (sim_observed self.old).faults ≤ (sim_observed self.new).faults }
         ensures call { IsCalled self.old self.new (CutTillCall till) }
         ensures still { (sim_observed self.old).dark ≡ true → IsStill self.old self.new }
+        ensures script { played_script self.new ≡ played_script self.old }
     {
         if self.played.is_dark() {
             return;
@@ -330,9 +345,11 @@ impl Site for SimSite {
 
     fn cut_pt(&mut self, pt: u16)
         ensures turns { Grows (sim_observed self.old) (sim_observed self.new) (IsTurn (CutPt pt)) }
+        ensures step { IsStep (sim_observed self.old) (sim_observed self.new) (CutPtCall pt) }
         ensures cause { (sim_observed self.old).faults ≤ (sim_observed self.new).faults }
         ensures call { IsCalled self.old self.new (CutPtCall pt) }
         ensures still { (sim_observed self.old).dark ≡ true → IsStill self.old self.new }
+        ensures script { played_script self.new ≡ played_script self.old }
     {
         if self.played.is_dark() {
             return;
@@ -342,12 +359,14 @@ impl Site for SimSite {
 
     fn length(&mut self) -> Result<u64, Failed>
         ensures turns { Grows (sim_observed self.old) (sim_observed self.new) (DiskTurns result) }
+        ensures step { IsStep (sim_observed self.old) (sim_observed self.new) LengthCall }
         ensures length { IfObserved (sim_observed self.old) (λ log. IfOk result (λ count. count ≡ length (outside_of log).file)) }
         ensures cause { HasCause (sim_observed self.old).faults (sim_observed self.new).faults result }
         ensures dark { (sim_observed self.old).dark ≡ true → IsErr result }
         ensures call { IsCalled self.old self.new LengthCall }
         ensures result { IsResult self.old self.new ((place_of self.old).hazard.fail_length) result }
         ensures still { (sim_observed self.old).dark ≡ true → IsStill self.old self.new }
+        ensures script { played_script self.new ≡ played_script self.old }
     {
         if self.played.is_dark() {
             return Err(self.fail());
@@ -361,12 +380,14 @@ impl Site for SimSite {
 
     fn read_at(&mut self, offset: u64, buf: &mut [u8]) -> Result<(), Failed>
         ensures turns { Grows (sim_observed self.old) (sim_observed self.new) (DiskTurns result) }
+        ensures step { IsStep (sim_observed self.old) (sim_observed self.new) (ReadCall offset (length buf.old)) }
         ensures bytes { IfObserved (sim_observed self.old) (λ log. IfOk result (λ done. buf.new ≡ file_part (outside_of log).file offset (length buf.old))) }
         ensures cause { HasCause (sim_observed self.old).faults (sim_observed self.new).faults result }
         ensures dark { (sim_observed self.old).dark ≡ true → IsErr result }
         ensures call { IsCalled self.old self.new (ReadCall offset (length buf.old)) }
         ensures result { IsResult self.old self.new ((place_of self.old).hazard.fail_read) result }
         ensures still { (sim_observed self.old).dark ≡ true → IsStill self.old self.new }
+        ensures script { played_script self.new ≡ played_script self.old }
     {
         if self.played.is_dark() {
             return Err(self.fail());
@@ -383,11 +404,13 @@ impl Site for SimSite {
 
     fn write_at(&mut self, offset: u64, bytes: &[u8]) -> Result<(), Failed>
         ensures turns { Grows (sim_observed self.old) (sim_observed self.new) (WroteTurns offset bytes.now result) }
+        ensures step { IsStep (sim_observed self.old) (sim_observed self.new) (WriteCall offset bytes.now) }
         ensures cause { HasCause (sim_observed self.old).faults (sim_observed self.new).faults result }
         ensures dark { (sim_observed self.old).dark ≡ true → IsErr result }
         ensures call { IsCalled self.old self.new (WriteCall offset bytes.now) }
         ensures result { IsResult self.old self.new ((place_of self.old).hazard.fail_write) result }
         ensures still { (sim_observed self.old).dark ≡ true → IsStill self.old self.new }
+        ensures script { played_script self.new ≡ played_script self.old }
     {
         if self.played.is_dark() {
             return Err(self.fail());
@@ -398,11 +421,13 @@ impl Site for SimSite {
 
     fn sync(&mut self) -> Result<(), Failed>
         ensures turns { Grows (sim_observed self.old) (sim_observed self.new) (SyncedTurns result) }
+        ensures step { IsStep (sim_observed self.old) (sim_observed self.new) SyncCall }
         ensures cause { HasCause (sim_observed self.old).faults (sim_observed self.new).faults result }
         ensures dark { (sim_observed self.old).dark ≡ true → IsErr result }
         ensures call { IsCalled self.old self.new SyncCall }
         ensures result { IsResult self.old self.new ((place_of self.old).hazard.fail_sync) result }
         ensures still { (sim_observed self.old).dark ≡ true → IsStill self.old self.new }
+        ensures script { played_script self.new ≡ played_script self.old }
     {
         if self.played.is_dark() {
             return Err(self.fail());

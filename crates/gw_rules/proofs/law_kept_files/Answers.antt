@@ -1,6 +1,6 @@
 -- Proof of the contract of `law_kept_files`.
 use Rattle.gw_rules.proofs.KeptExampleLemmas.{flight-is-kept, unsynced-keeps-none}
-use Rattle.gw_rules.proofs.KeptLawLemmas.{each-image-has-kept, each-keeps-file, each-keeps-journal-files, each-lawful-has-kept, each-round-has-journal, full-only-with-fewer-slots, long-only-with-fewer-slots, never-bad, never-truncated, none-kept-is-lost}
+use Rattle.gw_rules.proofs.KeptLawLemmas.{each-image-has-kept, each-keeps-file, each-keeps-journal-files, each-lawful-has-kept, each-lawful-keeps-journal, each-round-has-journal, each-start-opens-journal, full-only-with-fewer-slots, long-only-with-fewer-slots, never-bad, never-truncated, none-kept-is-lost}
 use Rattle.gw_rules.proofs.law_kept_files.Goals as goal
 
 pub returns-clause-file : goal.returns-clause-file
@@ -25,7 +25,10 @@ pub returns-clause-left : goal.returns-clause-left
 returns-clause-left c = each-keeps-journal-files
 
 pub returns-clause-lawful : goal.returns-clause-lawful
-returns-clause-lawful c = each-lawful-has-kept
+returns-clause-lawful c = each-lawful-keeps-journal
+
+pub returns-clause-lawful_kept : goal.returns-clause-lawful_kept
+returns-clause-lawful_kept c = each-lawful-has-kept
 
 pub returns-clause-example : goal.returns-clause-example
 returns-clause-example c = flight-is-kept
@@ -38,3 +41,6 @@ returns-clause-full c = full-only-with-fewer-slots
 
 pub returns-clause-unsynced : goal.returns-clause-unsynced
 returns-clause-unsynced c = unsynced-keeps-none
+
+pub returns-clause-starts : goal.returns-clause-starts
+returns-clause-starts c = each-start-opens-journal

@@ -1,9 +1,8 @@
 -- Proof of the contract of `law_site_callers`.
 use Rattle.std.proofs.Common.{◌≡◌, List, [], ◌∷◌, ◌++◌, refl, ◌∙◌, ap}
 use Rattle.std.specs.Prelude.{Some}
+use Rattle.gw_site.specs.Steps.{SiteStep, Junk}
 use Rattle.gw_script.specs.site.CallExample.{planned}
-use Rattle.gw_script.specs.site.Calls.{SiteStep}
-use Rattle.gw_script.specs.site.ScriptLine.{Junk}
 use Rattle.gw_script.proofs.site.CallerLemmas.{one-log-of-caller}
 use Rattle.gw_script.proofs.law_site_callers.Goals as goal
 

@@ -4,10 +4,11 @@ use Rattle.std.specs.Prelude.{pos}
 use Rattle.gw_base.specs.declared.setup.Setup.{Setup}
 use Rattle.gw_site.specs.declared.turn.Turn.{Turn}
 use Rattle.gw_site.specs.declared.turn.Turn.TheVariants.{Start, Polled, Opened, SentTill, Crash}
+use Rattle.gw_site.specs.Steps.{Junk, New, OpenCall, PollCall, SendTillCall, Holding, Made}
 use Rattle.gw_script.specs.site.CallExample.{NoFileOverAnother, OtherSetupIsNotItsOwn, SendsTakeNoFewer, plain}
-use Rattle.gw_script.specs.site.ScriptLine.{Open, Tick, FailSendTill, Junk, New, Poll, Fail}
+use Rattle.gw_script.specs.site.ScriptLine.{Open, Tick, FailSendTill, Poll, Fail}
 use Rattle.gw_script.specs.site.Playing.{Sync}
-use Rattle.gw_script.specs.site.Calls.{OpenCall, PollCall, SendTillCall, Holding, Made, PlaysBy}
+use Rattle.gw_script.specs.site.Calls.{PlaysBy}
 use Rattle.gw_script.proofs.site.CallLemmas.{calls-go-on, calls-play, goes-on-beside, one-log-of-calls, power-goes-on, sends-are-cut}
 use Rattle.gw_script.proofs.law_site_calls.Goals as goal
 

@@ -2,8 +2,8 @@
 use Rattle.std.proofs.Common.{◌≡◌, refl, arith, true, false, [], ◌∷◌}
 use Rattle.std.specs.Prelude.{Some, None}
 use Rattle.gw_site.specs.declared.turn.Turn.TheVariants.{Opened, Stopped}
+use Rattle.gw_site.specs.Steps.{Junk, New, Old}
 use Rattle.gw_script.specs.site.Example.{NumbersRise, PowerFailsNoLater, SyncMustFail}
-use Rattle.gw_script.specs.site.ScriptLine.{Junk, New, Old}
 use Rattle.gw_script.specs.site.Playing.{Length, Sync, Write}
 use Rattle.gw_script.proofs.law_site_plays.Goals as goal
 

@@ -1,8 +1,8 @@
 -- Proof of the contract of `law_site_powers`.
 use Rattle.std.proofs.Common.{refl}
+use Rattle.gw_site.specs.Steps.{Old, New}
 use Rattle.gw_script.specs.site.Calls.{PlaysBy}
 use Rattle.gw_script.specs.site.PowerExample.{twice_lines, twice_log, twice_steps}
-use Rattle.gw_script.specs.site.ScriptLine.{Old, New}
 use Rattle.gw_script.proofs.site.CallLemmas.{calls-play}
 use Rattle.gw_script.proofs.site.PowerLemmas.{each-failure-leaves-fewer, failures-add-up, power-fails-once-per-line}
 use Rattle.gw_script.proofs.law_site_powers.Goals as goal

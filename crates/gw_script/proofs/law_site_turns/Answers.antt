@@ -1,7 +1,7 @@
 -- Proof of the contract of `law_site_turns`.
 use Rattle.std.proofs.Common.{refl}
+use Rattle.gw_site.specs.Steps.{Junk}
 use Rattle.gw_script.specs.site.CallExample.{disk_lines, disk_log, disk_steps}
-use Rattle.gw_script.specs.site.ScriptLine.{Junk}
 use Rattle.gw_script.specs.site.StepTurnExample.{disk_parts}
 use Rattle.gw_script.proofs.site.StepTurnLemmas.{call-or-power, first-has-its-turns, idle-is-decided, longer-turns-begin, longest-is-taken, more-have-their-turns, step-has-its-turns, steps-have-their-turns}
 use Rattle.gw_script.proofs.law_site_turns.Goals as goal

@@ -6,10 +6,11 @@ use Rattle.gw_site.specs.Outside.{Outside, outside_after, outside_from, outside_
 use Rattle.gw_site.specs.declared.turn.Turn.{Turn}
 use Rattle.gw_site.specs.declared.turn.Turn.TheVariants.{Start, OpenFailed, Polled, Linked, LinkFailed, SentTill, SentPt, CutTill, CutPt, Wrote, Synced, DiskFailed, Crash}
 use Rattle.gw_site.proofs.OutsideLemmas.{outside_of-append, outside_of_more}
-use Rattle.gw_script.specs.site.ScriptLine.{ImageKind, Failing, Event, Open, Close, FromTill, FromPt, Lose, Tick, PlayedLine, At, Poll, Fail, Power}
+use Rattle.gw_site.specs.Steps.{ImageKind, SiteCall, OpenCall, PollCall, SendTillCall, SendPtCall, LinkCall, CutTillCall, CutPtCall, LengthCall, ReadCall, WriteCall, SyncCall, SiteStep, Made, PowerBack, StopAfter, Holding}
+use Rattle.gw_script.specs.site.ScriptLine.{Failing, Event, Open, Close, FromTill, FromPt, Lose, Tick, PlayedLine, At, Poll, Fail, Power}
 use Rattle.gw_script.specs.site.Hazards.{Armed, Hazard, armed, crash_file, is_failing, is_reached, links_without, sends_without, sent_of, takes_most}
 use Rattle.gw_script.specs.site.Playing.{DiskCall, Write, Sync, Length, Read, Fits, Idle, Leads, Play, after_poll, applies, begins, brings, brought, counted, fails_next, fallen, is_off, met, one_call_less, play_after, powered, restarted}
-use Rattle.gw_script.specs.site.Calls.{SiteCall, OpenCall, PollCall, SendTillCall, SendPtCall, LinkCall, CutTillCall, CutPtCall, LengthCall, ReadCall, WriteCall, SyncCall, LeadsBy, SiteStep, Made, PowerBack, StopAfter, Holding, are_scripted, place_after, play_from, polled_place, polled_turns, call_turns, set_to_fail}
+use Rattle.gw_script.specs.site.Calls.{LeadsBy, are_scripted, place_after, play_from, polled_place, polled_turns, call_turns, set_to_fail}
 use Rattle.gw_script.specs.site.Laws.{CallsGoOn, CallsPlay, GoesOnBeside, IsCutTo, OneLogOfCalls, PowerGoesOn, SendsAreCut}
 use Rattle.gw_script.proofs.site.LeadsLemmas.{sends-take-theirs}
 
@@ -109,7 +110,7 @@ abbrev pub IsEvent : Turn → Type 0
 IsEvent turn = (o : Outside) (p : Play) → p.due ≡ turn ∷ [] → Fits o Sync p turn × (play_after o Sync p turn ≡ brought p)
 
 -- at most one turn, which is that of an event
-abbrev pub AreEvent : List Turn → Type 0
+abbrev AreEvent : List Turn → Type 0
 AreEvent [] = Unit {0}
 AreEvent (turn ∷ turns) = IsEvent turn × (turns ≡ [])
 
@@ -135,7 +136,7 @@ passed_failing o failing p = by_test (is_reached o failing)
     by_test true = refl
     by_test false = refl
 
-pub met_event : (o : Outside) (p : Play) (lines : List PlayedLine) → p.due ≡ [] → AreEvent (met o p lines).due
+met_event : (o : Outside) (p : Play) (lines : List PlayedLine) → p.due ≡ [] → AreEvent (met o p lines).due
 met_event o p [] none = (λ o p due. (due, refl), refl)
 met_event o p (At now ∷ lines) none = met_event o (record p { moment = now }) lines none
 met_event o p (Poll event ∷ lines) none = by_test (applies o event) (met_event o p lines none)

@@ -2,7 +2,8 @@
 use Rattle.std.proofs.Common.{◌≡◌, List, [], ◌∷◌, ◌++◌, refl, sym, ◌∙◌, ap, subst, append-nil, append_assoc}
 use Rattle.std.specs.Prelude.{Option, Some, None}
 use Rattle.gw_site.specs.declared.turn.Turn.{Turn}
-use Rattle.gw_script.specs.site.Calls.{PlaysBy, SiteStep}
+use Rattle.gw_site.specs.Steps.{SiteStep}
+use Rattle.gw_script.specs.site.Calls.{PlaysBy}
 use Rattle.gw_script.specs.site.Callers.{OneLogOfCaller}
 use Rattle.gw_script.specs.site.Playing.{begins}
 use Rattle.gw_script.specs.site.ScriptLine.{PlayedLine}

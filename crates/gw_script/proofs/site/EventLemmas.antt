@@ -5,10 +5,11 @@ use Rattle.std.specs.Prelude.{◌⊎◌, ℤ, pos, ◌-◌, nat_le, Bool, ◌==�
 use Rattle.gw_site.specs.Outside.{Outside, outside_after, nothing_yet}
 use Rattle.gw_site.specs.declared.turn.Turn.{Turn}
 use Rattle.gw_site.specs.declared.turn.Turn.TheVariants.{Start, OpenFailed, Polled, Opened, HeardTill, Closed, HeardPt, Lost, Stopped, Linked, LinkFailed, SentTill, SentPt, CutTill, CutPt, Wrote, Synced, DiskFailed, Crash}
+use Rattle.gw_site.specs.Steps.{ImageKind}
 use Rattle.gw_script.specs.site.ByLines.{IsRunToStop}
 use Rattle.gw_script.specs.site.Events.{Timed, timed, last_moment_of, AreSomeOf, event_of, poll_of, HasEventsFrom, RunHasEvents}
 use Rattle.gw_script.specs.site.Hazards.{Armed, armed, is_reached, links_without, sends_without}
-use Rattle.gw_script.specs.site.ScriptLine.{Event, Open, Close, FromTill, FromPt, Lose, Tick, ImageKind, PlayedLine, At, Poll, Fail, Power}
+use Rattle.gw_script.specs.site.ScriptLine.{Event, Open, Close, FromTill, FromPt, Lose, Tick, PlayedLine, At, Poll, Fail, Power}
 use Rattle.gw_script.specs.site.Playing.{DiskCall, Write, Sync, Length, Read, Leads, Play, applies, begins, brings, brought, counted, disk_failed, early_lines, is_early, is_off, met, one_call_less, play_after, powered, send_failed_pt, send_failed_till}
 use Rattle.gw_script.proofs.site.ByLinesLemmas.{none_due, only_due, the_stop}
 

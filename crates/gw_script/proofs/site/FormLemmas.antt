@@ -12,8 +12,9 @@ use Rattle.gw_base.specs.Currency.{currency_letters}
 use Rattle.gw_base.specs.Moment.{last_moment}
 use Rattle.gw_base.specs.declared.currency.Currency.{Currency}
 use Rattle.gw_base.specs.declared.setup.Pt.{Pt}
+use Rattle.gw_site.specs.Steps.{ImageKind, Old, New, Junk}
 use Rattle.gw_script.specs.Decode.{WordAndRest, is_blank, number, split_at_space}
-use Rattle.gw_script.specs.site.ScriptLine.{SetupLine, Name, Queue, Wait, Slots, Terminal, Event, Open, Close, FromTill, FromPt, Lose, Tick, Failing, FailOpen, FailLink, FailSendTill, FailSendPt, FailWrite, FailSync, FailLength, FailRead, ImageKind, Old, New, Junk, PlayedLine, At, Poll, Fail, Power, Entry, Blank, Setting, Playing}
+use Rattle.gw_script.specs.site.ScriptLine.{SetupLine, Name, Queue, Wait, Slots, Terminal, Event, Open, Close, FromTill, FromPt, Lose, Tick, Failing, FailOpen, FailLink, FailSendTill, FailSendPt, FailWrite, FailSync, FailLength, FailRead, PlayedLine, At, Poll, Fail, Power, Entry, Blank, Setting, Playing}
 use Rattle.gw_script.specs.site.Decode.{Form, after_word, byte_number, chunk, currency_word, entry_of, failing_of, failing_on, failing_parts, formed, formed_parts, forms, image_of, junk_of, link_number, name_word, number_within, password_word, polling, power_of, pt_bytes, said, setting, single, spelled, terminal, terminal_codes, terminal_currency, terminal_password, terminal_words, till_bytes, till_said}
 use Rattle.gw_script.specs.site.Grammar.{IsEntry, SpellsChunk, SpellsEvent, SpellsFailing, SpellsImage, SpellsLine, SpellsPlayed, SpellsSetting, SpellsTerminal}
 use Rattle.gw_script.proofs.NumberLemmas.{number_decimal}

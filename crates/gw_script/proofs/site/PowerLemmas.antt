@@ -7,10 +7,11 @@ use Rattle.gw_site.specs.Outside.{Outside, outside_after, outside_of, nothing_ye
 use Rattle.gw_site.specs.Sorts.{sort_of}
 use Rattle.gw_site.specs.declared.turn.Turn.{Turn}
 use Rattle.gw_site.specs.declared.turn.Turn.TheVariants.{Start, OpenFailed, Polled, Opened, HeardTill, Closed, HeardPt, Lost, Stopped, Linked, LinkFailed, SentTill, SentPt, CutTill, CutPt, Wrote, Synced, DiskFailed, Crash}
-use Rattle.gw_script.specs.site.ScriptLine.{Failing, FailOpen, FailLink, FailSendTill, FailSendPt, FailWrite, FailSync, FailLength, FailRead, Event, Open, Close, FromTill, FromPt, Lose, Tick, ImageKind, PlayedLine, At, Poll, Fail, Power}
+use Rattle.gw_site.specs.Steps.{ImageKind, SiteCall, OpenCall, PollCall, SendTillCall, SendPtCall, LinkCall, CutTillCall, CutPtCall, LengthCall, ReadCall, WriteCall, SyncCall, SiteStep, Made, PowerBack, StopAfter, Holding}
+use Rattle.gw_script.specs.site.ScriptLine.{Failing, FailOpen, FailLink, FailSendTill, FailSendPt, FailWrite, FailSync, FailLength, FailRead, Event, Open, Close, FromTill, FromPt, Lose, Tick, PlayedLine, At, Poll, Fail, Power}
 use Rattle.gw_script.specs.site.Hazards.{Armed, Hazard, armed, crash_file, is_failing, is_reached, links_without, no_hazard, sends_without}
 use Rattle.gw_script.specs.site.Playing.{DiskCall, Write, Sync, Length, Read, Fits, Leads, Play, PlaysLines, after_poll, applies, begins, brings, counted, disk_failed, early_hazard, early_lines, fails_next, fallen, is_early, is_off, met, one_call_less, play_after, powered, restarted, send_failed_pt, send_failed_till}
-use Rattle.gw_script.specs.site.Calls.{SiteCall, OpenCall, PollCall, SendTillCall, SendPtCall, LinkCall, CutTillCall, CutPtCall, LengthCall, ReadCall, WriteCall, SyncCall, LeadsBy, SiteStep, Made, PowerBack, StopAfter, Holding, are_scripted, call_turns, place_after, play_from, polled_place, polled_turns, set_to_fail}
+use Rattle.gw_script.specs.site.Calls.{LeadsBy, are_scripted, call_turns, place_after, play_from, polled_place, polled_turns, set_to_fail}
 use Rattle.gw_script.specs.site.Powers.{EachFailureLeavesFewer, FailuresAddUp, PowerFailsOncePerLine, failures_of, is_failure_due, power_failures, power_failures_left, power_lines}
 
 pub failures-add-up : FailuresAddUp

@@ -3,10 +3,11 @@ use Rattle.std.proofs.Common.{◌≡◌, ℕ, List, [], ◌∷◌, refl, sym, �
 use Rattle.std.specs.Prelude.{Bool, ◌==◌, if◌then◌else◌, not, Option, Some, None, is_some}
 use Rattle.gw_site.specs.Outside.{Outside, outside_of}
 use Rattle.gw_site.specs.declared.turn.Turn.{Turn}
-use Rattle.gw_script.specs.site.ScriptLine.{ImageKind, Failing, PlayedLine, At, Poll, Fail, Power}
+use Rattle.gw_site.specs.Steps.{ImageKind, SiteCall, OpenCall, PollCall, SendTillCall, SendPtCall, LinkCall, CutTillCall, CutPtCall, LengthCall, ReadCall, WriteCall, SyncCall, SiteStep, Made, PowerBack, StopAfter, Holding}
+use Rattle.gw_script.specs.site.ScriptLine.{Failing, PlayedLine, At, Poll, Fail, Power}
 use Rattle.gw_script.specs.site.Hazards.{armed, is_failing, is_reached, sent_of, takes_most}
 use Rattle.gw_script.specs.site.Playing.{Idle, Play, after_poll, applies, brings, fails_next, is_off, met, powered}
-use Rattle.gw_script.specs.site.Calls.{SiteCall, OpenCall, PollCall, SendTillCall, SendPtCall, LinkCall, CutTillCall, CutPtCall, LengthCall, ReadCall, WriteCall, SyncCall, SiteStep, Made, PowerBack, StopAfter, Holding, place_after, polled_place, set_to_fail}
+use Rattle.gw_script.specs.site.Calls.{place_after, polled_place, set_to_fail}
 use Rattle.gw_script.specs.site.StepTurns.{StepFits, place_after_step}
 use Rattle.gw_script.proofs.site.CallLemmas.{IsQuiet, counted_quiet, idle_quiet, length_goes, link_goes, met_failing, open_goes, passed_due, poll_goes, pt_quiet, read_goes, sync_goes, till_quiet, write_goes}
 

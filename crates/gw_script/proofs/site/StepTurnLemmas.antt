@@ -6,12 +6,13 @@ use Rattle.gw_bytes.specs.Bytes.{IsPrefix}
 use Rattle.gw_site.specs.Outside.{Outside, outside_of}
 use Rattle.gw_site.specs.declared.turn.Turn.{Turn}
 use Rattle.gw_site.specs.declared.turn.Turn.TheVariants.{Crash}
+use Rattle.gw_site.specs.Steps.{ImageKind, SiteCall, SiteStep, Made, PowerBack, StopAfter, Holding, log_of_parts}
 use Rattle.gw_script.specs.Decode.{is_empty}
-use Rattle.gw_script.specs.site.ScriptLine.{ImageKind, PlayedLine}
+use Rattle.gw_script.specs.site.ScriptLine.{PlayedLine}
 use Rattle.gw_script.specs.site.Hazards.{crash_file}
 use Rattle.gw_script.specs.site.Playing.{Idle, Play, begins, restarted}
-use Rattle.gw_script.specs.site.Calls.{LeadsBy, PlaysBy, SiteCall, SiteStep, Made, PowerBack, StopAfter, Holding, call_turns, set_to_fail}
-use Rattle.gw_script.specs.site.StepTurns.{CanTake, LeadsInParts, PlaysInParts, StepFits, is_idle, log_of_parts, place_after_step, power_turns, site_turns, step_turns, turns_by, with_those_after}
+use Rattle.gw_script.specs.site.Calls.{LeadsBy, PlaysBy, call_turns, set_to_fail}
+use Rattle.gw_script.specs.site.StepTurns.{CanTake, LeadsInParts, PlaysInParts, StepFits, is_idle, place_after_step, power_turns, site_turns, step_turns, turns_by, with_those_after}
 use Rattle.gw_script.specs.site.StepTurnLaws.{CallOrPower, FirstHasItsTurns, IdleIsDecided, LongerTurnsBegin, LongestIsTaken, MoreHaveTheirTurns, StepHasItsTurns, StepsHaveTheirTurns}
 use Rattle.gw_script.proofs.site.CallLemmas.{IsQuiet}
 use Rattle.gw_script.proofs.site.QuietLemmas.{on_or_off, step-leaves-quiet}

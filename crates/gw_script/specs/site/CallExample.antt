@@ -1,15 +1,15 @@
 -- Closed examples: what calls on sites that play scripts leave in the log, and with which setup runs start.
-use Rattle.std.specs.Prelude.{◌≡◌, ℕ, pos, List, [], ◌∷◌, ◌++◌, true, false, Option, Some, None}
+use Rattle.std.specs.Prelude.{◌≡◌, ℕ, pos, List, [], ◌∷◌, true, false, Option, Some, None}
 use Rattle.gw_site.specs.Outside.{outside_of}
 use Rattle.gw_site.specs.declared.turn.Turn.{Turn}
 use Rattle.gw_site.specs.declared.turn.Turn.TheVariants.{Start, OpenFailed, Polled, Opened, Stopped, Linked, LinkFailed, SentTill, SentPt, Wrote, DiskFailed, Crash}
 use Rattle.gw_base.specs.declared.setup.Setup.{Setup}
-use Rattle.gw_script.specs.site.ScriptLine.{Open, Tick, FailOpen, FailLink, FailSendTill, FailSendPt, FailWrite, FailSync, FailLength, FailRead, New, Junk, PlayedLine, At, Poll, Fail, Power, Script, nothing_given, setup_of}
+use Rattle.gw_site.specs.Steps.{New, Junk, OpenCall, PollCall, SendTillCall, SendPtCall, LinkCall, LengthCall, ReadCall, WriteCall, SyncCall, SiteStep, Made, PowerBack, StopAfter, Holding}
+use Rattle.gw_script.specs.site.ScriptLine.{Open, Tick, FailOpen, FailLink, FailSendTill, FailSendPt, FailWrite, FailSync, FailLength, FailRead, PlayedLine, At, Poll, Fail, Power, Script, nothing_given, setup_of}
 use Rattle.gw_script.specs.site.Hazards.{takes_most}
-use Rattle.gw_script.specs.site.Limits.{are_known, hazard_after}
 use Rattle.gw_script.specs.site.Playing.{Play}
 use Rattle.gw_script.specs.site.Callers.{IsDoneBy}
-use Rattle.gw_script.specs.site.Calls.{OpenCall, PollCall, SendTillCall, SendPtCall, LinkCall, LengthCall, ReadCall, WriteCall, SyncCall, SiteStep, Made, PowerBack, StopAfter, Holding, CallFits, IsPlayedTo, PlaysBy, Reaches}
+use Rattle.gw_script.specs.site.Calls.{CallFits, PlaysBy, Reaches}
 use Rattle.gw_script.specs.site.Runs.{PlaysItself, RunsWith}
 
 -- the setup of a script without setup lines
@@ -102,19 +102,3 @@ StartsWithItsOwn = PlaysItself no_script (Start plain ∷ Polled (pos 0) ∷ Sto
 -- a run that starts with another setup is none of the script's own
 abbrev pub OtherSetupIsNotItsOwn : Type 0
 OtherSetupIsNotItsOwn = ¬ RunsWith plain (Start (record plain { wait = 61 }) ∷ [])
-
--- a script with a failing send
-abbrev pub send_lines : List PlayedLine
-send_lines = Poll (Open 1) ∷ Fail (FailSendTill 1 2) ∷ Poll Tick ∷ []
-
--- the log of a run up to the poll after its line
-abbrev pub log_before_send : List Turn
-log_before_send = Start plain ∷ Polled (pos 0) ∷ Opened 1 ∷ Polled (pos 0) ∷ []
-
--- by that log the send takes two bytes at most, and it is one that calls have, with the power there
-abbrev pub LimitIsArmed : Type 0
-LimitIsArmed = (place : Play) × IsPlayedTo send_lines log_before_send place × (are_known log_before_send ≡ true) × (place.off ≡ None) × (takes_most (hazard_after send_lines log_before_send).fail_tills 1 ≡ Some 2)
-
--- after a failure of the disk no limit is known
-abbrev pub LimitIsUnknown : Type 0
-LimitIsUnknown = takes_most (hazard_after send_lines (log_before_send ++ DiskFailed ∷ [])).fail_tills 1 ≡ None

@@ -1,7 +1,8 @@
 -- A gateway that does one thing after each past has one log of a script, whatever calls and power failures there are.
 use Rattle.std.specs.Prelude.{◌≡◌, List, ◌∷◌, ◌++◌, Option, Some, None}
 use Rattle.gw_site.specs.declared.turn.Turn.{Turn}
-use Rattle.gw_script.specs.site.Calls.{PlaysBy, SiteStep}
+use Rattle.gw_site.specs.Steps.{SiteStep}
+use Rattle.gw_script.specs.site.Calls.{PlaysBy}
 use Rattle.gw_script.specs.site.ScriptLine.{PlayedLine}
 
 -- what a gateway does next, or that it does no more, by the steps so far and their log: they determine what each of its calls has returned

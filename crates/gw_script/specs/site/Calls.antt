@@ -4,30 +4,10 @@ use Rattle.gw_base.specs.declared.setup.Setup.{Setup}
 use Rattle.gw_site.specs.Outside.{Outside, outside_after, outside_of}
 use Rattle.gw_site.specs.declared.turn.Turn.{Turn}
 use Rattle.gw_site.specs.declared.turn.Turn.TheVariants.{Start, OpenFailed, Polled, Linked, LinkFailed, SentTill, SentPt, CutTill, CutPt, Wrote, Synced, DiskFailed, Crash}
-use Rattle.gw_script.specs.site.ScriptLine.{ImageKind, PlayedLine}
+use Rattle.gw_site.specs.Steps.{ImageKind, SiteCall, OpenCall, PollCall, SendTillCall, SendPtCall, LinkCall, CutTillCall, CutPtCall, LengthCall, ReadCall, WriteCall, SyncCall, SiteStep, Made, PowerBack, StopAfter, Holding}
+use Rattle.gw_script.specs.site.ScriptLine.{PlayedLine}
 use Rattle.gw_script.specs.site.Hazards.{crash_file, is_failing, sent_of, takes_most}
 use Rattle.gw_script.specs.site.Playing.{DiskCall, Write, Sync, Length, Read, Idle, Play, after_poll, begins, brought, is_off, play_after, powered, restarted}
-
--- a call on the site, and what is handed to it
-pub data SiteCall : Type 0 where
-  -- a run is to begin with this setup
-  OpenCall : Setup → SiteCall
-  PollCall : SiteCall
-  -- these bytes are to be sent to this till
-  SendTillCall : ℕ → List ℕ → SiteCall
-  -- these bytes are to be sent to this terminal
-  SendPtCall : ℕ → List ℕ → SiteCall
-  -- this terminal is to be linked
-  LinkCall : ℕ → SiteCall
-  CutTillCall : ℕ → SiteCall
-  CutPtCall : ℕ → SiteCall
-  -- the file's length is asked
-  LengthCall : SiteCall
-  -- so many bytes of the file from an offset on are asked
-  ReadCall : ℕ → ℕ → SiteCall
-  -- these bytes are to be written at an offset
-  WriteCall : ℕ → List ℕ → SiteCall
-  SyncCall : SiteCall
 
 -- the turns of a poll: the moment and the event that it has met, or none where it has reached a power failure
 abbrev pub polled_turns : Play → Option ImageKind → List Turn
@@ -79,17 +59,6 @@ CallFits o p call turns = Idle p × (turns ≡ call_turns o p call)
 -- the place once the power is set to fail after so many more calls: at once for none; where it has failed already all is as before
 abbrev pub set_to_fail : ℕ → ImageKind → Play → Play
 set_to_fail calls kind p = if is_some p.off then p else if calls == 0 then is_off kind p else powered calls kind p
-
--- what happens to a site
-pub data SiteStep : Type 0 where
-  -- the gateway makes this call
-  Made : SiteCall → SiteStep
-  -- the power, which has failed, is there again
-  PowerBack : SiteStep
-  -- beside the script the power is set to fail after so many more calls, and to leave this
-  StopAfter : ℕ → ImageKind → SiteStep
-  -- beside the script, before the first turn, this file is put on the disk, as if a power failure had left it
-  Holding : List ℕ → SiteStep
 
 -- nothing happens beside the script: the gateway makes calls, and the power is there again where the script has let it fail
 abbrev pub are_scripted : List SiteStep → Bool

@@ -11,8 +11,9 @@ use Rattle.gw_base.specs.declared.currency.Currency.{Currency}
 use Rattle.gw_base.specs.declared.currency.Currency.TheVariants.{Eur, Chf, Gbp, Usd, Dkk, Sek, Nok, Pln, Czk}
 use Rattle.gw_base.specs.declared.setup.Pt.{Pt}
 use Rattle.sale_frame.specs.Grammar.{frame}
+use Rattle.gw_site.specs.Steps.{ImageKind, Old, New, Junk}
 use Rattle.gw_script.specs.Decode.{WordAndRest, is_blank, is_empty, is_name, number, split_at_space, split_lines}
-use Rattle.gw_script.specs.site.ScriptLine.{SetupLine, Name, Queue, Wait, Slots, Terminal, Event, Open, Close, FromTill, FromPt, Lose, Tick, Failing, FailOpen, FailLink, FailSendTill, FailSendPt, FailWrite, FailSync, FailLength, FailRead, ImageKind, Old, New, Junk, PlayedLine, At, Poll, Fail, Power, Entry, Blank, Setting, Playing, Given, Script, nothing_given}
+use Rattle.gw_script.specs.site.ScriptLine.{SetupLine, Name, Queue, Wait, Slots, Terminal, Event, Open, Close, FromTill, FromPt, Lose, Tick, Failing, FailOpen, FailLink, FailSendTill, FailSendPt, FailWrite, FailSync, FailLength, FailRead, PlayedLine, At, Poll, Fail, Power, Entry, Blank, Setting, Playing, Given, Script, nothing_given}
 
 -- ---- words
 

@@ -5,7 +5,8 @@ use Rattle.gw_base.specs.declared.currency.Currency.TheVariants.{Eur, Chf}
 use Rattle.gw_base.specs.declared.setup.Pt.{Pt}
 use Rattle.gw_site.specs.declared.turn.Turn.TheVariants.{Start, OpenFailed, Polled, Opened, Stopped, LinkFailed, SentTill, CutTill, Wrote, Synced, DiskFailed, Crash}
 use Rattle.sale_frame.specs.Grammar.{frame}
-use Rattle.gw_script.specs.site.ScriptLine.{Open, Close, FromTill, FromPt, Lose, Tick, FailOpen, FailLink, FailSendTill, FailSendPt, FailWrite, FailSync, FailLength, FailRead, Old, New, Junk, PlayedLine, At, Poll, Fail, Power, nothing_given, setup_of}
+use Rattle.gw_site.specs.Steps.{Old, New, Junk}
+use Rattle.gw_script.specs.site.ScriptLine.{Open, Close, FromTill, FromPt, Lose, Tick, FailOpen, FailLink, FailSendTill, FailSendPt, FailWrite, FailSync, FailLength, FailRead, PlayedLine, At, Poll, Fail, Power, nothing_given, setup_of}
 use Rattle.gw_script.specs.site.Decode.{script_of}
 use Rattle.gw_script.specs.site.Grammar.{ended_lines}
 use Rattle.gw_script.specs.site.Playing.{PlaysLines}

@@ -13,7 +13,8 @@ use Rattle.gw_base.specs.Setup.{HaveDistinctPois}
 use Rattle.gw_base.specs.declared.setup.Pt.{Pt}
 use Rattle.gw_site.specs.Turns.{IsCount}
 use Rattle.sale_frame.specs.Grammar.{frame}
-use Rattle.gw_script.specs.site.ScriptLine.{SetupLine, Name, Queue, Wait, Slots, Terminal, Event, Open, Close, FromTill, FromPt, Lose, Tick, Failing, FailOpen, FailLink, FailSendTill, FailSendPt, FailWrite, FailSync, FailLength, FailRead, ImageKind, Old, New, Junk, PlayedLine, At, Poll, Fail, Power, Entry, Blank, Setting, Playing, Script}
+use Rattle.gw_site.specs.Steps.{ImageKind, Old, New, Junk}
+use Rattle.gw_script.specs.site.ScriptLine.{SetupLine, Name, Queue, Wait, Slots, Terminal, Event, Open, Close, FromTill, FromPt, Lose, Tick, Failing, FailOpen, FailLink, FailSendTill, FailSendPt, FailWrite, FailSync, FailLength, FailRead, PlayedLine, At, Poll, Fail, Power, Entry, Blank, Setting, Playing, Script}
 
 -- ---- words
 

@@ -2,7 +2,8 @@
 use Rattle.std.specs.Prelude.{ℕ, Bool, true, false, min, ◌==◌, if◌then◌else◌, List, Option, Some, None, take}
 use Rattle.gw_site.specs.Image.{junked}
 use Rattle.gw_site.specs.Outside.{Outside, is_connected}
-use Rattle.gw_script.specs.site.ScriptLine.{Failing, FailOpen, FailLink, FailSendTill, FailSendPt, FailWrite, FailSync, FailLength, FailRead, ImageKind, Old, New, Junk}
+use Rattle.gw_site.specs.Steps.{ImageKind, Old, New, Junk}
+use Rattle.gw_script.specs.site.ScriptLine.{Failing, FailOpen, FailLink, FailSendTill, FailSendPt, FailWrite, FailSync, FailLength, FailRead}
 
 -- the power fails after so many more calls, at least one, and leaves this
 pub record Armed : Type 0 where

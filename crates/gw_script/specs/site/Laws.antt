@@ -1,14 +1,14 @@
 -- The laws of the whole script: of its grammar, and of the logs that play it.
-use Rattle.std.specs.Prelude.{◌≡◌, ◌↔◌, ℕ, not, min, length, true, false, List, [], ◌∷◌, ◌++◌, Option, Some, None, is_some, Ok, Err}
+use Rattle.std.specs.Prelude.{◌≡◌, ◌↔◌, ℕ, not, min, length, true, false, List, [], ◌∷◌, ◌++◌, Option, Some, is_some, Ok, Err}
 use Rattle.gw_bytes.specs.Bytes.{IsPrefix}
 use Rattle.gw_site.specs.Outside.{Outside, outside_of}
 use Rattle.gw_site.specs.declared.turn.Turn.{Turn}
 use Rattle.gw_site.specs.declared.turn.Turn.TheVariants.{SentTill, SentPt, Crash}
+use Rattle.gw_site.specs.Steps.{SendPtCall, SendTillCall, SiteCall, SiteStep, Holding, Made, PowerBack, StopAfter, ImageKind}
 use Rattle.gw_script.specs.Decode.{split_lines}
-use Rattle.gw_script.specs.site.Calls.{CallFits, IsPlayedTo, PlaysBy, Reaches, SendPtCall, SendTillCall, SiteCall, SiteStep, Holding, Made, PowerBack, StopAfter, are_scripted, place_after, set_to_fail}
+use Rattle.gw_script.specs.site.Calls.{CallFits, PlaysBy, Reaches, are_scripted, place_after, set_to_fail}
 use Rattle.gw_script.specs.site.Hazards.{crash_file, sent_of, takes_most}
-use Rattle.gw_script.specs.site.Limits.{are_known, hazard_after}
-use Rattle.gw_script.specs.site.ScriptLine.{ImageKind, PlayedLine, Script}
+use Rattle.gw_script.specs.site.ScriptLine.{PlayedLine, Script}
 use Rattle.gw_script.specs.site.Grammar.{AreLinesOf, HasFirstWrong, SpellsScript}
 use Rattle.gw_script.specs.site.Decode.{script_of}
 use Rattle.gw_script.specs.site.Playing.{DiskCall, Fits, Play, PlaysLines, PlaysTo, Sends, play_after, restarted}
@@ -70,7 +70,3 @@ pub record GoesOnBeside : Type 0 where
   pub stop : (lines : List PlayedLine) (steps : List SiteStep) (log : List Turn) (place : Play) (calls : ℕ) (kind : ImageKind) → Reaches lines steps log place
       → Reaches lines (steps ++ StopAfter calls kind ∷ []) log (set_to_fail calls kind place)
   pub file : (lines : List PlayedLine) (steps : List SiteStep) (place : Play) (file : List ℕ) → Reaches lines steps [] place → Reaches lines (steps ++ Holding file ∷ []) (Crash file ∷ []) place
-
--- where the power is there, and no disk or power has failed in the log, what is armed by the log is what is armed at the place up to which calls and power failures have played the lines
-abbrev pub LimitsAreArmed : Type 0
-LimitsAreArmed = (lines : List PlayedLine) (log : List Turn) (place : Play) → IsPlayedTo lines log place → are_known log ≡ true → place.off ≡ None → hazard_after lines log ≡ place.hazard

@@ -2,11 +2,12 @@
 use Rattle.std.specs.Prelude.{◌≡◌, pos, List, [], ◌∷◌, true, Some}
 use Rattle.gw_site.specs.declared.turn.Turn.{Turn}
 use Rattle.gw_site.specs.declared.turn.Turn.TheVariants.{Start, Polled, Stopped, Wrote, Crash}
+use Rattle.gw_site.specs.Steps.{OpenCall, PollCall, WriteCall, SiteStep, Made, PowerBack, Old, New}
 use Rattle.gw_script.specs.site.CallExample.{plain}
-use Rattle.gw_script.specs.site.Calls.{OpenCall, PollCall, WriteCall, SiteStep, Made, PowerBack, Reaches, are_scripted}
+use Rattle.gw_script.specs.site.Calls.{Reaches, are_scripted}
 use Rattle.gw_script.specs.site.Playing.{Play, PlaysLines, restarted}
 use Rattle.gw_script.specs.site.Powers.{power_failures, power_failures_left, power_lines}
-use Rattle.gw_script.specs.site.ScriptLine.{Tick, Old, New, PlayedLine, Poll, Power}
+use Rattle.gw_script.specs.site.ScriptLine.{Tick, PlayedLine, Poll, Power}
 
 -- a script by which the power fails after one call, and in the next run at once
 abbrev pub twice_lines : List PlayedLine

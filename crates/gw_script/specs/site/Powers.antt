@@ -5,9 +5,10 @@ use Rattle.gw_site.specs.Sorts as sorts
 use Rattle.gw_site.specs.Sorts.{TurnSort, OpeningOutcome, CallOutcome, PowerFailure, sort_of}
 use Rattle.gw_site.specs.declared.turn.Turn.{Turn}
 use Rattle.gw_site.specs.declared.turn.Turn.TheVariants.{Crash}
-use Rattle.gw_script.specs.site.Calls.{Reaches, SiteCall, SiteStep, are_scripted, place_after, set_to_fail}
+use Rattle.gw_site.specs.Steps.{SiteCall, SiteStep, ImageKind}
+use Rattle.gw_script.specs.site.Calls.{Reaches, are_scripted, place_after, set_to_fail}
 use Rattle.gw_script.specs.site.Playing.{Play, PlaysLines, PlaysTo, restarted}
-use Rattle.gw_script.specs.site.ScriptLine.{ImageKind, PlayedLine, At, Poll, Fail, Power}
+use Rattle.gw_script.specs.site.ScriptLine.{PlayedLine, At, Poll, Fail, Power}
 
 -- how many of the lines say that the power fails
 abbrev pub power_lines : List PlayedLine → ℕ

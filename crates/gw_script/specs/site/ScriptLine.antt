@@ -2,6 +2,7 @@
 use Rattle.std.specs.Prelude.{ℕ, ℤ, List, [], Option, None, unwrap_or, codes}
 use Rattle.gw_base.specs.declared.setup.Pt.{Pt}
 use Rattle.gw_base.specs.declared.setup.Setup.{Setup}
+use Rattle.gw_site.specs.Steps.{ImageKind}
 
 -- a setup line
 pub data SetupLine : Type 0 where
@@ -43,15 +44,6 @@ pub data Failing : Type 0 where
   FailSync : Failing
   FailLength : Failing
   FailRead : Failing
-
--- what a power failure leaves of the file
-pub data ImageKind : Type 0 where
-  -- the file of the last sync
-  Old : ImageKind
-  -- the file with all writes
-  New : ImageKind
-  -- the file with all writes, with this byte wherever one was written since the last sync
-  Junk : ℕ → ImageKind
 
 -- a line that is played
 pub data PlayedLine : Type 0 where

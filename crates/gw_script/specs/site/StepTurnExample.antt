@@ -2,11 +2,12 @@
 use Rattle.std.specs.Prelude.{◌≡◌, pos, true, List, [], ◌∷◌, ◌++◌}
 use Rattle.gw_site.specs.declared.turn.Turn.{Turn}
 use Rattle.gw_site.specs.declared.turn.Turn.TheVariants.{Start, Polled, Wrote, Synced, DiskFailed, Crash}
-use Rattle.gw_script.specs.site.ScriptLine.{Tick, FailWrite, Junk, Poll, Fail}
+use Rattle.gw_site.specs.Steps.{Junk, OpenCall, PollCall, LengthCall, ReadCall, WriteCall, SyncCall, SiteStep, Made, PowerBack, StopAfter, Holding, log_of_parts}
+use Rattle.gw_script.specs.site.ScriptLine.{Tick, FailWrite, Poll, Fail}
 use Rattle.gw_script.specs.site.Playing.{Play}
-use Rattle.gw_script.specs.site.Calls.{OpenCall, PollCall, LengthCall, ReadCall, WriteCall, SyncCall, SiteStep, Made, PowerBack, StopAfter, Holding, PlaysBy, Reaches, are_scripted}
+use Rattle.gw_script.specs.site.Calls.{PlaysBy, Reaches, are_scripted}
 use Rattle.gw_script.specs.site.CallExample.{disk_lines, disk_log, disk_steps, plain}
-use Rattle.gw_script.specs.site.StepTurns.{PlaysInParts, StepFits, log_of_parts, site_turns, turns_by}
+use Rattle.gw_script.specs.site.StepTurns.{PlaysInParts, StepFits, site_turns, turns_by}
 
 -- the turns of each step of a site whose looks, writes and syncs fail, and then its power: a look has none unless it fails, and a write that fails has two
 abbrev pub disk_parts : List (List Turn)

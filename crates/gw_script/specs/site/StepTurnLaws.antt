@@ -2,10 +2,11 @@
 use Rattle.std.specs.Prelude.{◌≡◌, ◌⊎◌, ◌↔◌, Decides, List, [], ◌∷◌, ◌++◌, Some, length}
 use Rattle.gw_bytes.specs.Bytes.{IsPrefix}
 use Rattle.gw_site.specs.declared.turn.Turn.{Turn}
-use Rattle.gw_script.specs.site.Calls.{PlaysBy, Reaches, SiteCall, SiteStep, Made, PowerBack}
+use Rattle.gw_site.specs.Steps.{SiteCall, SiteStep, Made, PowerBack, log_of_parts}
+use Rattle.gw_script.specs.site.Calls.{PlaysBy, Reaches}
 use Rattle.gw_script.specs.site.Playing.{Idle, Play}
 use Rattle.gw_script.specs.site.ScriptLine.{PlayedLine}
-use Rattle.gw_script.specs.site.StepTurns.{CanTake, PlaysInParts, StepFits, is_idle, log_of_parts, place_after_step, site_turns, step_turns, turns_by}
+use Rattle.gw_script.specs.site.StepTurns.{CanTake, PlaysInParts, StepFits, is_idle, place_after_step, site_turns, step_turns, turns_by}
 
 -- whether a call or poll may come is decided by the test
 abbrev pub IdleIsDecided : Type 0

@@ -3,11 +3,12 @@ use Rattle.std.specs.Prelude.{◌≡◌, Bool, not, ◌&&◌, if◌then◌else�
 use Rattle.gw_site.specs.Outside.{Outside, outside_of}
 use Rattle.gw_site.specs.declared.turn.Turn.{Turn}
 use Rattle.gw_site.specs.declared.turn.Turn.TheVariants.{Crash}
+use Rattle.gw_site.specs.Steps.{ImageKind, SiteStep, Made, PowerBack, StopAfter, Holding}
 use Rattle.gw_script.specs.Decode.{is_empty}
-use Rattle.gw_script.specs.site.ScriptLine.{ImageKind, PlayedLine}
+use Rattle.gw_script.specs.site.ScriptLine.{PlayedLine}
 use Rattle.gw_script.specs.site.Hazards.{crash_file}
 use Rattle.gw_script.specs.site.Playing.{Play, begins, restarted}
-use Rattle.gw_script.specs.site.Calls.{CallFits, SiteStep, Made, PowerBack, StopAfter, Holding, call_turns, place_after, set_to_fail}
+use Rattle.gw_script.specs.site.Calls.{CallFits, call_turns, place_after, set_to_fail}
 
 -- ---- one step
 
@@ -40,11 +41,6 @@ PlaysInParts lines steps parts = LeadsInParts [] (begins lines) steps parts
 -- a site that plays these lines can take these steps
 abbrev pub CanTake : List PlayedLine → List SiteStep → Type 0
 CanTake lines steps = (parts : List (List Turn)) × PlaysInParts lines steps parts
-
--- the log whose parts these are
-abbrev pub log_of_parts : List (List Turn) → List Turn
-log_of_parts [] = []
-log_of_parts (turns ∷ parts) = turns ++ log_of_parts parts
 
 -- ---- the function
 

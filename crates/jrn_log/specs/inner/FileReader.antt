@@ -1,5 +1,6 @@
 -- Inner: what the reader of a file has read of it so far.
-use Rattle.std.specs.Prelude.{◌≡◌, ◌⊎◌, ℕ, ◌*◌, ◌<◌, ◌≤◌, List, [], ◌∷◌, length, slice_get, Some, Result, Ok, Err}
+use Rattle.std.specs.Prelude.{◌≡◌, ◌⊎◌, ℕ, ◌*◌, ◌<◌, ◌≤◌, List, [], ◌∷◌, length, slice_get, Option, Some, None, Result, Ok, Err}
+use Rattle.gw_site.specs.Observed.{Observed}
 use Rattle.gw_site.specs.declared.turn.Turn.{Turn}
 use Rattle.gw_site.specs.declared.turn.Turn.TheVariants.{Wrote, Synced, DiskFailed}
 use Rattle.jrn_log.specs.declared.fault.OpenFault.{OpenFault}
@@ -8,6 +9,7 @@ use Rattle.jrn_log.specs.declared.read.Taken.{Taken}
 use Rattle.jrn_log.specs.declared.read.Taken.TheVariants.{More, End}
 use Rattle.jrn_log.specs.Slots.{HasGate, body_at, AreSlots, IsTruncatedSlot, IsFileTooLong}
 use Rattle.jrn_log.specs.JournalTurns.{first_gate, first_gate_write}
+use Rattle.jrn_log.specs.JournalSteps.{Phase, ToRead, ToReadOn, TakesSteps}
 
 -- the file begins with these open slots, each followed by a gate
 pub record BeginsWithSlots (file : List ℕ) (bodies : List (List ℕ)) : Type 0 where
@@ -99,3 +101,23 @@ FaultTurnsAfterLength size Memory turns = turns ≡ []
 abbrev pub TurnsAfterLength : {T : Type 0} → ℕ → Result T OpenFault → List Turn → Type 0
 TurnsAfterLength size (Ok bodies) turns = turns ≡ first_gate size
 TurnsAfterLength size (Err fault) turns = FaultTurnsAfterLength size fault turns
+
+-- the phase in which reading has found a fault
+abbrev pub read_fault_phase : OpenFault → Option Phase
+read_fault_phase Disk = None
+read_fault_phase (TooLong count) = None
+read_fault_phase (Cut slot) = Some ToReadOn
+read_fault_phase Memory = Some ToReadOn
+
+-- the phase that reading reaches, by its result
+abbrev pub read_phase : {T : Type 0} → Result T OpenFault → Option Phase
+read_phase (Ok done) = Some ToReadOn
+read_phase (Err fault) = read_fault_phase fault
+
+-- a part of the file is read next: the first, or a further one
+abbrev pub IsToRead : Phase → Type 0
+IsToRead phase = (phase ≡ ToRead) ⊎ (phase ≡ ToReadOn)
+
+-- the parts that were read so far, from which reading goes on
+abbrev pub HasReadSome : List Turn → Observed → Observed → Type 0
+HasReadSome before old new = (phase : Phase) × IsToRead phase × TakesSteps ToRead (Some phase) before old new

@@ -13,7 +13,7 @@ use Rattle.gw_dispatch.proofs.perform.cut.Goals as goal
 pub returns-clause-triple : goal.returns-clause-triple
 returns-clause-triple g c =
     let is : IsRowOf c.args.core.now (moment_of c.args.now) (λ known. link_row known c.args.pt LinkIsLost) c.on_link.new.self c.on_link.result = simp (to_z-of_z, c.ranges.now) at c.on_link.ensures.row in
-    λ setup tills polls heard items. cut-performs _ _ c.args.core.now c.on_link.new.self c.args.now c.args.pt c.on_link.result c.requires.unserved is c.cut_pt.ensures.turns setup tills polls heard items
+    λ setup tills polls heard items. cut-performs _ _ c.args.core.now c.on_link.new.self c.args.now c.args.pt c.on_link.result c.requires.unserved is c.cut_pt.ensures.turns c.cut_pt.ensures.step setup tills polls heard items
 
 pub returns-clause-unlinked : goal.returns-clause-unlinked
 returns-clause-unlinked g c =

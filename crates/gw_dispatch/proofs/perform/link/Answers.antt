@@ -39,7 +39,7 @@ pub returns-clause-triple : goal.returns-clause-triple
 returns-clause-triple g c =
     let is : IsRowOf c.args.core.now (moment_of c.args.now) (λ known. link_row known c.args.pt (link_event_of c.is_ok-made.result)) c.on_link-wanted.new.self c.on_link-wanted.result = simp (to_z-of_z, c.ranges.now) at c.on_link-wanted.ensures.row in
     let performs : Performs (g.S.Site.observed c.link_pt.new.self) (g.S.Site.observed c.perform.new.site) c.on_link-wanted.new.self c.perform.new.core c.args.now (calls_wanted c.on_link-wanted.result) = simp (to_z-of_z, c.ranges.now) at c.perform.ensures.triple in
-    link-tried _ _ _ c.args.core.now c.on_link-wanted.new.self c.perform.new.core c.args.now c.args.pt c.link_pt.result c.is_ok-made.result c.on_link-wanted.result c.is_ok-made.ensures.value c.requires.there c.requires.unlinked is c.link_pt.ensures.turns performs
+    link-tried _ _ _ c.args.core.now c.on_link-wanted.new.self c.perform.new.core c.args.now c.args.pt c.link_pt.result c.is_ok-made.result c.on_link-wanted.result c.is_ok-made.ensures.value c.requires.there c.requires.unlinked is c.link_pt.ensures.turns c.link_pt.ensures.step performs
 
 pub returns-clause-count : goal.returns-clause-count
 returns-clause-count g c =

@@ -1,9 +1,13 @@
 -- Proof of the contract of `perform`.
-use Rattle.std.proofs.Common.{refl, [], ◌∷◌}
+use Rattle.std.proofs.Common.{refl, ap, [], ◌∷◌}
 use Rattle.std.proofs.lemmas.Int.{to_z-of_z}
 use Rattle.gw_owes.specs.Calls.{Acknowledge, Ask, CutPt, Refuse, SendPt}
-use Rattle.gw_dispatch.proofs.PerformLemmas.{Performs, by-calls, asks-calls, acknowledges-calls, refuses-calls, cuts-calls}
+use Rattle.gw_core.specs.IsRow.{calls_wanted}
+use Rattle.gw_dispatch.proofs.PerformLemmas.{Performs, by-calls, none-performed, asks-calls, acknowledges-calls, refuses-calls, cuts-calls}
 use Rattle.gw_dispatch.proofs.perform.perform.Goals as goal
+
+pub returns-in-None-clause-triple : goal.returns-in-None-clause-triple
+returns-in-None-clause-triple g c = by-calls _ _ c.args.core.now c.args.core.now c.args.now _ [] (ap calls_wanted c.in-None.is) (none-performed _ c.args.core.now c.args.now)
 
 pub returns-in-Some-SendPt-clause-triple : goal.returns-in-Some-SendPt-clause-triple
 returns-in-Some-SendPt-clause-triple g c =

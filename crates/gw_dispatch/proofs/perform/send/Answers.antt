@@ -10,9 +10,9 @@ pub cut-requires-clause-unserved : goal.cut-requires-clause-unserved
 cut-requires-clause-unserved g c = all-serve-nothing c.args.core.now c.args.pt c.requires.dialogues
 
 pub returns-else-not-sent-clause-triple : goal.returns-else-not-sent-clause-triple
-returns-else-not-sent-clause-triple g c = λ sending is. sent-performs _ _ c.args.core.now c.args.now c.args.pt c.args.bytes.now sending c.send_pt.result c.is_ok-sent.result c.is_ok-sent.ensures.value c.if-not-sent.false is c.send_pt.ensures.turns
+returns-else-not-sent-clause-triple g c = λ sending is. sent-performs _ _ c.args.core.now c.args.now c.args.pt c.args.bytes.now sending c.send_pt.result c.is_ok-sent.result c.is_ok-sent.ensures.value c.if-not-sent.false is c.send_pt.ensures.turns c.send_pt.ensures.step
 
 pub returns-then-not-sent-clause-triple : goal.returns-then-not-sent-clause-triple
 returns-then-not-sent-clause-triple g c = λ sending is.
     let cuts : Performs (g.S.Site.observed c.send_pt.new.self) (g.S.Site.observed c.cut.new.site) c.args.core.now c.cut.new.core c.args.now (CutPt c.args.pt ∷ []) = simp (to_z-of_z, c.ranges.now) at c.cut.ensures.triple in
-    unsent-performs _ _ _ c.args.core.now c.cut.new.core c.args.now c.args.pt c.args.bytes.now sending c.send_pt.result c.is_ok-sent.result c.is_ok-sent.ensures.value c.if-not-sent.true is c.send_pt.ensures.turns cuts
+    unsent-performs _ _ _ c.args.core.now c.cut.new.core c.args.now c.args.pt c.args.bytes.now sending c.send_pt.result c.is_ok-sent.result c.is_ok-sent.ensures.value c.if-not-sent.true is c.send_pt.ensures.turns c.send_pt.ensures.step cuts

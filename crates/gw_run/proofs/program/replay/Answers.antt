@@ -1,7 +1,7 @@
 -- Proof of the contract of `replay`.
 use Rattle.std.proofs.Common.{ap}
 use Rattle.std.specs.Prelude.{Err}
-use Rattle.gw_run.proofs.ReplayLemmas.{fault-printed, observed-cause, input-fault, input-cause, input-complete, text-cause, text-complete, text-printed}
+use Rattle.gw_run.proofs.ReplayLemmas.{fault-after, fault-printed, input-cause, input-complete, input-fault, observed-cause, replay-after, text-cause, text-complete, text-printed}
 use Rattle.gw_run.proofs.program.replay.Goals as goal
 
 pub returns-in-Ok-clause-printed : goal.returns-in-Ok-clause-printed
@@ -34,3 +34,9 @@ returns-in-Err-clause-cause g c = λ words acc. observed-cause c.in-Err.fault c.
 
 pub returns-in-Err-clause-complete : goal.returns-in-Err-clause-complete
 returns-in-Err-clause-complete g c = λ script calm written. input-complete c.in-Err.fault c.write_last_lines.result _ _ _ c.in-Err.ensures.fault (λ e. c.in-Err.ensures.failed (ap Err e)) c.in-Err.ensures.bytes script calm c.write_last_lines.ensures.which
+
+pub returns-in-Ok-clause-log : goal.returns-in-Ok-clause-log
+returns-in-Ok-clause-log g c = λ text log left is calm written. replay-after c.play_text.result text c.in-Ok.text.items log _ (c.in-Ok.ensures.bytes text left).0 is c.play_text.ensures.output_failed written c.play_text.ensures.end
+
+pub returns-in-Err-clause-log : goal.returns-in-Err-clause-log
+returns-in-Err-clause-log g c = λ text log left is calm written. fault-after c.in-Err.fault c.write_last_lines.result _ text log _ _ _ c.in-Err.ensures.fault (λ e. c.in-Err.ensures.failed (ap Err e)) c.in-Err.ensures.bytes left is calm c.write_last_lines.ensures.which c.write_last_lines.ensures.output_failed written

@@ -7,7 +7,7 @@ use Rattle.gw_run.specs.Served.{served_script}
 use Rattle.gw_run.proofs.program.site_of_input.Goals as goal
 
 pub returns-clause-fresh : goal.returns-clause-fresh
-returns-clause-fresh g = subst (λ text. IfOk g.site_of.result (λ site. IsFresh (sim_observed site) text)) g.deref.ensures.value g.site_of.ensures.fresh
+returns-clause-fresh g = subst (λ text. IfOk g.site_of.result (λ site. IsFresh (sim_observed site) text (played_script site))) g.deref.ensures.value g.site_of.ensures.fresh
 
 pub returns-clause-served : goal.returns-clause-served
 returns-clause-served g = subst (λ text. IfOk g.site_of.result (λ site. served_script text ≡ Ok (played_script site))) g.deref.ensures.value g.site_of.ensures.served

@@ -10,7 +10,7 @@ returns-in-Some-clause-triple g c = λ setup polls now. open-held _ setup c.args
 
 pub returns-then-len-ge-MOST_TILLS-clause-triple : goal.returns-then-len-ge-MOST_TILLS-clause-triple
 returns-then-len-ge-MOST_TILLS-clause-triple g c = λ setup polls now. open-crowded _ _ setup c.args.self.now c.forget.new.self.core c.forget.new.self.readers.items polls now c.args.number
-    (let e = ap length (sym c.deref.ensures.value) ∙ c.deref.ensures.len in omega (arith, c.len.ensures, c.if-len-ge-MOST_TILLS.true)) c.forget.ensures.core c.forget.ensures.readers c.cut_till.ensures.turns
+    (let e = ap length (sym c.deref.ensures.value) ∙ c.deref.ensures.len in omega (arith, c.len.ensures, c.if-len-ge-MOST_TILLS.true)) c.forget.ensures.core c.forget.ensures.readers c.cut_till.ensures.turns c.cut_till.ensures.step
 
 pub returns-in-Ok-clause-triple : goal.returns-in-Ok-clause-triple
 returns-in-Ok-clause-triple g c = λ setup polls now. open-taken _ setup c.args.self.now _ polls now c.args.number

@@ -4,8 +4,9 @@ use Rattle.std.specs.Prelude.{ℤ}
 use Rattle.std.proofs.lemmas.Int.{to_z-of_z}
 use Rattle.gw_bytes.specs.Bytes.{AreBytes}
 use Rattle.gw_base.specs.declared.setup.Setup.{Setup}
-use Rattle.gw_site.specs.Observed.{Observed, Grows, IfObserved}
+use Rattle.gw_site.specs.Observed.{Observed, Grows, IfObserved, IsStep}
 use Rattle.gw_site.specs.Outside.{outside_of}
+use Rattle.gw_site.specs.Steps.{PollCall}
 use Rattle.gw_site.specs.Turns.{PolledTurns, IsPromised, IsWithinBuf}
 use Rattle.gw_site.specs.declared.site.Polled.{Polled}
 use Rattle.gw_rules.specs.Triple.{Triple}
@@ -17,30 +18,30 @@ use Rattle.gw_dispatch.proofs.RoundLemmas.{rest-polled, handled-rest}
 use Rattle.gw_dispatch.proofs.engine.Dispatch.turn.Goals as goal
 
 -- the poll
-polled : (a b : Observed) (setup : Setup) (dispatch : Dispatch) (polls : ℕ) (result : Polled) (now : ℤ) (buf : List ℕ) → now ≡ result.now → Grows a b (PolledTurns result buf) →
+polled : (a b : Observed) (setup : Setup) (dispatch : Dispatch) (polls : ℕ) (result : Polled) (now : ℤ) (buf : List ℕ) → now ≡ result.now → Grows a b (PolledTurns result buf) → IsStep a b PollCall →
     IfObserved a (λ log. IsPromised (outside_of log) result.what) → IsWithinBuf result.what → length buf ≡ 4096 → AreBytes buf → Triple a b (IsBetweenRounds setup dispatch polls) (IsPolled setup dispatch polls now result.what buf)
-polled a b setup dispatch polls result now buf same turns promise count long bytes =
-    rw same (rest-polled a b setup dispatch polls result.now result.what buf (λ scene. poll-triple scene result buf a b turns promise count long bytes))
+polled a b setup dispatch polls result now buf same turns step promise count long bytes =
+    rw same (rest-polled a b setup dispatch polls result.now result.what buf (λ scene. poll-triple scene result buf a b turns step promise count long bytes))
 
 pub returns-in-Ok-Went-clause-triple : goal.returns-in-Ok-Went-clause-triple
 returns-in-Ok-Went-clause-triple g c = λ setup polls named.
     let same : to_z w64 (of_z w64 c.poll-now.result.now) ≡ c.poll-now.result.now = to_z-of_z w64 c.poll-now.result.now (assumption (c.poll-now.type_inv)) in
     triple-then _ _ _ _ _ _
-    (polled _ _ setup c.args.self.now polls c.poll-now.result (to_z w64 (of_z w64 c.poll-now.result.now)) c.poll-now.new.buf same c.poll-now.ensures.turns c.poll-now.ensures.promise c.poll-now.ensures.count c.poll-now.ensures.buf c.on_event.ensures.bytes)
+    (polled _ _ setup c.args.self.now polls c.poll-now.result (to_z w64 (of_z w64 c.poll-now.result.now)) c.poll-now.new.buf same c.poll-now.ensures.turns c.poll-now.ensures.step c.poll-now.ensures.promise c.poll-now.ensures.count c.poll-now.ensures.buf c.on_event.ensures.bytes)
     (triple-then _ _ _ _ _ _ (rw c.in-Ok-Went.field-0-is at (c.in-Ok-Went.ensures.triple setup polls named))
     (triple-after _ _ _ _ _ (c.on_due.ensures.triple setup c.on_event.new.self.tills.items (polls + 1))
-    (λ v q. handled-rest setup (record { replier = c.on_event.new.self.replier; tills = c.on_event.new.self.tills; pts = c.on_due.new.self }) (polls + 1) (to_z w64 (of_z w64 c.poll-now.result.now)) v q)))
+    (λ v q. handled-rest setup (record { replier = c.on_event.new.self.replier; tills = c.on_event.new.self.tills; pts = c.on_due.new.self; records = c.on_event.new.self.records }) (polls + 1) (to_z w64 (of_z w64 c.poll-now.result.now)) v q)))
 
 pub returns-in-Ok-Stopped-clause-triple : goal.returns-in-Ok-Stopped-clause-triple
 returns-in-Ok-Stopped-clause-triple g c = λ setup polls named.
     let same : to_z w64 (of_z w64 c.poll-now.result.now) ≡ c.poll-now.result.now = to_z-of_z w64 c.poll-now.result.now (assumption (c.poll-now.type_inv)) in
     triple-then _ _ _ _ _ _
-    (polled _ _ setup c.args.self.now polls c.poll-now.result (to_z w64 (of_z w64 c.poll-now.result.now)) c.poll-now.new.buf same c.poll-now.ensures.turns c.poll-now.ensures.promise c.poll-now.ensures.count c.poll-now.ensures.buf c.on_event.ensures.bytes)
+    (polled _ _ setup c.args.self.now polls c.poll-now.result (to_z w64 (of_z w64 c.poll-now.result.now)) c.poll-now.new.buf same c.poll-now.ensures.turns c.poll-now.ensures.step c.poll-now.ensures.promise c.poll-now.ensures.count c.poll-now.ensures.buf c.on_event.ensures.bytes)
     (rw c.in-Ok-Stopped.field-0-is at (c.in-Ok-Stopped.ensures.triple setup polls named))
 
 pub returns-in-Err-clause-triple : goal.returns-in-Err-clause-triple
 returns-in-Err-clause-triple g c = λ setup polls named.
     let same : to_z w64 (of_z w64 c.poll-now.result.now) ≡ c.poll-now.result.now = to_z-of_z w64 c.poll-now.result.now (assumption (c.poll-now.type_inv)) in
     triple-then _ _ _ _ _ _
-    (polled _ _ setup c.args.self.now polls c.poll-now.result (to_z w64 (of_z w64 c.poll-now.result.now)) c.poll-now.new.buf same c.poll-now.ensures.turns c.poll-now.ensures.promise c.poll-now.ensures.count c.poll-now.ensures.buf c.on_event.ensures.bytes)
+    (polled _ _ setup c.args.self.now polls c.poll-now.result (to_z w64 (of_z w64 c.poll-now.result.now)) c.poll-now.new.buf same c.poll-now.ensures.turns c.poll-now.ensures.step c.poll-now.ensures.promise c.poll-now.ensures.count c.poll-now.ensures.buf c.on_event.ensures.bytes)
     (c.in-Err.ensures.triple setup polls named)

@@ -7,7 +7,7 @@ use Rattle.gw_dispatch.proofs.SendLemmas.{delivered, undelivered}
 use Rattle.gw_dispatch.proofs.replier.Replier.send_reply.Goals as goal
 
 pub returns-in-Ok-clause-triple : goal.returns-in-Ok-clause-triple
-returns-in-Ok-clause-triple g c = λ owed same. delivered Failed _ _ c.in-Ok.field-0 c.args.till _ owed (c.as_bytes.ensures ∙ c.write_reply.ensures ∙ ap (λ t. frame (canonical t)) same) c.in-Ok.ensures.turns
+returns-in-Ok-clause-triple g c = λ owed same. delivered Failed _ _ c.in-Ok.field-0 c.args.till _ owed (c.as_bytes.ensures ∙ c.write_reply.ensures ∙ ap (λ t. frame (canonical t)) same) c.in-Ok.ensures.turns c.in-Ok.ensures.step
 
 pub returns-in-Err-clause-triple : goal.returns-in-Err-clause-triple
-returns-in-Err-clause-triple g c = λ owed same. undelivered _ _ _ c.in-Err.field-0 c.args.till _ owed _ c.cut.ensures.gone (c.as_bytes.ensures ∙ c.write_reply.ensures ∙ ap (λ t. frame (canonical t)) same) c.in-Err.ensures.turns c.cut.ensures.triple
+returns-in-Err-clause-triple g c = λ owed same. undelivered _ _ _ c.in-Err.field-0 c.args.till _ owed _ c.cut.ensures.gone (c.as_bytes.ensures ∙ c.write_reply.ensures ∙ ap (λ t. frame (canonical t)) same) c.in-Err.ensures.turns c.in-Err.ensures.step c.cut.ensures.triple

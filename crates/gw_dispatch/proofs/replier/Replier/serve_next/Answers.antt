@@ -5,8 +5,11 @@ use Rattle.std.proofs.lemmas.Int.{to_z-of_z}
 use Rattle.gw_base.specs.Moment.{moment_of}
 use Rattle.gw_dispatch.specs.NextMessage.{IsNextOf}
 use Rattle.gw_dispatch.specs.declared.replier.Next.TheVariants.{Incomplete, Message, Unframed}
-use Rattle.gw_dispatch.proofs.EngineLemmas.{serve-waiting, waiting-rest, serve-unframed, serve-silent, serve-sent, takes-less, reads-on-sent, reads-on-gone}
+use Rattle.gw_dispatch.proofs.EngineLemmas.{serve-failed, serve-waiting, waiting-rest, serve-unframed, serve-silent, serve-sent, takes-less, reads-on-sent, reads-on-gone}
 use Rattle.gw_dispatch.proofs.replier.Replier.serve_next.Goals as goal
+
+pub returns-in_err-next_message-clause-triple : goal.returns-in_err-next_message-clause-triple
+returns-in_err-next_message-clause-triple g c = λ known polls o items met. serve-failed _ known polls o c.args.till c.args.reader.now c.next_message.new.reader items c.from_residual.result c.from_residual.ensures.0
 
 pub returns-in-Incomplete-clause-triple : goal.returns-in-Incomplete-clause-triple
 returns-in-Incomplete-clause-triple g c = λ known polls o items met.

@@ -5,7 +5,8 @@ use Rattle.gw_site.specs.Outside.{outside_of}
 use Rattle.jrn_log.specs.Journal.{JournalValue}
 use Rattle.jrn_log.specs.inner.FileReader.{AreJournalBodies, IsFileFault}
 use Rattle.jrn_log.specs.declared.fault.OpenFault.TheVariants.{Disk}
-use Rattle.jrn_log.proofs.OpenLemmas.{open_grows, open_turns, open_fails, sync_fails, sized_before, opens_with, ok_not_long, ok_not_truncated, fault_long, fault_truncated, opened_rests, opening_images}
+use Rattle.jrn_log.proofs.OpenLemmas.{open_grows, open_turns, open_fails, sync_fails, sized_before, sized_after, opens_with, ok_not_long, ok_not_truncated, fault_long, fault_truncated, opened_rests, opening_images}
+use Rattle.jrn_log.proofs.StepLemmas.{steps-opening, rests-then}
 use Rattle.jrn_log.proofs.journal.Journal.open.Goals as goal
 
 pub returns-in-Err-clause-images : goal.returns-in-Err-clause-images
@@ -54,3 +55,19 @@ returns-in-Ok-sized_bodies-clause-stands g c =
 pub returns-in-Ok-sized_bodies-clause-images : goal.returns-in-Ok-sized_bodies-clause-images
 returns-in-Ok-sized_bodies-clause-images g c =
     opening_images {T = List (List ℕ)} (Ok c.in-Ok-sized_bodies.bodies) _ _ (open_turns c.in-Ok-sized_bodies.bodies _ _ c.in-Ok.size c.in-Ok.ensures.size (open_grows _ _ _ c.in-Ok.size c.in-Ok.ensures.turns c.in-Ok-sized_bodies.ensures.turns))
+
+pub returns-in-Err-sized_bodies-clause-steps : goal.returns-in-Err-sized_bodies-clause-steps
+returns-in-Err-sized_bodies-clause-steps g c = λ before e.
+    steps-opening {T = JournalValue} (Err c.in-Err-sized_bodies.fault) c.args.slots c.in-Ok.size (outside_of before).file before _ _ _ (c.in-Ok.ensures.size before e) c.in-Ok.ensures.turns.stays c.in-Err-sized_bodies.ensures.turns.stays
+    (c.in-Ok.ensures.steps _ before e) (λ between f. c.in-Err-sized_bodies.ensures.steps between f (sized_after _ _ c.in-Ok.size c.in-Ok.ensures.turns c.in-Ok.ensures.size between f))
+
+pub returns-in-Ok-sized_bodies-clause-steps : goal.returns-in-Ok-sized_bodies-clause-steps
+returns-in-Ok-sized_bodies-clause-steps g c = λ before e.
+    steps-opening {T = List (List ℕ)} (Ok c.in-Ok-sized_bodies.bodies) c.args.slots c.in-Ok.size (outside_of before).file before _ _ _ (c.in-Ok.ensures.size before e) c.in-Ok.ensures.turns.stays c.in-Ok-sized_bodies.ensures.turns.stays
+    (c.in-Ok.ensures.steps _ before e) (λ between f. c.in-Ok-sized_bodies.ensures.steps between f (sized_after _ _ c.in-Ok.size c.in-Ok.ensures.turns c.in-Ok.ensures.size between f))
+
+pub returns-in-Err-sized_bodies-clause-rests : goal.returns-in-Err-sized_bodies-clause-rests
+returns-in-Err-sized_bodies-clause-rests g c = rests-then _ _ _ _ _ c.in-Ok.ensures.turns c.in-Err-sized_bodies.ensures.turns c.in-Ok.ensures.rests c.in-Err-sized_bodies.ensures.rests
+
+pub returns-in-Ok-sized_bodies-clause-rests : goal.returns-in-Ok-sized_bodies-clause-rests
+returns-in-Ok-sized_bodies-clause-rests g c = rests-then _ _ _ _ _ c.in-Ok.ensures.turns c.in-Ok-sized_bodies.ensures.turns c.in-Ok.ensures.rests c.in-Ok-sized_bodies.ensures.rests

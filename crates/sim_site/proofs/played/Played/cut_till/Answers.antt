@@ -2,7 +2,7 @@
 use Rattle.std.proofs.Common.{◌∷◌, [], refl}
 use Rattle.gw_site.specs.Outside.{outside_of}
 use Rattle.gw_site.specs.declared.turn.Turn.TheVariants.{CutTill}
-use Rattle.gw_script.specs.site.Calls.{CutTillCall}
+use Rattle.gw_site.specs.Steps.{CutTillCall}
 use Rattle.sim_script.specs.Values.{lines_value}
 use Rattle.sim_site.specs.Places.{place_value}
 use Rattle.sim_site.proofs.PlayedLemmas.{connections_there, disk_stays, never, part_same, part_stood, stands_made}

@@ -3,7 +3,7 @@ use Rattle.std.proofs.Common.{◌≡◌, ◌∷◌, ◌++◌, [], ◌∙◌, ap}
 use Rattle.std.specs.Prelude.{if◌then◌else◌}
 use Rattle.gw_site.specs.Outside.{outside_of}
 use Rattle.gw_site.specs.declared.turn.Turn.TheVariants.{Linked, LinkFailed}
-use Rattle.gw_script.specs.site.Calls.{LinkCall}
+use Rattle.gw_site.specs.Steps.{LinkCall}
 use Rattle.gw_script.specs.site.Hazards.{is_failing}
 use Rattle.sim_script.specs.Values.{lines_value}
 use Rattle.sim_site.specs.Hazards.{links_value}

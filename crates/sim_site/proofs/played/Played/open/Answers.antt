@@ -3,7 +3,7 @@ use Rattle.std.proofs.Common.{◌∷◌, ◌++◌, [], ◌∙◌, sym, ap, subst
 use Rattle.std.specs.Prelude.{if◌then◌else◌}
 use Rattle.gw_site.specs.Outside.{outside_of}
 use Rattle.gw_site.specs.declared.turn.Turn.TheVariants.{OpenFailed, Start}
-use Rattle.gw_script.specs.site.Calls.{OpenCall}
+use Rattle.gw_site.specs.Steps.{OpenCall}
 use Rattle.sim_script.specs.Values.{lines_value}
 use Rattle.sim_site.specs.Connected.{HasConnections}
 use Rattle.sim_site.specs.Places.{place_value}

@@ -7,7 +7,7 @@ use mir.Syntax.{w64}
 use mir.Val.{SFits}
 use Rattle.gw_site.specs.Outside.{outside_of}
 use Rattle.gw_site.specs.declared.turn.Turn.TheVariants.{Polled}
-use Rattle.gw_script.specs.site.Calls.{PollCall}
+use Rattle.gw_site.specs.Steps.{PollCall}
 use Rattle.sim_script.specs.Values.{image_value, lines_value}
 use Rattle.sim_site.specs.Connected.{HasConnections}
 use Rattle.sim_site.specs.Made.{HasBrought, HasFallen, EndsPoll}

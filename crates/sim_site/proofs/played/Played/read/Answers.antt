@@ -1,7 +1,7 @@
 -- Proof of the contract of `read`.
 use Rattle.std.proofs.Common.{refl}
 use Rattle.gw_site.specs.Outside.{outside_of}
-use Rattle.gw_script.specs.site.Calls.{ReadCall}
+use Rattle.gw_site.specs.Steps.{ReadCall}
 use Rattle.sim_script.specs.Values.{lines_value}
 use Rattle.sim_site.specs.Places.{place_value}
 use Rattle.sim_site.proofs.PlayedLemmas.{connections_stay, disk_stays, look_leaves, look_leaves_connections, never, part_same, part_stood, stands_made}

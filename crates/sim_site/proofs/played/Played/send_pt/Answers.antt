@@ -2,7 +2,7 @@
 use Rattle.std.proofs.Common.{◌∷◌, [], ◌∙◌, refl, ap}
 use Rattle.gw_site.specs.Outside.{outside_of}
 use Rattle.gw_site.specs.declared.turn.Turn.TheVariants.{SentPt}
-use Rattle.gw_script.specs.site.Calls.{SendPtCall}
+use Rattle.gw_site.specs.Steps.{SendPtCall}
 use Rattle.gw_script.specs.site.Hazards.{takes_most}
 use Rattle.sim_script.specs.Values.{lines_value}
 use Rattle.sim_site.specs.Hazards.{sends_value}

@@ -2,7 +2,7 @@
 use Rattle.std.proofs.Common.{◌∷◌, [], ◌∙◌, refl}
 use Rattle.gw_site.specs.Outside.{outside_of}
 use Rattle.gw_site.specs.declared.turn.Turn.TheVariants.{SentTill}
-use Rattle.gw_script.specs.site.Calls.{SendTillCall}
+use Rattle.gw_site.specs.Steps.{SendTillCall}
 use Rattle.gw_script.specs.site.Hazards.{takes_most}
 use Rattle.sim_script.specs.Values.{lines_value}
 use Rattle.sim_site.specs.Hazards.{sends_value}

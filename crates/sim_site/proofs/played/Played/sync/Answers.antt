@@ -1,6 +1,6 @@
 -- Proof of the contract of `sync`.
 use Rattle.gw_site.specs.Outside.{outside_of}
-use Rattle.gw_script.specs.site.Calls.{SyncCall}
+use Rattle.gw_site.specs.Steps.{SyncCall}
 use Rattle.sim_script.specs.Values.{lines_value}
 use Rattle.sim_site.specs.Places.{place_value}
 use Rattle.sim_site.proofs.PlayedLemmas.{connections_stay, disk_there, never, part_same, part_stood, stands_made, sync_leaves}

@@ -3,7 +3,8 @@ use Rattle.std.proofs.Common.{◌∷◌, ◌++◌, [], ◌∙◌, ap, List, ℕ,
 use Rattle.std.specs.Prelude.{if◌then◌else◌}
 use Rattle.gw_site.specs.Outside.{outside_of}
 use Rattle.gw_site.specs.declared.turn.Turn.TheVariants.{Wrote, DiskFailed}
-use Rattle.gw_script.specs.site.Calls.{WriteCall, call_turns}
+use Rattle.gw_site.specs.Steps.{WriteCall}
+use Rattle.gw_script.specs.site.Calls.{call_turns}
 use Rattle.sim_script.specs.Values.{lines_value}
 use Rattle.sim_site.specs.Places.{place_value}
 use Rattle.sim_site.proofs.PlayedLemmas.{connections_stay, disk_there, never, part_refused, part_same, part_stood, stands_made, write_leaves, write_rest, write_split, write_there}

@@ -1,11 +1,12 @@
 -- Proof of the contract of `open`.
-use Rattle.std.proofs.Common.{◌∷◌, [], refl, sym, ap, subst, inl}
+use Rattle.sim_site.proofs.StepLemmas.{dark_step, made_step}
+use Rattle.std.proofs.Common.{◌∷◌, [], refl, sym, ap, subst, inl, ◌∙◌}
 use Rattle.std.specs.Prelude.{if◌then◌else◌, Result}
 use Rattle.gw_site.specs.Observed.{GrowsWhole}
 use Rattle.gw_site.specs.Turns.{OpenTurns}
 use Rattle.gw_site.specs.declared.site.Failed.{Failed}
 use Rattle.gw_site.specs.declared.turn.Turn.TheVariants.{OpenFailed, Start}
-use Rattle.gw_script.specs.site.Calls.{OpenCall}
+use Rattle.gw_site.specs.Steps.{OpenCall}
 use Rattle.sim_site.specs.Sites.{observed_with}
 use Rattle.sim_site.specs.declared.played.Played.{Played}
 use Rattle.sim_site.proofs.SiteLemmas.{reported_opens, returned, short_there}
@@ -24,3 +25,13 @@ pub returns-clause-result : goal.returns-clause-result
 returns-clause-result c = λ lit.
     let s = c.args.self.now in
     returned s.played c.open-made.new.self c.report.new.self.played (OpenCall c.args.setup.now) (s.played.place.hazard.open) c.open-made.result c.report.result c.report.ensures.played c.open-made.ensures.made c.open-made.ensures.fails (short_there s.played c.open-made.new.self c.open-made.result c.open-made.ensures.refused) c.report.ensures.reported
+
+pub returns-then-is_dark-clause-step : goal.returns-then-is_dark-clause-step
+returns-then-is_dark-clause-step c =
+    let s = c.args.self.now in
+    dark_step s.faults c.fail.new.self.faults s.played c.fail.new.self.played (OpenCall c.args.setup.now) (sym c.is_dark.ensures.dark ∙ c.if-is_dark.true) c.fail.ensures.played
+
+pub returns-clause-step : goal.returns-clause-step
+returns-clause-step c =
+    let s = c.args.self.now in
+    made_step s.faults c.report.new.self.faults s.played c.open-made.new.self c.report.new.self.played (OpenCall c.args.setup.now) c.open-made.result c.report.ensures.played (c.is_dark.ensures.lit c.if-is_dark.false) c.open-made.ensures.made (short_there s.played c.open-made.new.self c.open-made.result c.open-made.ensures.refused)

@@ -1,4 +1,5 @@
 -- Proof of the contract of `read_at`.
+use Rattle.sim_site.proofs.StepLemmas.{dark_step, made_step}
 use Rattle.std.proofs.Common.{◌∷◌, [], ◌∙◌, refl, sym, ap, subst}
 use Rattle.std.specs.Prelude.{if◌then◌else◌, length, Result, ◌||◌}
 use Rattle.gw_site.specs.Observed.{Grows}
@@ -6,7 +7,7 @@ use Rattle.gw_site.specs.Turns.{DiskTurns}
 use Rattle.gw_site.specs.Outside.{file_part, outside_of}
 use Rattle.gw_site.specs.declared.site.Failed.{Failed}
 use Rattle.gw_site.specs.declared.turn.Turn.TheVariants.{DiskFailed}
-use Rattle.gw_script.specs.site.Calls.{ReadCall}
+use Rattle.gw_site.specs.Steps.{ReadCall}
 use Rattle.sim_site.specs.Sites.{observed_with}
 use Rattle.sim_site.specs.declared.played.Played.{Played}
 use Rattle.sim_site.proofs.SiteLemmas.{goes_on, looked, on_ok, reported_grows, returned, returned_err, returned_ok, short_there, some_same, was_made}
@@ -57,3 +58,18 @@ pub returns-in-Err-clause-result : goal.returns-in-Err-clause-result
 returns-in-Err-clause-result c = λ lit.
     let s = c.args.self.now in
     returned_err _ (s.played.place.hazard.read || c.report.new.self.played.short) c.report.result _ c.in-Err.is (returned s.played c.read-made.new.self c.report.new.self.played (ReadCall c.args.offset (length c.args.buf.now)) (s.played.place.hazard.read) c.read-made.result c.report.result c.report.ensures.played (on_ok c.read-made.result (λ made. made c.args.offset (length c.args.buf.now)) c.read-made.ensures.made) c.read-made.ensures.fails (short_there s.played c.read-made.new.self c.read-made.result c.read-made.ensures.refused) c.report.ensures.reported)
+
+pub returns-then-is_dark-clause-step : goal.returns-then-is_dark-clause-step
+returns-then-is_dark-clause-step c =
+    let s = c.args.self.now in
+    dark_step s.faults c.fail.new.self.faults s.played c.fail.new.self.played (ReadCall c.args.offset (length c.args.buf.now)) (sym c.is_dark.ensures.dark ∙ c.if-is_dark.true) c.fail.ensures.played
+
+pub returns-in-Ok-clause-step : goal.returns-in-Ok-clause-step
+returns-in-Ok-clause-step c =
+    let s = c.args.self.now in
+    made_step s.faults c.report.new.self.faults s.played c.read-made.new.self c.report.new.self.played (ReadCall c.args.offset (length c.args.buf.now)) c.read-made.result c.report.ensures.played (c.is_dark.ensures.lit c.if-is_dark.false) (on_ok c.read-made.result (λ made. made c.args.offset (length c.args.buf.now)) c.read-made.ensures.made) (short_there s.played c.read-made.new.self c.read-made.result c.read-made.ensures.refused)
+
+pub returns-in-Err-clause-step : goal.returns-in-Err-clause-step
+returns-in-Err-clause-step c =
+    let s = c.args.self.now in
+    made_step s.faults c.report.new.self.faults s.played c.read-made.new.self c.report.new.self.played (ReadCall c.args.offset (length c.args.buf.now)) c.read-made.result c.report.ensures.played (c.is_dark.ensures.lit c.if-is_dark.false) (on_ok c.read-made.result (λ made. made c.args.offset (length c.args.buf.now)) c.read-made.ensures.made) (short_there s.played c.read-made.new.self c.read-made.result c.read-made.ensures.refused)

@@ -1,39 +1,44 @@
 -- Proof of the contract of `send_pt`.
+use Rattle.sim_site.proofs.StepLemmas.{dark_step, made_step}
 use Rattle.std.proofs.Common.{◌∷◌, [], ◌∙◌, refl, sym, subst, false}
 use Rattle.std.specs.Prelude.{Err, is_some, Result}
-use Rattle.gw_site.specs.Observed.{GrowsAfter}
+use Rattle.gw_site.specs.Observed.{Grows}
 use Rattle.gw_site.specs.Turns.{SentPtTurns}
 use Rattle.gw_site.specs.declared.site.Failed.{Failed}
 use Rattle.gw_site.specs.declared.turn.Turn.TheVariants.{SentPt}
-use Rattle.gw_script.specs.site.Calls.{SendPtCall}
+use Rattle.gw_site.specs.Steps.{SendPtCall}
 use Rattle.gw_script.specs.site.Hazards.{takes_most}
 use Rattle.sim_site.specs.Hazards.{sends_value}
-use Rattle.sim_site.specs.Sites.{observed_with, origin_of}
+use Rattle.sim_site.specs.Sites.{observed_with}
 use Rattle.sim_site.specs.declared.played.Played.{Played}
-use Rattle.sim_site.proofs.SendLemmas.{pt_limit_there}
-use Rattle.sim_site.proofs.SiteLemmas.{dark_there_grows, is_none_taken, none_taken, pt_cut, pt_sent, reported_after, returned, short_there}
+use Rattle.sim_site.proofs.SiteLemmas.{dark_there_grows, pt_cut, pt_sent, reported_grows, returned, short_there}
 use Rattle.sim_site.proofs.site.SimSiteSite.send_pt.Goals as goal
 
 pub returns-then-is_dark-clause-turns : goal.returns-then-is_dark-clause-turns
 returns-then-is_dark-clause-turns c =
     let s = c.args.self.now in
-    let origin = origin_of s.played in
-    let limit = origin.pt_limit s.played.log c.args.pt in
-    dark_there_grows s.faults c.fail.new.self.faults s.played c.fail.new.self.played (SentPtTurns origin c.args.pt c.args.bytes.now (Err c.fail.result)) (SentPt c.args.pt (none_taken limit c.args.bytes.now) false ∷ []) c.fail.ensures.played (sym c.is_dark.ensures.dark ∙ c.if-is_dark.true) ((none_taken limit c.args.bytes.now, is_none_taken limit c.args.bytes.now, refl))
+    dark_there_grows s.faults c.fail.new.self.faults s.played c.fail.new.self.played (SentPtTurns c.args.pt c.args.bytes.now (Err c.fail.result)) (SentPt c.args.pt [] false ∷ []) c.fail.ensures.played (sym c.is_dark.ensures.dark ∙ c.if-is_dark.true) ([], (c.args.bytes.now, refl), refl)
 
 pub returns-clause-turns : goal.returns-clause-turns
 returns-clause-turns c =
     let s = c.args.self.now in
-    let origin = origin_of s.played in
-    let limit = origin.pt_limit s.played.log c.args.pt in
     let most = takes_most (sends_value s.played.place.hazard.pts) c.args.pt in
-    let lit = c.is_dark.ensures.lit c.if-is_dark.false in
-    subst (λ (p : Played). GrowsAfter (observed_with s.faults s.played) (observed_with c.report.new.self.faults p) (SentPtTurns origin c.args.pt c.args.bytes.now c.report.result)) (sym c.report.ensures.played)
-    (reported_after (λ (r : Result (Unit {0}) Failed). SentPtTurns origin c.args.pt c.args.bytes.now r) s.faults c.report.new.self.faults s.played c.send_pt-made.new.self (SendPtCall c.args.pt c.args.bytes.now) (is_some most) (SentPt c.args.pt (none_taken limit c.args.bytes.now) false ∷ []) c.send_pt-made.result c.report.result lit
+    subst (λ (p : Played). Grows (observed_with s.faults s.played) (observed_with c.report.new.self.faults p) (SentPtTurns c.args.pt c.args.bytes.now c.report.result)) (sym c.report.ensures.played)
+    (reported_grows (λ (r : Result (Unit {0}) Failed). SentPtTurns c.args.pt c.args.bytes.now r) s.faults c.report.new.self.faults s.played c.send_pt-made.new.self (SendPtCall c.args.pt c.args.bytes.now) (is_some most) (SentPt c.args.pt [] false ∷ []) c.send_pt-made.result c.report.result (c.is_dark.ensures.lit c.if-is_dark.false)
     c.send_pt-made.ensures.made c.send_pt-made.ensures.fails c.send_pt-made.ensures.refused c.send_pt-made.ensures.same c.report.ensures.reported
-    (λ e done. pt_sent origin s.played.log c.args.pt c.args.bytes.now most done e) (λ e error. pt_cut origin s.played.log c.args.pt c.args.bytes.now most error (pt_limit_there s.played c.args.pt lit) e) (λ error. (none_taken limit c.args.bytes.now, is_none_taken limit c.args.bytes.now, refl)))
+    (λ e done. pt_sent c.args.pt c.args.bytes.now most done e) (λ e error. pt_cut c.args.pt c.args.bytes.now most error e) (λ error. ([], (c.args.bytes.now, refl), refl)))
 
 pub returns-clause-result : goal.returns-clause-result
 returns-clause-result c = λ lit.
     let s = c.args.self.now in
     returned s.played c.send_pt-made.new.self c.report.new.self.played (SendPtCall c.args.pt c.args.bytes.now) (is_some (takes_most (sends_value s.played.place.hazard.pts) c.args.pt)) c.send_pt-made.result c.report.result c.report.ensures.played c.send_pt-made.ensures.made c.send_pt-made.ensures.fails (short_there s.played c.send_pt-made.new.self c.send_pt-made.result c.send_pt-made.ensures.refused) c.report.ensures.reported
+
+pub returns-then-is_dark-clause-step : goal.returns-then-is_dark-clause-step
+returns-then-is_dark-clause-step c =
+    let s = c.args.self.now in
+    dark_step s.faults c.fail.new.self.faults s.played c.fail.new.self.played (SendPtCall c.args.pt c.args.bytes.now) (sym c.is_dark.ensures.dark ∙ c.if-is_dark.true) c.fail.ensures.played
+
+pub returns-clause-step : goal.returns-clause-step
+returns-clause-step c =
+    let s = c.args.self.now in
+    made_step s.faults c.report.new.self.faults s.played c.send_pt-made.new.self c.report.new.self.played (SendPtCall c.args.pt c.args.bytes.now) c.send_pt-made.result c.report.ensures.played (c.is_dark.ensures.lit c.if-is_dark.false) c.send_pt-made.ensures.made (short_there s.played c.send_pt-made.new.self c.send_pt-made.result c.send_pt-made.ensures.refused)

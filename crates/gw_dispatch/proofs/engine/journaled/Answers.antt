@@ -1,0 +1,31 @@
+-- Proof of the contract of `journaled`.
+use Rattle.std.proofs.Common.{refl, sym, subst}
+use Rattle.gw_site.specs.Outside.{outside_of}
+use Rattle.gw_rules.specs.Acts.{Unmeasured}
+use Rattle.gw_rules.specs.Triple.{TripleBy, JustBegun}
+use Rattle.gw_dispatch.specs.RunEnd.{EndedBy, HasBegun, IsDueFrom, IsEndByFile}
+use Rattle.gw_dispatch.proofs.RunLemmas.{cause-by-file, cause-has-begun, opened-run, run-by-file, run-has-begun, run-reports-none, unopened-run}
+use Rattle.gw_dispatch.proofs.engine.journaled.Goals as goal
+
+pub returns-in-Ok-clause-triple : goal.returns-in-Ok-clause-triple
+returns-in-Ok-clause-triple g c = opened-run c.args.setup.now _ _ _ c.in-Ok.records c.args.most c.rounds.result (c.in-Ok.ensures.triple c.args.setup.now refl) c.rounds.ensures.triple
+
+pub returns-in-Ok-clause-begun : goal.returns-in-Ok-clause-begun
+returns-in-Ok-clause-begun g c = run-has-begun c.rounds.result c.rounds.ensures.ran
+
+pub returns-in-Ok-clause-file : goal.returns-in-Ok-clause-file
+returns-in-Ok-clause-file g c = λ log e. run-by-file c.args.setup.now.slots (outside_of log).file c.in-Ok.records c.rounds.result c.rounds.ensures.ran (c.in-Ok.ensures.file log e) (c.in-Ok.ensures.too_long log e)
+
+pub returns-in-Ok-clause-adds : goal.returns-in-Ok-clause-adds
+returns-in-Ok-clause-adds g c = λ r. absurd (run-reports-none c.rounds.result c.rounds.ensures.ran r)
+
+pub returns-in-Err-clause-triple : goal.returns-in-Err-clause-triple
+returns-in-Err-clause-triple g c = subst (λ ended. TripleBy (IsDueFrom c.args.setup.now Unmeasured) (g.S.Site.observed c.args.site.now) (g.S.Site.observed c.open.new.site) (JustBegun c.args.setup.now) (EndedBy ended c.args.most)) (sym c.ended_by.ensures)
+    (unopened-run c.args.setup.now _ _ c.in-Err.cause c.args.most (c.in-Err.ensures.triple c.args.setup.now refl))
+
+pub returns-in-Err-clause-begun : goal.returns-in-Err-clause-begun
+returns-in-Err-clause-begun g c = subst HasBegun (sym c.ended_by.ensures) (cause-has-begun c.in-Err.cause)
+
+pub returns-in-Err-clause-file : goal.returns-in-Err-clause-file
+returns-in-Err-clause-file g c = λ log e. subst (IsEndByFile c.args.setup.now.slots (outside_of log).file) (sym c.ended_by.ensures)
+    (cause-by-file c.args.setup.now.slots (outside_of log).file c.in-Err.cause (c.in-Err.ensures.too_long log e) (c.in-Err.ensures.cut log e) (c.in-Err.ensures.bad log e))

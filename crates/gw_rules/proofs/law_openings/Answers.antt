@@ -1,0 +1,18 @@
+-- Proof of the contract of `law_openings`.
+use Rattle.gw_rules.proofs.LedgerRuleLemmas.{each-file-folds, each-image-folds, lawful-refused-only-with-fewer-slots, refused-at-limits, refused-only-with-fewer-slots}
+use Rattle.gw_rules.proofs.law_openings.Goals as goal
+
+pub returns-clause-folds : goal.returns-clause-folds
+returns-clause-folds c = each-file-folds
+
+pub returns-clause-images : goal.returns-clause-images
+returns-clause-images c = each-image-folds
+
+pub returns-clause-refused : goal.returns-clause-refused
+returns-clause-refused c = refused-only-with-fewer-slots
+
+pub returns-clause-lawful : goal.returns-clause-lawful
+returns-clause-lawful c = lawful-refused-only-with-fewer-slots
+
+pub returns-clause-example : goal.returns-clause-example
+returns-clause-example c = refused-at-limits

@@ -1,0 +1,34 @@
+-- How the top call ends after one run.
+use Rattle.std.proofs.Common.{◌≡◌, ℕ, List, ◌∙◌, ap}
+use Rattle.gw_base.specs.declared.setup.Setup.{Setup}
+use Rattle.gw_site.specs.Observed.{Observed}
+use Rattle.gw_site.specs.declared.turn.Turn.{Turn}
+use Rattle.gw_rules.specs.Triple.{IsRun, RunTriple}
+use Rattle.gw_rules.specs.View.{View}
+use Rattle.gw_dispatch.specs.RunEnd.{EndedBy}
+use Rattle.gw_dispatch.specs.declared.engine.Ended.{Ended}
+use Rattle.gw_run.specs.RunEnds.{EndsRun, EndsWithStatus, GivesEnd, GivesStatus, ending_of}
+use Rattle.gw_run.specs.Top.{status_of}
+use Rattle.gw_run.specs.declared.ending.Ending.{Ending}
+
+-- after one run at most something weaker is so
+pub run-weaker : (own : Setup) (old new : Observed) (Shape : List Turn → Type 0) (Q R : View → Type 0) → ((v : View) → Q v → R v) → RunTriple own old new Shape Q → RunTriple own old new Shape R
+run-weaker own old new Shape Q R weaker runs = record {
+  observed = λ before v e s clear.
+      let r = runs.observed before v e s clear in
+      record { moves = r.moves; log_is = r.log_is; lawful = r.lawful; shape = r.shape; done = r.done; none = r.none; owed = λ lit. weaker _ (r.owed lit) };
+  unobserved = runs.unobserved;
+  origin = runs.origin;
+}
+
+-- a run that has ended so gives this end
+pub gives-end : (own : Setup) (old new : Observed) (ended : Ended) (ending : Ending) (most : ℕ) → ending ≡ ending_of ended → RunTriple own old new (IsRun own) (EndedBy ended most) → RunTriple own old new (IsRun own) (EndsRun ending most)
+gives-end own old new ended ending most e runs = run-weaker own old new (IsRun own) (EndedBy ended most) (EndsRun ending most) (λ v by. (ended, e, by)) runs
+
+-- an end gives its status
+pub gives-status : (ending : Ending) (status : ℕ) (IsSo : Ended → Type 0) → status ≡ status_of ending → GivesEnd ending IsSo → GivesStatus status IsSo
+gives-status ending status IsSo s r = (r.0, s ∙ ap status_of r.1, r.2)
+
+-- and so does that of a run
+pub run-status : (own : Setup) (old new : Observed) (ending : Ending) (status most : ℕ) → status ≡ status_of ending → RunTriple own old new (IsRun own) (EndsRun ending most) → RunTriple own old new (IsRun own) (EndsWithStatus status most)
+run-status own old new ending status most s runs = run-weaker own old new (IsRun own) (EndsRun ending most) (EndsWithStatus status most) (λ v r. gives-status ending status (λ ended. EndedBy ended most v) s r) runs

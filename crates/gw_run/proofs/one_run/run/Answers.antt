@@ -1,0 +1,9 @@
+-- Proof of the contract of `run`.
+use Rattle.gw_run.proofs.RunEndLemmas.{gives-status, run-status}
+use Rattle.gw_run.proofs.one_run.run.Goals as goal
+
+pub returns-clause-lawful : goal.returns-clause-lawful
+returns-clause-lawful g c = run-status _ _ _ c.run_ended.result c.status.result c.args.most c.status.ensures c.run_ended.ensures.lawful
+
+pub returns-clause-file : goal.returns-clause-file
+returns-clause-file g c = λ log e. gives-status c.run_ended.result c.status.result _ c.status.ensures (c.run_ended.ensures.file log e)

@@ -1,0 +1,9 @@
+-- Proof of the contract of `run_ended`.
+use Rattle.gw_run.proofs.RunEndLemmas.{gives-end}
+use Rattle.gw_run.proofs.one_run.run_ended.Goals as goal
+
+pub returns-clause-lawful : goal.returns-clause-lawful
+returns-clause-lawful g c = gives-end _ _ _ c.run.result c.ending_of.result c.args.most c.ending_of.ensures c.run.ensures.lawful
+
+pub returns-clause-file : goal.returns-clause-file
+returns-clause-file g c = λ log e. (c.run.result, c.ending_of.ensures, c.run.ensures.file log e)
