@@ -7,7 +7,7 @@ ghost use Rattle.gw_ledger.specs.Accounts.{is_settled, last_number_of};
 ghost use Rattle.gw_ledger.specs.Fold.{AreBodiesOf, AreFolded, IfBad, IsFirstBad, fits, found_of, last_entry, open_entry};
 ghost use Rattle.gw_ledger.specs.Keys.{slot_of};
 ghost use Rattle.gw_ledger.specs.KeyTable.{AreKeyRows};
-ghost use Rattle.gw_ledger.specs.Slots.{is_reversed};
+ghost use Rattle.gw_ledger.specs.Slots.{entry_at, is_reversed};
 ghost use Rattle.gw_ledger.specs.Sums.{open_count_of, tally_of, totals_of};
 ghost use Rattle.gw_ledger.specs.Table.{IsTable};
 ghost use Rattle.gw_ledger.specs.Transaction.{named_of};
@@ -166,6 +166,13 @@ impl Ledger {
             Some(slot) => self.tables.found(slot),
             None => None,
         }
+    }
+
+    /// The entry whose Intent is at this slot, open or with its Outcome.
+    pub fn entry(&self, slot: u32) -> Option<Entry>
+        ensures { result ≡ entry_at self.now.records slot }
+    {
+        self.tables.entry(slot)
     }
 
     /// The entry that a text names at a terminal, where it has its Outcome.

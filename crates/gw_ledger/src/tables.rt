@@ -343,7 +343,7 @@ impl Tables {
     }
 
     /// The entry whose Intent is at this slot.
-    fn entry(&self, slot: u32) -> Option<Entry>
+    pub fn entry(&self, slot: u32) -> Option<Entry>
         ensures { result ≡ entry_at self.now.records slot }
     {
         match self.records.intent_at(slot) {
