@@ -1,10 +1,12 @@
 //! Rows of the dialogue with a terminal: what each message, each silence and each failure means while it registers, while it
-//! is enquired, and once it is ready.
+//! is enquired, once it is ready, and while it serves a payment.
 mod enquiry_rows;
+mod payment_rows;
 mod registration_rows;
 
 use crate::tables::check_rows;
 use enquiry_rows::ENQUIRY;
+use payment_rows::PAYMENT;
 use registration_rows::REGISTRATION;
 use std::test::Fail;
 
@@ -42,6 +44,25 @@ pt 0 060f00
 pt 0 800000
 pt 0 061e0183
 > pt 0 out 800000";
+
+/// It serves a payment of 10.99.
+const PAYING: &str = "\
+terminal T1 EUR 123456 186 131
+at 1741342264
+> start
+open 1
+> link 0
+> pt 0 out 060006123456ba0978
+pt 0 800000
+pt 0 060f00
+> pt 0 out 800000
+> pt 0 out 062003123456
+pt 0 800000
+pt 0 061e0183
+> pt 0 out 800000
+pay 1 1 10.99
+> intent 0 1 1099 0
+> pt 0 out 06010a04000000001099490978";
 
 /// What may come once it is ready.
 const READY: &str = "\
@@ -122,4 +143,9 @@ fn enquiry(rt: HostRuntime) -> Result<(), Fail> {
 #[test]
 fn ready(rt: HostRuntime) -> Result<(), Fail> {
     check_rows(&rt, rt.alloc(), IS_READY, READY)
+}
+
+#[test]
+fn payment(rt: HostRuntime) -> Result<(), Fail> {
+    check_rows(&rt, rt.alloc(), PAYING, PAYMENT)
 }

@@ -1,14 +1,16 @@
-//! Whole scripts by the top call, and the core's decisions by calls made by hand: rows that no clause of one crate says.
+//! Whole scripts by the top call: rows that no clause of one crate says.
 #![tactic(auto)]
 
-#[cfg(test)]
-mod core_tests;
 #[cfg(test)]
 mod dialogue_tests;
 #[cfg(test)]
 mod message_tests;
 #[cfg(test)]
 mod opening_tests;
+#[cfg(test)]
+mod payment_lines;
+#[cfg(test)]
+mod payment_tests;
 #[cfg(test)]
 mod replay;
 #[cfg(test)]

@@ -190,6 +190,8 @@ fail link 0
 
 terminal T1 EUR 123456 186 131
 
+line 0
+wait 30
 terminal T1 EUR 123456 186 131
 tick
 > link 0
@@ -289,11 +291,12 @@ fn lines_of_a_terminal_and_failing_calls(rt: HostRuntime) -> Result<(), Fail> {
 /// Scripts with a line that isn't served yet, in rows of the same form.
 const UNSERVED: &str = "\
 2 terminal T1 EUR 123456 186 131;terminal T2 EUR 123456 186 131
-2 name A;line 0
-1 wait 60
-3 slots 2;name A;wait 1
-1 line 0;sya 1 x
-1 sya 1 x;line 0";
+2 name A;line 1
+1 line 8
+3 slots 2;wait 1;line 1
+1 line 1;sya 1 x
+1 sya 1 x;line 1
+2 line 0;sya 1 x";
 
 #[test]
 fn unserved_lines_are_refused_with_their_number(rt: HostRuntime) -> Result<(), Fail> {

@@ -6,7 +6,10 @@
 //! - `ask CATEGORY BODY` is a request of the till, and `> reply CLASS CATEGORY BODY` what it gets;
 //! - `diagnosis` asks for the state of the terminal, and gets `> state STATE`;
 //! - `> reject SALE POI DETAILS` is the event that rejects a message;
-//! - `> start` is a start, and the opening of the journal on no file.
+//! - `> start` is a start, and the opening of the journal on no file, and `> restart` the same on one with records.
+//!
+//! `payment_lines` has those of payments.
+use crate::payment_lines::{push_asked, push_paid};
 use crate::replay::check;
 use std::alloc::{AllocError, Global};
 use std::process::Abort;
@@ -41,9 +44,11 @@ pub(crate) fn halves(line: &str) -> (&str, &str) {
 
 /// Appends a form, in which these texts take the places of its `%`.
 pub(crate) fn push_form(text: &mut String, form: &str, values: &[&str]) -> Result<(), AllocError> {
-    for (number, part) in form.split('%').enumerate() {
-        text.push_str(part)?;
+    let mut parts = form.split('%');
+    text.push_str(parts.next().unwrap_or(""))?;
+    for (number, part) in parts.enumerate() {
         text.push_str(values.get(number).copied().unwrap_or(""))?;
+        text.push_str(part)?;
     }
     Ok(())
 }
@@ -54,12 +59,33 @@ fn push_request(text: &mut String, request: &str) -> Result<(), AllocError> {
     push_form(text, REQUEST, &[category, category, body])
 }
 
+/// The till of a line that is a request.
+fn asking_till(line: &str) -> Option<&str> {
+    let (word, rest) = halves(line);
+    let (first, _) = halves(rest);
+    match word {
+        "ask" => Some("1"),
+        "pay" | "status" => Some(first),
+        _ => None,
+    }
+}
+
+/// Appends the message of a line that is a request.
+fn push_message(text: &mut String, line: &str) -> Result<(), AllocError> {
+    let (word, rest) = halves(line);
+    let (_, words) = halves(rest);
+    match word {
+        "ask" => push_request(text, rest),
+        _ => push_asked(text, word, words),
+    }
+}
+
 /// Appends a line of a row to the script.
 fn push_played(script: &mut String, line: &str) -> Result<(), AllocError> {
-    match line.strip_prefix("ask ") {
-        Some(request) => {
-            script.push_str("say 1 ")?;
-            push_request(script, request)
+    match asking_till(line) {
+        Some(till) => {
+            push_form(script, "say % ", &[till])?;
+            push_message(script, line)
         }
         None => push_form(script, "%\n", &[line.strip_prefix("~ ").unwrap_or(line)]),
     }
@@ -71,40 +97,47 @@ fn push_event(log: &mut String, now: &str, line: &str) -> Result<(), AllocError>
     let (number, bytes) = halves(rest);
     match word {
         "tick" => push_form(log, "at %\n", &[now]),
-        "open" | "lost" => push_form(log, "at %\n%\n", &[now, line]),
+        "open" | "close" | "lost" => push_form(log, "at %\n%\n", &[now, line]),
         "till" | "pt" => push_form(log, "at %\n% % in %\n", &[now, word, number, bytes]),
         "say" => push_form(log, "at %\ntill % in '%\n", &[now, number, bytes]),
         "ask" => {
             push_form(log, "at %\ntill 1 in '", &[now])?;
-            push_request(log, rest)
+            push_message(log, line)
+        }
+        "pay" | "status" => {
+            push_form(log, "at %\ntill % in '", &[now, number])?;
+            push_message(log, line)
         }
         _ => Ok(()),
     }
 }
 
 /// Appends a line of the log.
-fn push_logged(log: &mut String, line: &str) -> Result<(), AllocError> {
+fn push_logged(alloc: Global, log: &mut String, line: &str) -> Result<(), Fail> {
     let (word, rest) = halves(line);
     let (first, others) = halves(rest);
     let (second, last) = halves(others);
     match word {
-        "reply" => push_form(log, REPLY, &[first, second, second, last]),
-        "reject" => push_form(log, REJECT, &[first, second, last]),
-        "state" => push_form(log, STATE, &[rest]),
-        "start" => log.push_str("start\nsynced\nwrote 0 00\nsynced\n"),
-        _ => push_form(log, "%\n", &[line]),
+        "reply" => push_form(log, REPLY, &[first, second, second, last])?,
+        "reject" => push_form(log, REJECT, &[first, second, last])?,
+        "state" => push_form(log, STATE, &[rest])?,
+        "start" => log.push_str("start\nsynced\nwrote 0 00\nsynced\n")?,
+        "restart" => log.push_str("start\nsynced\n")?,
+        _ => push_paid(alloc, log, line)?,
     }
+    Ok(())
 }
 
 /// Appends a line of a row to the script or to the log; one that sets the moment changes it.
 fn push_line(
+    alloc: Global,
     script: &mut String,
     log: &mut String,
     now: &mut String,
     line: &str,
-) -> Result<(), AllocError> {
+) -> Result<(), Fail> {
     if let Some(logged) = line.strip_prefix("> ") {
-        return push_logged(log, logged);
+        return push_logged(alloc, log, logged);
     }
     if let Some(moment) = line.strip_prefix("at ") {
         now.clear();
@@ -116,38 +149,51 @@ fn push_line(
         line
     };
     push_played(script, played)?;
-    push_event(log, now, played)
+    push_event(log, now, played)?;
+    Ok(())
 }
 
-/// Appends the lines of a row to the script and to the log, from the moment 0 on, and leaves the moment at its end.
+/// Appends the lines of a row to the script and to the log, from this moment on, and leaves the moment at its end.
 fn push_row(
+    alloc: Global,
     script: &mut String,
     log: &mut String,
     now: &mut String,
     row: &str,
-) -> Result<(), AllocError> {
-    now.clear();
-    now.push_str("0")?;
+) -> Result<(), Fail> {
     for line in row.split('\n') {
-        push_line(script, log, now, line)?;
+        push_line(alloc, script, log, now, line)?;
     }
     Ok(())
 }
 
-/// Plays a row, before which these lines come.
+/// Plays a row, before which these lines come, from the moment 0 on: after it the output has these lines, in which the moment takes
+/// the place of `%`, and this is the status.
+pub(crate) fn check_to_end(
+    rt: &impl Abort,
+    alloc: Global,
+    beginning: &str,
+    row: &str,
+    end: (&str, u8),
+) -> Result<(), Fail> {
+    let mut script = String::new(alloc);
+    let mut output = String::new(alloc);
+    let mut now = String::from_str(alloc, "0")?;
+    let (last_lines, status) = end;
+    push_row(alloc, &mut script, &mut output, &mut now, beginning)?;
+    push_row(alloc, &mut script, &mut output, &mut now, row)?;
+    push_form(&mut output, last_lines, &[&now])?;
+    check(rt, alloc, &script, &output, status)
+}
+
+/// Plays a row to the script's end, before which these lines come.
 pub(crate) fn check_row(
     rt: &impl Abort,
     alloc: Global,
     beginning: &str,
     row: &str,
 ) -> Result<(), Fail> {
-    let mut script = String::new(alloc);
-    let mut output = String::new(alloc);
-    let mut now = String::new(alloc);
-    push_row(&mut script, &mut output, &mut now, beginning)?;
-    push_row(&mut script, &mut output, &mut now, row)?;
-    push_form(&mut output, "at %\nstop\nstatus 0\n", &[&now])?;
-    check(rt, alloc, &script, &output, 0)
+    check_to_end(rt, alloc, beginning, row, ("at %\nstop\nstatus 0\n", 0))
 }
 
 /// Plays the rows of a table, before each of which these lines come.

@@ -13,16 +13,18 @@ use Rattle.gw_base.specs.declared.setup.Pt.{Pt}
 use Rattle.gw_base.proofs.MomentLemmas.{moment_of_bound}
 use Rattle.zvt_msg.specs.CommandGrammar.{HasCommandDigits}
 use Rattle.zvt_msg.specs.declared.command.Command.{Command}
-use Rattle.gw_owes.specs.Calls.{SendPt, Ask}
+use Rattle.jrn_record.specs.declared.records.Record.{Record}
 use Rattle.gw_owes.specs.Core.{Core as CoreValue, new_terminal}
 use Rattle.gw_owes.specs.Links.{LinkIsLost, LinkIsMade, link_row}
 use Rattle.gw_owes.specs.Row.{Known}
 use Rattle.gw_owes.specs.Terminals.{after_command, asker_of_lost, forgets_till, registration, reply_calls_to, reply_to_lost, with_terminal}
+use Rattle.gw_owes.specs.declared.terminal.Service.TheVariants.{Transaction, EndOfDay, Display}
 use Rattle.gw_owes.specs.declared.terminal.Standing.{Standing}
 use Rattle.gw_owes.specs.declared.terminal.Standing.TheVariants.{Unlinked, Registering, Enquiring, Ready, Serving, Aside}
 use Rattle.gw_owes.specs.declared.terminal.Terminal.{Terminal}
 use Rattle.gw_core.specs.declared.act.Act.{Act}
-use Rattle.gw_core.specs.IsRow.{HaveSettings, IsRow, ServesNothing, act_calls}
+use Rattle.gw_core.specs.declared.act.Act.TheVariants as act
+use Rattle.gw_core.specs.IsRow.{HaveSettings, IsRow, ServesNoOther, alone}
 
 -- ---- moments
 
@@ -82,57 +84,58 @@ pub found-at : (items : List Terminal) (held : CoreValue) (pt at : ℕ) (termina
 found-at items held pt at terminal held_is within at_is is =
     slice_get_read items (length items) pt terminal refl (subst (λ (all : List Terminal). pt < length all) held_is within) (subst (λ n. terminal ≡ get_or items n terminal) at_is is)
 
--- a terminal that is there serves nothing, where this is said of it
+-- a terminal that is there serves a payment or a reversal, or nothing, where this is said of it
 pub serves-at : (items : List Terminal) (held : CoreValue) (pt : ℕ) (terminal : Terminal) → held.terminals ≡ items → slice_get items pt ≡ Some terminal
-    → IfSome (slice_get held.terminals pt) (λ (one : Terminal). ServesNothing one.standing) → ServesNothing terminal.standing
+    → IfSome (slice_get held.terminals pt) (λ (one : Terminal). ServesNoOther one.standing) → ServesNoOther terminal.standing
 serves-at items held pt terminal held_is found serves =
-    subst (λ (o : Option Terminal). IfSome o (λ (one : Terminal). ServesNothing one.standing)) (ap (λ (all : List Terminal). slice_get all pt) held_is ∙ found) serves
+    subst (λ (o : Option Terminal). IfSome o (λ (one : Terminal). ServesNoOther one.standing)) (ap (λ (all : List Terminal). slice_get all pt) held_is ∙ found) serves
 
 -- so does one that takes another's place
-pub new-serves : (items : List Terminal) (pt : ℕ) (new : Terminal) → ServesNothing new.standing → IfSome (slice_get (set items pt new) pt) (λ (one : Terminal). ServesNothing one.standing)
+pub new-serves : (items : List Terminal) (pt : ℕ) (new : Terminal) → ServesNoOther new.standing → IfSome (slice_get (set items pt new) pt) (λ (one : Terminal). ServesNoOther one.standing)
 new-serves [] pt new serves = tt
 new-serves (first ∷ rest) zero new serves = serves
 new-serves (first ∷ rest) (suc pt) new serves = new-serves rest pt new serves
 
 -- ---- a link
 
--- a terminal whose link is made registers
-pub made-row : (known : Known) (pt : ℕ) (old new : Terminal) (command : Command) (wanted : Act) → slice_get known.core.terminals pt ≡ Some old → command ≡ registration old.pt
-    → new ≡ after_command (record old { awaited = 0 }) command Registering known.moment → act_calls wanted ≡ SendPt pt (Ask command) ∷ []
-    → IsRow (link_row known pt LinkIsMade) (with_terminal known.core pt new) (Some wanted)
-made-row known pt old new command wanted found is becomes wants = rw found (record {
-  core_is = ap (with_terminal known.core pt) (becomes ∙ ap (λ c. after_command (record old { awaited = 0 }) c Registering known.moment) is);
-  calls_are = ap (λ calls. calls ++ []) wants ∙ ap (λ c. SendPt pt (Ask c) ∷ []) is;
-  items_are = refl;
-})
+-- a terminal whose link is made registers, whatever the records
+pub made-row : (known : Known) (kept : List Record) (pt : ℕ) (old new : Terminal) (command : Command) (wanted : Act) → slice_get known.core.terminals pt ≡ Some old → command ≡ registration old.pt
+    → new ≡ after_command (record old { awaited = 0 }) command Registering known.moment → wanted ≡ act.SendPt pt command
+    → IsRow kept (link_row known pt LinkIsMade) (with_terminal known.core pt new) (alone (Some wanted))
+made-row known kept pt old new command wanted found is becomes wants =
+    rw (found, wants, becomes, is) (record { core_is = refl; calls_are = refl; items_are = refl })
 
--- a terminal that serves nothing, and whose link isn't there, owes nothing
-pub lost-row : (known : Known) (pt : ℕ) (old : Terminal) → slice_get known.core.terminals pt ≡ Some old → ServesNothing old.standing
-    → IsRow (link_row known pt LinkIsLost) (with_terminal known.core pt (record old { standing = Unlinked (Some (known.moment + 5)); talk = None; awaited = 0 })) None
-lost-row known pt old found serves = rw found (record {
+-- a terminal that serves a payment or a reversal, or nothing, and whose link isn't there, owes nothing
+pub lost-row : (known : Known) (kept : List Record) (pt : ℕ) (old : Terminal) → slice_get known.core.terminals pt ≡ Some old → ServesNoOther old.standing
+    → IsRow kept (link_row known pt LinkIsLost) (with_terminal known.core pt (record old { standing = Unlinked (Some (known.moment + 5)); talk = None; awaited = 0 })) (alone None)
+lost-row known kept pt old found serves = rw found (record {
   core_is = ap (λ asker. with_terminal known.core pt (record old { standing = Unlinked (Some (known.moment + 5)); talk = None; awaited = 0; asker = asker })) (sym (same-asker old.asker old.standing serves));
-  calls_are = sym (no-reply old.asker old.standing serves);
+  calls_are = no-reply old.asker old.standing serves;
   items_are = refl;
 })
   where
-    same-asker : (asker : Option ℕ) (standing : Standing) → ServesNothing standing → asker_of_lost asker standing ≡ asker
+    same-asker : (asker : Option ℕ) (standing : Standing) → ServesNoOther standing → asker_of_lost asker standing ≡ asker
     same-asker asker (Unlinked due) serves = refl
     same-asker asker Registering serves = refl
     same-asker asker Enquiring serves = refl
     same-asker asker (Ready last) serves = refl
-    same-asker asker (Serving service last) serves = absurd serves
+    same-asker asker (Serving (Transaction slot) last) serves = refl
+    same-asker asker (Serving (EndOfDay header period) last) serves = absurd serves
+    same-asker asker (Serving (Display header outputs) last) serves = absurd serves
     same-asker asker (Aside before reported) serves = refl
 
     none-to : (asker : Option ℕ) → reply_calls_to asker None ≡ []
     none-to None = refl
     none-to (Some till) = refl
 
-    no-reply : (asker : Option ℕ) (standing : Standing) → ServesNothing standing → reply_calls_to asker (reply_to_lost standing) ≡ []
+    no-reply : (asker : Option ℕ) (standing : Standing) → ServesNoOther standing → reply_calls_to asker (reply_to_lost standing) ≡ []
     no-reply asker (Unlinked due) serves = none-to asker
     no-reply asker Registering serves = none-to asker
     no-reply asker Enquiring serves = none-to asker
     no-reply asker (Ready last) serves = none-to asker
-    no-reply asker (Serving service last) serves = absurd serves
+    no-reply asker (Serving (Transaction slot) last) serves = none-to asker
+    no-reply asker (Serving (EndOfDay header period) last) serves = absurd serves
+    no-reply asker (Serving (Display header outputs) last) serves = absurd serves
     no-reply asker (Aside before reported) serves = none-to asker
 
 -- ---- a till that is gone

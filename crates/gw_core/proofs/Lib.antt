@@ -1,6 +1,10 @@
 -- The lemmas of what a till gets for each message, and of what the core wants done.
+pub mod BeginLemmas
 pub mod CoreLemmas
 pub mod HandlingLemmas
+pub mod KeptLemmas
 pub mod NamedLemmas
 pub mod OutputLemmas
 pub mod ReplyLemmas
+pub mod ServingLemmas
+pub mod StepLemmas

@@ -1,6 +1,8 @@
 -- The terminal that a POIID names.
 use Rattle.std.proofs.Common.{◌≡◌, ◌≤◌, ◌<◌, ◌+◌, ℕ, zero, suc, List, [], ◌∷◌, refl, sym, ◌∙◌, ap, subst, arith}
 use Rattle.std.proofs.lemmas.List.{drop_more, at_drop_all}
+use Rattle.std.proofs.lemmas.Option.{same_Some}
+use Rattle.std.proofs.lemmas.Slice.Eq.{bytes_eq-Decides}
 use Rattle.std.specs.Prelude.{slice_get, get_or, drop, length, bytes_eq, if◌then◌else◌, Bool, true, false, IfSome, Option, Some, None}
 use Rattle.std.specs.Option.{option_map}
 use Rattle.gw_base.specs.declared.condition.Condition.TheVariants.{UnavailableService}
@@ -72,6 +74,30 @@ named-there core poi number terminal is = by-place (named-from-there core.termin
   where
     by-place : (k : ℕ) × (number ≡ 0 + k) × (slice_get core.terminals k ≡ Some terminal) → slice_get core.terminals number ≡ Some terminal
     by-place (k, is, found) = let e : number ≡ k = omega arith in subst (λ n. slice_get core.terminals n ≡ Some terminal) (sym e) found
+
+-- so the terminal of the number that was found is the one that is named
+pub named-is : (core : CoreValue) (poi : List ℕ) (number : ℕ) (terminal : Terminal) → Some number ≡ number_of (named_terminal core poi) → slice_get core.terminals number ≡ Some terminal
+    → named_terminal core poi ≡ Some (record { number = number; terminal = terminal })
+named-is core poi number terminal is found =
+    let one = one-named (named_terminal core poi) number is in
+    let there = named-there core poi number one.0 one.1 in
+    let same : one.0 ≡ terminal = same_Some one.0 terminal (sym there ∙ found) in
+    subst (λ (t : Terminal). named_terminal core poi ≡ Some (record { number = number; terminal = t })) same one.1
+
+-- a terminal that is named has the POIID
+named-from-poi : (terminals : List Terminal) (first : ℕ) (poi : List ℕ) (one : NamedTerminal) → named_from first poi terminals ≡ Some one → one.terminal.pt.poi ≡ poi
+named-from-poi [] first poi one is = absurd cc
+named-from-poi (terminal ∷ terminals) first poi one is = by-test (bytes_eq terminal.pt.poi poi) refl (λ later. named-from-poi terminals (first + 1) poi one later) is
+  where
+    by-test : (b : Bool) → bytes_eq terminal.pt.poi poi ≡ b → (named_from (first + 1) poi terminals ≡ Some one → one.terminal.pt.poi ≡ poi)
+        → (if b then Some (record { number = first; terminal = terminal }) else named_from (first + 1) poi terminals) ≡ Some one → one.terminal.pt.poi ≡ poi
+    by-test true same rest is =
+        let here : record { number = first; terminal = terminal } ≡ one = same_Some (record { number = first; terminal = terminal }) one is in
+        subst (λ (n : NamedTerminal). n.terminal.pt.poi ≡ poi) here ((bytes_eq-Decides terminal.pt.poi poi).0 same)
+    by-test false other rest is = rest is
+
+pub named-poi : (core : CoreValue) (poi : List ℕ) (number : ℕ) (terminal : Terminal) → named_terminal core poi ≡ Some (record { number = number; terminal = terminal }) → terminal.pt.poi ≡ poi
+named-poi core poi number terminal is = named-from-poi core.terminals 0 poi (record { number = number; terminal = terminal }) is
 
 -- what is there lies within
 pub there-within : (terminals : List Terminal) (number : ℕ) (terminal : Terminal) → slice_get terminals number ≡ Some terminal → number < length terminals

@@ -1,42 +1,67 @@
 -- What the core wants done, beside what a row says.
-use Rattle.std.specs.Prelude.{◌≡◌, ℕ, Bool, true, false, List, [], ◌∷◌, flat_map, slice_get, Option, Some, option_to_list}
+use Rattle.std.specs.Prelude.{◌≡◌, ℕ, Bool, true, false, IsTrue, List, [], ◌∷◌, ◌++◌, length, slice_get, Option, Some, None}
 use Rattle.gw_base.specs.Setup.{IsPt}
 use Rattle.gw_base.specs.declared.setup.Setup.{Setup}
+use Rattle.jrn_record.specs.Limits.{IsRecord}
 use Rattle.jrn_record.specs.declared.records.Record.{Record}
+use Rattle.gw_ledger.specs.Fold.{fits}
+use Rattle.sale_reply.specs.Limits.{IsWithinLimits}
 use Rattle.zvt_msg.specs.CommandGrammar.{HasCommandDigits}
+use Rattle.gw_owes.specs.declared.terminal.Service.{Service}
+use Rattle.gw_owes.specs.declared.terminal.Service.TheVariants.{Transaction, EndOfDay, Display}
 use Rattle.gw_owes.specs.declared.terminal.Standing.{Standing}
 use Rattle.gw_owes.specs.declared.terminal.Terminal.{Terminal}
 use Rattle.gw_owes.specs.declared.terminal.Standing.TheVariants.{Unlinked, Registering, Enquiring, Ready, Serving, Aside}
-use Rattle.gw_owes.specs.Calls.{Ask, Acknowledge, Refuse, OwedCall, SendPt, CutPt, LinkPt}
+use Rattle.gw_owes.specs.Calls.{Ask, Acknowledge, Refuse, OwedCall, SendTill, SendPt, CutPt, LinkPt, keep_calls}
 use Rattle.gw_owes.specs.Core.{Core as CoreValue}
 use Rattle.gw_owes.specs.Deadlines.{due_row, late_row}
 use Rattle.gw_owes.specs.Links.{LinkEvent, LinkIsMade, LinkIsLost}
+use Rattle.gw_owes.specs.Reply.{ReplyValue}
 use Rattle.gw_owes.specs.Row.{Known, Row}
 use Rattle.gw_core.specs.declared.act.Act.{Act}
 use Rattle.gw_core.specs.declared.act.Act.TheVariants as act
+use Rattle.gw_core.specs.declared.act.Acts.{Acts}
 use Rattle.gw_core.specs.declared.terminals.Timer.{Timer}
 use Rattle.gw_core.specs.declared.terminals.Timer.TheVariants as timers
+use Rattle.gw_core.specs.ReplyOf.{IsSameReply}
 
--- the calls that an act is for
-abbrev pub act_calls : Act → List OwedCall
-act_calls (act.SendPt pt command) = SendPt pt (Ask command) ∷ []
-act_calls (act.Ack pt) = SendPt pt Acknowledge ∷ []
-act_calls (act.Refuse pt) = SendPt pt Refuse ∷ []
-act_calls (act.CutPt pt) = CutPt pt ∷ []
-act_calls (act.Link pt) = LinkPt pt ∷ []
+-- ---- what is wanted, and what is owed
 
--- the calls that the act is for, where there is one
-abbrev pub calls_wanted : Option Act → List OwedCall
-calls_wanted wanted = flat_map act_calls (option_to_list wanted)
+-- the calls that keep a record in this slot, where there is one
+abbrev pub keeping_calls : ℕ → Option Record → List OwedCall
+keeping_calls slot None = []
+keeping_calls slot (Some the_record) = keep_calls slot the_record
+
+-- the calls are these, and then that of the act: a till is sent a reply with the tree of the one that is owed
+abbrev pub AreCallsThen : List OwedCall → Act → List OwedCall → Type 0
+AreCallsThen before (act.SendPt pt command) calls = calls ≡ before ++ SendPt pt (Ask command) ∷ []
+AreCallsThen before (act.Ack pt) calls = calls ≡ before ++ SendPt pt Acknowledge ∷ []
+AreCallsThen before (act.Refuse pt) calls = calls ≡ before ++ SendPt pt Refuse ∷ []
+AreCallsThen before (act.CutPt pt) calls = calls ≡ before ++ CutPt pt ∷ []
+AreCallsThen before (act.Link pt) calls = calls ≡ before ++ LinkPt pt ∷ []
+AreCallsThen before (act.SendTill till given) calls = (reply : ReplyValue) × IsSameReply given reply × (calls ≡ before ++ SendTill till reply ∷ [])
+
+-- the calls are these, and then that of the act, where there is one
+abbrev pub AreCallsWith : List OwedCall → Option Act → List OwedCall → Type 0
+AreCallsWith before None calls = calls ≡ before
+AreCallsWith before (Some wanted) calls = AreCallsThen before wanted calls
+
+-- the calls keep the record in this slot, where there is one, and then are that of the act, where there is one
+abbrev pub IsActs : ℕ → Acts → List OwedCall → Type 0
+IsActs slot acts calls = AreCallsWith (keeping_calls slot acts.keep) acts.act calls
+
+-- nothing is kept, and this is wanted
+abbrev pub alone : Option Act → Acts
+alone wanted = record { keep = None; act = wanted }
 
 -- what a gateway of this setup knows that remembers this, at this moment, and keeps these records
 abbrev pub known_with : Setup → List Record → CoreValue → ℕ → Known
 known_with setup kept core moment = record { setup = setup; core = core; kept = kept; moment = moment }
 
--- what is remembered has become what the row says, this is wanted of its calls, and nothing further is to be handled for it
-pub record IsRow (row : Row) (core : CoreValue) (wanted : Option Act) : Type 0 where
+-- after these records: what is remembered has become what the row says, its calls are wanted, and nothing further is to be handled for it
+pub record IsRow (kept : List Record) (row : Row) (core : CoreValue) (acts : Acts) : Type 0 where
   pub core_is : core ≡ row.core
-  pub calls_are : calls_wanted wanted ≡ row.calls
+  pub calls_are : IsActs (length kept) acts row.calls
   pub items_are : row.items ≡ []
 
 -- what became of a link: it is made, or it isn't there
@@ -54,35 +79,50 @@ abbrev pub pt_of_timer : Timer → ℕ
 pt_of_timer (timers.Silence pt) = pt
 pt_of_timer (timers.Link pt) = pt
 
--- the terminal serves nothing
-abbrev pub ServesNothing : Standing → Type 0
-ServesNothing (Unlinked due) = Unit {0}
-ServesNothing Registering = Unit {0}
-ServesNothing Enquiring = Unit {0}
-ServesNothing (Ready last) = Unit {0}
-ServesNothing (Serving service last) = ⊥
-ServesNothing (Aside before reported) = Unit {0}
+-- ---- what makes it possible
 
--- the terminal that an act is about
-abbrev pub pt_of : Act → ℕ
-pt_of (act.SendPt pt command) = pt
-pt_of (act.Ack pt) = pt
-pt_of (act.Refuse pt) = pt
-pt_of (act.CutPt pt) = pt
-pt_of (act.Link pt) = pt
+-- a payment or a reversal is served
+abbrev pub IsPaymentOrReversal : Service → Type 0
+IsPaymentOrReversal (Transaction slot) = Unit {0}
+IsPaymentOrReversal (EndOfDay header period) = ⊥
+IsPaymentOrReversal (Display header outputs) = ⊥
 
--- a command that is to be sent can be written
+-- the terminal serves a payment or a reversal, or nothing: when its link is lost no reply is owed, and its till stays
+abbrev pub ServesNoOther : Standing → Type 0
+ServesNoOther (Unlinked due) = Unit {0}
+ServesNoOther Registering = Unit {0}
+ServesNoOther Enquiring = Unit {0}
+ServesNoOther (Ready last) = Unit {0}
+ServesNoOther (Serving service last) = IsPaymentOrReversal service
+ServesNoOther (Aside before reported) = Unit {0}
+
+-- the act is about this terminal, or sends a till something
+abbrev pub IsAbout : ℕ → Act → Type 0
+IsAbout number (act.SendPt pt command) = pt ≡ number
+IsAbout number (act.Ack pt) = pt ≡ number
+IsAbout number (act.Refuse pt) = pt ≡ number
+IsAbout number (act.CutPt pt) = pt ≡ number
+IsAbout number (act.Link pt) = pt ≡ number
+IsAbout number (act.SendTill till given) = Unit {0}
+
+-- a command or a reply that is to be sent can be written
 abbrev pub IsWritable : Act → Type 0
 IsWritable (act.SendPt pt command) = HasCommandDigits command
 IsWritable (act.Ack pt) = Unit {0}
 IsWritable (act.Refuse pt) = Unit {0}
 IsWritable (act.CutPt pt) = Unit {0}
 IsWritable (act.Link pt) = Unit {0}
+IsWritable (act.SendTill till given) = IsWithinLimits given
 
--- what is wanted is wanted of this terminal, and can be written
+-- what is wanted is wanted of this terminal or of a till, and can be written
 pub record IsWantedAt (pt : ℕ) (wanted : Act) : Type 0 where
-  pub pt_is : pt_of wanted ≡ pt
+  pub about : IsAbout pt wanted
   pub writable : IsWritable wanted
+
+-- the record lies within its limits, and may come after these
+pub record MayBeKept (kept : List Record) (the_record : Record) : Type 0 where
+  pub within : IsRecord the_record
+  pub fitting : IsTrue (fits kept the_record)
 
 -- the settings of each terminal lie within their limits
 abbrev pub HaveSettings : List Terminal → Type 0

@@ -1,5 +1,11 @@
--- The replies of the code, beside those that are owed.
-use Rattle.std.specs.Prelude.{◌≡◌, ◌≤◌, ℕ, List, [], ◌∷◌, length, Option, Some, None, IfSome}
+-- What the code gives to a till's message, beside what is owed: its reply, or a payment that begins.
+use Rattle.std.specs.Prelude.{◌≡◌, ◌≤◌, ℕ, List, [], ◌∷◌, length, Option, Some, None, IfSome, Result, Ok, Err}
+use Rattle.gw_base.specs.declared.condition.Condition.{Condition}
+use Rattle.gw_base.specs.declared.condition.Condition.TheVariants.{Busy}
+use Rattle.jrn_record.specs.declared.records.Record.{Record}
+use Rattle.gw_ledger.specs.declared.entry.Found.{Found}
+use Rattle.sale_values.specs.declared.header.Header.{Header}
+use Rattle.sale_values.specs.declared.request.PaymentAsk.{PaymentAsk}
 use Rattle.sale_values.specs.declared.request.SaleRequest.{SaleRequest}
 use Rattle.sale_values.specs.declared.request.SaleRequest.TheVariants.{Login, Logout, Payment, Reversal, Abort, Status, Reconciliation, Display, Print, Diagnosis}
 use Rattle.sale_reply.specs.declared.reply.SaleReply.{SaleReply}
@@ -7,15 +13,25 @@ use Rattle.sale_reply.specs.Limits.{HasUnlimitedParts, IsWithinLimits}
 use Rattle.sale_reply.specs.Reply.{tree_of}
 use Rattle.gw_owes.specs.Calls.{OwedCall, SendTill}
 use Rattle.gw_owes.specs.Reply.{ReplyValue, reply_value_tree}
-use Rattle.gw_owes.specs.ReadAs.{ReadAs, IsReadAs}
+use Rattle.gw_owes.specs.ReadAs.{ReadAs, IsReadAs, Request}
 use Rattle.gw_owes.specs.Core.{Core as CoreValue}
+use Rattle.gw_owes.specs.declared.terminal.Terminal.{Terminal}
+use Rattle.gw_owes.specs.Diagnosis.{NamedTerminal, named_terminal}
+use Rattle.gw_owes.specs.Items.{RoundItem, Serve}
+use Rattle.gw_owes.specs.RecordLaws.{IsReadFromTill}
 use Rattle.gw_owes.specs.Row.{Known, Row}
 use Rattle.gw_owes.specs.Rows.{asked_row}
-use Rattle.gw_owes.specs.Requests.{reply_to}
+use Rattle.gw_owes.specs.Requests.{reply_to, begun_by}
+use Rattle.gw_owes.specs.Steps.{StepResult, Fails, Begins, step_result, first_result, service_items, service_reply, steps}
+use Rattle.gw_core.specs.declared.gateway.Gateway.{Gateway}
+use Rattle.gw_core.specs.declared.till.Given.{Given}
+use Rattle.gw_core.specs.declared.till.Given.TheVariants as given
 
--- the message has the tree of the reply, and no part that may lie outside the limits
+-- ---- replies
+
+-- the message has the tree of the reply, and lies within the limits where its types don't see to it
 abbrev pub IsSameReply : SaleReply → ReplyValue → Type 0
-IsSameReply given reply = (tree_of given ≡ reply_value_tree reply) × (HasUnlimitedParts given → ⊥)
+IsSameReply given reply = (tree_of given ≡ reply_value_tree reply) × (HasUnlimitedParts given → IsWithinLimits given)
 
 -- the code has this reply, or none where there is none
 abbrev pub AreSameReplies : Option SaleReply → Option ReplyValue → Type 0
@@ -24,42 +40,97 @@ AreSameReplies None (Some reply) = ⊥
 AreSameReplies (Some given) None = ⊥
 AreSameReplies (Some given) (Some reply) = IsSameReply given reply
 
--- a gateway of this name that remembers this knows this at this moment
-pub record IsKnownAt (name : List ℕ) (core : CoreValue) (moment : ℕ) (known : Known) : Type 0 where
-  pub name_is : known.setup.name ≡ name
+-- a gateway with this setup of its own that keeps these records and remembers this knows this at this moment
+pub record IsKnownAt (gateway : Gateway) (kept : List Record) (core : CoreValue) (moment : ℕ) (known : Known) : Type 0 where
+  pub name_is : known.setup.name ≡ gateway.name
+  pub slots_is : known.setup.slots ≡ gateway.slots
+  pub kept_is : known.kept ≡ kept
   pub core_is : known.core ≡ core
   pub moment_is : known.moment ≡ moment
 
--- what is given is the reply to what was read, whatever else a gateway of this name that remembers this knows at this moment
-abbrev pub IsReplyToRead : List ℕ → CoreValue → ℕ → ReadAs → Option SaleReply → Type 0
-IsReplyToRead name core moment as_read given = (known : Known) → IsKnownAt name core moment known → AreSameReplies given (reply_to known as_read)
+-- ---- what is given
 
--- the message is read as one thing, and what is given is the reply to that
-pub record IsReplyTo (name : List ℕ) (core : CoreValue) (moment : ℕ) (message : List ℕ) (given : Option SaleReply) : Type 0 where
+-- the reply that is given, where there is one
+abbrev pub reply_given : Given → Option SaleReply
+reply_given given.Nothing = None
+reply_given (given.Reply reply) = Some reply
+reply_given (given.Begins pt header payment) = None
+
+-- what a round handles next for what is given to this till: where a payment begins, its terminal begins to serve it
+abbrev pub items_given : ℕ → Given → List RoundItem
+items_given till given.Nothing = []
+items_given till (given.Reply reply) = []
+items_given till (given.Begins pt header payment) = Serve pt till header (Payment payment) ∷ []
+
+-- what is given is the reply to what was read, or else what that begins
+pub record IsGivenFor (known : Known) (as_read : ReadAs) (wanted : Given) : Type 0 where
+  pub reply : AreSameReplies (reply_given wanted) (reply_to known as_read)
+  pub begun : (till : ℕ) → begun_by known till as_read ≡ items_given till wanted
+
+-- so it is whatever else is in the setup of such a gateway
+abbrev pub IsGivenToRead : Gateway → List Record → CoreValue → ℕ → ReadAs → Given → Type 0
+IsGivenToRead gateway kept core moment as_read wanted = (known : Known) → IsKnownAt gateway kept core moment known → IsGivenFor known as_read wanted
+
+-- the message is read as one thing, and what is given is the reply to that, or else what that begins
+pub record IsReplyTo (gateway : Gateway) (kept : List Record) (core : CoreValue) (moment : ℕ) (message : List ℕ) (wanted : Given) : Type 0 where
   pub as_read : ReadAs
   pub read : IsReadAs message as_read
-  pub replied : IsReplyToRead name core moment as_read given
+  pub replied : IsGivenToRead gateway kept core moment as_read wanted
 
 -- the calls send this till what is given, or are none where nothing is
 abbrev pub AreSendOf : ℕ → Option SaleReply → List OwedCall → Type 0
 AreSendOf till None calls = calls ≡ []
 AreSendOf till (Some given) calls = (reply : ReplyValue) × IsSameReply given reply × (calls ≡ SendTill till reply ∷ [])
 
--- what is remembered has become what the row says, what is given to this till is the send that it owes, and nothing further is to be handled for it
-pub record IsTillRow (row : Row) (core : CoreValue) (till : ℕ) (given : Option SaleReply) : Type 0 where
+-- what is remembered stays as the row says, the reply that is given to this till is the send that it owes, and what is handled next is that of what is given
+pub record IsTillRow (row : Row) (core : CoreValue) (till : ℕ) (wanted : Given) : Type 0 where
   pub core_is : core ≡ row.core
-  pub calls_are : AreSendOf till given row.calls
-  pub items_are : row.items ≡ []
+  pub calls_are : AreSendOf till (reply_given wanted) row.calls
+  pub items_are : row.items ≡ items_given till wanted
 
--- the message of this till is read as one thing, and what is remembered and given is by the row of that, whatever else a gateway of this name that remembers this knows at this moment
-pub record IsAskedRow (name : List ℕ) (core : CoreValue) (moment till : ℕ) (message : List ℕ) (given : Option SaleReply) : Type 0 where
+-- the message of this till is read as one thing, and what is remembered and given is by the row of that, whatever else is in the setup of such a gateway
+pub record IsAskedRow (gateway : Gateway) (kept : List Record) (core : CoreValue) (moment till : ℕ) (message : List ℕ) (wanted : Given) : Type 0 where
   pub as_read : ReadAs
   pub read : IsReadAs message as_read
-  pub row : (known : Known) → IsKnownAt name core moment known → IsTillRow (asked_row known till as_read) core till given
+  pub row : (known : Known) → IsKnownAt gateway kept core moment known → IsTillRow (asked_row known till as_read) core till wanted
 
 -- what is given lies within the limits, so that it may be written
-abbrev pub IsGivenWithinLimits : Option SaleReply → Type 0
-IsGivenWithinLimits given = IfSome given IsWithinLimits
+abbrev pub IsGivenWithinLimits : Given → Type 0
+IsGivenWithinLimits wanted = IfSome (reply_given wanted) IsWithinLimits
+
+-- a payment begins at the terminal of this number: it was read from a till's bytes, its POIID names the terminal, and the steps say so, whatever else is in the setup of such a gateway
+pub record BeginsAt (gateway : Gateway) (kept : List Record) (core : CoreValue) (moment pt : ℕ) (header : Header) (payment : PaymentAsk) : Type 0 where
+  pub read : IsReadFromTill (Request header (Payment payment))
+  pub terminal : Terminal
+  pub named : named_terminal core header.poi ≡ Some (record { number = pt; terminal = terminal })
+  pub begins : (known : Known) → IsKnownAt gateway kept core moment known → step_result known header (Payment payment) (Some (record { number = pt; terminal = terminal })) ≡ Begins
+
+-- where a payment is given, it begins
+abbrev pub IsGivenToBegin : Gateway → List Record → CoreValue → ℕ → Given → Type 0
+IsGivenToBegin gateway kept core moment given.Nothing = Unit {0}
+IsGivenToBegin gateway kept core moment (given.Reply reply) = Unit {0}
+IsGivenToBegin gateway kept core moment (given.Begins pt header payment) = BeginsAt gateway kept core moment pt header payment
+
+-- ---- inner
+
+-- Inner: the result of the steps of a request, by what the records have under its key and the terminal that its POIID names
+abbrev pub result_by : Known → Header → SaleRequest → Option Found → Option NamedTerminal → StepResult
+result_by known header request found named = first_result (Fails Busy) (steps known header request found named)
+
+-- Inner: it is refused for this reason, or else it begins
+abbrev pub refused_or_begun : Option Condition → StepResult
+refused_or_begun None = Begins
+refused_or_begun (Some condition) = Fails condition
+
+-- Inner: it begins at the terminal of this number, which is the one that is named, or is refused for this reason
+abbrev pub IsBegunOrRefused : Option NamedTerminal → StepResult → Result ℕ Condition → Type 0
+IsBegunOrRefused named result (Ok pt) = ((terminal : Terminal) × (named ≡ Some (record { number = pt; terminal = terminal }))) × (result ≡ Begins)
+IsBegunOrRefused named result (Err condition) = result ≡ Fails condition
+
+-- Inner: what is given is the reply of the steps, or else what they begin
+pub record IsGivenByService (known : Known) (header : Header) (request : SaleRequest) (named : Option NamedTerminal) (wanted : Given) : Type 0 where
+  pub reply : AreSameReplies (reply_given wanted) (service_reply known header request named)
+  pub begun : (till : ℕ) → service_items known till header request named ≡ items_given till wanted
 
 -- Inner: a Display has at most 16 outputs
 abbrev pub HasFewOutputs : SaleRequest → Type 0

@@ -1,5 +1,5 @@
 //! What a message of a terminal means in each of its standings, and what follows from it.
-ghost use Rattle.std.specs.Prelude.{◌≡◌, ◌≢◌, ◌<◌, ◌^◌, ℕ, pos, true, List, ◌∷◌, [], IfSome, IsTrue, Some, option_map, slice_get};
+ghost use Rattle.std.specs.Prelude.{◌≡◌, ◌≢◌, ◌<◌, ◌^◌, ℕ, pos, true, List, IfSome, IsTrue, Some, option_map, slice_get};
 ghost use Rattle.gw_base.specs.Moment.{IsMoment, moment_of};
 ghost use Rattle.gw_base.specs.Setup.{IsPt};
 ghost use Rattle.gw_base.specs.declared.setup.Setup.{Setup};
@@ -11,18 +11,21 @@ ghost use Rattle.zvt_talk.specs.Talk.{talk_goes_on};
 ghost use Rattle.zvt_talk.specs.TalkSteps.{next_talk};
 ghost use Rattle.gw_owes.specs.Row.{owing_where};
 ghost use Rattle.gw_owes.specs.declared.terminal.Standing.{Standing};
-ghost use Rattle.gw_owes.specs.Calls.{SendPt, Ask};
 ghost use Rattle.gw_owes.specs.Core.{Core as CoreValue};
-ghost use Rattle.gw_owes.specs.Terminals.{after_command, terminal_becomes};
+ghost use Rattle.gw_owes.specs.Terminals.{after_command, with_terminal};
 ghost use Rattle.gw_owes.specs.Dialogues.{HasItsDialogue};
 ghost use Rattle.gw_owes.specs.Links.{is_linked};
-ghost use Rattle.gw_owes.specs.Handling.{awaited_after, consequence, enquiring, enquiry_command, handle_message, meaning_at, meaning_for, registering, serving, taken_as, taking};
-ghost use Rattle.gw_owes.specs.Reports.{standing_reported};
-ghost use Rattle.gw_core.specs.IsRow.{IsWantedAt, ServesNothing, act_calls, calls_wanted, known_with};
+ghost use Rattle.gw_owes.specs.Handling.{awaited_after, consequence, enquiring, enquiry_command, handle_message, meaning_at, meaning_for, registering, taken_as, taking};
+ghost use Rattle.gw_owes.specs.HeardLaws.{FitsRecord};
+ghost use Rattle.gw_owes.specs.RecordLaws.{AreRecordsOf, IsTalkRead, IsTerminalInOrder};
+ghost use Rattle.gw_owes.specs.Reports.{on_record, report_row, standing_reported};
+ghost use Rattle.gw_core.specs.IsRow.{IsRow, IsWantedAt, MayBeKept, ServesNoOther, alone, known_with};
 
-use crate::act::Act;
+use crate::act::{Act, Acts};
+use crate::serving::{rest, serving_other, serving_transaction};
 use gw_base::Pt;
-use gw_owes::{Standing, Terminal};
+use gw_ledger::Ledger;
+use gw_owes::{Service, Standing, Terminal, law_meanings};
 use zvt_msg::{Command, PtMessage};
 use zvt_talk::{Heard, Talk};
 
@@ -72,7 +75,9 @@ fn take(terminal: &mut Terminal, message: &PtMessage<'_>, now: i64) -> Heard
     requires goes_on { IfSome terminal.old.talk (λ t. IsTrue (talk_goes_on t)) }
     ensures meaning { result ≡ meaning_at terminal.old (value_of message.now) }
     ensures taken { terminal.new ≡ taking terminal.old (value_of message.now) (moment_of now) }
+    ensures numbers { IsTalkRead terminal.old.talk → FitsRecord result }
 {
+    law_meanings();
     let handed = taken_as(terminal.awaited, message);
     terminal.awaited = awaited_after(terminal.awaited, message);
     hear(&mut terminal.talk, &handed, now)
@@ -99,7 +104,7 @@ pub(crate) fn ask(
     requires few { terminal.old.awaited < 2 ^ 31 }
     requires not_stop { command ≢ Command.Stop }
     ensures asked { terminal.new ≡ after_command terminal.old command standing (moment_of now) }
-    ensures act { act_calls result ≡ SendPt pt (Ask command) ∷ [] }
+    ensures act { result ≡ Act.SendPt pt command }
     ensures wanted { HasCommandDigits command → IsWantedAt pt result }
 {
     terminal.talk = Some(Talk::start(
@@ -120,11 +125,10 @@ fn registering(terminal: &mut Terminal, pt: u16, heard: Heard, now: i64) -> Opti
     requires few { terminal.old.awaited < 2 ^ 31 }
     requires settings { IsPt terminal.old.pt }
     ensures row { (setup : Setup) (kept : List Record) (core : CoreValue)
-        → registering (known_with setup kept core (moment_of now)) pt terminal.old heard
-        ≡ terminal_becomes (known_with setup kept core (moment_of now)) pt terminal.new (calls_wanted result) }
+        → IsRow kept (registering (known_with setup kept core (moment_of now)) pt terminal.old heard) (with_terminal core pt terminal.new) (alone result) }
     ensures wanted { IfSome result (IsWantedAt pt) }
     ensures settings { terminal.new.pt ≡ terminal.old.pt }
-    ensures unserved { ServesNothing terminal.old.standing → ServesNothing terminal.new.standing }
+    ensures others { ServesNoOther terminal.old.standing → ServesNoOther terminal.new.standing }
 {
     match heard {
         Heard::Done => {
@@ -158,21 +162,34 @@ fn standing_reported(least: u32, reported: u32) -> Standing
     }
 }
 
-/// What follows in an enquiry. No record is kept, so that each trace number may be reported.
-fn enquiring(terminal: &mut Terminal, pt: u16, heard: Heard) -> Option<Act>
-    ensures row { (setup : Setup) (kept : List Record) (core : CoreValue) (moment : ℕ)
-        → enquiring (known_with setup kept core moment) pt terminal.old heard
-        ≡ terminal_becomes (known_with setup kept core moment) pt terminal.new (calls_wanted result) }
+/// What the terminal's report of this trace number leads to, by the records.
+fn report(terminal: &mut Terminal, ledger: &Ledger, pt: u16, reported: u32) -> Option<Act>
+    ensures row { (setup : Setup) (core : CoreValue) (moment : ℕ)
+        → IsRow ledger.now.records (report_row (on_record ledger.now.records terminal.old.pt.poi) (known_with setup ledger.now.records core moment) pt terminal.old reported)
+        (with_terminal core pt terminal.new) (alone result) }
     ensures wanted { IfSome result (IsWantedAt pt) }
     ensures settings { terminal.new.pt ≡ terminal.old.pt }
-    ensures unserved { ServesNothing terminal.old.standing → ServesNothing terminal.new.standing }
+    ensures others { ServesNoOther terminal.old.standing → ServesNoOther terminal.new.standing }
+{
+    let open = ledger.open_at(&terminal.pt.poi).is_some();
+    if open {
+        return Some(Act::CutPt(pt));
+    }
+    let least = ledger.last_number(&terminal.pt.poi);
+    rest(terminal, standing_reported(least, reported));
+    None
+}
+
+/// What follows in an enquiry.
+fn enquiring(terminal: &mut Terminal, ledger: &Ledger, pt: u16, heard: Heard) -> Option<Act>
+    ensures row { (setup : Setup) (core : CoreValue) (moment : ℕ)
+        → IsRow ledger.now.records (enquiring (known_with setup ledger.now.records core moment) pt terminal.old heard) (with_terminal core pt terminal.new) (alone result) }
+    ensures wanted { IfSome result (IsWantedAt pt) }
+    ensures settings { terminal.new.pt ≡ terminal.old.pt }
+    ensures others { ServesNoOther terminal.old.standing → ServesNoOther terminal.new.standing }
 {
     match heard {
-        Heard::Told { number, .. } => {
-            terminal.standing = standing_reported(0, number);
-            terminal.talk = None;
-            None
-        }
+        Heard::Told { number, .. } => report(terminal, ledger, pt, number),
         Heard::Declined { .. } | Heard::Unclear => Some(Act::CutPt(pt)),
         Heard::Begun { .. }
         | Heard::Note(_)
@@ -185,53 +202,40 @@ fn enquiring(terminal: &mut Terminal, pt: u16, heard: Heard) -> Option<Act>
     }
 }
 
-/// What follows in what is served.
-fn serving(terminal: &mut Terminal, pt: u16, heard: Heard) -> Option<Act>
-    requires few { terminal.old.awaited < 2 ^ 31 }
-    ensures row { (setup : Setup) (kept : List Record) (core : CoreValue) (moment : ℕ)
-        → serving (known_with setup kept core moment) pt terminal.old heard
-        ≡ terminal_becomes (known_with setup kept core moment) pt terminal.new (calls_wanted result) }
-    ensures wanted { IfSome result (IsWantedAt pt) }
-    ensures settings { terminal.new.pt ≡ terminal.old.pt }
-    ensures unserved { ServesNothing terminal.old.standing → ServesNothing terminal.new.standing }
-{
-    match heard {
-        Heard::Begun { stop: true } => {
-            terminal.awaited += 1;
-            Some(Act::SendPt(pt, Command::Stop))
-        }
-        Heard::Unclear => Some(Act::CutPt(pt)),
-        Heard::Begun { stop: false }
-        | Heard::Note(_)
-        | Heard::Line
-        | Heard::Block
-        | Heard::Seen
-        | Heard::Approved(_)
-        | Heard::Done
-        | Heard::Told { .. }
-        | Heard::Declined { .. }
-        | Heard::Stray => None,
-    }
-}
-
 /// What follows from a message that a terminal which is linked has taken.
-fn follow(terminal: &mut Terminal, pt: u16, heard: Heard, now: i64) -> Option<Act>
+fn follow(terminal: &mut Terminal, ledger: &Ledger, pt: u16, heard: Heard, now: i64) -> Acts
     requires moment { IsMoment now }
     requires few { terminal.old.awaited < 2 ^ 31 }
     requires linked { is_linked terminal.old.standing ≡ true }
     requires settings { IsPt terminal.old.pt }
-    ensures row { (setup : Setup) (kept : List Record) (core : CoreValue)
-        → consequence (known_with setup kept core (moment_of now)) pt terminal.old heard terminal.old.standing
-        ≡ terminal_becomes (known_with setup kept core (moment_of now)) pt terminal.new (calls_wanted result) }
-    ensures wanted { IfSome result (IsWantedAt pt) }
+    requires others { ServesNoOther terminal.old.standing }
+    requires records { AreRecordsOf ledger.now.records terminal.old.pt.poi terminal.old.standing }
+    requires numbers { FitsRecord heard }
+    ensures row { (setup : Setup) (core : CoreValue)
+        → IsRow ledger.now.records (consequence (known_with setup ledger.now.records core (moment_of now)) pt terminal.old heard terminal.old.standing) (with_terminal core pt terminal.new) result }
+    ensures kept { IfSome result.keep (MayBeKept ledger.now.records) }
+    ensures wanted { IfSome result.act (IsWantedAt pt) }
     ensures settings { terminal.new.pt ≡ terminal.old.pt }
-    ensures unserved { ServesNothing terminal.old.standing → ServesNothing terminal.new.standing }
+    ensures others { ServesNoOther terminal.new.standing }
 {
     match terminal.standing {
-        Standing::Registering => registering(terminal, pt, heard, now),
-        Standing::Enquiring => enquiring(terminal, pt, heard),
-        Standing::Serving { .. } => serving(terminal, pt, heard),
-        Standing::Unlinked { .. } | Standing::Ready { .. } | Standing::Aside { .. } => None,
+        Standing::Registering => Acts {
+            keep: None,
+            act: registering(terminal, pt, heard, now),
+        },
+        Standing::Enquiring => Acts {
+            keep: None,
+            act: enquiring(terminal, ledger, pt, heard),
+        },
+        Standing::Serving {
+            service: Service::Transaction { slot },
+            last,
+        } => serving_transaction(terminal, ledger, pt, slot, last, heard, now),
+        Standing::Serving { .. } => Acts {
+            keep: None,
+            act: serving_other(terminal, pt, heard),
+        },
+        Standing::Unlinked { .. } | Standing::Ready { .. } | Standing::Aside { .. } => Acts::none(),
     }
 }
 
@@ -245,27 +249,29 @@ fn is_taken(message: &PtMessage<'_>) -> bool
 /// A terminal handles a message that was acknowledged or refused, where it is linked.
 pub(crate) fn handle(
     terminal: &mut Terminal,
+    ledger: &Ledger,
     pt: u16,
     message: &PtMessage<'_>,
     now: i64,
-) -> Option<Act>
+) -> Acts
     requires moment { IsMoment now }
     requires dialogue { HasItsDialogue terminal.old }
+    requires order { IsTerminalInOrder ledger.now.records terminal.old }
     requires settings { IsPt terminal.old.pt }
-    ensures row { (setup : Setup) (kept : List Record) (core : CoreValue) → slice_get core.terminals pt ≡ Some terminal.old
-        → owing_where (is_linked terminal.old.standing) (known_with setup kept core (moment_of now))
-        (handle_message (known_with setup kept core (moment_of now)) pt terminal.old (value_of message.now))
-        ≡ terminal_becomes (known_with setup kept core (moment_of now)) pt terminal.new (calls_wanted result) }
-    ensures wanted { IfSome result (IsWantedAt pt) }
+    ensures row { (setup : Setup) (core : CoreValue) → slice_get core.terminals pt ≡ Some terminal.old
+        → IsRow ledger.now.records (owing_where (is_linked terminal.old.standing) (known_with setup ledger.now.records core (moment_of now))
+        (handle_message (known_with setup ledger.now.records core (moment_of now)) pt terminal.old (value_of message.now))) (with_terminal core pt terminal.new) result }
+    ensures kept { IfSome result.keep (MayBeKept ledger.now.records) }
+    ensures wanted { IfSome result.act (IsWantedAt pt) }
     ensures settings { terminal.new.pt ≡ terminal.old.pt }
-    ensures unserved { ServesNothing terminal.new.standing }
+    ensures others { ServesNoOther terminal.new.standing }
 {
     if !is_linked(&terminal.standing) {
-        return None;
+        return Acts::none();
     }
     if !is_taken(message) {
-        return None;
+        return Acts::none();
     }
     let heard = take(terminal, message, now);
-    follow(terminal, pt, heard, now)
+    follow(terminal, ledger, pt, heard, now)
 }

@@ -2,10 +2,18 @@
 #![tactic(auto)]
 
 mod act;
+mod beginning;
+mod content;
+mod gateway;
 mod handling;
+mod kept_replies;
 mod refusal;
+mod serving;
+mod steps;
 mod terminals;
 mod till;
 
-pub use act::Act;
+pub use act::{Act, Acts};
+pub use gateway::Gateway;
 pub use terminals::{Core, Timer};
+pub use till::Given;

@@ -1,9 +1,10 @@
 //! What the gateway remembers, and what each event of a terminal makes of it.
-ghost use Rattle.std.specs.Prelude.{◌≡◌, ◌<◌, ◌≤◌, ℕ, length, List, slice_get, IfOk, IfSome, option_map};
+ghost use Rattle.std.specs.Prelude.{◌≡◌, ◌<◌, ◌≤◌, ℕ, length, List, slice_get, IfOk, IfSome, Some, option_map};
 ghost use Rattle.gw_base.specs.Setup.{IsSetup};
 ghost use Rattle.gw_base.specs.Moment.{moment_of};
 ghost use Rattle.gw_base.specs.declared.setup.Setup.{Setup};
 ghost use Rattle.jrn_record.specs.declared.records.Record.{Record};
+ghost use Rattle.sale_values.specs.declared.request.SaleRequest.TheVariants.{Payment};
 ghost use Rattle.zvt_msg.specs.Message.{value_of};
 ghost use Rattle.gw_owes.specs.declared.terminal.Terminal.{Terminal as TheTerminal};
 ghost use Rattle.gw_owes.specs.Core.{new_core, new_terminal};
@@ -14,12 +15,20 @@ ghost use Rattle.gw_owes.specs.Greeting.{greeted_row};
 ghost use Rattle.gw_owes.specs.Handling.{handled_row};
 ghost use Rattle.gw_owes.specs.Deadlines.{due_row, is_due, is_late, late_row};
 ghost use Rattle.gw_owes.specs.Dialogues.{HasItsDialogue};
-ghost use Rattle.gw_core.specs.IsRow.{IsRow, IsWantedAt, ServesNothing, known_with, link_event_of, pt_of_timer, timer_row};
+ghost use Rattle.gw_owes.specs.Payments.{serve_row};
+ghost use Rattle.gw_owes.specs.RecordLaws.{AreTerminalsInOrder};
+ghost use Rattle.gw_owes.specs.Row.{Known};
+ghost use Rattle.gw_core.specs.IsRow.{IsRow, IsWantedAt, MayBeKept, ServesNoOther, alone, known_with, link_event_of, pt_of_timer, timer_row};
+ghost use Rattle.gw_core.specs.ReplyOf.{BeginsAt, IsKnownAt};
 
-use crate::act::Act;
+use crate::act::{Act, Acts};
+use crate::beginning::begin_payment;
+use crate::gateway::Gateway;
 use crate::handling::{ask, handle, is_linked};
 use gw_base::{Ident, Pt, Setup, to_moment};
-use gw_owes::{Standing, Terminal};
+use gw_ledger::Ledger;
+use gw_owes::{Standing, Terminal, law_records};
+use sale_msg::{Header, PaymentAsk};
 use sale_reply::GlobalStatus;
 use std::alloc::{AllocError, Global};
 use std::marker::Model;
@@ -156,6 +165,14 @@ impl Core {
         None
     }
 
+    /// The terminal of this number.
+    pub(crate) fn terminal(&self, pt: u16) -> &Terminal
+        requires there { pt < length self.now.terminals }
+        ensures { slice_get self.now.terminals pt ≡ Some result.now }
+    {
+        &self.terminals[usize::from(pt)]
+    }
+
     /// The standing of a terminal.
     pub fn standing(&self, pt: u16) -> &Standing
         requires there { pt < length self.now.terminals }
@@ -194,7 +211,7 @@ impl Core {
         requires there { pt < length self.now.terminals }
         ensures wanted { IfSome result (IsWantedAt pt) }
         ensures row { (setup : Setup) (kept : List Record) (moment : ℕ)
-            → IsRow (greeted_row (known_with setup kept self.now moment) pt (value_of message.now)) self.now result }
+            → IsRow kept (greeted_row (known_with setup kept self.now moment) pt (value_of message.now)) self.now (alone result) }
     {
         if !is_linked(&self.terminals[usize::from(pt)].standing) {
             return None;
@@ -211,26 +228,58 @@ impl Core {
         }
     }
 
-    /// What follows from a message that was acknowledged or refused.
-    pub fn on_pt(&mut self, pt: u16, message: &PtMessage<'_>, now: i64) -> Option<Act>
+    /// What follows from a message that was acknowledged or refused, by the records.
+    pub fn on_pt(&mut self, ledger: &Ledger, pt: u16, message: &PtMessage<'_>, now: i64) -> Acts
         requires there { pt < length self.old.terminals }
         requires dialogue { IfSome (slice_get self.old.terminals pt) HasItsDialogue }
-        ensures row { (setup : Setup) (kept : List Record)
-            → IsRow (handled_row (known_with setup kept self.old (moment_of now)) pt (value_of message.now)) self.new result }
-        ensures wanted { IfSome result (IsWantedAt pt) }
-        ensures unserved { IfSome (slice_get self.new.terminals pt) (λ (terminal : TheTerminal). ServesNothing terminal.standing) }
+        requires order { AreTerminalsInOrder ledger.now.records self.old }
+        ensures row { (setup : Setup)
+            → IsRow ledger.now.records (handled_row (known_with setup ledger.now.records self.old (moment_of now)) pt (value_of message.now)) self.new result }
+        ensures kept { IfSome result.keep (MayBeKept ledger.now.records) }
+        ensures wanted { IfSome result.act (IsWantedAt pt) }
+        ensures others { IfSome (slice_get self.new.terminals pt) (λ (terminal : TheTerminal). ServesNoOther terminal.standing) }
     {
         let now = to_moment(now);
         let terminal = &mut self.terminals[usize::from(pt)];
-        handle(terminal, pt, message, now)
+        handle(terminal, ledger, pt, message, now)
     }
 
-    /// A link is made, or isn't there: it could not be made, or is lost. The terminal serves nothing.
+    /// The terminal begins to serve a payment for this till: its Intent is kept, and then the terminal is asked.
+    pub fn begin(
+        &mut self,
+        gateway: &Gateway,
+        ledger: &Ledger,
+        pt: u16,
+        till: u64,
+        header: &Header,
+        payment: &PaymentAsk,
+        now: i64,
+    ) -> Acts
+        requires there { pt < length self.old.terminals }
+        requires dialogue { IfSome (slice_get self.old.terminals pt) HasItsDialogue }
+        requires order { AreTerminalsInOrder ledger.now.records self.old }
+        requires slots { gateway.now.slots ≤ 1000000 }
+        requires begins { BeginsAt gateway.now ledger.now.records self.old (moment_of now) pt header.now payment.now }
+        ensures row { (known : Known) → IsKnownAt gateway.now ledger.now.records self.old (moment_of now) known
+            → IsRow ledger.now.records (serve_row known pt till header.now (Payment payment.now)) self.new result }
+        ensures kept { IfSome result.keep (MayBeKept ledger.now.records) }
+        ensures wanted { IfSome result.act (IsWantedAt pt) }
+        ensures others { IfSome (slice_get self.new.terminals pt) (λ (terminal : TheTerminal). ServesNoOther terminal.standing) }
+    {
+        ledger.law_folded();
+        law_records();
+        let now = to_moment(now);
+        let terminal = &mut self.terminals[usize::from(pt)];
+        begin_payment(terminal, ledger, pt, till, header, payment, now)
+    }
+
+    /// A link is made, or isn't there: it could not be made, or is lost. The till of a payment that the terminal serves is still
+    /// remembered, and is sent nothing.
     pub fn on_link(&mut self, pt: u16, up: bool, now: i64) -> Option<Act>
         requires there { pt < length self.old.terminals }
-        requires unserved { IfSome (slice_get self.old.terminals pt) (λ (terminal : TheTerminal). ServesNothing terminal.standing) }
+        requires others { IfSome (slice_get self.old.terminals pt) (λ (terminal : TheTerminal). ServesNoOther terminal.standing) }
         ensures row { (setup : Setup) (kept : List Record)
-            → IsRow (link_row (known_with setup kept self.old (moment_of now)) pt (link_event_of up)) self.new result }
+            → IsRow kept (link_row (known_with setup kept self.old (moment_of now)) pt (link_event_of up)) self.new (alone result) }
         ensures wanted { IfSome result (IsWantedAt pt) }
     {
         let now = to_moment(now);
@@ -251,7 +300,7 @@ impl Core {
     pub fn on_moment(&self, timer: Timer, now: i64) -> Option<Act>
         requires there { pt_of_timer timer < length self.now.terminals }
         ensures wanted { IfSome result (IsWantedAt (pt_of_timer timer)) }
-        ensures row { (setup : Setup) (kept : List Record) → IsRow (timer_row (known_with setup kept self.now (moment_of now)) timer) self.now result }
+        ensures row { (setup : Setup) (kept : List Record) → IsRow kept (timer_row (known_with setup kept self.now (moment_of now)) timer) self.now (alone result) }
     {
         match timer {
             Timer::Silence(pt) => self.on_silence(pt, now),
@@ -263,7 +312,7 @@ impl Core {
     fn on_silence(&self, pt: u16, now: i64) -> Option<Act>
         requires there { pt < length self.now.terminals }
         ensures wanted { IfSome result (IsWantedAt pt) }
-        ensures row { (setup : Setup) (kept : List Record) → IsRow (late_row (known_with setup kept self.now (moment_of now)) pt) self.now result }
+        ensures row { (setup : Setup) (kept : List Record) → IsRow kept (late_row (known_with setup kept self.now (moment_of now)) pt) self.now (alone result) }
     {
         if is_late(&self.terminals[usize::from(pt)].talk, now) {
             Some(Act::CutPt(pt))
@@ -276,7 +325,7 @@ impl Core {
     fn on_due(&self, pt: u16, now: i64) -> Option<Act>
         requires there { pt < length self.now.terminals }
         ensures wanted { IfSome result (IsWantedAt pt) }
-        ensures row { (setup : Setup) (kept : List Record) → IsRow (due_row (known_with setup kept self.now (moment_of now)) pt) self.now result }
+        ensures row { (setup : Setup) (kept : List Record) → IsRow kept (due_row (known_with setup kept self.now (moment_of now)) pt) self.now (alone result) }
     {
         if is_due(&self.terminals[usize::from(pt)].standing, now) {
             Some(Act::Link(pt))

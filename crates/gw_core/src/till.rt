@@ -1,26 +1,60 @@
 //! The reply to a message of a till.
-ghost use Rattle.std.specs.Prelude.{◌≡◌, ℕ, List, Some, IfOk};
+ghost use Rattle.std.specs.Prelude.{◌≡◌, ℕ, List, [], IfOk};
 ghost use Rattle.gw_base.specs.Moment.{moment_of};
 ghost use Rattle.json_text.specs.Grammar.{Spells};
 ghost use Rattle.json_text.specs.ValueOf.{value_of};
 ghost use Rattle.sale_reply.specs.declared.reply.Detail.TheVariants.{Json as JsonDetail};
 ghost use Rattle.sale_reply.specs.Limits.{HasUnlimitedParts, IsWithinLimits};
+ghost use Rattle.gw_owes.specs.KeptReplies.{is_open_key};
 ghost use Rattle.gw_owes.specs.Row.{Known};
 ghost use Rattle.gw_owes.specs.Diagnosis.{diagnosis_reply, named_terminal};
 ghost use Rattle.gw_owes.specs.Replies.{reply_to_fault as reply_owed_to_fault, reject_event};
-ghost use Rattle.gw_owes.specs.Requests.{request_reply, unserved_for};
-ghost use Rattle.gw_core.specs.ReplyOf.{IsSameReply, AreSameReplies, IsAskedRow, IsReplyTo, HasFewOutputs, IsGivenWithinLimits};
+ghost use Rattle.gw_owes.specs.Requests.{abort_reply, request_reply, unserved_for};
+ghost use Rattle.gw_owes.specs.ReadAs.{Request};
+ghost use Rattle.gw_core.specs.ReplyOf.{IsSameReply, AreSameReplies, IsAskedRow, IsGivenFor, IsGivenToBegin, IsKnownAt, IsReplyTo, HasFewOutputs, IsGivenWithinLimits, items_given, reply_given};
 
+use crate::gateway::Gateway;
+use crate::kept_replies::{found_by_status, is_open_key, status_reply};
 use crate::refusal::{
     malformed_body, printed, refusal, refused, refused_display, reject, reject_without_header,
     reply_header,
 };
+use crate::steps::service;
 use crate::terminals::Core;
 use gw_base::{Condition, Ident};
+use gw_ledger::Ledger;
 use json_text::{Json, JsonFault, ReadError};
-use sale_msg::{Header, Incoming, MessageError, SaleFault, SaleRequest, read_message};
+use sale_msg::{
+    Header, Incoming, MessageError, PaymentAsk, Reference, SaleFault, SaleRequest, read_message,
+};
 use sale_reply::{Detail, SaleReply, is_within_limits};
 use std::alloc::{AllocError, Global};
+
+/// What a message of a till wants done.
+#[derive(Drop)]
+pub enum Given {
+    /// There is no reply.
+    Nothing,
+    /// The till is sent this.
+    Reply(SaleReply<'static>),
+    /// The terminal of this number begins to serve this payment; there is no reply yet.
+    Begins {
+        pt: u16,
+        header: Header,
+        payment: PaymentAsk,
+    },
+}
+
+/// The reply is given, where there is one.
+fn replied(reply: Option<SaleReply<'static>>) -> Given
+    ensures reply { reply_given result ≡ reply.entry }
+    ensures none { (till : ℕ) → items_given till result ≡ [] }
+{
+    match reply {
+        None => Given::Nothing,
+        Some(reply) => Given::Reply(reply),
+    }
+}
 
 /// Why a service of the terminal that a request names is refused: its POIID isn't configured, or else the service isn't there yet.
 fn unserved_for(core: &Core, header: &Header) -> Condition
@@ -45,39 +79,57 @@ fn diagnosed(core: &Core, header: &Header) -> SaleReply<'static>
     }
 }
 
-/// The reply to a request. No payment is known and none waits.
-fn reply_to_request(
-    alloc: Global,
-    core: &Core,
+/// The reply to an Abort: a key that is open gets nothing.
+fn abort_reply(
+    ledger: &Ledger,
     now: i64,
     header: &Header,
-    request: &SaleRequest,
-) -> Result<Option<SaleReply<'static>>, AllocError>
-    requires { HasFewOutputs request.now }
-    ensures { (known : Known) → known.moment ≡ moment_of now → known.core ≡ core.now → IfOk result (λ given. AreSameReplies given (request_reply known header.now request.now)) }
+    reference: &Reference,
+) -> Option<SaleReply<'static>>
+    ensures { (known : Known) → known.moment ≡ moment_of now → AreSameReplies result (abort_reply (is_open_key ledger.now.records header.now reference.now) known header.now) }
+{
+    if is_open_key(ledger, header, reference) {
+        return None;
+    }
+    Some(reject(&header.sale, &header.poi, now, Detail::Abort))
+}
+
+/// What a request gets: its reply, or a payment that begins. No payment waits.
+fn asked(
+    alloc: Global,
+    core: &Core,
+    gateway: &Gateway,
+    ledger: &Ledger,
+    now: i64,
+    header: Header,
+    request: SaleRequest,
+) -> Result<Given, AllocError>
+    requires { HasFewOutputs request }
+    ensures { (known : Known) → IsKnownAt gateway.now ledger.now.records core.now (moment_of now) known → IfOk result (IsGivenFor known (Request header request)) }
 {
     match request {
+        SaleRequest::Payment(_) | SaleRequest::Reversal(_) | SaleRequest::Reconciliation(_) => {
+            Ok(service(core, gateway, ledger, header, request))
+        }
+        SaleRequest::Status(reference) => {
+            let found = found_by_status(ledger, &header, &reference);
+            Ok(Given::Reply(status_reply(&header, &found)))
+        }
+        SaleRequest::Abort(reference) => Ok(replied(abort_reply(ledger, now, &header, &reference))),
+        SaleRequest::Diagnosis => Ok(Given::Reply(diagnosed(core, &header))),
+        SaleRequest::Login | SaleRequest::Logout => {
+            Ok(Given::Reply(refused(&header, unserved_for(core, &header))))
+        }
         // A reply of class Device has a body of its own, also where it refuses.
         SaleRequest::Display(outputs) => {
-            refused_display(
-                alloc,
-                unserved_for(core, header),
-                header,
-                outputs.as_slice(),
-            )
+            let condition = unserved_for(core, &header);
+            let reply = refused_display(alloc, condition, &header, outputs.as_slice())?;
+            Ok(replied(reply))
         }
         SaleRequest::Print(qualifier) => {
             let verdict = refusal(Condition::UnavailableDevice);
-            Ok(Some(printed(header, qualifier, verdict)))
+            Ok(Given::Reply(printed(&header, &qualifier, verdict)))
         }
-        SaleRequest::Abort(_) => Ok(Some(reject(&header.sale, &header.poi, now, Detail::Abort))),
-        SaleRequest::Status(_) => Ok(Some(refused(header, Condition::NotFound))),
-        SaleRequest::Diagnosis => Ok(Some(diagnosed(core, header))),
-        SaleRequest::Login
-        | SaleRequest::Logout
-        | SaleRequest::Payment(_)
-        | SaleRequest::Reversal(_)
-        | SaleRequest::Reconciliation(_) => Ok(Some(refused(header, unserved_for(core, header)))),
     }
 }
 
@@ -87,8 +139,8 @@ fn reply_to_fault(
     name: &Ident<40>,
     now: i64,
     fault: SaleFault,
-) -> Result<Option<SaleReply<'static>>, AllocError>
-    ensures { IfOk result (λ given. AreSameReplies given (Some (reply_owed_to_fault name.now (moment_of now) fault))) }
+) -> Result<SaleReply<'static>, AllocError>
+    ensures { IfOk result (λ given. IsSameReply given (reply_owed_to_fault name.now (moment_of now) fault)) }
 {
     let reply = match fault {
         SaleFault::NoHeader { path } => reject_without_header(name, now, Detail::Header(path)),
@@ -97,25 +149,29 @@ fn reply_to_fault(
         }
         SaleFault::Unserved { header } => refused(&header, Condition::UnavailableService),
     };
-    Ok(Some(reply))
+    Ok(reply)
 }
 
-/// The reply to a tree.
-fn reply_to_tree(
+/// What a tree gets.
+fn given_to_tree(
     alloc: Global,
     core: &Core,
-    name: &Ident<40>,
+    gateway: &Gateway,
+    ledger: &Ledger,
     now: i64,
     json: &Json,
-) -> Result<Option<SaleReply<'static>>, AllocError>
-    ensures { (message : List ℕ) → Spells (value_of json.now) message → IfOk result (λ given. IsReplyTo name.now core.now (moment_of now) message given) }
+) -> Result<Given, AllocError>
+    ensures { (message : List ℕ) → Spells (value_of json.now) message → IfOk result (IsReplyTo gateway.now ledger.now.records core.now (moment_of now) message) }
 {
     match read_message(alloc, json) {
         Ok(Incoming::Request(header, request)) => {
-            reply_to_request(alloc, core, now, &header, &request)
+            asked(alloc, core, gateway, ledger, now, header, request)
         }
-        Ok(Incoming::Silent) => Ok(None),
-        Err(MessageError::Fault(fault)) => reply_to_fault(alloc, name, now, fault),
+        Ok(Incoming::Silent) => Ok(Given::Nothing),
+        Err(MessageError::Fault(fault)) => {
+            let reply = reply_to_fault(alloc, &gateway.name, now, fault)?;
+            Ok(Given::Reply(reply))
+        }
         Err(MessageError::Memory) => Err(AllocError),
     }
 }
@@ -127,53 +183,56 @@ fn reply_to_no_text(name: &Ident<40>, now: i64, fault: JsonFault) -> SaleReply<'
     reject_without_header(name, now, Detail::Json(fault))
 }
 
-/// The reply to a message.
-fn reply_to_message(
+/// What a message gets.
+fn given_to_message(
     alloc: Global,
     core: &Core,
-    name: &Ident<40>,
+    gateway: &Gateway,
+    ledger: &Ledger,
     now: i64,
     message: &[u8],
-) -> Result<Option<SaleReply<'static>>, AllocError>
-    ensures { IfOk result (λ given. IsReplyTo name.now core.now (moment_of now) message.now given) }
+) -> Result<Given, AllocError>
+    ensures { IfOk result (IsReplyTo gateway.now ledger.now.records core.now (moment_of now) message.now) }
 {
     match json_text::read(alloc, message) {
-        Ok(json) => reply_to_tree(alloc, core, name, now, &json),
-        Err(ReadError::Fault(fault)) => Ok(Some(reply_to_no_text(name, now, fault))),
+        Ok(json) => given_to_tree(alloc, core, gateway, ledger, now, &json),
+        Err(ReadError::Fault(fault)) => {
+            let reply = reply_to_no_text(&gateway.name, now, fault);
+            Ok(Given::Reply(reply))
+        }
         Err(ReadError::Memory) => Err(AllocError),
     }
 }
 
 impl Core {
-    /// The reply to a message of a till, by a gateway of this name; `None` where there is none. It is to be sent to that till, whichever
-    /// it is.
+    /// What a message of a till wants done, by what the records have: its reply, where there is one, or a payment that begins. A
+    /// reply is to be sent to that till, whichever it is.
     ///
     /// The message is that of a frame, without its length.
     pub fn on_till(
         &self,
         alloc: Global,
-        name: &Ident<40>,
+        gateway: &Gateway,
+        ledger: &Ledger,
         message: &[u8],
         now: i64,
-    ) -> Result<Option<SaleReply<'static>>, AllocError>
-        ensures row { IfOk result (λ given. (till : ℕ) → IsAskedRow name.now self.now (moment_of now) till message.now given) }
-        ensures reply { IfOk result (λ given. IsReplyTo name.now self.now (moment_of now) message.now given) }
+    ) -> Result<Given, AllocError>
+        ensures row { IfOk result (λ given. (till : ℕ) → IsAskedRow gateway.now ledger.now.records self.now (moment_of now) till message.now given) }
+        ensures reply { IfOk result (IsReplyTo gateway.now ledger.now.records self.now (moment_of now) message.now) }
+        ensures begins { IfOk result (IsGivenToBegin gateway.now ledger.now.records self.now (moment_of now)) }
         ensures within { IfOk result IsGivenWithinLimits }
     {
-        match reply_to_message(alloc, self, name, now, message) {
-            Ok(Some(reply)) => {
-                lies_within(&reply);
-                Ok(Some(reply))
-            }
-            Ok(None) => Ok(None),
-            Err(AllocError) => Err(AllocError),
+        let given = given_to_message(alloc, self, gateway, ledger, now, message)?;
+        if let Given::Reply(reply) = &given {
+            lies_within(reply);
         }
+        Ok(given)
     }
 }
 
-/// A message whose types limit its parts lies within the limits.
+/// A message lies within the limits where its types limit its parts, or else as it was shown to.
 fn lies_within(reply: &SaleReply<'_>)
-    requires { HasUnlimitedParts reply.now → ⊥ }
+    requires { HasUnlimitedParts reply.now → IsWithinLimits reply.now }
     ensures { IsWithinLimits reply.now }
 {
     let _ = is_within_limits(reply);

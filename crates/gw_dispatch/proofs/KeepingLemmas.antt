@@ -1,17 +1,17 @@
 -- Keeping a record: each step is the call owed at its view, and the turns lead to the record kept, or to a disk that has failed.
 use Rattle.std.proofs.Common.{◌≡◌, ℕ, ◌*◌, List, [], ◌∷◌, ◌++◌, refl, sym, ◌∙◌, ap, subst, append-nil, inl, inr}
-use Rattle.std.proofs.lemmas.List.{append_cancel_left}
+use Rattle.std.proofs.lemmas.List.{append_assoc, append_cancel_left}
 use Rattle.std.specs.Prelude.{◌⊎◌, Bool, true, false, Option, Some, None, Result, Ok, Err}
 use Rattle.gw_bytes.specs.Bytes.{IsPrefix}
 use Rattle.gw_site.specs.Observed.{Observed, IfObserved, Added, Grows}
 use Rattle.gw_site.specs.Sorts.{IsQuiet}
 use Rattle.gw_site.specs.Steps.{Made, TakenStep, turns_of_steps, log_of_parts, Takes}
 use Rattle.gw_site.specs.declared.turn.Turn.{Turn}
-use Rattle.gw_site.specs.declared.turn.Turn.TheVariants.{Synced}
+use Rattle.gw_site.specs.declared.turn.Turn.TheVariants.{Synced, DiskFailed}
 use Rattle.jrn_record.specs.Grammar.{record_body}
 use Rattle.jrn_record.specs.declared.records.Record.{Record}
 use Rattle.jrn_log.specs.JournalSteps.{Phase, ToSync, ToWrite, Done, AreSteps, RestsDark, append_phase, TakesAppend}
-use Rattle.jrn_log.specs.JournalTurns.{AppendTurns, body_write, gate_write}
+use Rattle.jrn_log.specs.JournalTurns.{AppendTurns, FailedAppendTurns, body_write, gate_write}
 use Rattle.jrn_log.proofs.SequenceLemmas.{added_whole}
 use Rattle.gw_owes.specs.Calls.{OwedCall, WriteBody, WriteGate, Sync, keep_calls, site_call}
 use Rattle.gw_owes.specs.Items.{RoundItem}
@@ -25,6 +25,7 @@ use Rattle.gw_rules.proofs.ActLemmas.{acts_of, done-steps}
 use Rattle.gw_rules.proofs.CourseLemmas.{course-prefix, makes, makes-append, quiet-prefix, turns_of-makes}
 use Rattle.gw_rules.proofs.StageLemmas.{no-true}
 use Rattle.gw_rules.proofs.TripleLemmas.{nothing-extends}
+use Rattle.gw_dispatch.specs.Growth.{EndsInFailure}
 use Rattle.gw_dispatch.specs.Keeping.{MayKeep, OwesKeeping, Kept}
 
 -- ---- steps that are owed
@@ -165,3 +166,21 @@ module _ (scene : Scene) (slot : ℕ) (the_record : Record) (calls : List OwedCa
       rests = rests;
       origin = grows.origin;
     }
+
+-- ---- where the disk fails
+
+failed-ends : (slot : ℕ) (body : List ℕ) (before turns added : List Turn) (new : Observed) (d n : Bool) → new.dark ≡ n → FailedAppendTurns slot body turns → Added d n turns added → new.log ≡ Some (before ++ added) → EndsInFailure new
+failed-ends slot body before turns added new d true dark t a log = inl dark
+failed-ends slot body before turns added new true false dark t a log = absurd a
+failed-ends slot body before turns added new false false dark t a log = inr (by_turns t)
+  where
+    ends : (first : List Turn) → turns ≡ first ++ DiskFailed ∷ [] → (prefix : List Turn) × (new.log ≡ Some (prefix ++ DiskFailed ∷ []))
+    ends first e = (before ++ first, log ∙ ap (λ more. Some (before ++ more)) (a ∙ e) ∙ ap Some (sym (append_assoc before first (DiskFailed ∷ []))))
+
+    by_turns : FailedAppendTurns slot body turns → (prefix : List Turn) × (new.log ≡ Some (prefix ++ DiskFailed ∷ []))
+    by_turns (inl e) = ends (body_write slot body ∷ []) e
+    by_turns (inr e) = ends (body_write slot body ∷ Synced ∷ gate_write slot ∷ []) e
+
+-- the log of an append in which the disk failed ends with the failure
+pub append-ends : (slot : ℕ) (body : List ℕ) (old new : Observed) → Grows old new (FailedAppendTurns slot body) → IfObserved old (λ before. EndsInFailure new)
+append-ends slot body old new grows before e = let x = grows.observed before e in failed-ends slot body before x.0 x.1 new old.dark new.dark refl x.2 x.3 x.4

@@ -1,9 +1,16 @@
 -- The lemmas of the loop of a run: its rounds, its sends, the tills and terminals that it holds, and the requests that wait.
 pub mod ApduLemmas
+pub mod BeginLemmas
 pub mod EngineLemmas
+pub mod FitLemmas
+pub mod GrowthLemmas
+pub mod HandleLemmas
 pub mod HeardLemmas
+pub mod RunStateLemmas
+pub mod KeepWantedLemmas
 pub mod KeepingLemmas
 pub mod LinkLemmas
+pub mod OpenedLemmas
 pub mod OpeningLemmas
 pub mod PerformLemmas
 pub mod PtsLemmas
@@ -11,6 +18,7 @@ pub mod RecordsLemmas
 pub mod RoundLemmas
 pub mod RunLemmas
 pub mod SendLemmas
+pub mod ServeLemmas
 pub mod StepLemmas
 pub mod TillLemmas
 pub mod WaitLemmas

@@ -1,29 +1,28 @@
 -- Which terminals are linked after what their items and links leave of them, and which rows link one.
 use Rattle.std.proofs.Common.{◌≡◌, ◌≢◌, ◌<◌, ℕ, zero, suc, List, [], ◌∷◌, length, refl, sym, ◌∙◌, ap, subst, arith, Bool, true, false}
 use Rattle.std.proofs.lemmas.Bool.{eqb-true, eqb-false, ne_eqb, eq-eqb}
-use Rattle.std.specs.Prelude.{◌==◌, ◌++◌, ◌||◌, if◌then◌else◌, nat_le, set, slice_get, Option, Some, None}
+use Rattle.std.specs.Prelude.{◌==◌, ◌++◌, ◌||◌, set, slice_get, Option, Some, None}
 use Rattle.gw_site.specs.Outside.{Connection, Outside, outside_after, is_connected, without, new_connection}
 use Rattle.gw_site.specs.declared.turn.Turn.TheVariants.{Linked, CutPt as PtCut}
 use Rattle.zvt_msg.specs.Message.{MessageValue, Ack, Nack, Intermediate, Line, Block, Status, Completion, Abort, Other}
-use Rattle.zvt_talk.specs.declared.meaning.Heard.{Heard}
-use Rattle.zvt_talk.specs.declared.meaning.Heard.TheVariants as heard
 use Rattle.zvt_talk.specs.Came.{is_taken}
-use Rattle.gw_owes.specs.Calls.{OwedCall, SendPt, CutPt, Ask}
+use Rattle.gw_owes.specs.Calls.{OwedCall, CutPt}
 use Rattle.gw_owes.specs.Core.{Core}
-use Rattle.gw_owes.specs.declared.terminal.Standing.{Standing}
-use Rattle.gw_owes.specs.declared.terminal.Standing.TheVariants.{Unlinked, Registering, Enquiring, Ready, Serving, Aside}
 use Rattle.gw_owes.specs.declared.terminal.Terminal.{Terminal}
 use Rattle.gw_owes.specs.Row.{Known, Row, owing, owing_where}
-use Rattle.gw_owes.specs.Terminals.{terminal_at, of_terminal, terminal_becomes, after_command, unlinks, unlinked_terminal}
+use Rattle.gw_owes.specs.Terminals.{terminal_at, of_terminal, reply_calls_to, terminal_becomes, unlinks, unlinked_terminal}
 use Rattle.gw_owes.specs.Links.{is_linked, cutting, LinkIsMade, LinkIsLost, link_row}
 use Rattle.gw_owes.specs.Greeting.{greeting, sending_calls, greeted_row}
-use Rattle.gw_owes.specs.Handling.{taking, meaning_at, enquiry_command, registering, enquiring, serving, consequence, handle_message, handled_row}
-use Rattle.gw_owes.specs.Reports.{standing_reported}
+use Rattle.gw_owes.specs.Handling.{taking, meaning_at, consequence, handle_message, handled_row}
+use Rattle.gw_owes.specs.Reply.{ReplyValue}
+use Rattle.gw_owes.specs.Reports.{at_rest}
+use Rattle.gw_owes.specs.Serving.{done_with, reply_to_outcome}
 use Rattle.gw_owes.specs.Deadlines.{late_row, is_late}
 use Rattle.gw_owes.specs.TerminalLaws.{ChangesTerminalAlone}
 use Rattle.gw_owes.proofs.HandlingLemmas.{each-terminal, each-linked}
 use Rattle.gw_owes.proofs.SetLemmas.{new-is-there}
 use Rattle.gw_owes.proofs.TerminalLemmas.{link-changes-alone}
+use Rattle.gw_rules.proofs.RowFormLemmas.{EachForm, form-consequence}
 use Rattle.gw_dispatch.specs.MidRound.{AreLinked, is_linked_in}
 use Rattle.gw_dispatch.specs.Wanted.{owes_link}
 use Rattle.gw_dispatch.proofs.HeardLemmas.{cut-there, cut-others}
@@ -47,74 +46,38 @@ set-linked (first ∷ rest) zero (suc number) old new found same = refl
 set-linked (first ∷ rest) (suc at) zero old new found same = refl
 set-linked (first ∷ rest) (suc at) (suc number) old new found same = set-linked rest at number old new found same
 
-becomes-keeps : (known : Known) (number : ℕ) (old new : Terminal) (calls : List OwedCall) → terminal_at known number ≡ Some old → is_linked new.standing ≡ is_linked old.standing → owes_link calls ≡ false
+pub becomes-keeps : (known : Known) (number : ℕ) (old new : Terminal) (calls : List OwedCall) → terminal_at known number ≡ Some old → is_linked new.standing ≡ is_linked old.standing → owes_link calls ≡ false
     → KeepsLinks known.core (terminal_becomes known number new calls)
 becomes-keeps known number old new calls found same none = record { stay = λ other. set-linked known.core.terminals number other old new found same; none = none }
 
-owing-keeps : (known : Known) (calls : List OwedCall) → owes_link calls ≡ false → KeepsLinks known.core (owing known calls)
+pub owing-keeps : (known : Known) (calls : List OwedCall) → owes_link calls ≡ false → KeepsLinks known.core (owing known calls)
 owing-keeps known calls none = record { stay = λ other. refl; none = none }
 
 -- ---- what a message leaves
 
-reported-linked : (least reported : ℕ) → is_linked (standing_reported least reported) ≡ true
-reported-linked least reported = by_test (nat_le least reported)
-  where
-    by_test : (test : Bool) → is_linked (if test then Ready reported else Aside least reported) ≡ true
-    by_test true = refl
-    by_test false = refl
+reply-none : (asker : Option ℕ) (reply : Option ReplyValue) → owes_link (reply_calls_to asker reply) ≡ false
+reply-none None reply = refl
+reply-none (Some till) None = refl
+reply-none (Some till) (Some reply) = refl
 
+-- each form of what follows from a message of a terminal that is linked
 module _ (known : Known) (number : ℕ) (old : Terminal) (found : terminal_at known number ≡ Some old) (linked : is_linked old.standing ≡ true) (terminal : Terminal) (same : terminal.standing ≡ old.standing) where
+  becomes : (new : Terminal) (calls : List OwedCall) → is_linked new.standing ≡ true → owes_link calls ≡ false → KeepsLinks known.core (terminal_becomes known number new calls)
+  becomes new calls is none = becomes-keeps known number old new calls found (is ∙ sym linked) none
+
   stays : (calls : List OwedCall) → owes_link calls ≡ false → KeepsLinks known.core (terminal_becomes known number terminal calls)
   stays calls none = becomes-keeps known number old terminal calls found (ap is_linked same) none
 
-  registering-keeps : (meant : Heard) → KeepsLinks known.core (registering known number terminal meant)
-  registering-keeps (heard.Begun stop) = stays [] refl
-  registering-keeps (heard.Note intermediate_status) = stays [] refl
-  registering-keeps heard.Line = stays [] refl
-  registering-keeps heard.Block = stays [] refl
-  registering-keeps heard.Seen = stays [] refl
-  registering-keeps (heard.Approved figures) = stays [] refl
-  registering-keeps heard.Done = becomes-keeps known number old (after_command terminal (enquiry_command terminal.pt) Enquiring known.moment) (SendPt number (Ask (enquiry_command terminal.pt)) ∷ []) found (sym linked) refl
-  registering-keeps (heard.Told reported approved result_code) = stays [] refl
-  registering-keeps (heard.Declined result_code reported) = stays (CutPt number ∷ []) refl
-  registering-keeps heard.Unclear = stays (CutPt number ∷ []) refl
-  registering-keeps heard.Stray = stays [] refl
-
-  enquiring-keeps : (meant : Heard) → KeepsLinks known.core (enquiring known number terminal meant)
-  enquiring-keeps (heard.Begun stop) = stays [] refl
-  enquiring-keeps (heard.Note intermediate_status) = stays [] refl
-  enquiring-keeps heard.Line = stays [] refl
-  enquiring-keeps heard.Block = stays [] refl
-  enquiring-keeps heard.Seen = stays [] refl
-  enquiring-keeps (heard.Approved figures) = stays [] refl
-  enquiring-keeps heard.Done = stays [] refl
-  enquiring-keeps (heard.Told reported approved result_code) =
-      becomes-keeps known number old (record terminal { standing = standing_reported 0 reported; talk = None }) [] found (reported-linked 0 reported ∙ sym linked) refl
-  enquiring-keeps (heard.Declined result_code reported) = stays (CutPt number ∷ []) refl
-  enquiring-keeps heard.Unclear = stays (CutPt number ∷ []) refl
-  enquiring-keeps heard.Stray = stays [] refl
-
-  serving-keeps : (meant : Heard) → KeepsLinks known.core (serving known number terminal meant)
-  serving-keeps (heard.Begun true) = becomes-keeps known number old _ _ found (ap is_linked same) refl
-  serving-keeps (heard.Begun false) = stays [] refl
-  serving-keeps (heard.Note intermediate_status) = stays [] refl
-  serving-keeps heard.Line = stays [] refl
-  serving-keeps heard.Block = stays [] refl
-  serving-keeps heard.Seen = stays [] refl
-  serving-keeps (heard.Approved figures) = stays [] refl
-  serving-keeps heard.Done = stays [] refl
-  serving-keeps (heard.Told reported approved result_code) = stays [] refl
-  serving-keeps (heard.Declined result_code reported) = stays [] refl
-  serving-keeps heard.Unclear = stays (CutPt number ∷ []) refl
-  serving-keeps heard.Stray = stays [] refl
-
-  consequence-keeps : (meant : Heard) (standing : Standing) → KeepsLinks known.core (consequence known number terminal meant standing)
-  consequence-keeps meant (Unlinked due) = owing-keeps known [] refl
-  consequence-keeps meant Registering = registering-keeps meant
-  consequence-keeps meant Enquiring = enquiring-keeps meant
-  consequence-keeps meant (Ready last) = stays [] refl
-  consequence-keeps meant (Serving service last) = serving-keeps meant
-  consequence-keeps meant (Aside before reported) = stays [] refl
+  forms-keep : EachForm (KeepsLinks known.core) known number terminal
+  forms-keep = record {
+    nothing = owing-keeps known [] refl;
+    stays = stays [] refl;
+    cuts = stays (CutPt number ∷ []) refl;
+    stops = becomes-keeps known number old _ _ found (ap is_linked same) refl;
+    enquires = becomes _ _ refl refl;
+    rests = λ standing is. becomes (at_rest terminal standing) [] is refl;
+    resolves = λ standing outcome is. becomes (done_with terminal standing) _ is (reply-none terminal.asker (reply_to_outcome known.kept outcome.slot outcome));
+  }
 
 where-keeps : (there : Bool) (known : Known) (row : Row) → KeepsLinks known.core row → KeepsLinks known.core (owing_where there known row)
 where-keeps true known row kept = kept
@@ -125,7 +88,7 @@ pub handled-keeps : (known : Known) (number : ℕ) (message : MessageValue) → 
 handled-keeps known number message =
     each-linked (KeepsLinks known.core) known number (λ terminal. handle_message known number terminal message) (owing-keeps known [] refl)
     (λ terminal found linked. where-keeps (is_taken message) known (consequence known number (taking terminal message known.moment) (meaning_at terminal message) terminal.standing)
-    (consequence-keeps known number terminal found linked (taking terminal message known.moment) refl (meaning_at terminal message) terminal.standing))
+    (form-consequence (KeepsLinks known.core) known number (taking terminal message known.moment) (forms-keep known number terminal found linked (taking terminal message known.moment) refl) (meaning_at terminal message) terminal.standing))
 
 sending-keeps : (number : ℕ) (message : MessageValue) → owes_link (sending_calls number (greeting message)) ≡ false
 sending-keeps number Ack = refl

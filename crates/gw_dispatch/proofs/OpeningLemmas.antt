@@ -24,11 +24,11 @@ use Rattle.gw_site.proofs.ImageLemmas.{file_image}
 use Rattle.jrn_log.specs.Journal.{JournalValue}
 use Rattle.jrn_log.specs.declared.fault.OpenFault.{OpenFault}
 use Rattle.jrn_log.specs.declared.fault.OpenFault.TheVariants.{Disk as JournalDisk, TooLong as JournalTooLong, Cut as JournalCut, Memory as JournalMemory}
-use Rattle.gw_rules.specs.LedgerRules.{ledger_rules}
+use Rattle.gw_rules.specs.LedgerRules.{EachLawfulHasKept}
+use Rattle.gw_rules.specs.RecordOrder.{EachLogFolds}
 use Rattle.gw_rules.specs.Triple.{ExtendsBy, TripleBy, IsNewRun, JustBegun}
-use Rattle.gw_rules.proofs.KeptLawLemmas.{each-lawful-keeps-journal, has-kept}
-use Rattle.gw_rules.proofs.LedgerRuleLemmas.{each-file-folds}
-use Rattle.gw_dispatch.specs.RecordsOpening.{GoesOnFrom, EndsInFailure, HasOpened, HasRecords, IsFileRefused, LedgerGives, OpenedBy, OpensBy, UnopenedBy, cause_of}
+use Rattle.gw_dispatch.specs.RecordsOpening.{HasOpened, HasRecords, IsFileRefused, LedgerGives, OpenedBy, OpensBy, UnopenedBy, cause_of}
+use Rattle.gw_dispatch.specs.Growth.{EndsInFailure, GoesOnFrom}
 use Rattle.gw_dispatch.specs.declared.records.Records.{Records}
 use Rattle.gw_dispatch.specs.declared.records.Unopened.{Unopened}
 use Rattle.gw_dispatch.specs.declared.records.Unopened.TheVariants.{Disk, TooLong, Cut, BadRecord, Memory}
@@ -494,21 +494,20 @@ opening-extends own scene o old new before turns added journal result false lit 
     part-extends own scene o old new before turns added journal result of x log (rw a leads.lawful) (rw a leads.quiet) (λ d. rw a leads.owed)
 
 -- a lawful log has left a file whose records are those of its view
-pub file-has-records : (before : List Turn) (v : View) → Stands before v → HasRecords v.scene.outside.file (records_of v.scene)
-file-has-records before v stands =
-    let k = each-lawful-keeps-journal ledger_rules before v stands in
-    let kept = has-kept ledger_rules before v k in
+pub file-has-records : EachLawfulHasKept → EachLogFolds → (before : List Turn) (v : View) → Stands before v → HasRecords v.scene.outside.file (records_of v.scene)
+file-has-records has_kept folds before v stands =
+    let kept = has_kept before v stands in
     subst (λ (out : Outside). HasRecords out.file (records_of v.scene)) (sym (stands-outside before v stands)) (record {
       whole = λ slot. kept.truncated (outside_of before).file slot (file_image before);
       bodies = map record_body (records_of v.scene);
       slots_are = kept.file.file;
-      records_are = record { bodies_are = refl; folded = each-file-folds before v k };
+      records_are = record { bodies_are = refl; folded = (folds before v stands).file };
     })
 
 opening-of : (own : Setup) (scene : Scene) → IsNewRun own scene → HasRecords scene.outside.file (records_of scene) → IsOpening own scene
 opening-of own scene new has = record { setup_is = new.setup_is; stage = new.stage; tills = new.tills; links = new.links; polls = new.polls; core_is = new.core_is; has = has }
 
-module _ {T : Type 0} (own : Setup) (old new : Observed) (journal : Result T OpenFault) (result : Result Records Unopened) (of : IsMadeOf journal result)
+module _ {T : Type 0} (has_kept : EachLawfulHasKept) (folds : EachLogFolds) (own : Setup) (old new : Observed) (journal : Result T OpenFault) (result : Result Records Unopened) (of : IsMadeOf journal result)
     (grows : GrowsBy Added old new (λ before. OpeningTurns (outside_of before).file journal))
     (steps : IfObserved old (λ before. TakesOpening own.slots (length (outside_of before).file) before old new journal))
     (by_file : IfObserved old (λ before. IsByFile own.slots (outside_of before).file result)) where
@@ -516,7 +515,7 @@ module _ {T : Type 0} (own : Setup) (old new : Observed) (journal : Result T Ope
       → ExtendsBy (OpensBy own result) old before v new (OpenedBy own result)
   lit-observed before turns added v n observed stands (scene, v_is, run) dark t a log =
       let out : outside_of before ≡ scene.outside = sym (stands-outside before v stands) ∙ ap (λ (w : View). w.scene.outside) v_is in
-      let o = opening-of own scene run (subst (λ (w : View). HasRecords w.scene.outside.file (records_of w.scene)) v_is (file-has-records before v stands)) in
+      let o = opening-of own scene run (subst (λ (w : View). HasRecords w.scene.outside.file (records_of w.scene)) v_is (file-has-records has_kept folds before v stands)) in
       subst (λ w. ExtendsBy (OpensBy own result) old before w new (OpenedBy own result)) (sym v_is)
       (opening-extends own scene o old new before turns added journal result n dark of (subst (λ (u : Outside). TakesOpening own.slots (length u.file) before old new journal) out (steps before observed)) a log
       (result-leads own scene o turns journal result of (subst (λ (u : Outside). OpeningTurns u.file journal turns) out t) (subst (λ (u : Outside). IsByFile own.slots u.file result) out (by_file before observed))))
@@ -550,8 +549,8 @@ module _ {T : Type 0} (own : Setup) (old new : Observed) (journal : Result T Ope
   }
 
 -- the same, with as many slots as the setup has
-pub opens : {T : Type 0} (own : Setup) (slots : ℕ) → own.slots ≡ slots → (old new : Observed) (journal : Result T OpenFault) (result : Result Records Unopened) → IsMadeOf journal result → GrowsBy Added old new (λ before. OpeningTurns (outside_of before).file journal)
+pub opens : {T : Type 0} → EachLawfulHasKept → EachLogFolds → (own : Setup) (slots : ℕ) → own.slots ≡ slots → (old new : Observed) (journal : Result T OpenFault) (result : Result Records Unopened) → IsMadeOf journal result → GrowsBy Added old new (λ before. OpeningTurns (outside_of before).file journal)
     → IfObserved old (λ before. TakesOpening slots (length (outside_of before).file) before old new journal) → RestsDark old new → IfObserved old (λ before. IsByFile slots (outside_of before).file result) → TripleBy (OpensBy own result) old new (JustBegun own) (OpenedBy own result)
-opens own slots same old new journal result of grows steps rests by_file =
-    opening-triple own old new journal result of grows (λ before e. subst (λ k. TakesOpening k (length (outside_of before).file) before old new journal) (sym same) (steps before e))
+opens has_kept folds own slots same old new journal result of grows steps rests by_file =
+    opening-triple has_kept folds own old new journal result of grows (λ before e. subst (λ k. TakesOpening k (length (outside_of before).file) before old new journal) (sym same) (steps before e))
     (λ before e. subst (λ k. IsByFile k (outside_of before).file result) (sym same) (by_file before e)) rests

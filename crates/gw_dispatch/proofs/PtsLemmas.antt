@@ -1,11 +1,9 @@
 -- The terminals of a run: their links, what their readers hold, and their items.
-use Rattle.std.proofs.Common.{◌≡◌, ℕ, zero, suc, ◌+◌, ◌-◌, ◌<◌, ◌≤◌, List, [], ◌∷◌, ◌++◌, length, get_or, set, refl, sym, ◌∙◌, ap, subst, arith, append_assoc, inl, inr}
-use Rattle.std.specs.Prelude.{◌≢◌, ℤ, ◌==◌, if◌then◌else◌, Bool, true, false, IfSome, Option, Some, None, slice_get, replicate}
+use Rattle.std.proofs.Common.{◌≡◌, ℕ, zero, suc, ◌+◌, ◌-◌, ◌<◌, ◌≤◌, List, [], ◌∷◌, ◌++◌, length, set, refl, sym, ◌∙◌, ap, subst, arith, append_assoc, inl, inr}
+use Rattle.std.specs.Prelude.{ℤ, ◌==◌, if◌then◌else◌, Bool, true, false, IfSome, OnOk, Option, Some, None, Result, Ok, Err, slice_get, replicate}
 use Rattle.std.specs.List.{flat_map}
-use Rattle.std.specs.Option.{option_map}
 use Rattle.std.proofs.lemmas.Bool.{cases_eq, eq-eqb, ne_eqb, eqb-true, eqb-false}
-use Rattle.std.proofs.lemmas.List.{length-set, length-map, length-replicate}
-use Rattle.std.proofs.lemmas.Option.{slice_get-map, slice_get-get_or, get_or_from_slice_get}
+use Rattle.std.proofs.lemmas.List.{length-set, length-replicate}
 use Rattle.gw_base.specs.declared.setup.Setup.{Setup}
 use Rattle.gw_site.specs.Observed.{Observed}
 use Rattle.gw_site.specs.Outside.{Outside, outside_after, is_connected, heard_on, hears, without}
@@ -14,77 +12,65 @@ use Rattle.jrn_record.specs.declared.records.Record.{Record}
 use Rattle.zvt_apdu.specs.Grammar.{ApduValue}
 use Rattle.zvt_apdu.specs.Decode.{DecodedApdu, decode_apdu}
 use Rattle.zvt_apdu.specs.DecodeStream.{decode_apdus}
+use Rattle.zvt_talk.specs.Talk.{TalkFacts}
+use Rattle.gw_owes.specs.declared.terminal.Service.{Service}
+use Rattle.gw_owes.specs.declared.terminal.Service.TheVariants.{Transaction, EndOfDay, Display}
 use Rattle.gw_owes.specs.declared.terminal.Standing.{Standing}
 use Rattle.gw_owes.specs.declared.terminal.Standing.TheVariants.{Unlinked, Registering, Enquiring, Ready, Serving, Aside}
 use Rattle.gw_owes.specs.declared.terminal.Terminal.{Terminal}
 use Rattle.gw_owes.specs.Calls.{LinkPt}
 use Rattle.gw_owes.specs.Core.{Core, new_core}
 use Rattle.gw_owes.specs.Deadlines.{is_due}
-use Rattle.gw_owes.specs.Dialogues.{IsDialogueOf, HasItsDialogue, AllHaveDialogues}
+use Rattle.gw_owes.specs.Dialogues.{IsDialogueOf, IsDialogueOfService, HasItsDialogue, AllHaveDialogues}
 use Rattle.gw_owes.specs.Events.{apdu_items, is_oversized}
 use Rattle.gw_owes.specs.Items.{RoundItem, Greet, Handle, NextWaiting, Oversized, LinkLost, Due}
 use Rattle.gw_owes.specs.Links.{is_linked, LinkIsLost, link_row}
 use Rattle.gw_owes.specs.Row.{Known, Row, owing, owing_nothing, owing_where, becoming}
 use Rattle.gw_owes.specs.TerminalLaws.{IsOwedNothing}
-use Rattle.gw_owes.specs.Terminals.{terminal_at, of_terminal, unlinks, unlinked_terminal, reply_calls_to, reply_to_lost, core_without, forgets_till}
+use Rattle.gw_owes.specs.Terminals.{terminal_at, of_terminal, unlinks, unlinked_terminal}
 use Rattle.gw_owes.proofs.DialogueLemmas.{links-give, new-has}
 use Rattle.gw_owes.proofs.SetLemmas.{others-stay, new-is-there}
 use Rattle.gw_owes.proofs.TerminalLemmas.{unlinked-owes-nothing, absent-owes-nothing, link-changes-alone}
+use Rattle.gw_rules.specs.Stage.{Broken}
 use Rattle.gw_rules.specs.Triple.{Triple}
 use Rattle.gw_rules.specs.View.{View, at_first}
 use Rattle.gw_rules.proofs.TripleLemmas.{triple-refl, triple-then, triple-after, triple-before, triple-frame, triple-some}
-use Rattle.gw_core.specs.IsRow.{ServesNothing}
+use Rattle.gw_core.specs.IsRow.{IsPaymentOrReversal, ServesNoOther}
 use Rattle.gw_dispatch.specs.Apdus.{items_held, IsRest}
-use Rattle.gw_dispatch.specs.MidRound.{is_linked_in, AreLinked, AllHear, AreHeard, AreReady, MidRound, BeforePt, BeforePtChunk, BeforePtClosed, each_terminal}
+use Rattle.gw_dispatch.specs.RunState.{IsWell, UnlessBroken}
+use Rattle.gw_dispatch.specs.MidRound.{is_linked_in, AreLinked, AllHear, AreHeard, AreReady, HeldRound, MidRound, BeforePt, BeforePtChunk, BeforePtClosed, each_terminal}
 use Rattle.gw_dispatch.specs.Round.{InRound, HoldsTills, known_at}
+use Rattle.gw_dispatch.specs.declared.run_state.RunState.{RunState}
 use Rattle.gw_dispatch.specs.declared.tills.Till.{Till}
 use Rattle.gw_dispatch.proofs.ApduLemmas.{items-apdu, items-oversized, items-waiting, rest-chunk, rest-waiting}
 use Rattle.gw_dispatch.proofs.EngineLemmas.{begin-first, pass}
+use Rattle.gw_dispatch.proofs.FitLemmas.{AllWait, Fit, OthersFit, are-heard, fit-heard, heard_by, hears-at, same-bytes}
 use Rattle.gw_dispatch.proofs.HeardLemmas.{cut-there, cut-others, cut-heard, hears-there, hears-here, hears-others}
+use Rattle.gw_dispatch.proofs.PerformLemmas.{lost-none}
 
 -- ---- what is remembered of a terminal
 
--- a terminal with the dialogue of its standing serves nothing
-serves-nothing : (terminal : Terminal) (standing : Standing) → terminal.standing ≡ standing → HasItsDialogue terminal → ServesNothing standing
-serves-nothing terminal (Unlinked due) e has = tt
-serves-nothing terminal Registering e has = tt
-serves-nothing terminal Enquiring e has = tt
-serves-nothing terminal (Ready last) e has = tt
-serves-nothing terminal (Serving service last) e has = absurd (subst (λ standing. IsDialogueOf standing terminal.talk terminal.awaited) e has)
-serves-nothing terminal (Aside before reported) e has = tt
+-- what a terminal with the dialogue of its service serves
+served-is : (service : Service) (talk : Option TalkFacts) (awaited : ℕ) → IsDialogueOfService service talk awaited → IsPaymentOrReversal service
+served-is (Transaction slot) talk awaited has = tt
+served-is (EndOfDay header period) talk awaited has = absurd has
+served-is (Display header outputs) talk awaited has = absurd has
 
-pub all-serve-nothing : (core : Core) (pt : ℕ) → AllHaveDialogues core → IfSome (slice_get core.terminals pt) (λ (terminal : Terminal). ServesNothing terminal.standing)
-all-serve-nothing core pt all = by_terminal (slice_get core.terminals pt) refl
+-- one with the dialogue of its standing serves nothing but a payment or a reversal
+serves-no-other : (terminal : Terminal) (standing : Standing) → terminal.standing ≡ standing → HasItsDialogue terminal → ServesNoOther standing
+serves-no-other terminal (Unlinked due) e has = tt
+serves-no-other terminal Registering e has = tt
+serves-no-other terminal Enquiring e has = tt
+serves-no-other terminal (Ready last) e has = tt
+serves-no-other terminal (Serving service last) e has = served-is service terminal.talk terminal.awaited (subst (λ standing. IsDialogueOf standing terminal.talk terminal.awaited) e has)
+serves-no-other terminal (Aside before reported) e has = tt
+
+pub all-serve-no-other : (core : Core) (pt : ℕ) → AllHaveDialogues core → IfSome (slice_get core.terminals pt) (λ (terminal : Terminal). ServesNoOther terminal.standing)
+all-serve-no-other core pt all = by_terminal (slice_get core.terminals pt) refl
   where
-    by_terminal : (found : Option Terminal) → slice_get core.terminals pt ≡ found → IfSome found (λ (terminal : Terminal). ServesNothing terminal.standing)
+    by_terminal : (found : Option Terminal) → slice_get core.terminals pt ≡ found → IfSome found (λ (terminal : Terminal). ServesNoOther terminal.standing)
     by_terminal None e = tt
-    by_terminal (Some terminal) e = serves-nothing terminal terminal.standing refl (all pt terminal e)
-
--- whether the terminal is linked, as the code asks
-pub linked-is : (terminals : List Terminal) (pt : ℕ) (linked : Bool) → pt < length terminals → IfSome (slice_get terminals pt) (λ (terminal : Terminal). linked ≡ is_linked terminal.standing) → is_linked_in (slice_get terminals pt) ≡ linked
-linked-is [] pt linked inside asked = absurd (omega arith)
-linked-is (terminal ∷ terminals) zero linked inside asked = sym asked
-linked-is (terminal ∷ terminals) (suc pt) linked inside asked = linked-is terminals pt linked (omega arith) asked
-
--- one that is linked is there
-linked-there : (terminals : List Terminal) (pt : ℕ) → is_linked_in (slice_get terminals pt) ≡ true → pt < length terminals
-linked-there [] pt linked = absurd (let h : false ≡ true = linked in cc)
-linked-there (terminal ∷ terminals) zero linked = omega arith
-linked-there (terminal ∷ terminals) (suc pt) linked = omega (arith, linked-there terminals pt linked)
-
--- a till is forgotten
-pub forgotten : (core : Core) (readers : List (List ℕ)) (till : ℕ) → AreReady core readers → AreReady (core_without core till) readers
-forgotten core readers till ready = record {
-  dialogues = λ number terminal found. by_terminal number terminal (slice_get core.terminals number) refl (sym (slice_get-map (forgets_till till) core.terminals number) ∙ found);
-  count = ready.count ∙ sym (length-map core.terminals (forgets_till till));
-  waits = ready.waits;
-}
-  where
-    by_terminal : (number : ℕ) (terminal : Terminal) (old : Option Terminal) → slice_get core.terminals number ≡ old → option_map (forgets_till till) old ≡ Some terminal → HasItsDialogue terminal
-    by_terminal number terminal None e found = absurd cc
-    by_terminal number terminal (Some old) e found =
-        let same : forgets_till till old ≡ terminal = cc in
-        subst HasItsDialogue same (ready.dialogues number old e)
+    by_terminal (Some terminal) e = serves-no-other terminal terminal.standing refl (all pt terminal e)
 
 -- as a run begins each reader is empty
 empty-there : (count number : ℕ) (bytes : List ℕ) → slice_get (replicate count []) number ≡ Some bytes → decode_apdu bytes ≡ DecodedApdu.Incomplete
@@ -103,26 +89,21 @@ new-ready setup core readers count is counted empty = record {
 
 -- ---- rounds that are held
 
--- which records are kept, and the outside
-record Setting : Type 0 where
-  kept : List Record
-  outside : Outside
-
--- one is wanted where the site is dark
-no_setting : Setting
-no_setting = record { kept = []; outside = at_first.scene.outside }
+-- an outside is wanted where the site is dark
+no_outside : Outside
+no_outside = at_first.scene.outside
 
 -- what makes no call keeps what is held beside the items
-pub pass-held : (s : Observed) (setup : Setup) (core : Core) (tills : List Till) (polls : ℕ) (now : ℤ) (Also : Outside → Type 0) (old new : List RoundItem) →
-    ((kept : List Record) (o : Outside) → Triple s s (InRound (known_at setup core kept now) polls o old) (InRound (known_at setup core kept now) polls o new)) →
-    Triple s s (MidRound setup core tills polls now Also [] old) (MidRound setup core tills polls now Also [] new)
-pass-held s setup core tills polls now Also old new k =
-    triple-before s s _ (λ v. (w : Setting) × (InRound (known_at setup core w.kept now) polls w.outside old v × Facts w)) _ (λ v p. (record { kept = p.kept; outside = p.outside }, (p.round, (p.tills_are, (p.linked, p.also)))))
-    (triple-some s s (λ (w : Setting) v. InRound (known_at setup core w.kept now) polls w.outside old v × Facts w) _ no_setting
-    (λ w. triple-after s s _ _ _ (triple-frame s s _ _ (Facts w) (k w.kept w.outside)) (λ v q. record { kept = w.kept; outside = w.outside; round = q.0; tills_are = q.1.0; linked = q.1.1.0; also = q.1.1.1 })))
+pub pass-held : (s : Observed) (setup : Setup) (core : Core) (kept : List Record) (tills : List Till) (polls : ℕ) (now : ℤ) (Also : Outside → Type 0) (old new : List RoundItem) →
+    ((o : Outside) → Triple s s (InRound (known_at setup core kept now) polls o old) (InRound (known_at setup core kept now) polls o new)) →
+    Triple s s (MidRound setup core kept tills polls now Also [] old) (MidRound setup core kept tills polls now Also [] new)
+pass-held s setup core kept tills polls now Also old new k =
+    triple-before s s _ (λ v. (o : Outside) × (InRound (known_at setup core kept now) polls o old v × Facts o)) _ (λ v p. (p.outside, (p.round, (p.tills_are, (p.linked, p.also)))))
+    (triple-some s s (λ (o : Outside) v. InRound (known_at setup core kept now) polls o old v × Facts o) _ no_outside
+    (λ o. triple-after s s _ _ _ (triple-frame s s _ _ (Facts o) (k o)) (λ v q. record { outside = o; round = q.0; tills_are = q.1.0; linked = q.1.1.0; also = q.1.1.1 })))
   where
-    Facts : Setting → Type 0
-    Facts w = HoldsTills tills w.outside × (AreLinked core w.outside × Also w.outside)
+    Facts : Outside → Type 0
+    Facts o = HoldsTills tills o × (AreLinked core o × Also o)
 
 -- ---- items that are passed
 
@@ -178,96 +159,62 @@ due-linked known pt (Some terminal) linked = by_standing terminal.standing linke
     by_standing (Serving service last) linked = refl
     by_standing (Aside before reported) linked = refl
 
-pub pass-linked : (s : Observed) (setup : Setup) (core : Core) (tills : List Till) (polls : ℕ) (now : ℤ) (Also : Outside → Type 0) (pt : ℕ) (items : List RoundItem) → is_linked_in (slice_get core.terminals pt) ≡ true →
-    Triple s s (MidRound setup core tills polls now Also [] (Due pt ∷ items)) (MidRound setup core tills polls now Also [] items)
-pass-linked s setup core tills polls now Also pt items linked = pass-held s setup core tills polls now Also (Due pt ∷ items) items
-    (λ kept o. pass s (known_at setup core kept now) polls o (Due pt) items (record { begins = λ scene e. refl; row = due-linked (known_at setup core kept now) pt (slice_get core.terminals pt) linked }))
+pub pass-linked : (s : Observed) (setup : Setup) (core : Core) (kept : List Record) (tills : List Till) (polls : ℕ) (now : ℤ) (Also : Outside → Type 0) (pt : ℕ) (items : List RoundItem) → is_linked_in (slice_get core.terminals pt) ≡ true →
+    Triple s s (MidRound setup core kept tills polls now Also [] (Due pt ∷ items)) (MidRound setup core kept tills polls now Also [] items)
+pass-linked s setup core kept tills polls now Also pt items linked = pass-held s setup core kept tills polls now Also (Due pt ∷ items) items
+    (λ o. pass s (known_at setup core kept now) polls o (Due pt) items (record { begins = λ scene e. refl; row = due-linked (known_at setup core kept now) pt (slice_get core.terminals pt) linked }))
 
 -- ---- steps of a reader
 
 -- what handles a terminal's items, whatever items come after them
-abbrev pub Handles : Observed → Observed → Core → Core → ℤ → List RoundItem → Type 0
-Handles a b old new now done = (setup : Setup) (tills : List Till) (polls : ℕ) (heard : ℕ → List ℕ) (items : List RoundItem) →
-    Triple a b (MidRound setup old tills polls now (AreHeard heard) [] (done ++ items)) (MidRound setup new tills polls now (AreHeard heard) [] items)
+abbrev pub Handles : Observed → Observed → RunState → RunState → List Till → List Till → ℤ → List RoundItem → Type 0
+Handles a b old new tills left now done = (setup : Setup) (polls : ℕ) (heard : ℕ → List ℕ) (items : List RoundItem) →
+    Triple a b (HeldRound setup old tills polls now (AreHeard heard) [] (done ++ items)) (HeldRound setup new left polls now (AreHeard heard) [] items)
+
+-- the items of an APDU come first, whatever they lead to
+pub apdu-first : (a b : Observed) (old : RunState) (tills : List Till) (now : ℤ) (pt : ℕ) (bytes rest : List ℕ) (apdu : ApduValue) → decode_apdu bytes ≡ DecodedApdu.Whole apdu rest → (setup : Setup) (polls : ℕ) (heard : ℕ → List ℕ) (items : List RoundItem) (Q : View → Type 0) →
+    Triple a b (HeldRound setup old tills polls now (AreHeard heard) [] (apdu_items pt apdu ++ (items_held pt rest ++ items))) Q → Triple a b (HeldRound setup old tills polls now (AreHeard heard) [] (items_held pt bytes ++ items)) Q
+apdu-first a b old tills now pt bytes rest apdu e setup polls heard items Q k =
+    subst (λ (list : List RoundItem). Triple a b (HeldRound setup old tills polls now (AreHeard heard) [] (list ++ items)) Q) (sym (items-apdu pt bytes apdu rest e)) k
 
 -- an APDU was handled, and more may be
-pub apdu-handled : (a b : Observed) (old new : Core) (now : ℤ) (pt : ℕ) (bytes rest : List ℕ) (apdu : ApduValue) → decode_apdu bytes ≡ DecodedApdu.Whole apdu rest → Handles a b old new now (apdu_items pt apdu) →
-    (setup : Setup) (tills : List Till) (polls : ℕ) (heard : ℕ → List ℕ) (items : List RoundItem) → Triple a b (MidRound setup old tills polls now (AreHeard heard) [] (items_held pt bytes ++ items)) (MidRound setup new tills polls now (AreHeard heard) [] (items_held pt rest ++ items))
-apdu-handled a b old new now pt bytes rest apdu e k setup tills polls heard items =
-    subst (λ (list : List RoundItem). Triple a b (MidRound setup old tills polls now (AreHeard heard) [] (list ++ items)) (MidRound setup new tills polls now (AreHeard heard) [] (items_held pt rest ++ items))) (sym (items-apdu pt bytes apdu rest e))
-    (k setup tills polls heard (items_held pt rest ++ items))
+pub apdu-handled : (a b : Observed) (old new : RunState) (tills left : List Till) (now : ℤ) (pt : ℕ) (bytes rest : List ℕ) (apdu : ApduValue) → decode_apdu bytes ≡ DecodedApdu.Whole apdu rest → Handles a b old new tills left now (apdu_items pt apdu) →
+    (setup : Setup) (polls : ℕ) (heard : ℕ → List ℕ) (items : List RoundItem) → Triple a b (HeldRound setup old tills polls now (AreHeard heard) [] (items_held pt bytes ++ items)) (HeldRound setup new left polls now (AreHeard heard) [] (items_held pt rest ++ items))
+apdu-handled a b old new tills left now pt bytes rest apdu e k setup polls heard items = apdu-first a b old tills now pt bytes rest apdu e setup polls heard items _ (k setup polls heard (items_held pt rest ++ items))
 
 -- by an APDU the terminal was cut, and the rest is passed
-pub apdu-cut : (a b : Observed) (old new : Core) (now : ℤ) (pt : ℕ) (bytes rest : List ℕ) (apdu : ApduValue) → decode_apdu bytes ≡ DecodedApdu.Whole apdu rest → is_linked_in (slice_get new.terminals pt) ≡ false →
-    Handles a b old new now (apdu_items pt apdu) → Handles a b old new now (items_held pt bytes)
-apdu-cut a b old new now pt bytes rest apdu e unlinked k setup tills polls heard items = triple-then a b b _ _ _ (apdu-handled a b old new now pt bytes rest apdu e k setup tills polls heard items)
-    (pass-held b setup new tills polls now (AreHeard heard) (items_held pt rest ++ items) items (λ kept o. pass-apdus b (known_at setup new kept now) polls o pt unlinked rest items))
+pub apdu-cut : (a b : Observed) (old new : RunState) (tills left : List Till) (now : ℤ) (pt : ℕ) (bytes rest : List ℕ) (apdu : ApduValue) → decode_apdu bytes ≡ DecodedApdu.Whole apdu rest → is_linked_in (slice_get new.core.terminals pt) ≡ false →
+    Handles a b old new tills left now (apdu_items pt apdu) → Handles a b old new tills left now (items_held pt bytes)
+apdu-cut a b old new tills left now pt bytes rest apdu e unlinked k setup polls heard items = triple-then a b b _ _ _ (apdu-handled a b old new tills left now pt bytes rest apdu e k setup polls heard items)
+    (pass-held b setup new.core new.records.ledger.records left polls now (AreHeard heard) (items_held pt rest ++ items) items (λ o. pass-apdus b (known_at setup new.core new.records.ledger.records now) polls o pt unlinked rest items))
 
 -- bytes that begin an APDU above the limit were handled
-pub oversized-cut : (a b : Observed) (old new : Core) (now : ℤ) (pt : ℕ) (bytes : List ℕ) (n : ℕ) → decode_apdu bytes ≡ DecodedApdu.TooLong n → Handles a b old new now (Oversized pt ∷ []) → Handles a b old new now (items_held pt bytes)
-oversized-cut a b old new now pt bytes n e k = subst (Handles a b old new now) (sym (items-oversized pt bytes n e)) k
+pub oversized-cut : (a b : Observed) (old new : RunState) (tills left : List Till) (now : ℤ) (pt : ℕ) (bytes : List ℕ) (n : ℕ) → decode_apdu bytes ≡ DecodedApdu.TooLong n → Handles a b old new tills left now (Oversized pt ∷ []) → Handles a b old new tills left now (items_held pt bytes)
+oversized-cut a b old new tills left now pt bytes n e k = subst (Handles a b old new tills left now) (sym (items-oversized pt bytes n e)) k
 
 -- less than an APDU waits
-pub apdu-waits : (s : Observed) (core : Core) (now : ℤ) (pt : ℕ) (bytes : List ℕ) → decode_apdu bytes ≡ DecodedApdu.Incomplete → Handles s s core core now (items_held pt bytes)
-apdu-waits s core now pt bytes e = subst (Handles s s core core now) (sym (items-waiting pt bytes e)) (λ setup tills polls heard items. triple-refl s _)
+pub apdu-waits : (s : Observed) (state : RunState) (tills : List Till) (now : ℤ) (pt : ℕ) (bytes : List ℕ) → decode_apdu bytes ≡ DecodedApdu.Incomplete → Handles s s state state tills tills now (items_held pt bytes)
+apdu-waits s state tills now pt bytes e = subst (Handles s s state state tills tills now) (sym (items-waiting pt bytes e)) (λ setup polls heard items. triple-refl s _)
 
 -- ---- what the readers hold
 
--- each reader holds less than an APDU
-abbrev pub AllWait : List (List ℕ) → Type 0
-AllWait readers = (number : ℕ) (bytes : List ℕ) → slice_get readers number ≡ Some bytes → decode_apdu bytes ≡ DecodedApdu.Incomplete
-
--- each reader but this one holds the rest after what was heard
-abbrev OthersFit : ℕ → List (List ℕ) → (ℕ → List ℕ) → Type 0
-OthersFit but readers heard = (number : ℕ) (bytes : List ℕ) → number ≢ but → slice_get readers number ≡ Some bytes → (decode_apdus (heard number)).rest ≡ bytes
-
--- each reader holds it
-abbrev Fit : List (List ℕ) → (ℕ → List ℕ) → Type 0
-Fit readers heard = (number : ℕ) (bytes : List ℕ) → slice_get readers number ≡ Some bytes → (decode_apdus (heard number)).rest ≡ bytes
-
--- what was heard on each link; of a terminal that isn't linked, what its reader holds
-abbrev heard_by : List (List ℕ) → Outside → ℕ → List ℕ
-heard_by readers o number = if is_connected o.links number then heard_on o.links number else get_or readers number []
-
-are-heard : (readers : List (List ℕ)) (o : Outside) → AreHeard (heard_by readers o) o
-are-heard readers o number there = rw there refl
-
-same-bytes : (one other : List ℕ) → Some one ≡ Some other → one ≡ other
-same-bytes one other e = cc
-
-fit-heard : (readers : List (List ℕ)) (o : Outside) → AllWait readers → AllHear readers o → Fit readers (heard_by readers o)
-fit-heard readers o waits hear number bytes found = by_link (is_connected o.links number) refl
-  where
-    by_link : (link : Bool) → is_connected o.links number ≡ link → (decode_apdus (heard_by readers o number)).rest ≡ bytes
-    by_link true there = rw there (same-bytes _ bytes (sym (hear number there) ∙ found))
-    by_link false none = rw none (ap (λ (b : List ℕ). (decode_apdus b).rest) (get_or_from_slice_get readers number bytes [] found) ∙ rest-waiting bytes (waits number bytes found))
-
--- what the reader of a terminal holds that is linked
-hears-at : (readers : List (List ℕ)) (heard : ℕ → List ℕ) (core : Core) (o : Outside) (number : ℕ) → length readers ≡ length core.terminals → AreLinked core o → AreHeard heard o →
-    ((bytes : List ℕ) → slice_get readers number ≡ Some bytes → (decode_apdus (heard number)).rest ≡ bytes) → is_connected o.links number ≡ true → slice_get readers number ≡ Some (decode_apdus (heard_on o.links number)).rest
-hears-at readers heard core o number count linked all fits there =
-    let inside : number < length readers = omega (arith, count, linked-there core.terminals number (sym (linked number) ∙ there)) in
-    let found : slice_get readers number ≡ Some (get_or readers number []) = slice_get-get_or readers number [] inside in
-    found ∙ ap Some (sym (fits (get_or readers number []) found) ∙ sym (ap (λ (b : List ℕ). (decode_apdus b).rest) (all number there)))
-
 -- what is done whatever was heard
-pub over-heard : (a b : Observed) (setup : Setup) (core new : Core) (tills : List Till) (polls : ℕ) (now : ℤ) (readers : List (List ℕ)) (old items : List RoundItem) → AllWait readers → length readers ≡ length new.terminals →
-    ((heard : ℕ → List ℕ) → Triple a b (MidRound setup core tills polls now (AreHeard heard) [] old) (MidRound setup new tills polls now (AreHeard heard) [] items)) →
-    Triple a b (MidRound setup core tills polls now (AllHear readers) [] old) (MidRound setup new tills polls now (AllHear readers) [] items)
-over-heard a b setup core new tills polls now readers old items waits count k =
-    triple-before a b _ (λ v. (heard : ℕ → List ℕ) × (MidRound setup core tills polls now (AreHeard heard) [] old v × Fit readers heard)) _ first
-    (triple-some a b (λ (heard : ℕ → List ℕ) v. MidRound setup core tills polls now (AreHeard heard) [] old v × Fit readers heard) _ (λ number. [])
+pub over-heard : (a b : Observed) (setup : Setup) (core new : Core) (kept : List Record) (tills : List Till) (polls : ℕ) (now : ℤ) (readers : List (List ℕ)) (old items : List RoundItem) → AllWait readers → length readers ≡ length new.terminals →
+    ((heard : ℕ → List ℕ) → Triple a b (MidRound setup core kept tills polls now (AreHeard heard) [] old) (MidRound setup new kept tills polls now (AreHeard heard) [] items)) →
+    Triple a b (MidRound setup core kept tills polls now (AllHear readers) [] old) (MidRound setup new kept tills polls now (AllHear readers) [] items)
+over-heard a b setup core new kept tills polls now readers old items waits count k =
+    triple-before a b _ (λ v. (heard : ℕ → List ℕ) × (MidRound setup core kept tills polls now (AreHeard heard) [] old v × Fit readers heard)) _ first
+    (triple-some a b (λ (heard : ℕ → List ℕ) v. MidRound setup core kept tills polls now (AreHeard heard) [] old v × Fit readers heard) _ (λ number. [])
     (λ heard. triple-after a b _ _ _ (triple-frame a b _ _ (Fit readers heard) (k heard)) (λ v q. last heard v q.0 q.1)))
   where
-    first : (v : View) → MidRound setup core tills polls now (AllHear readers) [] old v → (heard : ℕ → List ℕ) × (MidRound setup core tills polls now (AreHeard heard) [] old v × Fit readers heard)
+    first : (v : View) → MidRound setup core kept tills polls now (AllHear readers) [] old v → (heard : ℕ → List ℕ) × (MidRound setup core kept tills polls now (AreHeard heard) [] old v × Fit readers heard)
     first v p = (
       heard_by readers p.outside,
-      (record { kept = p.kept; outside = p.outside; round = p.round; tills_are = p.tills_are; linked = p.linked; also = are-heard readers p.outside }, fit-heard readers p.outside waits p.also),
+      (record { outside = p.outside; round = p.round; tills_are = p.tills_are; linked = p.linked; also = are-heard readers p.outside }, fit-heard readers p.outside waits p.also),
     )
 
-    last : (heard : ℕ → List ℕ) (v : View) → MidRound setup new tills polls now (AreHeard heard) [] items v → Fit readers heard → MidRound setup new tills polls now (AllHear readers) [] items v
+    last : (heard : ℕ → List ℕ) (v : View) → MidRound setup new kept tills polls now (AreHeard heard) [] items v → Fit readers heard → MidRound setup new kept tills polls now (AllHear readers) [] items v
     last heard v q fits = record {
-      kept = q.kept;
       outside = q.outside;
       round = q.round;
       tills_are = q.tills_are;
@@ -312,21 +259,20 @@ set-waits readers pt new waits all number bytes found =
     ]
 
 -- the reader of a terminal that isn't linked is emptied, and then a link may be made
-pub over-cleared : (a b : Observed) (setup : Setup) (core new : Core) (tills : List Till) (polls : ℕ) (now : ℤ) (readers : List (List ℕ)) (pt : ℕ) (old items : List RoundItem) → AllWait readers → length readers ≡ length new.terminals →
+pub over-cleared : (a b : Observed) (setup : Setup) (core new : Core) (kept : List Record) (tills : List Till) (polls : ℕ) (now : ℤ) (readers : List (List ℕ)) (pt : ℕ) (old items : List RoundItem) → AllWait readers → length readers ≡ length new.terminals →
     is_linked_in (slice_get core.terminals pt) ≡ false →
-    ((heard : ℕ → List ℕ) → heard pt ≡ [] → Triple a b (MidRound setup core tills polls now (AreHeard heard) [] old) (MidRound setup new tills polls now (AreHeard heard) [] items)) →
-    Triple a b (MidRound setup core tills polls now (AllHear readers) [] old) (MidRound setup new tills polls now (AllHear (set readers pt [])) [] items)
-over-cleared a b setup core new tills polls now readers pt old items waits count unlinked k =
-    triple-before a b _ (λ v. (heard : ℕ → List ℕ) × (MidRound setup core tills polls now (AreHeard (cleared pt heard)) [] old v × Fit readers heard)) _ first
-    (triple-some a b (λ (heard : ℕ → List ℕ) v. MidRound setup core tills polls now (AreHeard (cleared pt heard)) [] old v × Fit readers heard) _ (λ number. [])
+    ((heard : ℕ → List ℕ) → heard pt ≡ [] → Triple a b (MidRound setup core kept tills polls now (AreHeard heard) [] old) (MidRound setup new kept tills polls now (AreHeard heard) [] items)) →
+    Triple a b (MidRound setup core kept tills polls now (AllHear readers) [] old) (MidRound setup new kept tills polls now (AllHear (set readers pt [])) [] items)
+over-cleared a b setup core new kept tills polls now readers pt old items waits count unlinked k =
+    triple-before a b _ (λ v. (heard : ℕ → List ℕ) × (MidRound setup core kept tills polls now (AreHeard (cleared pt heard)) [] old v × Fit readers heard)) _ first
+    (triple-some a b (λ (heard : ℕ → List ℕ) v. MidRound setup core kept tills polls now (AreHeard (cleared pt heard)) [] old v × Fit readers heard) _ (λ number. [])
     (λ heard. triple-after a b _ _ _ (triple-frame a b _ _ (Fit readers heard) (k (cleared pt heard) (cleared-none pt heard))) (λ v q. last heard v q.0 q.1)))
   where
-    first : (v : View) → MidRound setup core tills polls now (AllHear readers) [] old v → (heard : ℕ → List ℕ) × (MidRound setup core tills polls now (AreHeard (cleared pt heard)) [] old v × Fit readers heard)
+    first : (v : View) → MidRound setup core kept tills polls now (AllHear readers) [] old v → (heard : ℕ → List ℕ) × (MidRound setup core kept tills polls now (AreHeard (cleared pt heard)) [] old v × Fit readers heard)
     first v p = (
       heard_by readers p.outside,
       (
         record {
-          kept = p.kept;
           outside = p.outside;
           round = p.round;
           tills_are = p.tills_are;
@@ -337,9 +283,8 @@ over-cleared a b setup core new tills polls now readers pt old items waits count
       ),
     )
 
-    last : (heard : ℕ → List ℕ) (v : View) → MidRound setup new tills polls now (AreHeard (cleared pt heard)) [] items v → Fit readers heard → MidRound setup new tills polls now (AllHear (set readers pt [])) [] items v
+    last : (heard : ℕ → List ℕ) (v : View) → MidRound setup new kept tills polls now (AreHeard (cleared pt heard)) [] items v → Fit readers heard → MidRound setup new kept tills polls now (AllHear (set readers pt [])) [] items v
     last heard v q fits = record {
-      kept = q.kept;
       outside = q.outside;
       round = q.round;
       tills_are = q.tills_are;
@@ -372,24 +317,24 @@ fits-chunk readers before pt reader chunk waits hear same = record {
   here = rw (eq-eqb pt pt refl) (rest-chunk (heard_on before.links pt) chunk ∙ ap (λ (b : List ℕ). (decode_apdus (b ++ chunk)).rest) (sym same));
 }
 
--- a chunk was handled
-pub over-chunk : (a b : Observed) (setup : Setup) (core new : Core) (tills : List Till) (polls : ℕ) (now : ℤ) (readers : List (List ℕ)) (pt : ℕ) (reader chunk left : List ℕ) (items : List RoundItem) → AllWait readers → length readers ≡ length new.terminals →
-    slice_get readers pt ≡ Some reader → IsRest new pt (reader ++ chunk) left → Handles a b core new now (items_held pt (reader ++ chunk)) →
-    Triple a b (BeforePtChunk setup core readers tills polls now pt chunk items) (MidRound setup new tills polls now (AllHear (set readers pt left)) [] items)
-over-chunk a b setup core new tills polls now readers pt reader chunk left items waits count held rest k =
-    triple-before a b _ (λ v. (heard : ℕ → List ℕ) × (MidRound setup core tills polls now (AreHeard heard) [] (items_held pt (reader ++ chunk) ++ items) v × FitsChunk readers pt (reader ++ chunk) heard)) _ first
-    (triple-some a b (λ (heard : ℕ → List ℕ) v. MidRound setup core tills polls now (AreHeard heard) [] (items_held pt (reader ++ chunk) ++ items) v × FitsChunk readers pt (reader ++ chunk) heard) _ (λ number. [])
-    (λ heard. triple-after a b _ _ _ (triple-frame a b _ _ (FitsChunk readers pt (reader ++ chunk) heard) (k setup tills polls heard items)) (λ v q. last heard v q.0 q.1)))
+-- what is done of a chunk, whatever was heard, and what it leads to
+chunk-leads : (a b : Observed) (setup : Setup) (old : RunState) (tills : List Till) (polls : ℕ) (now : ℤ) (readers : List (List ℕ)) (pt : ℕ) (reader chunk : List ℕ) (items : List RoundItem) (R : (ℕ → List ℕ) → View → Type 0) (Q : View → Type 0) → AllWait readers →
+    slice_get readers pt ≡ Some reader → ((heard : ℕ → List ℕ) → Triple a b (HeldRound setup old tills polls now (AreHeard heard) [] (items_held pt (reader ++ chunk) ++ items)) (R heard)) →
+    ((heard : ℕ → List ℕ) (v : View) → R heard v → FitsChunk readers pt (reader ++ chunk) heard → Q v) →
+    Triple a b (BeforePtChunk setup old.core old.records.ledger.records readers tills polls now pt chunk items) Q
+chunk-leads a b setup old tills polls now readers pt reader chunk items R Q waits state k into =
+    triple-before a b _ (λ v. (heard : ℕ → List ℕ) × (HeldRound setup old tills polls now (AreHeard heard) [] (items_held pt (reader ++ chunk) ++ items) v × FitsChunk readers pt (reader ++ chunk) heard)) Q first
+    (triple-some a b (λ (heard : ℕ → List ℕ) v. HeldRound setup old tills polls now (AreHeard heard) [] (items_held pt (reader ++ chunk) ++ items) v × FitsChunk readers pt (reader ++ chunk) heard) Q (λ number. [])
+    (λ heard. triple-after a b _ _ _ (triple-frame a b _ _ (FitsChunk readers pt (reader ++ chunk) heard) (k heard)) (λ v q. into heard v q.0 q.1)))
   where
-    first : (v : View) → BeforePtChunk setup core readers tills polls now pt chunk items v → (heard : ℕ → List ℕ) × (MidRound setup core tills polls now (AreHeard heard) [] (items_held pt (reader ++ chunk) ++ items) v × FitsChunk readers pt (reader ++ chunk) heard)
-    first v (before, kept, h, round) =
-        let same : reader ≡ (decode_apdus (heard_on before.links pt)).rest = same-bytes reader _ (sym held ∙ h.hear pt h.connected) in (
+    first : (v : View) → BeforePtChunk setup old.core old.records.ledger.records readers tills polls now pt chunk items v → (heard : ℕ → List ℕ) × (HeldRound setup old tills polls now (AreHeard heard) [] (items_held pt (reader ++ chunk) ++ items) v × FitsChunk readers pt (reader ++ chunk) heard)
+    first v (before, h, round) =
+        let same : reader ≡ (decode_apdus (heard_on before.links pt)).rest = same-bytes reader _ (sym state ∙ h.hear pt h.connected) in (
           heard_with readers before pt chunk,
           (
             record {
-              kept = kept;
               outside = outside_after before (HeardPt pt chunk);
-              round = subst (λ (b : List ℕ). InRound (known_at setup core kept now) polls (outside_after before (HeardPt pt chunk)) (items_held pt (b ++ chunk) ++ items) v) (sym same) round;
+              round = subst (λ (b : List ℕ). InRound (known_at setup old.core old.records.ledger.records now) polls (outside_after before (HeardPt pt chunk)) (items_held pt (b ++ chunk) ++ items) v) (sym same) round;
               tills_are = record { tills_are = h.tills_are.tills_are; below = h.tills_are.below };
               linked = λ number. hears-there before.links pt number chunk ∙ h.linked number;
               also = with-heard readers before pt chunk h.connected;
@@ -398,36 +343,44 @@ over-chunk a b setup core new tills polls now readers pt reader chunk left items
           ),
         )
 
-    last : (heard : ℕ → List ℕ) (v : View) → MidRound setup new tills polls now (AreHeard heard) [] items v → FitsChunk readers pt (reader ++ chunk) heard → MidRound setup new tills polls now (AllHear (set readers pt left)) [] items v
-    last heard v q fits = record { kept = q.kept; outside = q.outside; round = q.round; tills_are = q.tills_are; linked = q.linked; also = hear }
+-- a chunk was handled, or a call on the disk has failed
+pub over-chunk : {T E : Type 0} (a b : Observed) (setup : Setup) (old new : RunState) (tills kept : List Till) (polls : ℕ) (now : ℤ) (readers : List (List ℕ)) (pt : ℕ) (reader chunk left : List ℕ) (items : List RoundItem) (r : Result T E) → AllWait readers → length readers ≡ length new.core.terminals →
+    slice_get readers pt ≡ Some reader → OnOk r (IsRest new.core pt (reader ++ chunk) left) →
+    ((heard : ℕ → List ℕ) → Triple a b (HeldRound setup old tills polls now (AreHeard heard) [] (items_held pt (reader ++ chunk) ++ items)) (UnlessBroken r (λ done. HeldRound setup new kept polls now (AreHeard heard) [] items))) →
+    Triple a b (BeforePtChunk setup old.core old.records.ledger.records readers tills polls now pt chunk items) (UnlessBroken r (λ done. HeldRound setup new kept polls now (AllHear (set readers pt left)) [] items))
+over-chunk a b setup old new tills kept polls now readers pt reader chunk left items (Err failed) waits count state rest k =
+    chunk-leads a b setup old tills polls now readers pt reader chunk items (λ heard v. v.scene.stage ≡ Broken) (λ v. v.scene.stage ≡ Broken) waits state k (λ heard v broken fits. broken)
+over-chunk a b setup old new tills kept polls now readers pt reader chunk left items (Ok done) waits count state rest k =
+    chunk-leads a b setup old tills polls now readers pt reader chunk items (λ heard. HeldRound setup new kept polls now (AreHeard heard) [] items) (HeldRound setup new kept polls now (AllHear (set readers pt left)) [] items) waits state k last
+  where
+    last : (heard : ℕ → List ℕ) (v : View) → HeldRound setup new kept polls now (AreHeard heard) [] items v → FitsChunk readers pt (reader ++ chunk) heard → HeldRound setup new kept polls now (AllHear (set readers pt left)) [] items v
+    last heard v q fits = record { outside = q.outside; round = q.round; tills_are = q.tills_are; linked = q.linked; also = hear }
       where
         hear : AllHear (set readers pt left) q.outside
         hear number there =
-            hears-at (set readers pt left) heard new q.outside number (length-set readers pt left ∙ count) q.linked q.also
+            hears-at (set readers pt left) heard new.core q.outside number (length-set readers pt left ∙ count) q.linked q.also
             (λ bytes found.
             elim (cases_eq number pt) [
               | inl e ↦
-                  let linked : is_linked_in (slice_get new.terminals pt) ≡ true = sym (q.linked pt) ∙ ap (is_connected q.outside.links) (sym e) ∙ there in
+                  let linked : is_linked_in (slice_get new.core.terminals pt) ≡ true = sym (q.linked pt) ∙ ap (is_connected q.outside.links) (sym e) ∙ there in
                   ap (λ n. (decode_apdus (heard n)).rest) e ∙ fits.here ∙ sym (rest.rest linked) ∙ set-there readers pt left bytes (ap (slice_get (set readers pt left)) (sym e) ∙ found)
               | inr other ↦ fits.others number bytes other (sym (others-stay readers pt number left other) ∙ found)
             ])
             there
 
+-- once a chunk is handled each terminal has its dialogue, and a reader that holds less than an APDU
+pub chunk-ready : {T E : Type 0} (r : Result T E) (new : RunState) (observed : Observed) (old : Core) (readers : List (List ℕ)) (pt : ℕ) (bytes left : List ℕ) → AreReady old readers → length new.core.terminals ≡ length old.terminals → OnOk r (IsRest new.core pt bytes left) → OnOk r (IsWell new observed) →
+    OnOk r (AreReady new.core (set readers pt left))
+chunk-ready (Err failed) new observed old readers pt bytes left ready count rest well = tt
+chunk-ready (Ok done) new observed old readers pt bytes left ready count rest well = record {
+  dialogues = well.order.dialogues;
+  count = length-set readers pt left ∙ ready.count ∙ sym count;
+  waits = set-waits readers pt left rest.waits ready.waits;
+}
+
 -- ---- a link that is lost
 
-no-reply : (asker : Option ℕ) → reply_calls_to asker None ≡ []
-no-reply None = refl
-no-reply (Some till) = refl
-
-lost-calls : (asker : Option ℕ) (standing : Standing) → ServesNothing standing → reply_calls_to asker (reply_to_lost standing) ≡ []
-lost-calls asker (Unlinked due) none = no-reply asker
-lost-calls asker Registering none = no-reply asker
-lost-calls asker Enquiring none = no-reply asker
-lost-calls asker (Ready last) none = no-reply asker
-lost-calls asker (Serving service last) none = absurd none
-lost-calls asker (Aside before reported) none = no-reply asker
-
--- what the loss of a link leaves of a terminal that serves nothing, and that it owes nothing
+-- what the loss of a link leaves of a terminal that serves nothing but a payment or a reversal, and that it owes nothing
 record IsLost (known : Known) (pt : ℕ) (row : Row) : Type 0 where
   owes : row ≡ becoming row.core []
   unlinked : is_linked_in (slice_get row.core.terminals pt) ≡ false
@@ -435,7 +388,7 @@ record IsLost (known : Known) (pt : ℕ) (row : Row) : Type 0 where
 lost-by : (known : Known) (pt : ℕ) → AllHaveDialogues known.core → (found : Option Terminal) → terminal_at known pt ≡ found → IsLost known pt (of_terminal known (unlinks known pt) found)
 lost-by known pt all None e = record { owes = refl; unlinked = rw e refl }
 lost-by known pt all (Some terminal) e = record {
-  owes = ap (becoming (unlinks known pt terminal).core) (lost-calls terminal.asker terminal.standing (serves-nothing terminal terminal.standing refl (all pt terminal e)));
+  owes = ap (becoming (unlinks known pt terminal).core) (lost-none terminal.asker terminal.standing (serves-no-other terminal terminal.standing refl (all pt terminal e)));
   unlinked = ap is_linked_in (new-is-there known.core.terminals pt terminal (unlinked_terminal terminal known.moment) e);
 }
 
@@ -460,32 +413,31 @@ lost-hear readers pt o hear number there =
     ]
 
 -- a terminal has closed its connection
-pub lost-handled : (s : Observed) (setup : Setup) (core new : Core) (tills : List Till) (polls : ℕ) (now : ℤ) (readers : List (List ℕ)) (pt : ℕ) (items : List RoundItem) → AllHaveDialogues core →
-    ((kept : List Record) → new ≡ (link_row (known_at setup core kept now) pt LinkIsLost).core) →
-    Triple s s (BeforePtClosed setup core readers tills polls now pt items) (MidRound setup new tills polls now (AllHear readers) [] items)
-lost-handled s setup core new tills polls now readers pt items all is =
-    triple-before s s _ (λ v. (w : Setting) × (InRound (knows w) polls (after w) (LinkLost pt ∷ items) v × BeforePt core readers tills pt w.outside)) _ (λ v p. (record { kept = p.1; outside = p.0 }, (p.3, p.2)))
-    (triple-some s s (λ (w : Setting) v. InRound (knows w) polls (after w) (LinkLost pt ∷ items) v × BeforePt core readers tills pt w.outside) _ no_setting
-    (λ w. triple-after s s _ _ _ (triple-frame s s _ _ (BeforePt core readers tills pt w.outside) (begin-first s (knows w) polls (after w) (LinkLost pt) items new [] (record {
+pub lost-handled : (s : Observed) (setup : Setup) (core new : Core) (kept : List Record) (tills : List Till) (polls : ℕ) (now : ℤ) (readers : List (List ℕ)) (pt : ℕ) (items : List RoundItem) → AllHaveDialogues core →
+    new ≡ (link_row (known_at setup core kept now) pt LinkIsLost).core →
+    Triple s s (BeforePtClosed setup core kept readers tills polls now pt items) (MidRound setup new kept tills polls now (AllHear readers) [] items)
+lost-handled s setup core new kept tills polls now readers pt items all is =
+    triple-before s s _ (λ v. (before : Outside) × (InRound knows polls (after before) (LinkLost pt ∷ items) v × BeforePt core readers tills pt before)) _ (λ v p. (p.0, (p.2, p.1)))
+    (triple-some s s (λ (before : Outside) v. InRound knows polls (after before) (LinkLost pt ∷ items) v × BeforePt core readers tills pt before) _ no_outside
+    (λ before. triple-after s s _ _ _ (triple-frame s s _ _ (BeforePt core readers tills pt before) (begin-first s knows polls (after before) (LinkLost pt) items new [] (record {
       begins = λ scene e. refl;
-      row = (lost (knows w) pt all).owes ∙ ap (λ core. becoming core []) (sym (is w.kept));
+      row = (lost knows pt all).owes ∙ ap (λ core. becoming core []) (sym is);
     })))
-    (λ v q. last w v q.0 q.1)))
+    (λ v q. last before v q.0 q.1)))
   where
-    knows : Setting → Known
-    knows w = known_at setup core w.kept now
+    knows : Known
+    knows = known_at setup core kept now
 
-    after : Setting → Outside
-    after w = outside_after w.outside (Lost pt)
+    after : Outside → Outside
+    after before = outside_after before (Lost pt)
 
-    last : (w : Setting) (v : View) → InRound (known_at setup new w.kept now) polls (after w) items v → BeforePt core readers tills pt w.outside → MidRound setup new tills polls now (AllHear readers) [] items v
-    last w v q h = record {
-      kept = w.kept;
-      outside = after w;
+    last : (before : Outside) (v : View) → InRound (known_at setup new kept now) polls (after before) items v → BeforePt core readers tills pt before → MidRound setup new kept tills polls now (AllHear readers) [] items v
+    last before v q h = record {
+      outside = after before;
       round = q;
       tills_are = record { tills_are = h.tills_are.tills_are; below = h.tills_are.below };
-      linked = subst (λ core. AreLinked core (after w)) (sym (is w.kept)) (lost-links (knows w) pt w.outside all h.linked);
-      also = lost-hear readers pt w.outside h.hear;
+      linked = subst (λ core. AreLinked core (after before)) (sym is) (lost-links knows pt before all h.linked);
+      also = lost-hear readers pt before h.hear;
     }
 
 -- what is ready stays so when a link is lost
@@ -512,16 +464,16 @@ each-end number count item all =
 
 -- the item of one terminal was handled, and those of the next come
 pub each-step : (a b : Observed) (core new : Core) (now : ℤ) (Also Next : Outside → Type 0) (item : ℕ → RoundItem) (number count : ℕ) → number < count →
-    ((setup : Setup) (tills : List Till) (polls : ℕ) (items : List RoundItem) → Triple a b (MidRound setup core tills polls now Also [] (item number ∷ items)) (MidRound setup new tills polls now Next [] items)) →
-    (setup : Setup) (tills : List Till) (polls : ℕ) (items : List RoundItem) →
-    Triple a b (MidRound setup core tills polls now Also [] (each_terminal number (count - number) item ++ items)) (MidRound setup new tills polls now Next [] (each_terminal (number + 1) (count - (number + 1)) item ++ items))
-each-step a b core new now Also Next item number count more k setup tills polls items =
+    ((setup : Setup) (kept : List Record) (tills : List Till) (polls : ℕ) (items : List RoundItem) → Triple a b (MidRound setup core kept tills polls now Also [] (item number ∷ items)) (MidRound setup new kept tills polls now Next [] items)) →
+    (setup : Setup) (kept : List Record) (tills : List Till) (polls : ℕ) (items : List RoundItem) →
+    Triple a b (MidRound setup core kept tills polls now Also [] (each_terminal number (count - number) item ++ items)) (MidRound setup new kept tills polls now Next [] (each_terminal (number + 1) (count - (number + 1)) item ++ items))
+each-step a b core new now Also Next item number count more k setup kept tills polls items =
     let rest : List RoundItem = each_terminal (number + 1) (count - (number + 1)) item in
-    subst (λ (list : List RoundItem). Triple a b (MidRound setup core tills polls now Also [] (list ++ items)) (MidRound setup new tills polls now Next [] (rest ++ items))) (sym (each-first number count item more))
-    (k setup tills polls (rest ++ items))
+    subst (λ (list : List RoundItem). Triple a b (MidRound setup core kept tills polls now Also [] (list ++ items)) (MidRound setup new kept tills polls now Next [] (rest ++ items))) (sym (each-first number count item more))
+    (k setup kept tills polls (rest ++ items))
 
 -- that of the last was handled
-pub each-last : (a b : Observed) (P : View → Type 0) (setup : Setup) (core : Core) (tills : List Till) (polls : ℕ) (now : ℤ) (Also : Outside → Type 0) (item : ℕ → RoundItem) (number count : ℕ) (items : List RoundItem) → count ≤ number →
-    Triple a b P (MidRound setup core tills polls now Also [] (each_terminal number (count - number) item ++ items)) → Triple a b P (MidRound setup core tills polls now Also [] items)
-each-last a b P setup core tills polls now Also item number count items all k =
-    subst (λ (list : List RoundItem). Triple a b P (MidRound setup core tills polls now Also [] (list ++ items))) (each-end number count item all) k
+pub each-last : (a b : Observed) (P : View → Type 0) (setup : Setup) (core : Core) (kept : List Record) (tills : List Till) (polls : ℕ) (now : ℤ) (Also : Outside → Type 0) (item : ℕ → RoundItem) (number count : ℕ) (items : List RoundItem) → count ≤ number →
+    Triple a b P (MidRound setup core kept tills polls now Also [] (each_terminal number (count - number) item ++ items)) → Triple a b P (MidRound setup core kept tills polls now Also [] items)
+each-last a b P setup core kept tills polls now Also item number count items all k =
+    subst (λ (list : List RoundItem). Triple a b P (MidRound setup core kept tills polls now Also [] (list ++ items))) (each-end number count item all) k

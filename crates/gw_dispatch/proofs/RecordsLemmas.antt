@@ -263,9 +263,9 @@ by_ledger slots file journal bodies result opens long cut gives = by_result resu
     }
     by_result (Err cause) h = by_cause cause h
 
-pub held : (slots : ℕ) (file : List ℕ) (result : Result Records Unopened) → IsByFile slots file result → IfOk result (HoldsFile slots file)
-held slots file (Ok records) h = h.holds
-held slots file (Err cause) h = tt
+pub state : (slots : ℕ) (file : List ℕ) (result : Result Records Unopened) → IsByFile slots file result → IfOk result (HoldsFile slots file)
+state slots file (Ok records) h = h.holds
+state slots file (Err cause) h = tt
 
 -- the journal of what is opened is the one that was
 pub stands_too : (journal : JournalValue) (observed : Observed) (bodies : List (List ℕ)) (result : Result Records Unopened) → LedgerGives journal bodies result → StandsFor journal observed → IfOk result (λ records. StandsFor records.journal observed)

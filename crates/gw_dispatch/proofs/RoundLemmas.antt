@@ -1,7 +1,7 @@
 -- What is owed over a round.
 use Rattle.std.proofs.Common.{◌≡◌, ℕ, zero, suc, ◌+◌, ◌<◌, ◌≤◌, List, [], ◌∷◌, ◌++◌, length, get_or, refl, sym, ◌∙◌, ap, subst, arith, inr}
-use Rattle.std.specs.Prelude.{ℤ, map, true, false, Some, None, Result, Ok, Err, slice_get, slice_set, take}
-use Rattle.std.proofs.lemmas.Bool.{lt-ltb, le-ltb}
+use Rattle.std.specs.Prelude.{ℤ, map, true, false, Option, Some, None, Result, Ok, Err, slice_get, slice_set, take}
+use Rattle.std.proofs.lemmas.Bool.{eq-eqb, lt-ltb, le-ltb}
 use Rattle.std.proofs.lemmas.List.{length-map}
 use Rattle.gw_base.specs.Moment.{moment_of}
 use Rattle.gw_base.specs.declared.setup.Pt.{Pt}
@@ -13,6 +13,7 @@ use Rattle.gw_site.specs.declared.site.What.TheVariants.{TillOpened, TillBytes, 
 use Rattle.gw_site.specs.Observed.{Observed, Grows, IsStep}
 use Rattle.gw_site.specs.Steps.{CutTillCall}
 use Rattle.gw_site.specs.Turns.{IsTurn}
+use Rattle.jrn_record.specs.declared.records.Record.{Record}
 use Rattle.sale_frame.specs.Decode.{decode_frames}
 use Rattle.gw_owes.specs.Calls.{CutTill}
 use Rattle.gw_owes.specs.Core.{Core, Wait, new_core, new_terminal}
@@ -28,19 +29,24 @@ use Rattle.gw_rules.specs.View.{View, polled, at_event, at_first, till_cut}
 use Rattle.gw_rules.specs.Triple.{Triple, Owing, AtEvent}
 use Rattle.gw_rules.proofs.TripleLemmas.{triple-refl, triple-then, triple-weaker, triple-after, triple-before, triple-frame, triple-some}
 use Rattle.gw_rules.proofs.CallLemmas.{cut-till-triple}
-use Rattle.gw_core.specs.ReplyOf.{IsKnownAt}
-use Rattle.gw_dispatch.specs.MidRound.{AllHear, AreLinked, MidRound, due_items, each_terminal, is_linked_in}
-use Rattle.gw_dispatch.specs.Round.{IsIn, InRound, BeforeTill, AfterTill, ReadsOn, known_at, known_without}
-use Rattle.gw_dispatch.specs.Rounds.{IsRunOpened, MatchesOutside, IsHeldRun, IsBetweenRounds, IsPolled, RoundSetting, BeforeChunk, BeforeOpen, BeforePtBytes, BeforePtEnd, due_in}
+use Rattle.gw_dispatch.specs.RunState.{gateway_of}
+use Rattle.gw_dispatch.specs.MidRound.{AllHear, AreHeard, AreLinked, AreReady, HeldRound, MidRound, due_items, each_terminal, is_linked_in}
+use Rattle.gw_dispatch.specs.Round.{IsIn, InRound, known_at}
+use Rattle.gw_dispatch.specs.Serving.{AfterFault, AfterTill, ReadsOn, held_without}
+use Rattle.gw_dispatch.specs.RecordsOpening.{HasOpened}
+use Rattle.gw_dispatch.specs.Rounds.{MatchesOutside, IsHeldRun, IsBetweenRounds, IsPolled, BeforeChunk, BeforeOpen, BeforePtBytes, BeforePtEnd, due_in, known_by}
 use Rattle.gw_dispatch.specs.RunEnd.{EndedBy}
-use Rattle.gw_dispatch.specs.Tills.{rank, till_of, others, AreBelow}
+use Rattle.gw_dispatch.specs.Tills.{IsThere, rank, till_of, others, AreBelow}
 use Rattle.gw_dispatch.specs.declared.engine.Dispatch.{Dispatch}
 use Rattle.gw_dispatch.specs.declared.engine.Ended.TheVariants.{Done}
+use Rattle.gw_dispatch.specs.declared.fault.TurnFault.{TurnFault}
+use Rattle.gw_dispatch.specs.declared.run_state.RunState.{RunState}
 use Rattle.gw_dispatch.specs.declared.replier.Served.{Served}
 use Rattle.gw_dispatch.specs.declared.replier.Served.TheVariants.{Incomplete, Gone}
 use Rattle.gw_dispatch.specs.declared.tills.Till.{Till}
 use Rattle.gw_dispatch.proofs.TillLemmas.{rank-held-none, rank-held-open, found, others-held, others-set, without-hears, open-hears, below-hears, below-without, below-push, below-closed, below-up, without-new, held-push, length-held}
-use Rattle.gw_dispatch.proofs.EngineLemmas.{some-scene, begin-first, cut-in}
+use Rattle.gw_dispatch.proofs.EngineLemmas.{some-scene, begin-first, cut-in, known_without}
+use Rattle.gw_dispatch.proofs.FitLemmas.{Fit, are-heard, fit-heard, heard_by, hears-at}
 use Rattle.gw_dispatch.proofs.WaitLemmas.{triple-unwaited}
 
 never : (s : Observed) (P Q : View → Type 0) → ((v : View) → P v → ⊥) → Triple s s P Q
@@ -68,7 +74,7 @@ linked-forgotten till [] number = refl
 linked-forgotten till (terminal ∷ terminals) zero = refl
 linked-forgotten till (terminal ∷ terminals) (suc number) = linked-forgotten till terminals number
 
-linked-without : (core : Core) (till : ℕ) (o after : Outside) → after.links ≡ o.links → AreLinked core o → AreLinked (core_without core till) after
+pub linked-without : (core : Core) (till : ℕ) (o after : Outside) → after.links ≡ o.links → AreLinked core o → AreLinked (core_without core till) after
 linked-without core till o after same linked number = ap (λ links. is_connected links number) same ∙ linked number ∙ sym (linked-forgotten till core.terminals number)
 
 -- as a run begins none is linked
@@ -89,140 +95,177 @@ no-link core o number linked connected unlinked = let h : false ≡ true = sym u
 -- ---- what was handled
 
 -- what the event has brought was handled, and what may be due comes; this is held
-abbrev pub HandledWith : Setup → Core → List (List ℕ) → List Till → ℕ → ℤ → View → Type 0
-HandledWith setup core readers tills polls now v = MidRound setup core tills polls now (AllHear readers) [] (due_items (length core.terminals)) v
+abbrev pub HandledWith : Setup → Core → List Record → List (List ℕ) → List Till → ℕ → ℤ → View → Type 0
+HandledWith setup core kept readers tills polls now v = MidRound setup core kept tills polls now (AllHear readers) [] (due_items (length core.terminals)) v
 
 -- once a till was forgotten
-handled-without : (setup : Setup) (tills : List Till) (polls : ℕ) (now : ℤ) (core new_core : Core) (readers new_readers : List (List ℕ)) (till : ℕ) → new_core ≡ core_without core till → new_readers ≡ readers →
-    (v : View) → MidRound setup (core_without core till) tills polls now (AllHear readers) [] (due_items (length core.terminals)) v → HandledWith setup new_core new_readers tills polls now v
-handled-without setup tills polls now core new_core readers new_readers till forgot same v h =
-    subst (λ c. HandledWith setup c new_readers tills polls now v) (sym forgot)
-    (subst (λ r. HandledWith setup (core_without core till) r tills polls now v) (sym same)
-    (subst (λ count. MidRound setup (core_without core till) tills polls now (AllHear readers) [] (due_items count) v) (sym (length-map core.terminals (forgets_till till))) h))
+handled-without : (setup : Setup) (kept : List Record) (tills : List Till) (polls : ℕ) (now : ℤ) (core new_core : Core) (readers new_readers : List (List ℕ)) (till : ℕ) → new_core ≡ core_without core till → new_readers ≡ readers →
+    (v : View) → MidRound setup (core_without core till) kept tills polls now (AllHear readers) [] (due_items (length core.terminals)) v → HandledWith setup new_core kept new_readers tills polls now v
+handled-without setup kept tills polls now core new_core readers new_readers till forgot same v h =
+    subst (λ c. HandledWith setup c kept new_readers tills polls now v) (sym forgot)
+    (subst (λ r. HandledWith setup (core_without core till) kept r tills polls now v) (sym same)
+    (subst (λ count. MidRound setup (core_without core till) kept tills polls now (AllHear readers) [] (due_items count) v) (sym (length-map core.terminals (forgets_till till))) h))
 
 -- ---- a chunk
 
--- a setting is wanted where the site is dark
-no_setting : RoundSetting
-no_setting = record { outside = at_first.scene.outside; kept = [] }
+-- an outside is wanted where the site is dark
+no_outside : Outside
+no_outside = at_first.scene.outside
 
 -- a till that isn't held sends nothing
-pub chunk-unheld : (s : Observed) (setup : Setup) (dispatch : Dispatch) (polls : ℕ) (now : ℤ) (number : ℕ) (chunk : List ℕ) (Q : View → Type 0) → rank number dispatch.tills.items ≡ None → Triple s s (BeforeChunk setup dispatch polls now number chunk) Q
+pub chunk-unheld : (s : Observed) (setup : Setup) (dispatch : Dispatch) (polls : ℕ) (now : ℤ) (number : ℕ) (chunk : List ℕ) (Q : View → Type 0) → rank number dispatch.tills.list.items ≡ None → Triple s s (BeforeChunk setup dispatch polls now number chunk) Q
 chunk-unheld s setup dispatch polls now number chunk Q none = never s _ Q (λ v p.
     let b = p.1 in
-    let h : false ≡ true = sym (rank-held-none p.0.outside.tills number (ap (rank number) (sym b.matches.tills_are.tills_are) ∙ none)) ∙ b.connected in absurd cc)
+    let h : false ≡ true = sym (rank-held-none p.0.tills number (ap (rank number) (sym b.matches.tills_are.tills_are) ∙ none)) ∙ b.connected in absurd cc)
 
 -- what is known of the till that has sent a chunk
-pub record Knows (dispatch : Dispatch) (number at : ℕ) (till : Till) (setting : RoundSetting) : Type 0 where
-  pub matches : MatchesOutside dispatch setting.outside
-  pub reader : till.reader ≡ (decode_frames (heard_on setting.outside.tills number)).rest
+pub record Knows (dispatch : Dispatch) (number at : ℕ) (till : Till) (o : Outside) : Type 0 where
+  pub matches : MatchesOutside dispatch o
+  pub reader : till.reader ≡ (decode_frames (heard_on o.tills number)).rest
   pub number_is : till.number ≡ number
-  pub index_is : rank number dispatch.tills.items ≡ Some at
+  pub index_is : rank number dispatch.tills.list.items ≡ Some at
+  pub fits : Fit dispatch.readers.items (heard_by dispatch.readers.items o)
 
--- after the till's bytes were served, while it is still there
-incomplete : (setup : Setup) (dispatch : Dispatch) (polls : ℕ) (now : ℤ) (number at : ℕ) (chunk : List ℕ) (till new : Till) (setting : RoundSetting) → Knows dispatch number at till setting → new.number ≡ till.number → new.reader ≡ (decode_frames (till.reader ++ chunk)).rest →
-    (v : View) → InRound (known_at setup dispatch.pts.core setting.kept now) polls (outside_after setting.outside (HeardTill number chunk)) (due_in dispatch) v → HandledWith setup dispatch.pts.core dispatch.pts.readers.items (slice_set dispatch.tills.items at new) polls now v
-incomplete setup dispatch polls now number at chunk till new setting k n r v round =
-    let o = setting.outside in
+-- the tills once the chunk was heard
+abbrev pub tills_with : Outside → ℕ → List ℕ → List Till
+tills_with o number chunk = map till_of (hears o.tills number chunk)
+
+-- they are those that are held, with the till's reader as it is left
+tills-left : (dispatch : Dispatch) (number at : ℕ) (chunk : List ℕ) (till new : Till) (o : Outside) → Knows dispatch number at till o → new.number ≡ till.number → new.reader ≡ (decode_frames (till.reader ++ chunk)).rest →
+    slice_set dispatch.tills.list.items at new ≡ tills_with o number chunk
+tills-left dispatch number at chunk till new o k n r =
     let f = found o.tills number at chunk (ap (rank number) (sym k.matches.tills_are.tills_are) ∙ k.index_is) in
     let same : new ≡ record { number = number; reader = (decode_frames (heard_on o.tills number ++ chunk)).rest } =
     ap (λ x. record { number = x; reader = new.reader }) (n ∙ k.number_is)
     ∙ ap (λ x. record { number = number; reader = x }) (r ∙ ap (λ x. (decode_frames (x ++ chunk)).rest) k.reader ∙ sym (rest-chunk (heard_on o.tills number) chunk)) in
-    record {
-      kept = setting.kept;
-      outside = outside_after o (HeardTill number chunk);
-      round = round;
-      tills_are = record {
-        tills_are = ap (λ t. slice_set t at new) k.matches.tills_are.tills_are ∙ ap (λ x. slice_set (map till_of o.tills) at x) same ∙ f.more;
-        below = below-hears o.next_till o.tills number chunk k.matches.tills_are.below;
-      };
-      linked = k.matches.linked;
-      also = k.matches.hear;
-    }
+    ap (λ t. slice_set t at new) k.matches.tills_are.tills_are ∙ ap (λ x. slice_set (map till_of o.tills) at x) same ∙ f.more
 
--- after the till was cut, and forgotten
-gone : (setup : Setup) (dispatch : Dispatch) (rest : List Till) (new_core : Core) (new_readers : List (List ℕ)) (polls : ℕ) (now : ℤ) (number at : ℕ) (chunk : List ℕ) (till new : Till) (setting : RoundSetting) → Knows dispatch number at till setting →
-    new.number ≡ till.number → rest ≡ others (slice_set dispatch.tills.items at new) number → new_core ≡ core_without dispatch.pts.core number → new_readers ≡ dispatch.pts.readers.items →
-    (v : View) → InRound (known_without (known_at setup dispatch.pts.core setting.kept now) number) polls (outside_after (outside_after setting.outside (HeardTill number chunk)) (TillCut number)) (due_in dispatch) v → HandledWith setup new_core new_readers rest polls now v
-gone setup dispatch rest new_core new_readers polls now number at chunk till new setting k n e forgot same v round =
-    let o = setting.outside in
-    handled-without setup rest polls now dispatch.pts.core new_core dispatch.pts.readers.items new_readers number forgot same v (record {
-      kept = setting.kept;
-      outside = outside_after (outside_after o (HeardTill number chunk)) (TillCut number);
-      round = round;
-      tills_are = record {
-        tills_are = e ∙ others-set dispatch.tills.items new number at k.index_is (n ∙ k.number_is) ∙ ap (λ t. others t number) k.matches.tills_are.tills_are ∙ others-held o.tills number ∙ ap (map till_of) (sym (without-hears o.tills number chunk));
-        below = below-without o.next_till (hears o.tills number chunk) number (below-hears o.next_till o.tills number chunk k.matches.tills_are.below);
-      };
-      linked = linked-without dispatch.pts.core number o (outside_after (outside_after o (HeardTill number chunk)) (TillCut number)) refl k.matches.linked;
-      also = k.matches.hear;
-    })
+-- and without it those that are held without it
+tills-but : (dispatch : Dispatch) (number at : ℕ) (chunk : List ℕ) (till new : Till) (o : Outside) → Knows dispatch number at till o → new.number ≡ till.number →
+    others (slice_set dispatch.tills.list.items at new) number ≡ others (tills_with o number chunk) number
+tills-but dispatch number at chunk till new o k n =
+    others-set dispatch.tills.list.items new number at k.index_is (n ∙ k.number_is) ∙ ap (λ t. others t number) k.matches.tills_are.tills_are ∙ others-held o.tills number ∙ ap (map till_of) (sym (without-hears o.tills number chunk)) ∙ sym (others-held (hears o.tills number chunk) number)
+
+-- what is held hears what its readers hold, where as many terminals are there
+hear-again : (setup : Setup) (dispatch : Dispatch) (core : Core) (kept : List Record) (tills : List Till) (polls : ℕ) (now : ℤ) (number at : ℕ) (till : Till) (o : Outside) (items : List RoundItem) (v : View) → length dispatch.readers.items ≡ length core.terminals → Knows dispatch number at till o →
+    MidRound setup core kept tills polls now (AreHeard (heard_by dispatch.readers.items o)) [] items v → MidRound setup core kept tills polls now (AllHear dispatch.readers.items) [] items v
+hear-again setup dispatch core kept tills polls now number at till o items v count k q = record {
+  outside = q.outside;
+  round = q.round;
+  tills_are = q.tills_are;
+  linked = q.linked;
+  also = λ pt there. hears-at dispatch.readers.items (heard_by dispatch.readers.items o) core q.outside pt count q.linked q.also (k.fits pt) there;
+}
 
 -- what serves the till's bytes
-abbrev pub Serves : {E : Type 0} → Observed → Observed → List ℕ → Core → ℤ → ℕ → ℕ → List ℕ → List ℕ → Result Served E → Type 0
-Serves a b name core now polls number bytes after result = (known : Known) (o : Outside) (items : List RoundItem) → IsKnownAt name core (moment_of now) known →
-    Triple a b (BeforeTill known polls o number bytes items) (AfterTill result known polls o number after items)
+abbrev pub Serves : Observed → Observed → RunState → RunState → ℤ → ℕ → List ℕ → List ℕ → Result Served TurnFault → Type 0
+Serves a b old new now number bytes left result = (setup : Setup) (tills : List Till) (polls : ℕ) (heard : ℕ → List ℕ) (items : List RoundItem) → gateway_of setup ≡ old.gateway → IsThere number tills →
+    Triple a b (HeldRound setup old tills polls now (AreHeard heard) [] (decoded_items number (decode_frames bytes) ++ items)) (AfterTill result setup new tills polls now (AreHeard heard) number left items)
+
+-- the till is among those once its chunk was heard
+still-there : (dispatch : Dispatch) (number at : ℕ) (chunk : List ℕ) (o : Outside) → MatchesOutside dispatch o → rank number dispatch.tills.list.items ≡ Some at → IsThere number (tills_with o number chunk)
+still-there dispatch number at chunk o matches ranked =
+    is_there (rank number (tills_with o number chunk)) refl
+  where
+    is_there : (r : Option ℕ) → rank number (tills_with o number chunk) ≡ r → IsThere number (tills_with o number chunk)
+    is_there (Some index) e = (index, e)
+    is_there None e = absurd (let h : false ≡ true = sym (rank-held-none (hears o.tills number chunk) number e) ∙ open-hears o.tills number chunk ∙ rank-held-open o.tills number at (ap (rank number) (sym matches.tills_are.tills_are) ∙ ranked) in cc)
+
+-- an outside, and tills among which this one is
+record Choice (till : Till) : Type 0 where
+  outside : Outside
+  tills : List Till
+  there : IsThere till.number tills
+
+-- one is wanted where the site is dark
+no_choice : (till : Till) → Choice till
+no_choice till = record { outside = no_outside; tills = till ∷ []; there = (0, rw (eq-eqb till.number till.number refl) refl) }
 
 -- the bytes of a till that is held
-chunk-held : {E : Type 0} (a b : Observed) (setup : Setup) (dispatch : Dispatch) (polls : ℕ) (now : ℤ) (number at : ℕ) (chunk : List ℕ) (till : Till) (result : Result Served E) (after : List ℕ) (Q : View → Type 0) →
-    setup.name ≡ dispatch.replier.name → rank number dispatch.tills.items ≡ Some at → get_or dispatch.tills.items at till ≡ till → Serves a b dispatch.replier.name dispatch.pts.core now polls till.number (till.reader ++ chunk) after result →
-    ((setting : RoundSetting) → Knows dispatch number at till setting → (v : View) → AfterTill result (known_at setup dispatch.pts.core setting.kept now) polls (outside_after setting.outside (HeardTill number chunk)) number after (due_in dispatch) v → Q v) →
+pub chunk-held : (a b : Observed) (setup : Setup) (dispatch : Dispatch) (new : RunState) (polls : ℕ) (now : ℤ) (number at : ℕ) (chunk : List ℕ) (till : Till) (result : Result Served TurnFault) (left : List ℕ) (Q : View → Type 0) →
+    AreReady dispatch.state.core dispatch.readers.items → gateway_of setup ≡ dispatch.state.gateway → rank number dispatch.tills.list.items ≡ Some at → get_or dispatch.tills.list.items at till ≡ till → Serves a b dispatch.state new now till.number (till.reader ++ chunk) left result →
+    ((o : Outside) → Knows dispatch number at till o → (v : View) → AfterTill result setup new (tills_with o number chunk) polls now (AreHeard (heard_by dispatch.readers.items o)) number left (due_in dispatch) v → Q v) →
     Triple a b (BeforeChunk setup dispatch polls now number chunk) Q
-chunk-held a b setup dispatch polls now number at chunk till result after Q named ranked is served finish =
+chunk-held a b setup dispatch new polls now number at chunk till result left Q ready named ranked is served finish =
     triple-before a b _ _ _ open-up
-    (triple-some a b (λ (setting : RoundSetting) v. Waits setting v × Knows dispatch number at till setting) Q no_setting
-    (λ setting. triple-after a b _ _ _
-    (triple-frame a b _ _ (Knows dispatch number at till setting) (served (known_at setup dispatch.pts.core setting.kept now) (outside_after setting.outside (HeardTill number chunk)) (due_in dispatch) (record { name_is = named; core_is = refl; moment_is = refl })))
-    (λ v q. finish setting q.1 v (rw q.1.number_is at q.0))))
+    (triple-some a b (λ (c : Choice till) v. Waits c v × IsRight c) Q (no_choice till)
+    (λ c. triple-after a b _ _ _ (triple-frame a b _ _ (IsRight c) (served setup c.tills polls (heard_by dispatch.readers.items c.outside) (due_in dispatch) named c.there))
+    (λ v q. finish c.outside q.1.0 v (rw q.1.0.number_is at (subst (λ tills. AfterTill result setup new tills polls now (AreHeard (heard_by dispatch.readers.items c.outside)) till.number left (due_in dispatch) v) q.1.1 q.0)))))
   where
-    Waits : RoundSetting → View → Type 0
-    Waits setting v = BeforeTill (known_at setup dispatch.pts.core setting.kept now) polls (outside_after setting.outside (HeardTill number chunk)) till.number (till.reader ++ chunk) (due_in dispatch) v
+    Waits : Choice till → View → Type 0
+    Waits c v = HeldRound setup dispatch.state c.tills polls now (AreHeard (heard_by dispatch.readers.items c.outside)) [] (decoded_items till.number (decode_frames (till.reader ++ chunk)) ++ due_in dispatch) v
 
-    open-up : (v : View) → BeforeChunk setup dispatch polls now number chunk v → (setting : RoundSetting) × (Waits setting v × Knows dispatch number at till setting)
-    open-up v (setting, b) =
-        let o = setting.outside in
+    IsRight : Choice till → Type 0
+    IsRight c = Knows dispatch number at till c.outside × (c.tills ≡ tills_with c.outside number chunk)
+
+    open-up : (v : View) → BeforeChunk setup dispatch polls now number chunk v → (c : Choice till) × (Waits c v × IsRight c)
+    open-up v (o, b) =
         let f = found o.tills number at chunk (ap (rank number) (sym b.matches.tills_are.tills_are) ∙ ranked) in
         let whole : till ≡ record { number = number; reader = (decode_frames (heard_on o.tills number)).rest } = sym is ∙ ap (λ t. get_or t at till) b.matches.tills_are.tills_are ∙ f.till till in
         let n : till.number ≡ number = ap (λ (t : Till). t.number) whole in
         let r : till.reader ≡ (decode_frames (heard_on o.tills number)).rest = ap (λ (t : Till). t.reader) whole in
         let items : till_bytes_items number (heard_on o.tills number) chunk ≡ decoded_items till.number (decode_frames (till.reader ++ chunk)) =
         ap (decoded_items number) (sym (reading-chunk (heard_on o.tills number) chunk)) ∙ ap (λ x. decoded_items number (decode_frames (x ++ chunk))) (sym r) ∙ ap (λ x. decoded_items x (decode_frames (till.reader ++ chunk))) (sym n) in (
-          setting,
+          record { outside = o; tills = tills_with o number chunk; there = rw n (still-there dispatch number at chunk o b.matches ranked) },
           (
-            (
-              subst (λ list. InRound (known_at setup dispatch.pts.core setting.kept now) polls (outside_after o (HeardTill number chunk)) (list ++ due_in dispatch) v) items b.round,
-              rw n (open-hears o.tills number chunk ∙ b.connected),
-            ),
-            record { matches = b.matches; reader = r; number_is = n; index_is = ranked },
+            record {
+              outside = outside_after o (HeardTill number chunk);
+              round = subst (λ list. InRound (known_by setup dispatch now) polls (outside_after o (HeardTill number chunk)) (list ++ due_in dispatch) v) items b.round;
+              tills_are = record { tills_are = refl; below = below-hears o.next_till o.tills number chunk b.matches.tills_are.below };
+              linked = b.matches.linked;
+              also = are-heard dispatch.readers.items o;
+            },
+            (record { matches = b.matches; reader = r; number_is = n; index_is = ranked; fits = fit-heard dispatch.readers.items o ready.waits b.matches.hear }, refl),
           ),
         )
 
-pub chunk-incomplete : (E : Type 0) (a b : Observed) (setup : Setup) (dispatch : Dispatch) (polls : ℕ) (now : ℤ) (number at : ℕ) (chunk : List ℕ) (till new : Till) →
-    setup.name ≡ dispatch.replier.name → rank number dispatch.tills.items ≡ Some at → get_or dispatch.tills.items at till ≡ till → new.number ≡ till.number → ReadsOn Incomplete (till.reader ++ chunk) new.reader →
-    Serves {E = E} a b dispatch.replier.name dispatch.pts.core now polls till.number (till.reader ++ chunk) new.reader (Ok Incomplete) →
-    Triple a b (BeforeChunk setup dispatch polls now number chunk) (HandledWith setup dispatch.pts.core dispatch.pts.readers.items (slice_set dispatch.tills.items at new) polls now)
-chunk-incomplete E a b setup dispatch polls now number at chunk till new named ranked is n r served =
-    chunk-held {E = E} a b setup dispatch polls now number at chunk till (Ok Incomplete) new.reader _ named ranked is served (λ setting k v q. incomplete setup dispatch polls now number at chunk till new setting k n r v q)
+-- after the till's bytes were served, while it is still there
+pub chunk-incomplete : (a b : Observed) (setup : Setup) (dispatch : Dispatch) (new_held : RunState) (polls : ℕ) (now : ℤ) (number at : ℕ) (chunk : List ℕ) (till new : Till) →
+    AreReady dispatch.state.core dispatch.readers.items → length new_held.core.terminals ≡ length dispatch.state.core.terminals → gateway_of setup ≡ dispatch.state.gateway → rank number dispatch.tills.list.items ≡ Some at → get_or dispatch.tills.list.items at till ≡ till → new.number ≡ till.number → ReadsOn Incomplete (till.reader ++ chunk) new.reader →
+    Serves a b dispatch.state new_held now till.number (till.reader ++ chunk) new.reader (Ok Incomplete) →
+    Triple a b (BeforeChunk setup dispatch polls now number chunk) (HandledWith setup new_held.core new_held.records.ledger.records dispatch.readers.items (slice_set dispatch.tills.list.items at new) polls now)
+chunk-incomplete a b setup dispatch new_held polls now number at chunk till new ready count named ranked is n r served =
+    chunk-held a b setup dispatch new_held polls now number at chunk till (Ok Incomplete) new.reader _ ready named ranked is served (λ o k v q.
+    subst (λ tills. HandledWith setup new_held.core new_held.records.ledger.records dispatch.readers.items tills polls now v) (sym (tills-left dispatch number at chunk till new o k n r))
+    (subst (λ count. MidRound setup new_held.core new_held.records.ledger.records (tills_with o number chunk) polls now (AllHear dispatch.readers.items) [] (due_items count) v) (sym count)
+    (hear-again setup dispatch new_held.core new_held.records.ledger.records (tills_with o number chunk) polls now number at till o (due_in dispatch) v (ready.count ∙ sym count) k q)))
 
-pub chunk-gone : (E : Type 0) (a b : Observed) (setup : Setup) (dispatch : Dispatch) (rest : List Till) (new_core : Core) (new_readers : List (List ℕ)) (polls : ℕ) (now : ℤ) (number at : ℕ) (chunk : List ℕ) (till new : Till) →
-    setup.name ≡ dispatch.replier.name → rank number dispatch.tills.items ≡ Some at → get_or dispatch.tills.items at till ≡ till → new.number ≡ till.number → rest ≡ others (slice_set dispatch.tills.items at new) number →
-    new_core ≡ core_without dispatch.pts.core number → new_readers ≡ dispatch.pts.readers.items → Serves {E = E} a b dispatch.replier.name dispatch.pts.core now polls till.number (till.reader ++ chunk) new.reader (Ok Gone) →
-    Triple a b (BeforeChunk setup dispatch polls now number chunk) (HandledWith setup new_core new_readers rest polls now)
-chunk-gone E a b setup dispatch rest new_core new_readers polls now number at chunk till new named ranked is n e forgot same served =
-    chunk-held {E = E} a b setup dispatch polls now number at chunk till (Ok Gone) new.reader _ named ranked is served (λ setting k v q. gone setup dispatch rest new_core new_readers polls now number at chunk till new setting k n e forgot same v q)
+-- after the till was cut, and forgotten
+chunk-gone : (a b : Observed) (setup : Setup) (dispatch : Dispatch) (new_held : RunState) (rest : List Till) (new_core : Core) (polls : ℕ) (now : ℤ) (number at : ℕ) (chunk : List ℕ) (till new : Till) →
+    AreReady dispatch.state.core dispatch.readers.items → length new_held.core.terminals ≡ length dispatch.state.core.terminals → gateway_of setup ≡ dispatch.state.gateway → rank number dispatch.tills.list.items ≡ Some at → get_or dispatch.tills.list.items at till ≡ till → new.number ≡ till.number → rest ≡ others (slice_set dispatch.tills.list.items at new) number →
+    new_core ≡ core_without new_held.core number → Serves a b dispatch.state new_held now till.number (till.reader ++ chunk) new.reader (Ok Gone) →
+    Triple a b (BeforeChunk setup dispatch polls now number chunk) (HandledWith setup new_core new_held.records.ledger.records dispatch.readers.items rest polls now)
+chunk-gone a b setup dispatch new_held rest new_core polls now number at chunk till new ready count named ranked is n e forgot served =
+    chunk-held a b setup dispatch new_held polls now number at chunk till (Ok Gone) new.reader _ ready named ranked is served (λ o k v q.
+    let same : length (core_without new_held.core number).terminals ≡ length dispatch.state.core.terminals = length-map new_held.core.terminals (forgets_till number) ∙ count in
+    subst (λ tills. HandledWith setup new_core new_held.records.ledger.records dispatch.readers.items tills polls now v) (sym (e ∙ tills-but dispatch number at chunk till new o k n))
+    (subst (λ c. HandledWith setup c new_held.records.ledger.records dispatch.readers.items (others (tills_with o number chunk) number) polls now v) (sym forgot)
+    (subst (λ count. MidRound setup (core_without new_held.core number) new_held.records.ledger.records (others (tills_with o number chunk) number) polls now (AllHear dispatch.readers.items) [] (due_items count) v) (sym same)
+    (hear-again setup dispatch (core_without new_held.core number) new_held.records.ledger.records (others (tills_with o number chunk) number) polls now number at till o (due_in dispatch) v (ready.count ∙ sym same) k q))))
 
-pub chunk-memory : (E : Type 0) (memory : E) (a b : Observed) (setup : Setup) (dispatch : Dispatch) (polls : ℕ) (now : ℤ) (number at : ℕ) (chunk : List ℕ) (till new : Till) →
-    setup.name ≡ dispatch.replier.name → rank number dispatch.tills.items ≡ Some at → get_or dispatch.tills.items at till ≡ till → Serves a b dispatch.replier.name dispatch.pts.core now polls till.number (till.reader ++ chunk) new.reader (Err memory) →
-    Triple a b (BeforeChunk setup dispatch polls now number chunk) (λ v. Unit {0})
-chunk-memory E memory a b setup dispatch polls now number at chunk till new named ranked is served =
-    chunk-held a b setup dispatch polls now number at chunk till (Err memory) new.reader _ named ranked is served (λ setting k v q. tt)
+-- so it is with what is held then
+pub chunk-forgotten : (a b : Observed) (setup : Setup) (dispatch after : Dispatch) (new_held : RunState) (polls : ℕ) (now : ℤ) (number at : ℕ) (chunk : List ℕ) (till new : Till) → AreReady dispatch.state.core dispatch.readers.items →
+    length new_held.core.terminals ≡ length dispatch.state.core.terminals → gateway_of setup ≡ dispatch.state.gateway → rank number dispatch.tills.list.items ≡ Some at → get_or dispatch.tills.list.items at till ≡ till → new.number ≡ till.number →
+    after.tills.list.items ≡ others (slice_set dispatch.tills.list.items at new) number → after.state ≡ held_without new_held number → after.readers.items ≡ dispatch.readers.items → Serves a b dispatch.state new_held now till.number (till.reader ++ chunk) new.reader (Ok Gone) →
+    Triple a b (BeforeChunk setup dispatch polls now number chunk) (HandledWith setup after.state.core after.state.records.ledger.records after.readers.items after.tills.list.items polls now)
+chunk-forgotten a b setup dispatch after new_held polls now number at chunk till new ready count named ranked is n e forgot same served =
+    subst (λ (h : RunState). Triple a b (BeforeChunk setup dispatch polls now number chunk) (HandledWith setup h.core h.records.ledger.records after.readers.items after.tills.list.items polls now)) (sym forgot)
+    (subst (λ readers. Triple a b (BeforeChunk setup dispatch polls now number chunk) (HandledWith setup (core_without new_held.core number) new_held.records.ledger.records readers after.tills.list.items polls now)) (sym same)
+    (chunk-gone a b setup dispatch new_held after.tills.list.items (core_without new_held.core number) polls now number at chunk till new ready count named ranked is n e refl served))
+
+-- after a fault
+pub chunk-failed : (a b : Observed) (setup : Setup) (dispatch : Dispatch) (new_held : RunState) (polls : ℕ) (now : ℤ) (number at : ℕ) (chunk : List ℕ) (till new : Till) (fault : TurnFault) →
+    AreReady dispatch.state.core dispatch.readers.items → gateway_of setup ≡ dispatch.state.gateway → rank number dispatch.tills.list.items ≡ Some at → get_or dispatch.tills.list.items at till ≡ till → Serves a b dispatch.state new_held now till.number (till.reader ++ chunk) new.reader (Err fault) →
+    Triple a b (BeforeChunk setup dispatch polls now number chunk) (AfterFault fault)
+chunk-failed a b setup dispatch new_held polls now number at chunk till new fault ready named ranked is served =
+    chunk-held a b setup dispatch new_held polls now number at chunk till (Err fault) new.reader _ ready named ranked is served (λ o k v q. q)
 
 -- ---- a till opens
 
 -- a till that is held already doesn't open
-pub open-held : (s : Observed) (setup : Setup) (dispatch : Dispatch) (polls : ℕ) (now : ℤ) (number at : ℕ) (Q : View → Type 0) → rank number dispatch.tills.items ≡ Some at → Triple s s (BeforeOpen setup dispatch polls now number) Q
+pub open-held : (s : Observed) (setup : Setup) (dispatch : Dispatch) (polls : ℕ) (now : ℤ) (number at : ℕ) (Q : View → Type 0) → rank number dispatch.tills.list.items ≡ Some at → Triple s s (BeforeOpen setup dispatch polls now number) Q
 open-held s setup dispatch polls now number at Q ranked = never s _ Q (λ v p.
-    let o = p.0.outside in
+    let o = p.0 in
     let b = p.1 in
     let h : false ≡ true = sym (below-closed o.next_till number o.tills b.matches.tills_are.below b.above) ∙ rank-held-open o.tills number at (ap (rank number) (sym b.matches.tills_are.tills_are) ∙ ranked) in absurd cc)
 
@@ -233,17 +276,15 @@ items-many : (number : ℕ) (connections : List Connection) → 64 ≤ length co
 items-many number connections le = rw (le-ltb (length connections) 64 le) refl
 
 -- a till opens
-pub open-taken : (s : Observed) (setup : Setup) (dispatch : Dispatch) (new : List Till) (polls : ℕ) (now : ℤ) (number : ℕ) → length dispatch.tills.items < 64 → new ≡ dispatch.tills.items ++ record { number = number; reader = [] } ∷ [] →
-    Triple s s (BeforeOpen setup dispatch polls now number) (HandledWith setup dispatch.pts.core dispatch.pts.readers.items new polls now)
+pub open-taken : (s : Observed) (setup : Setup) (dispatch : Dispatch) (new : List Till) (polls : ℕ) (now : ℤ) (number : ℕ) → length dispatch.tills.list.items < 64 → new ≡ dispatch.tills.list.items ++ record { number = number; reader = [] } ∷ [] →
+    Triple s s (BeforeOpen setup dispatch polls now number) (HandledWith setup dispatch.state.core dispatch.state.records.ledger.records dispatch.readers.items new polls now)
 open-taken s setup dispatch new polls now number few is = triple-after s s _ _ _ (triple-refl s (BeforeOpen setup dispatch polls now number)) (λ v p.
-    let setting = p.0 in
-    let o = setting.outside in
+    let o = p.0 in
     let b = p.1 in
-    let l : length o.tills < 64 = (let k : length dispatch.tills.items ≡ length o.tills = ap length b.matches.tills_are.tills_are ∙ length-held o.tills in omega arith) in
+    let l : length o.tills < 64 = (let k : length dispatch.tills.list.items ≡ length o.tills = ap length b.matches.tills_are.tills_are ∙ length-held o.tills in omega arith) in
     record {
-      kept = setting.kept;
       outside = outside_after o (Opened number);
-      round = subst (λ list. InRound (known_at setup dispatch.pts.core setting.kept now) polls (outside_after o (Opened number)) (list ++ due_in dispatch) v) (items-few number o.tills l) b.round;
+      round = subst (λ list. InRound (known_by setup dispatch now) polls (outside_after o (Opened number)) (list ++ due_in dispatch) v) (items-few number o.tills l) b.round;
       tills_are = record {
         tills_are = is ∙ ap (λ t. t ++ record { number = number; reader = [] } ∷ []) b.matches.tills_are.tills_are ∙ sym (held-push o.tills number);
         below = below-push o.next_till number o.tills b.matches.tills_are.below b.above;
@@ -253,63 +294,60 @@ open-taken s setup dispatch new polls now number few is = triple-after s s _ _ _
     })
 
 -- a till that opens while as many are there as may be is cut, and forgotten
-pub open-crowded : (a b : Observed) (setup : Setup) (dispatch : Dispatch) (new_core : Core) (new_readers : List (List ℕ)) (polls : ℕ) (now : ℤ) (number : ℕ) → 64 ≤ length dispatch.tills.items →
-    new_core ≡ core_without dispatch.pts.core number → new_readers ≡ dispatch.pts.readers.items → Grows a b (IsTurn (TillCut number)) → IsStep a b (CutTillCall number) →
-    Triple a b (BeforeOpen setup dispatch polls now number) (HandledWith setup new_core new_readers dispatch.tills.items polls now)
+pub open-crowded : (a b : Observed) (setup : Setup) (dispatch : Dispatch) (new_core : Core) (new_readers : List (List ℕ)) (polls : ℕ) (now : ℤ) (number : ℕ) → 64 ≤ length dispatch.tills.list.items →
+    new_core ≡ core_without dispatch.state.core number → new_readers ≡ dispatch.readers.items → Grows a b (IsTurn (TillCut number)) → IsStep a b (CutTillCall number) →
+    Triple a b (BeforeOpen setup dispatch polls now number) (HandledWith setup new_core dispatch.state.records.ledger.records new_readers dispatch.tills.list.items polls now)
 open-crowded a b setup dispatch new_core new_readers polls now number many forgot same grows step =
     triple-before a b _ _ _ open-up
-    (triple-some a b (λ (setting : RoundSetting) v. InRound (knows setting) polls (after setting) (Crowded number ∷ due_in dispatch) v × IsFull setting) (HandledWith setup new_core new_readers dispatch.tills.items polls now) no_setting
-    (λ setting. triple-after a b _ _ _ (triple-frame a b _ _ (IsFull setting) (triple-then a a b _ _ _
-    (begin-first a (knows setting) polls (after setting) (Crowded number) (due_in dispatch) dispatch.pts.core (CutTill number ∷ []) (record { begins = λ scene e. refl; row = refl }))
-    (some-scene a b (knows setting) polls (after setting) (CutTill number ∷ []) (due_in dispatch) (InRound (known_without (knows setting) number) polls (outside_after (after setting) (TillCut number)) (due_in dispatch)) (λ scene.
-    triple-after a b _ _ _ (triple-frame a b _ _ (IsIn (knows setting) polls (after setting) scene) (cut-till-triple scene (due_in dispatch) a b number grows step)) (λ v q. (till_cut scene number, q.0, cut-in (knows setting) polls (after setting) number scene q.1))))))
-    (λ v q. closed setting v q.0 q.1)))
+    (triple-some a b (λ (o : Outside) v. InRound knows polls (after o) (Crowded number ∷ due_in dispatch) v × IsFull o) (HandledWith setup new_core dispatch.state.records.ledger.records new_readers dispatch.tills.list.items polls now) no_outside
+    (λ o. triple-after a b _ _ _ (triple-frame a b _ _ (IsFull o) (triple-then a a b _ _ _
+    (begin-first a knows polls (after o) (Crowded number) (due_in dispatch) dispatch.state.core (CutTill number ∷ []) (record { begins = λ scene e. refl; row = refl }))
+    (some-scene a b knows polls (after o) (CutTill number ∷ []) (due_in dispatch) (InRound (known_without knows number) polls (outside_after (after o) (TillCut number)) (due_in dispatch)) (λ scene.
+    triple-after a b _ _ _ (triple-frame a b _ _ (IsIn knows polls (after o) scene) (cut-till-triple scene (due_in dispatch) a b number grows step)) (λ v q. (till_cut scene number, q.0, cut-in knows polls (after o) number scene q.1))))))
+    (λ v q. closed o v q.0 q.1)))
   where
-    knows : RoundSetting → Known
-    knows setting = known_at setup dispatch.pts.core setting.kept now
+    knows : Known
+    knows = known_by setup dispatch now
 
-    after : RoundSetting → Outside
-    after setting = outside_after setting.outside (Opened number)
+    after : Outside → Outside
+    after o = outside_after o (Opened number)
 
-    IsFull : RoundSetting → Type 0
-    IsFull setting = MatchesOutside dispatch setting.outside × (setting.outside.next_till ≤ number)
+    IsFull : Outside → Type 0
+    IsFull o = MatchesOutside dispatch o × (o.next_till ≤ number)
 
-    open-up : (v : View) → BeforeOpen setup dispatch polls now number v → (setting : RoundSetting) × (InRound (knows setting) polls (after setting) (Crowded number ∷ due_in dispatch) v × IsFull setting)
-    open-up v (setting, b) =
-        let o = setting.outside in
-        let l : 64 ≤ length o.tills = (let k : length dispatch.tills.items ≡ length o.tills = ap length b.matches.tills_are.tills_are ∙ length-held o.tills in omega arith) in
-        (setting, (subst (λ list. InRound (knows setting) polls (after setting) (list ++ due_in dispatch) v) (items-many number o.tills l) b.round, (b.matches, b.above)))
+    open-up : (v : View) → BeforeOpen setup dispatch polls now number v → (o : Outside) × (InRound knows polls (after o) (Crowded number ∷ due_in dispatch) v × IsFull o)
+    open-up v (o, b) =
+        let l : 64 ≤ length o.tills = (let k : length dispatch.tills.list.items ≡ length o.tills = ap length b.matches.tills_are.tills_are ∙ length-held o.tills in omega arith) in
+        (o, (subst (λ list. InRound knows polls (after o) (list ++ due_in dispatch) v) (items-many number o.tills l) b.round, (b.matches, b.above)))
 
-    closed : (setting : RoundSetting) (v : View) → InRound (known_without (knows setting) number) polls (outside_after (after setting) (TillCut number)) (due_in dispatch) v → IsFull setting → HandledWith setup new_core new_readers dispatch.tills.items polls now v
-    closed setting v q full =
-        let o = setting.outside in
+    closed : (o : Outside) (v : View) → InRound (known_without knows number) polls (outside_after (after o) (TillCut number)) (due_in dispatch) v → IsFull o → HandledWith setup new_core dispatch.state.records.ledger.records new_readers dispatch.tills.list.items polls now v
+    closed o v q full =
         let unchanged : without (o.tills ++ new_connection number ∷ []) number ≡ o.tills = without-new o.tills number (below-closed o.next_till number o.tills full.0.tills_are.below full.1) in
-        handled-without setup dispatch.tills.items polls now dispatch.pts.core new_core dispatch.pts.readers.items new_readers number forgot same v (record {
-          kept = setting.kept;
-          outside = outside_after (after setting) (TillCut number);
+        handled-without setup dispatch.state.records.ledger.records dispatch.tills.list.items polls now dispatch.state.core new_core dispatch.readers.items new_readers number forgot same v (record {
+          outside = outside_after (after o) (TillCut number);
           round = q;
           tills_are = record {
             tills_are = full.0.tills_are.tills_are ∙ ap (map till_of) (sym unchanged);
             below = rw unchanged (below-up o.next_till (number + 1) o.tills full.0.tills_are.below (omega (arith, full.1)));
           };
-          linked = linked-without dispatch.pts.core number o (outside_after (after setting) (TillCut number)) refl full.0.linked;
+          linked = linked-without dispatch.state.core number o (outside_after (after o) (TillCut number)) refl full.0.linked;
           also = full.0.hear;
         })
 
 -- ---- a terminal
 
 -- a terminal that isn't linked sends nothing
-pub pt-unheld : (s : Observed) (setup : Setup) (dispatch : Dispatch) (polls : ℕ) (now : ℤ) (pt : ℕ) (chunk : List ℕ) (Q : View → Type 0) → is_linked_in (slice_get dispatch.pts.core.terminals pt) ≡ false → Triple s s (BeforePtBytes setup dispatch polls now pt chunk) Q
-pt-unheld s setup dispatch polls now pt chunk Q unlinked = never s _ Q (λ v p. no-link dispatch.pts.core p.0 pt p.2.linked p.2.connected unlinked)
+pub pt-unheld : (s : Observed) (setup : Setup) (dispatch : Dispatch) (polls : ℕ) (now : ℤ) (pt : ℕ) (chunk : List ℕ) (Q : View → Type 0) → is_linked_in (slice_get dispatch.state.core.terminals pt) ≡ false → Triple s s (BeforePtBytes setup dispatch polls now pt chunk) Q
+pt-unheld s setup dispatch polls now pt chunk Q unlinked = never s _ Q (λ v p. no-link dispatch.state.core p.0 pt p.1.linked p.1.connected unlinked)
 
 -- nor does it close its connection
-pub pt-unheld-end : (s : Observed) (setup : Setup) (dispatch : Dispatch) (polls : ℕ) (now : ℤ) (pt : ℕ) (Q : View → Type 0) → is_linked_in (slice_get dispatch.pts.core.terminals pt) ≡ false → Triple s s (BeforePtEnd setup dispatch polls now pt) Q
-pt-unheld-end s setup dispatch polls now pt Q unlinked = never s _ Q (λ v p. no-link dispatch.pts.core p.0 pt p.2.linked p.2.connected unlinked)
+pub pt-unheld-end : (s : Observed) (setup : Setup) (dispatch : Dispatch) (polls : ℕ) (now : ℤ) (pt : ℕ) (Q : View → Type 0) → is_linked_in (slice_get dispatch.state.core.terminals pt) ≡ false → Triple s s (BeforePtEnd setup dispatch polls now pt) Q
+pt-unheld-end s setup dispatch polls now pt Q unlinked = never s _ Q (λ v p. no-link dispatch.state.core p.0 pt p.1.linked p.1.connected unlinked)
 
 -- what is handled of a terminal leaves as many terminals, so that the same may be due
-pub pt-handled : (a b : Observed) (P : View → Type 0) (setup : Setup) (core new_core : Core) (readers : List (List ℕ)) (tills : List Till) (polls : ℕ) (now : ℤ) → length new_core.terminals ≡ length core.terminals →
-    Triple a b P (MidRound setup new_core tills polls now (AllHear readers) [] (due_items (length core.terminals))) → Triple a b P (HandledWith setup new_core readers tills polls now)
-pt-handled a b P setup core new_core readers tills polls now count k = triple-after a b _ _ _ k (λ v q. subst (λ n. MidRound setup new_core tills polls now (AllHear readers) [] (due_items n) v) (sym count) q)
+pub pt-handled : (a b : Observed) (P : View → Type 0) (setup : Setup) (core new_core : Core) (kept : List Record) (readers : List (List ℕ)) (tills : List Till) (polls : ℕ) (now : ℤ) → length new_core.terminals ≡ length core.terminals →
+    Triple a b P (MidRound setup new_core kept tills polls now (AllHear readers) [] (due_items (length core.terminals))) → Triple a b P (HandledWith setup new_core kept readers tills polls now)
+pt-handled a b P setup core new_core kept readers tills polls now count k = triple-after a b _ _ _ k (λ v q. subst (λ n. MidRound setup new_core kept tills polls now (AllHear readers) [] (due_items n) v) (sym count) q)
 
 -- ---- a poll
 
@@ -331,9 +369,9 @@ pub at-what : (s : Observed) (setup : Setup) (dispatch : Dispatch) (polls : ℕ)
 at-what s setup dispatch polls now what kind buf Q e finish =
     triple-after s s _ _ _ (triple-refl s (IsPolled setup dispatch polls now what buf)) (λ v p. finish p.0 p.2 p.3 v (subst (λ w. AtEvent p.0 now w buf v) e p.1))
 
--- the setting of an event
-abbrev event_setting : Scene → ℤ → RoundSetting
-event_setting scene now = record { outside = outside_after scene.outside (Polled now); kept = scene.kept }
+-- what is known once a poll came
+known-polled : (setup : Setup) (dispatch : Dispatch) (polls : ℕ) (now : ℤ) (scene : Scene) → IsHeldRun setup dispatch polls scene → known_at setup scene.core scene.kept now ≡ known_by setup dispatch now
+known-polled setup dispatch polls now scene k = ap (λ core. known_at setup core scene.kept now) k.core_is ∙ ap (λ kept. known_at setup dispatch.state.core kept now) k.kept_is
 
 -- a poll changes nothing of what is held
 matches-polled : (dispatch : Dispatch) (scene : Scene) (now : ℤ) → MatchesOutside dispatch scene.outside → MatchesOutside dispatch (outside_after scene.outside (Polled now))
@@ -345,16 +383,15 @@ due-event setup dispatch polls scene k none = due-are scene.core none ∙ ap (λ
 
 -- nothing came
 pub rest-nothing : (buf : List ℕ) (setup : Setup) (dispatch : Dispatch) (polls : ℕ) (now : ℤ) (scene : Scene) → IsHeldRun setup dispatch polls scene → scene.core.waits ≡ [] → (v : View) → AtEvent scene now Nothing buf v →
-    HandledWith setup dispatch.pts.core dispatch.pts.readers.items dispatch.tills.items (polls + 1) now v
+    HandledWith setup dispatch.state.core dispatch.state.records.ledger.records dispatch.readers.items dispatch.tills.list.items (polls + 1) now v
 rest-nothing buf setup dispatch polls now scene k none v q =
     let matches = matches-polled dispatch scene now k.matches in
     record {
-      kept = scene.kept;
       outside = outside_after scene.outside (Polled now);
       round = (
         polled scene (Polled now),
         subst (λ due. Owing (polled scene (Polled now)) [] due v) (due-event setup dispatch polls scene k none) q.0,
-        record { setup_is = k.setup_is; known_is = ap (λ core. known_at setup core scene.kept now) k.core_is; round = refl; polls_are = ap (λ n. n + 1) k.polls_are; outside_is = refl },
+        record { setup_is = k.setup_is; known_is = known-polled setup dispatch polls now scene k; flight = k.flight; round = refl; polls_are = ap (λ n. n + 1) k.polls_are; outside_is = refl },
       );
       tills_are = matches.tills_are;
       linked = matches.linked;
@@ -367,12 +404,11 @@ rest-pt-bytes pt count buf setup dispatch polls now scene k none v q =
     let matches = matches-polled dispatch scene now k.matches in
     let after = at_event (polled scene (Polled now)) (HeardPt pt (take count buf)) in (
       outside_after scene.outside (Polled now),
-      scene.kept,
       record { tills_are = matches.tills_are; linked = matches.linked; hear = matches.hear; connected = q.1 },
       (
         after,
         subst (λ due. Owing after [] (pt_bytes_items pt (heard_on scene.outside.links pt) (take count buf) ++ due) v) (due-event setup dispatch polls scene k none) q.0,
-        record { setup_is = k.setup_is; known_is = ap (λ core. known_at setup core scene.kept now) k.core_is; round = refl; polls_are = ap (λ n. n + 1) k.polls_are; outside_is = refl },
+        record { setup_is = k.setup_is; known_is = known-polled setup dispatch polls now scene k; flight = k.flight; round = refl; polls_are = ap (λ n. n + 1) k.polls_are; outside_is = refl },
       ),
     )
 
@@ -382,12 +418,11 @@ rest-pt-closed pt buf setup dispatch polls now scene k none v q =
     let matches = matches-polled dispatch scene now k.matches in
     let after = at_event (polled scene (Polled now)) (Lost pt) in (
       outside_after scene.outside (Polled now),
-      scene.kept,
       record { tills_are = matches.tills_are; linked = matches.linked; hear = matches.hear; connected = q.1 },
       (
         after,
         subst (λ due. Owing after [] (LinkLost pt ∷ due) v) (due-event setup dispatch polls scene k none) q.0,
-        record { setup_is = k.setup_is; known_is = ap (λ core. known_at setup core scene.kept now) k.core_is; round = refl; polls_are = ap (λ n. n + 1) k.polls_are; outside_is = refl },
+        record { setup_is = k.setup_is; known_is = known-polled setup dispatch polls now scene k; flight = k.flight; round = refl; polls_are = ap (λ n. n + 1) k.polls_are; outside_is = refl },
       ),
     )
 
@@ -398,12 +433,12 @@ pub rest-opened : (number : ℕ) (buf : List ℕ) (setup : Setup) (dispatch : Di
     BeforeOpen setup dispatch (polls + 1) now number v
 rest-opened number buf setup dispatch polls now scene k none v q =
     let after = at_event (polled scene (Polled now)) (Opened number) in (
-      event_setting scene now,
+      outside_after scene.outside (Polled now),
       record {
         round = (
           after,
           subst (λ due. Owing after [] (till_opened_items number scene.outside.tills ++ due) v) (due-event setup dispatch polls scene k none) q.0,
-          record { setup_is = k.setup_is; known_is = ap (λ core. known_at setup core scene.kept now) k.core_is; round = refl; polls_are = ap (λ n. n + 1) k.polls_are; outside_is = refl },
+          record { setup_is = k.setup_is; known_is = known-polled setup dispatch polls now scene k; flight = k.flight; round = refl; polls_are = ap (λ n. n + 1) k.polls_are; outside_is = refl },
         );
         matches = matches-polled dispatch scene now k.matches;
         above = q.1;
@@ -414,12 +449,12 @@ pub rest-heard : (number count : ℕ) (buf : List ℕ) (setup : Setup) (dispatch
     BeforeChunk setup dispatch (polls + 1) now number (take count buf) v
 rest-heard number count buf setup dispatch polls now scene k none v q =
     let after = at_event (polled scene (Polled now)) (HeardTill number (take count buf)) in (
-      event_setting scene now,
+      outside_after scene.outside (Polled now),
       record {
         round = (
           after,
           subst (λ due. Owing after [] (till_bytes_items number (heard_on scene.outside.tills number) (take count buf) ++ due) v) (due-event setup dispatch polls scene k none) q.0,
-          record { setup_is = k.setup_is; known_is = ap (λ core. known_at setup core scene.kept now) k.core_is; round = refl; polls_are = ap (λ n. n + 1) k.polls_are; outside_is = refl },
+          record { setup_is = k.setup_is; known_is = known-polled setup dispatch polls now scene k; flight = k.flight; round = refl; polls_are = ap (λ n. n + 1) k.polls_are; outside_is = refl },
         );
         matches = matches-polled dispatch scene now k.matches;
         connected = q.1;
@@ -427,47 +462,54 @@ rest-heard number count buf setup dispatch polls now scene k none v q =
     )
 
 -- a till has closed its connection, and is forgotten
-pub rest-closed : (s : Observed) (number : ℕ) (buf : List ℕ) (setup : Setup) (dispatch : Dispatch) (new : List Till) (new_core : Core) (new_readers : List (List ℕ)) (polls : ℕ) (now : ℤ) (what : What) → what ≡ TillClosed number →
-    new ≡ others dispatch.tills.items number → new_core ≡ core_without dispatch.pts.core number → new_readers ≡ dispatch.pts.readers.items →
-    Triple s s (IsPolled setup dispatch polls now what buf) (HandledWith setup new_core new_readers new (polls + 1) now)
+rest-closed : (s : Observed) (number : ℕ) (buf : List ℕ) (setup : Setup) (dispatch : Dispatch) (new : List Till) (new_core : Core) (new_readers : List (List ℕ)) (polls : ℕ) (now : ℤ) (what : What) → what ≡ TillClosed number →
+    new ≡ others dispatch.tills.list.items number → new_core ≡ core_without dispatch.state.core number → new_readers ≡ dispatch.readers.items →
+    Triple s s (IsPolled setup dispatch polls now what buf) (HandledWith setup new_core dispatch.state.records.ledger.records new_readers new (polls + 1) now)
 rest-closed s number buf setup dispatch new new_core new_readers polls now what e is forgot same =
     triple-then s s s _ _ _ (at-what s setup dispatch polls now what (TillClosed number) buf Closes e closes)
-    (triple-some s s (λ (setting : RoundSetting) v. InRound (knows setting) (polls + 1) (after setting) (GoneItem number ∷ due_in dispatch) v × MatchesOutside dispatch setting.outside) (HandledWith setup new_core new_readers new (polls + 1) now) no_setting
-    (λ setting. triple-after s s _ _ _ (triple-frame s s _ _ (MatchesOutside dispatch setting.outside)
-    (begin-first s (knows setting) (polls + 1) (after setting) (GoneItem number) (due_in dispatch) (core_without dispatch.pts.core number) [] (record { begins = λ scene e. refl; row = refl })))
-    (λ v q. handled-without setup new (polls + 1) now dispatch.pts.core new_core dispatch.pts.readers.items new_readers number forgot same v (record {
-      kept = setting.kept;
-      outside = after setting;
+    (triple-some s s (λ (o : Outside) v. InRound knows (polls + 1) (after o) (GoneItem number ∷ due_in dispatch) v × MatchesOutside dispatch o) (HandledWith setup new_core dispatch.state.records.ledger.records new_readers new (polls + 1) now) no_outside
+    (λ o. triple-after s s _ _ _ (triple-frame s s _ _ (MatchesOutside dispatch o)
+    (begin-first s knows (polls + 1) (after o) (GoneItem number) (due_in dispatch) (core_without dispatch.state.core number) [] (record { begins = λ scene e. refl; row = refl })))
+    (λ v q. handled-without setup dispatch.state.records.ledger.records new (polls + 1) now dispatch.state.core new_core dispatch.readers.items new_readers number forgot same v (record {
+      outside = after o;
       round = q.0;
       tills_are = record {
-        tills_are = is ∙ ap (λ t. others t number) q.1.tills_are.tills_are ∙ others-held setting.outside.tills number;
-        below = below-without setting.outside.next_till setting.outside.tills number q.1.tills_are.below;
+        tills_are = is ∙ ap (λ t. others t number) q.1.tills_are.tills_are ∙ others-held o.tills number;
+        below = below-without o.next_till o.tills number q.1.tills_are.below;
       };
-      linked = linked-without dispatch.pts.core number setting.outside (after setting) refl q.1.linked;
+      linked = linked-without dispatch.state.core number o (after o) refl q.1.linked;
       also = q.1.hear;
     }))))
   where
-    knows : RoundSetting → Known
-    knows setting = known_at setup dispatch.pts.core setting.kept now
+    knows : Known
+    knows = known_by setup dispatch now
 
-    after : RoundSetting → Outside
-    after setting = outside_after setting.outside (Closed number)
+    after : Outside → Outside
+    after o = outside_after o (Closed number)
 
     Closes : View → Type 0
-    Closes v = (setting : RoundSetting) × (InRound (knows setting) (polls + 1) (after setting) (GoneItem number ∷ due_in dispatch) v × MatchesOutside dispatch setting.outside)
+    Closes v = (o : Outside) × (InRound knows (polls + 1) (after o) (GoneItem number ∷ due_in dispatch) v × MatchesOutside dispatch o)
 
     closes : (scene : Scene) → IsHeldRun setup dispatch polls scene → scene.core.waits ≡ [] → (v : View) → AtEvent scene now (TillClosed number) buf v → Closes v
     closes scene k none v q = (
-      event_setting scene now,
+      outside_after scene.outside (Polled now),
       (
         (
           at_event (polled scene (Polled now)) (Closed number),
           subst (λ due. Owing (at_event (polled scene (Polled now)) (Closed number)) [] (GoneItem number ∷ due) v) (due-event setup dispatch polls scene k none) q.0,
-          record { setup_is = k.setup_is; known_is = ap (λ core. known_at setup core scene.kept now) k.core_is; round = refl; polls_are = ap (λ n. n + 1) k.polls_are; outside_is = refl },
+          record { setup_is = k.setup_is; known_is = known-polled setup dispatch polls now scene k; flight = k.flight; round = refl; polls_are = ap (λ n. n + 1) k.polls_are; outside_is = refl },
         ),
         matches-polled dispatch scene now k.matches,
       ),
     )
+
+-- so it is with what is held then
+pub rest-forgotten : (s : Observed) (number : ℕ) (buf : List ℕ) (setup : Setup) (dispatch after : Dispatch) (polls : ℕ) (now : ℤ) (what : What) → what ≡ TillClosed number →
+    after.tills.list.items ≡ others dispatch.tills.list.items number → after.state ≡ held_without dispatch.state number → after.readers.items ≡ dispatch.readers.items →
+    Triple s s (IsPolled setup dispatch polls now what buf) (HandledWith setup after.state.core after.state.records.ledger.records after.readers.items after.tills.list.items (polls + 1) now)
+rest-forgotten s number buf setup dispatch after polls now what e is forgot same =
+    subst (λ (h : RunState). Triple s s (IsPolled setup dispatch polls now what buf) (HandledWith setup h.core h.records.ledger.records after.readers.items after.tills.list.items (polls + 1) now)) (sym forgot)
+    (rest-closed s number buf setup dispatch after.tills.list.items (core_without dispatch.state.core number) after.readers.items polls now what e is refl same)
 
 -- ---- the end of a round
 
@@ -481,7 +523,7 @@ round-running Over r = absurd (let h : false ≡ true = r in cc)
 round-running Broken r = absurd (let h : false ≡ true = r in cc)
 
 -- once what may be due was handled the round is over
-pub handled-rest : (setup : Setup) (dispatch : Dispatch) (polls : ℕ) (now : ℤ) (v : View) → MidRound setup dispatch.pts.core dispatch.tills.items polls now (AllHear dispatch.pts.readers.items) [] [] v → IsBetweenRounds setup dispatch polls v
+pub handled-rest : (setup : Setup) (dispatch : Dispatch) (polls : ℕ) (now : ℤ) (v : View) → MidRound setup dispatch.state.core dispatch.state.records.ledger.records dispatch.tills.list.items polls now (AllHear dispatch.readers.items) [] [] v → IsBetweenRounds setup dispatch polls v
 handled-rest setup dispatch polls now v h =
     let scene = h.round.0 in
     let f = h.round.2 in (
@@ -492,6 +534,8 @@ handled-rest setup dispatch polls now v h =
         running = round-running scene.stage f.round;
         polls_are = f.polls_are;
         core_is = ap (λ (k : Known). k.core) f.known_is;
+        kept_is = ap (λ (k : Known). k.kept) f.known_is;
+        flight = f.flight;
         matches = subst (MatchesOutside dispatch) (sym f.outside_is) (record { tills_are = h.tills_are; linked = h.linked; hear = h.also });
       },
     )
@@ -499,8 +543,8 @@ handled-rest setup dispatch polls now v h =
 -- ---- a run
 
 -- a run whose opening is done
-pub opened-rest : (setup : Setup) (dispatch : Dispatch) → dispatch.tills.items ≡ [] → dispatch.pts.core ≡ new_core setup → (v : View) → IsRunOpened setup v → IsBetweenRounds setup dispatch 0 v
-opened-rest setup dispatch none new v (scene, is, f) = (
+pub opened-rest : (setup : Setup) (dispatch : Dispatch) → dispatch.tills.list.items ≡ [] → dispatch.state.core ≡ new_core setup → (v : View) → HasOpened setup dispatch.state.records v → IsBetweenRounds setup dispatch 0 v
+opened-rest setup dispatch none new v h = let (scene, is, f) = h.opened in (
   scene,
   is,
   record {
@@ -508,6 +552,8 @@ opened-rest setup dispatch none new v (scene, is, f) = (
     running = f.running;
     polls_are = f.polls;
     core_is = f.core_is ∙ sym new;
+    kept_is = ap (λ (w : View). w.scene.kept) (sym is) ∙ h.kept;
+    flight = f.flight;
     matches = record {
       tills_are = record { tills_are = none ∙ ap (map till_of) (sym f.tills); below = subst (AreBelow scene.outside.next_till) (sym f.tills) tt };
       linked = λ number. ap (λ links. is_connected links number) f.links ∙ linked-new setup.terminals number ∙ ap (λ (core : Core). is_linked_in (slice_get core.terminals number)) (sym new);

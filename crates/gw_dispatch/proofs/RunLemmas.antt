@@ -13,8 +13,8 @@ use Rattle.gw_rules.specs.Triple.{IsOwedBy, JustBegun, Triple, TripleBy}
 use Rattle.gw_rules.specs.View.{View}
 use Rattle.gw_rules.proofs.ActLemmas.{join-due, owed-due}
 use Rattle.gw_rules.proofs.TripleLemmas.{triple-after, triple-due, triples-then}
-use Rattle.gw_dispatch.specs.RecordsOpening.{GoesOnFrom, HasOpened, HoldsFile, IsExactlyBad, IsExactlyCut, IsExactlyRefused, OpenedBy, OpensBy, UnopenedBy}
-use Rattle.gw_dispatch.specs.Rounds.{IsRunOpened}
+use Rattle.gw_dispatch.specs.RecordsOpening.{HasOpened, HoldsFile, IsExactlyBad, IsExactlyCut, IsExactlyRefused, OpenedBy, OpensBy, UnopenedBy}
+use Rattle.gw_dispatch.specs.Growth.{GoesOnFrom}
 use Rattle.gw_dispatch.specs.RunEnd.{EndedBy, EndsByFound, HasBegun, EndsRounds, IsDueFrom, IsEndByFile, NoneBegan, ReportsFile, end_by}
 use Rattle.gw_dispatch.specs.declared.engine.Ended.{Ended}
 use Rattle.gw_dispatch.specs.declared.engine.Ended.TheVariants.{Done, NotOpened, Disk, TooLong, Cut, BadRecord, NoMemory}
@@ -59,9 +59,6 @@ cause-has-begun (CutCause slot) = tt
 cause-has-begun (BadRecordCause slot) = tt
 cause-has-begun MemoryCause = tt
 
-pub run-not-disk : (ended : Ended) → EndsRounds ended → ended ≡ Disk → ⊥
-run-not-disk ended h e = subst EndsRounds e h
-
 pub begun-opened : (ended : Ended) → HasBegun ended → ended ≡ NotOpened → ⊥
 begun-opened ended h e = subst HasBegun e h
 
@@ -99,10 +96,10 @@ owed-from : (own : Setup) (mid new : Observed) (P Q : View → Type 0) → Tripl
 owed-from own mid new P Q k = triple-due IsOwedBy (IsDueFrom own Looked) mid new P Q (λ dark v acts h. owed-due own v acts h) k
 
 -- the records are opened, and then come the rounds
-pub opened-run : (own : Setup) (old mid new : Observed) (records : Records) (most : ℕ) (ended : Ended) → TripleBy (OpensBy {E = Unopened} own (Ok records)) old mid (JustBegun own) (OpenedBy own (Ok records)) → Triple mid new (IsRunOpened own) (EndedBy ended most)
+pub opened-run : (own : Setup) (old mid new : Observed) (records : Records) (most : ℕ) (ended : Ended) → TripleBy (OpensBy {E = Unopened} own (Ok records)) old mid (JustBegun own) (OpenedBy own (Ok records)) → Triple mid new (HasOpened own records) (EndedBy ended most)
     → TripleBy (IsDueFrom own Unmeasured) old new (JustBegun own) (EndedBy ended most)
 opened-run own old mid new records most ended x k =
-    triples-then old mid new (JustBegun own) (IsRunOpened own) (EndedBy ended most) (join-due own Unmeasured Looked) (triple-after _ _ _ _ _ x (λ v (q : HasOpened own records v). q.opened)) (owed-from own mid new (IsRunOpened own) (EndedBy ended most) k)
+    triples-then old mid new (JustBegun own) (HasOpened own records) (EndedBy ended most) (join-due own Unmeasured Looked) x (owed-from own mid new (HasOpened own records) (EndedBy ended most) k)
 
 -- ---- the site
 

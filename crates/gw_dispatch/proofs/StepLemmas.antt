@@ -29,18 +29,17 @@ use Rattle.gw_dispatch.proofs.EngineLemmas.{begin-first, round-busy}
 use Rattle.gw_dispatch.proofs.HeardLemmas.{StaysAt, StaysLinked}
 use Rattle.gw_dispatch.proofs.LinkLemmas.{LinksStay, cut-linked, made-linked-so, failed-linked}
 
--- the records, the outside and the scene for which a round is held
+-- the outside and the scene for which a round is held
 record Place : Type 0 where
-  pub kept : List Record
   pub outside : Outside
   pub scene : Scene
 
 no_place : Place
-no_place = record { kept = []; outside = nothing_yet; scene = at_first.scene }
+no_place = record { outside = nothing_yet; scene = at_first.scene }
 
 -- what is held in a place
-record Fits (setup : Setup) (core : Core) (tills : List Till) (polls : ℕ) (now : ℤ) (Also : Outside → Type 0) (place : Place) : Type 0 where
-  pub known : IsIn (known_at setup core place.kept now) polls place.outside place.scene
+record Fits (setup : Setup) (core : Core) (kept : List Record) (tills : List Till) (polls : ℕ) (now : ℤ) (Also : Outside → Type 0) (place : Place) : Type 0 where
+  pub known : IsIn (known_at setup core kept now) polls place.outside place.scene
   pub tills_are : HoldsTills tills place.outside
   pub linked : AreLinked core place.outside
   pub also : Also place.outside
@@ -66,25 +65,24 @@ failed-keeps : (pt : ℕ) → KeepsTills (LinkFailed pt)
 failed-keeps pt = record { moment = λ o. refl; matched = λ tills o holds. same-held tills o (outside_after o (LinkFailed pt)) refl refl holds }
 
 -- the item begins whatever the scene, and by it this is remembered and owed
-pub record BeginsMidRound (setup : Setup) (core new : Core) (now : ℤ) (item : RoundItem) (calls : List OwedCall) : Type 0 where
+pub record BeginsMidRound (setup : Setup) (core new : Core) (kept : List Record) (now : ℤ) (item : RoundItem) (calls : List OwedCall) : Type 0 where
   pub begins : (scene : Scene) (items : List RoundItem) → may_begin scene (item ∷ items) ≡ true
-  pub row : (tills : List Connection) (kept : List Record) → row_of tills (known_at setup core kept now) item ≡ becoming new calls
+  pub row : (tills : List Connection) → row_of tills (known_at setup core kept now) item ≡ becoming new calls
   pub links : LinksStay core new
 
-module _ (setup : Setup) (tills : List Till) (polls : ℕ) (now : ℤ) (Also : Outside → Type 0) where
+module _ (setup : Setup) (kept : List Record) (tills : List Till) (polls : ℕ) (now : ℤ) (Also : Outside → Type 0) where
   -- ---- an item begins
 
-  pub begin-held : (s : Observed) (core new : Core) (item : RoundItem) (calls : List OwedCall) (items : List RoundItem) → BeginsMidRound setup core new now item calls →
-      Triple s s (MidRound setup core tills polls now Also [] (item ∷ items)) (MidRound setup new tills polls now Also calls items)
+  pub begin-held : (s : Observed) (core new : Core) (item : RoundItem) (calls : List OwedCall) (items : List RoundItem) → BeginsMidRound setup core new kept now item calls →
+      Triple s s (MidRound setup core kept tills polls now Also [] (item ∷ items)) (MidRound setup new kept tills polls now Also calls items)
   begin-held s core new item calls items b =
-      triple-before s s (MidRound setup core tills polls now Also [] (item ∷ items)) (λ v. (place : Place) × (InRound (known_at setup core place.kept now) polls place.outside (item ∷ items) v × Fits setup core tills polls now Also place))
-      (MidRound setup new tills polls now Also calls items)
-      (λ v h. (record { kept = h.kept; outside = h.outside; scene = h.round.0 }, (h.round, record { known = h.round.2; tills_are = h.tills_are; linked = h.linked; also = h.also })))
-      (triple-some s s (λ place v. InRound (known_at setup core place.kept now) polls place.outside (item ∷ items) v × Fits setup core tills polls now Also place) _ no_place (λ place.
-      triple-after s s _ _ _ (triple-frame s s _ _ (Fits setup core tills polls now Also place)
-      (begin-first s (known_at setup core place.kept now) polls place.outside item items new calls (record { begins = λ scene e. b.begins scene items; row = b.row place.outside.tills place.kept })))
+      triple-before s s (MidRound setup core kept tills polls now Also [] (item ∷ items)) (λ v. (place : Place) × (InRound (known_at setup core kept now) polls place.outside (item ∷ items) v × Fits setup core kept tills polls now Also place))
+      (MidRound setup new kept tills polls now Also calls items)
+      (λ v h. (record { outside = h.outside; scene = h.round.0 }, (h.round, record { known = h.round.2; tills_are = h.tills_are; linked = h.linked; also = h.also })))
+      (triple-some s s (λ place v. InRound (known_at setup core kept now) polls place.outside (item ∷ items) v × Fits setup core kept tills polls now Also place) _ no_place (λ place.
+      triple-after s s _ _ _ (triple-frame s s _ _ (Fits setup core kept tills polls now Also place)
+      (begin-first s (known_at setup core kept now) polls place.outside item items new calls (record { begins = λ scene e. b.begins scene items; row = b.row place.outside.tills })))
       (λ v q. record {
-        kept = place.kept;
         outside = place.outside;
         round = q.0;
         tills_are = q.1.tills_are;
@@ -96,18 +94,17 @@ module _ (setup : Setup) (tills : List Till) (polls : ℕ) (now : ℤ) (Also : O
 
   -- what a call leads to from each place
   held-call : (a b : Observed) (core : Core) (calls : List OwedCall) (items : List RoundItem) (R : Scene → View → Type 0) (Q : View → Type 0) → ((scene : Scene) → Triple a b (Owing scene calls items) (R scene)) →
-      ((place : Place) (v : View) → Fits setup core tills polls now Also place → R place.scene v → Q v) → Triple a b (MidRound setup core tills polls now Also calls items) Q
+      ((place : Place) (v : View) → Fits setup core kept tills polls now Also place → R place.scene v → Q v) → Triple a b (MidRound setup core kept tills polls now Also calls items) Q
   held-call a b core calls items R Q call into =
-      triple-before a b (MidRound setup core tills polls now Also calls items) (λ v. (place : Place) × (Owing place.scene calls items v × Fits setup core tills polls now Also place)) Q
-      (λ v h. (record { kept = h.kept; outside = h.outside; scene = h.round.0 }, (h.round.1, record { known = h.round.2; tills_are = h.tills_are; linked = h.linked; also = h.also })))
-      (triple-some a b (λ place v. Owing place.scene calls items v × Fits setup core tills polls now Also place) Q no_place (λ place.
-      triple-after a b _ _ Q (triple-frame a b _ _ (Fits setup core tills polls now Also place) (call place.scene)) (λ v q. into place v q.1 q.0)))
+      triple-before a b (MidRound setup core kept tills polls now Also calls items) (λ v. (place : Place) × (Owing place.scene calls items v × Fits setup core kept tills polls now Also place)) Q
+      (λ v h. (record { outside = h.outside; scene = h.round.0 }, (h.round.1, record { known = h.round.2; tills_are = h.tills_are; linked = h.linked; also = h.also })))
+      (triple-some a b (λ place v. Owing place.scene calls items v × Fits setup core kept tills polls now Also place) Q no_place (λ place.
+      triple-after a b _ _ Q (triple-frame a b _ _ (Fits setup core kept tills polls now Also place) (call place.scene)) (λ v q. into place v q.1 q.0)))
 
   -- the place after a turn by which this is remembered
-  into-held : (core new : Core) (turn : Turn) (calls : List OwedCall) (items : List RoundItem) (place : Place) (v : View) → Fits setup core tills polls now Also place → KeepsTills turn →
-      AreLinked new (outside_after place.outside turn) → Also (outside_after place.outside turn) → Owing (record (called place.scene turn) { core = new }) calls items v → MidRound setup new tills polls now Also calls items v
+  into-held : (core new : Core) (turn : Turn) (calls : List OwedCall) (items : List RoundItem) (place : Place) (v : View) → Fits setup core kept tills polls now Also place → KeepsTills turn →
+      AreLinked new (outside_after place.outside turn) → Also (outside_after place.outside turn) → Owing (record (called place.scene turn) { core = new }) calls items v → MidRound setup new kept tills polls now Also calls items v
   into-held core new turn calls items place v fits steady linked also owing = record {
-    kept = place.kept;
     outside = outside_after place.outside turn;
     round = (
       record (called place.scene turn) { core = new },
@@ -115,6 +112,7 @@ module _ (setup : Setup) (tills : List Till) (polls : ℕ) (now : ℤ) (Also : O
       record {
         setup_is = fits.known.setup_is;
         known_is = ap (λ (m : ℕ). record { setup = setup; core = new; kept = place.scene.kept; moment = m }) (steady.moment place.scene.outside) ∙ ap (λ k. with_core k new) fits.known.known_is;
+        flight = fits.known.flight;
         round = round-busy place.scene.stage fits.known.round;
         polls_are = fits.known.polls_are;
         outside_is = ap (λ o. outside_after o turn) fits.known.outside_is;
@@ -126,63 +124,63 @@ module _ (setup : Setup) (tills : List Till) (polls : ℕ) (now : ℤ) (Also : O
   }
 
   -- the row of a link in a place
-  placed-row : (core : Core) (place : Place) (row : Known → Row) → Fits setup core tills polls now Also place → row_in place.scene row place.scene.setup ≡ row (known_at setup core place.kept now)
+  placed-row : (core : Core) (place : Place) (row : Known → Row) → Fits setup core kept tills polls now Also place → row_in place.scene row place.scene.setup ≡ row (known_at setup core kept now)
   placed-row core place row fits = ap (row_in place.scene row) fits.known.setup_is ∙ ap row fits.known.known_is
 
-  by-row : (core new : Core) (turn : Turn) (calls : List OwedCall) (items : List RoundItem) (place : Place) (v : View) (row : Known → Row) → Fits setup core tills polls now Also place → row (known_at setup core place.kept now) ≡ becoming new calls →
+  by-row : (core new : Core) (turn : Turn) (calls : List OwedCall) (items : List RoundItem) (place : Place) (v : View) (row : Known → Row) → Fits setup core kept tills polls now Also place → row (known_at setup core kept now) ≡ becoming new calls →
       OwingRow (called place.scene turn) (row_in place.scene row place.scene.setup) items v → Owing (record (called place.scene turn) { core = new }) calls items v
   by-row core new turn calls items place v row fits row_is q =
       subst (λ (r : Row). OwingRow (called place.scene turn) r items v) (placed-row core place row fits ∙ row_is) q
 
   -- the cut of a terminal, with which its link is lost
-  pub cut-held : (a b : Observed) (core new : Core) (pt : ℕ) (items : List RoundItem) → StaysAt pt Also → Grows a b (IsTurn (PtCut pt)) → IsStep a b (CutPtCall pt) → ((kept : List Record) → link_row (known_at setup core kept now) pt LinkIsLost ≡ becoming new []) →
-      Triple a b (MidRound setup core tills polls now Also (CutPt pt ∷ []) items) (MidRound setup new tills polls now Also [] items)
+  pub cut-held : (a b : Observed) (core new : Core) (pt : ℕ) (items : List RoundItem) → StaysAt pt Also → Grows a b (IsTurn (PtCut pt)) → IsStep a b (CutPtCall pt) → link_row (known_at setup core kept now) pt LinkIsLost ≡ becoming new [] →
+      Triple a b (MidRound setup core kept tills polls now Also (CutPt pt ∷ []) items) (MidRound setup new kept tills polls now Also [] items)
   cut-held a b core new pt items stays grows step lost = held-call a b core (CutPt pt ∷ []) items (λ scene. CutOfPt scene pt items) _ (λ scene. cut-pt-triple scene items a b pt grows step) (λ place v fits q.
       into-held core new (PtCut pt) [] items place v fits (cut-keeps pt)
-      (subst (λ c. AreLinked c (outside_after place.outside (PtCut pt))) (ap (λ (r : Row). r.core) (lost place.kept)) (cut-linked (known_at setup core place.kept now) pt place.outside fits.linked))
+      (subst (λ c. AreLinked c (outside_after place.outside (PtCut pt))) (ap (λ (r : Row). r.core) lost) (cut-linked (known_at setup core kept now) pt place.outside fits.linked))
       (stays.cut place.outside fits.also)
-      (by-row core new (PtCut pt) [] items place v (λ known. link_row known pt LinkIsLost) fits (lost place.kept) q))
+      (by-row core new (PtCut pt) [] items place v (λ known. link_row known pt LinkIsLost) fits lost q))
 
-  same-core : (core : Core) (turn : Turn) (calls : List OwedCall) (items : List RoundItem) (place : Place) (v : View) → Fits setup core tills polls now Also place →
+  same-core : (core : Core) (turn : Turn) (calls : List OwedCall) (items : List RoundItem) (place : Place) (v : View) → Fits setup core kept tills polls now Also place →
       Owing (called place.scene turn) calls items v → Owing (record (called place.scene turn) { core = core }) calls items v
   same-core core turn calls items place v fits q =
       q ∙ ap (λ (c : Core). record { scene = record (called place.scene turn) { core = c }; calls = calls; items = items }) (ap (λ (k : Known). k.core) fits.known.known_is)
 
-  after-send : (core : Core) (pt : ℕ) (bytes : List ℕ) (ok : Bool) (calls : List OwedCall) (items : List RoundItem) (place : Place) (v : View) → StaysAt pt Also → Fits setup core tills polls now Also place →
-      Owing (called place.scene (SentPt pt bytes ok)) calls items v → MidRound setup core tills polls now Also calls items v
+  after-send : (core : Core) (pt : ℕ) (bytes : List ℕ) (ok : Bool) (calls : List OwedCall) (items : List RoundItem) (place : Place) (v : View) → StaysAt pt Also → Fits setup core kept tills polls now Also place →
+      Owing (called place.scene (SentPt pt bytes ok)) calls items v → MidRound setup core kept tills polls now Also calls items v
   after-send core pt bytes ok calls items place v stays fits q =
       into-held core core (SentPt pt bytes ok) calls items place v fits (sent-keeps pt bytes ok) fits.linked (stays.sent place.outside bytes ok fits.also) (same-core core (SentPt pt bytes ok) calls items place v fits q)
 
   -- a send to a terminal, after which nothing is owed
   pub sent-held : (a b : Observed) (core : Core) (pt : ℕ) (sending : Sending) (done : Unit {0}) (items : List RoundItem) → StaysAt pt Also → Grows a b (SentPtTurns {E = Failed} pt (sending_bytes sending) (Ok done)) → IsStep a b (SendPtCall pt (sending_bytes sending)) →
-      Triple a b (MidRound setup core tills polls now Also (SendPt pt sending ∷ []) items) (MidRound setup core tills polls now Also [] items)
+      Triple a b (MidRound setup core kept tills polls now Also (SendPt pt sending ∷ []) items) (MidRound setup core kept tills polls now Also [] items)
   sent-held a b core pt sending done items stays grows step =
       held-call a b core (SendPt pt sending ∷ []) items (λ scene. SentToPt {E = Failed} (Ok done) scene pt (sending_bytes sending) items) _ (λ scene. send-pt-triple scene items a b {E = Failed} pt sending (Ok done) grows step)
       (λ place v fits q. after-send core pt (sending_bytes sending) true [] items place v stays fits q)
 
   -- a send that has failed, after which the cut is owed
   pub unsent-held : (a b : Observed) (core : Core) (pt : ℕ) (sending : Sending) (failed : Failed) (items : List RoundItem) → StaysAt pt Also → Grows a b (SentPtTurns pt (sending_bytes sending) (Err failed)) → IsStep a b (SendPtCall pt (sending_bytes sending)) →
-      Triple a b (MidRound setup core tills polls now Also (SendPt pt sending ∷ []) items) (MidRound setup core tills polls now Also (CutPt pt ∷ []) items)
+      Triple a b (MidRound setup core kept tills polls now Also (SendPt pt sending ∷ []) items) (MidRound setup core kept tills polls now Also (CutPt pt ∷ []) items)
   unsent-held a b core pt sending failed items stays grows step =
       held-call a b core (SendPt pt sending ∷ []) items (λ scene. SentToPt (Err failed) scene pt (sending_bytes sending) items) _ (λ scene. send-pt-triple scene items a b pt sending (Err failed) grows step)
       (λ place v fits q. after-send core pt q.0 false (CutPt pt ∷ []) items place v stays fits q.1)
 
   -- a link that is made
   pub made-held : (a b : Observed) (core new : Core) (pt : ℕ) (done : Unit {0}) (calls : List OwedCall) (items : List RoundItem) → pt < length core.terminals → StaysLinked pt Also → Grows a b (LinkTurns {E = Failed} pt (Ok done)) → IsStep a b (LinkCall pt) →
-      ((kept : List Record) → link_row (known_at setup core kept now) pt LinkIsMade ≡ becoming new calls) → Triple a b (MidRound setup core tills polls now Also (LinkPt pt ∷ []) items) (MidRound setup new tills polls now Also calls items)
+      link_row (known_at setup core kept now) pt LinkIsMade ≡ becoming new calls → Triple a b (MidRound setup core kept tills polls now Also (LinkPt pt ∷ []) items) (MidRound setup new kept tills polls now Also calls items)
   made-held a b core new pt done calls items inside stays grows step made =
       held-call a b core (LinkPt pt ∷ []) items (λ scene. LinkTried {E = Failed} (Ok done) scene pt items) _ (λ scene. link-pt-triple scene items a b {E = Failed} pt (Ok done) grows step) (λ place v fits q.
       into-held core new (Linked pt) calls items place v fits (linked-keeps pt)
-      (subst (λ c. AreLinked c (outside_after place.outside (Linked pt))) (ap (λ (r : Row). r.core) (made place.kept)) (made-linked-so (known_at setup core place.kept now) pt place.outside inside fits.linked))
+      (subst (λ c. AreLinked c (outside_after place.outside (Linked pt))) (ap (λ (r : Row). r.core) made) (made-linked-so (known_at setup core kept now) pt place.outside inside fits.linked))
       (stays.linked place.outside fits.also)
-      (by-row core new (Linked pt) calls items place v (λ known. link_row known pt LinkIsMade) fits (made place.kept) q))
+      (by-row core new (Linked pt) calls items place v (λ known. link_row known pt LinkIsMade) fits made q))
 
   -- a link that could not be made
   pub failed-held : (a b : Observed) (core new : Core) (pt : ℕ) (failed : Failed) (calls : List OwedCall) (items : List RoundItem) → is_linked_in (slice_get core.terminals pt) ≡ false → StaysLinked pt Also → Grows a b (LinkTurns pt (Err failed)) → IsStep a b (LinkCall pt) →
-      ((kept : List Record) → link_row (known_at setup core kept now) pt LinkIsLost ≡ becoming new calls) → Triple a b (MidRound setup core tills polls now Also (LinkPt pt ∷ []) items) (MidRound setup new tills polls now Also calls items)
+      link_row (known_at setup core kept now) pt LinkIsLost ≡ becoming new calls → Triple a b (MidRound setup core kept tills polls now Also (LinkPt pt ∷ []) items) (MidRound setup new kept tills polls now Also calls items)
   failed-held a b core new pt failed calls items unlinked stays grows step lost =
       held-call a b core (LinkPt pt ∷ []) items (λ scene. LinkTried (Err failed) scene pt items) _ (λ scene. link-pt-triple scene items a b pt (Err failed) grows step) (λ place v fits q.
       into-held core new (LinkFailed pt) calls items place v fits (failed-keeps pt)
-      (subst (λ c. AreLinked c (outside_after place.outside (LinkFailed pt))) (ap (λ (r : Row). r.core) (lost place.kept)) (failed-linked (known_at setup core place.kept now) pt place.outside unlinked fits.linked))
+      (subst (λ c. AreLinked c (outside_after place.outside (LinkFailed pt))) (ap (λ (r : Row). r.core) lost) (failed-linked (known_at setup core kept now) pt place.outside unlinked fits.linked))
       (stays.failed place.outside fits.also)
-      (by-row core new (LinkFailed pt) calls items place v (λ known. link_row known pt LinkIsLost) fits (lost place.kept) q))
+      (by-row core new (LinkFailed pt) calls items place v (λ known. link_row known pt LinkIsLost) fits lost q))

@@ -8,7 +8,7 @@ use Rattle.gw_site.specs.declared.turn.Turn.{Turn}
 use Rattle.gw_site.specs.declared.turn.Turn.TheVariants.{Start, OpenFailed, Polled, Opened, HeardTill, Closed, HeardPt, Lost, Stopped, Linked, LinkFailed, SentTill, SentPt, CutTill as TillCut, CutPt, Wrote, Synced, DiskFailed, Crash}
 use Rattle.gw_owes.specs.Calls.{CutTill}
 use Rattle.gw_owes.specs.Core.{Core, Wait}
-use Rattle.gw_owes.specs.Items.{RoundItem, Crowded, Message, Asked, Unframed, Gone, Greet, Handle, NextWaiting, Oversized, LinkLost, Late, Overdue, Due}
+use Rattle.gw_owes.specs.Items.{RoundItem, Crowded, Message, Asked, Unframed, Gone, Greet, Handle, Serve, NextWaiting, Oversized, LinkLost, Late, Overdue, Due}
 use Rattle.gw_owes.specs.Links.{LinkIsMade, LinkIsLost}
 use Rattle.gw_owes.specs.Row.{Known, Row, owing, owing_where}
 use Rattle.gw_owes.specs.Rows.{row_of, asked_row}
@@ -38,6 +38,7 @@ none-row tills known (Unframed till) none = none-where (is_connected tills till)
 none-row tills known (Gone till) none = none-without known.core till none
 none-row tills known (Greet number apdu) none = (row-changes-alone known (Greet number apdu) number refl).waits ∙ none
 none-row tills known (Handle number apdu) none = (row-changes-alone known (Handle number apdu) number refl).waits ∙ none
+none-row tills known (Serve number till header request) none = (row-changes-alone known (Serve number till header request) number refl).waits ∙ none
 none-row tills known (NextWaiting number) none = none
 none-row tills known (Oversized number) none = (row-changes-alone known (Oversized number) number refl).waits ∙ none
 none-row tills known (LinkLost number) none = (row-changes-alone known (LinkLost number) number refl).waits ∙ none

@@ -15,6 +15,7 @@ use Rattle.gw_owes.specs.Items.{RoundItem, LinkLost, Late, Due}
 use Rattle.gw_owes.specs.Links.{is_linked}
 use Rattle.gw_rules.specs.View.{View}
 use Rattle.gw_dispatch.specs.Round.{Pending, HoldsTills, known_at}
+use Rattle.gw_dispatch.specs.declared.run_state.RunState.{RunState}
 use Rattle.gw_dispatch.specs.declared.tills.Till.{Till}
 
 -- ---- terminals and links
@@ -48,14 +49,17 @@ pub record AreReady (core : Core) (readers : List (List ℕ)) : Type 0 where
 
 -- ---- a round
 
--- Inner: in a round with this setup at this moment, in which this is remembered, these calls are owed, and then these items come; the loop holds its tills, the links are those that are remembered, and this holds of the outside
-pub record MidRound (setup : Setup) (core : Core) (tills : List Till) (polls : ℕ) (now : ℤ) (Also : Outside → Type 0) (calls : List OwedCall) (items : List RoundItem) (v : View) : Type 0 where
-  pub kept : List Record
+-- Inner: in a round with this setup at this moment, in which this is remembered and kept, these calls are owed, and then these items come; the loop holds its tills, the links are those that are remembered, and this holds of the outside
+pub record MidRound (setup : Setup) (core : Core) (kept : List Record) (tills : List Till) (polls : ℕ) (now : ℤ) (Also : Outside → Type 0) (calls : List OwedCall) (items : List RoundItem) (v : View) : Type 0 where
   pub outside : Outside
   pub round : Pending (known_at setup core kept now) polls outside calls items v
   pub tills_are : HoldsTills tills outside
   pub linked : AreLinked core outside
   pub also : Also outside
+
+-- Inner: so it is with what the loop holds
+abbrev pub HeldRound : Setup → RunState → List Till → ℕ → ℤ → (Outside → Type 0) → List OwedCall → List RoundItem → View → Type 0
+HeldRound setup state tills polls now Also calls items v = MidRound setup state.core state.records.ledger.records tills polls now Also calls items v
 
 -- ---- events of a terminal
 
@@ -67,14 +71,14 @@ pub record BeforePt (core : Core) (readers : List (List ℕ)) (tills : List Till
   pub connected : is_connected before.links pt ≡ true
 
 -- Inner: a terminal has sent this chunk, and nothing of it was handled yet
-abbrev pub BeforePtChunk : Setup → Core → List (List ℕ) → List Till → ℕ → ℤ → ℕ → List ℕ → List RoundItem → View → Type 0
-BeforePtChunk setup core readers tills polls now pt chunk items v =
-    (before : Outside) × (kept : List Record) × BeforePt core readers tills pt before × Pending (known_at setup core kept now) polls (outside_after before (HeardPt pt chunk)) [] (pt_bytes_items pt (heard_on before.links pt) chunk ++ items) v
+abbrev pub BeforePtChunk : Setup → Core → List Record → List (List ℕ) → List Till → ℕ → ℤ → ℕ → List ℕ → List RoundItem → View → Type 0
+BeforePtChunk setup core kept readers tills polls now pt chunk items v =
+    (before : Outside) × BeforePt core readers tills pt before × Pending (known_at setup core kept now) polls (outside_after before (HeardPt pt chunk)) [] (pt_bytes_items pt (heard_on before.links pt) chunk ++ items) v
 
 -- Inner: a terminal has closed its connection, and nothing of it was handled yet
-abbrev pub BeforePtClosed : Setup → Core → List (List ℕ) → List Till → ℕ → ℤ → ℕ → List RoundItem → View → Type 0
-BeforePtClosed setup core readers tills polls now pt items v =
-    (before : Outside) × (kept : List Record) × BeforePt core readers tills pt before × Pending (known_at setup core kept now) polls (outside_after before (Lost pt)) [] (LinkLost pt ∷ items) v
+abbrev pub BeforePtClosed : Setup → Core → List Record → List (List ℕ) → List Till → ℕ → ℤ → ℕ → List RoundItem → View → Type 0
+BeforePtClosed setup core kept readers tills polls now pt items v =
+    (before : Outside) × BeforePt core readers tills pt before × Pending (known_at setup core kept now) polls (outside_after before (Lost pt)) [] (LinkLost pt ∷ items) v
 
 -- ---- what may be due
 

@@ -1,22 +1,32 @@
 -- Inner: what is made of the bytes that a reader holds.
-use Rattle.std.specs.Prelude.{◌≡◌, ℕ, ℤ, List, ◌++◌, Option}
+use Rattle.std.specs.Prelude.{◌≡◌, ℕ, ℤ, ◌≤◌, List, ◌++◌}
 use Rattle.gw_base.specs.Moment.{moment_of}
+use Rattle.jrn_record.specs.declared.records.Record.{Record}
 use Rattle.sale_frame.specs.Grammar.{IsPayload, frame, IsIncompleteFrame, BeginsWithBadLength}
-use Rattle.sale_reply.specs.declared.reply.SaleReply.{SaleReply}
 use Rattle.gw_owes.specs.Core.{Core}
-use Rattle.gw_core.specs.ReplyOf.{IsReplyTo, IsGivenWithinLimits}
+use Rattle.gw_core.specs.ReplyOf.{IsAskedRow, IsGivenToBegin, IsGivenWithinLimits}
+use Rattle.gw_core.specs.declared.gateway.Gateway.{Gateway}
+use Rattle.gw_core.specs.declared.till.Given.{Given}
 use Rattle.gw_dispatch.specs.declared.replier.Next.{Next}
 use Rattle.gw_dispatch.specs.declared.replier.Next.TheVariants.{Incomplete, Message, Unframed}
 
--- the first message was taken from the bytes held, and this is the reply to it
-pub record TakesMessage (name : List ℕ) (core : Core) (moment : ℕ) (given : Option SaleReply) (old new : List ℕ) : Type 0 where
+-- the first message was taken from the bytes held, and this is given to it: what is owed to it, or the payment that it begins
+pub record TakesMessage (gateway : Gateway) (kept : List Record) (core : Core) (moment : ℕ) (given : Given) (old new : List ℕ) : Type 0 where
   pub message : List ℕ
   pub payload : IsPayload message
   pub taken : old ≡ frame message ++ new
-  pub is_reply : IsReplyTo name core moment message given
+  pub row : (till : ℕ) → IsAskedRow gateway kept core moment till message given
+  pub begins : IsGivenToBegin gateway kept core moment given
+  pub within : IsGivenWithinLimits given
 
 -- what the first of the bytes held are
-abbrev pub IsNextOf : List ℕ → Core → ℤ → Next → List ℕ → List ℕ → Type 0
-IsNextOf name core now Incomplete old new = IsIncompleteFrame old × (new ≡ old)
-IsNextOf name core now (Message given) old new = TakesMessage name core (moment_of now) given old new × IsGivenWithinLimits given
-IsNextOf name core now Unframed old new = BeginsWithBadLength old
+abbrev pub IsNextOf : Gateway → List Record → Core → ℤ → Next → List ℕ → List ℕ → Type 0
+IsNextOf gateway kept core now Incomplete old new = IsIncompleteFrame old × (new ≡ old)
+IsNextOf gateway kept core now (Message given) old new = TakesMessage gateway kept core (moment_of now) given old new
+IsNextOf gateway kept core now Unframed old new = BeginsWithBadLength old
+
+-- once a message was taken there is memory for a record that it begins
+abbrev pub HasSpareAfter : Next → ℕ → Type 0
+HasSpareAfter Incomplete spare = Unit {0}
+HasSpareAfter (Message given) spare = 1 ≤ spare
+HasSpareAfter Unframed spare = Unit {0}

@@ -1,9 +1,6 @@
 -- What the opening of a run's records returns, by the journal's file as it began.
 use Rattle.std.specs.Prelude.{◌≡◌, ◌⊎◌, ◌↔◌, ◌+◌, ◌<◌, ◌≤◌, ℕ, Bool, true, List, [], ◌∷◌, ◌++◌, length, Some, Result, Ok, Err}
 use Rattle.gw_base.specs.declared.setup.Setup.{Setup}
-use Rattle.gw_site.specs.Observed.{Observed}
-use Rattle.gw_site.specs.declared.turn.Turn.{Turn}
-use Rattle.gw_site.specs.declared.turn.Turn.TheVariants.{DiskFailed}
 use Rattle.jrn_record.specs.declared.records.Record.{Record}
 use Rattle.jrn_log.specs.Journal.{JournalValue}
 use Rattle.jrn_log.specs.Slots.{AreSlots, IsFileTooLong, IsTruncatedSlot}
@@ -84,16 +81,6 @@ IsExactlyBad slots file result = SaysOfFile result → (slot : ℕ) → (result 
 pub record HoldsFile (slots : ℕ) (file : List ℕ) (records : Records) : Type 0 where
   pub has : HasRecords file records.ledger.records
   pub journal_is : records.journal ≡ record { len = length records.ledger.records; slots = slots; opened = length file }
-
--- ---- what is added to the log
-
--- the log is this one and more turns
-abbrev pub GoesOnFrom : List Turn → Observed → Type 0
-GoesOnFrom before new = (more : List Turn) × (new.log ≡ Some (before ++ more))
-
--- the log ends with a failure of the disk, or the site is dark
-abbrev pub EndsInFailure : Observed → Type 0
-EndsInFailure new = (new.dark ≡ true) ⊎ ((before : List Turn) × (new.log ≡ Some (before ++ DiskFailed ∷ [])))
 
 -- ---- what an opening leaves
 

@@ -1,5 +1,5 @@
 -- What is owed as the loop goes through a round.
-use Rattle.std.specs.Prelude.{◌≡◌, ℕ, ◌<◌, ℤ, true, false, List, [], ◌++◌, length, map, Some, Result, Ok, Err}
+use Rattle.std.specs.Prelude.{◌≡◌, ℕ, ◌<◌, ℤ, true, false, List, [], ◌++◌, length, map, Some, None, Result, Ok, Err}
 use Rattle.gw_base.specs.Moment.{moment_of}
 use Rattle.gw_base.specs.declared.setup.Setup.{Setup}
 use Rattle.gw_site.specs.Outside.{Outside, outside_after, is_connected}
@@ -23,10 +23,11 @@ use Rattle.gw_dispatch.specs.declared.replier.Served.TheVariants.{More, Incomple
 
 -- ---- a round
 
--- Inner: in a round, this is known, so many polls were made, and this is the outside
+-- Inner: in a round, this is known, no record is in flight, so many polls were made, and this is the outside
 pub record IsIn (known : Known) (polls : ℕ) (o : Outside) (scene : Scene) : Type 0 where
   pub setup_is : scene.setup ≡ Some known.setup
   pub known_is : known_in scene known.setup ≡ known
+  pub flight : scene.flight ≡ None
   pub round : is_round scene.stage ≡ true
   pub polls_are : scene.polls ≡ polls
   pub outside_is : scene.outside ≡ o
@@ -47,24 +48,7 @@ with_core known core = record known { core = core }
 abbrev pub known_without : Known → ℕ → Known
 known_without known till = with_core known (core_without known.core till)
 
--- ---- a till's bytes
-
--- Inner: the till is there, its reader holds these bytes, and after what they bring these items come
-abbrev pub BeforeTill : Known → ℕ → Outside → ℕ → List ℕ → List RoundItem → View → Type 0
-BeforeTill known polls o till bytes items v = InRound known polls o (decoded_items till (decode_frames bytes) ++ items) v × (is_connected o.tills till ≡ true)
-
--- Inner: after some of the payloads that a reader holds
-abbrev pub AfterTill : {E : Type 0} → Result Served E → Known → ℕ → Outside → ℕ → List ℕ → List RoundItem → View → Type 0
-AfterTill (Ok More) known polls o till bytes items v = BeforeTill known polls o till bytes items v
-AfterTill (Ok Incomplete) known polls o till bytes items v = InRound known polls o items v
-AfterTill (Ok Gone) known polls o till bytes items v = InRound (known_without known till) polls (outside_after o (CutTill till)) items v
-AfterTill (Err memory) known polls o till bytes items v = Unit {0}
-
--- Inner: what the reader holds then
-abbrev pub ReadsOn : Served → List ℕ → List ℕ → Type 0
-ReadsOn More old new = (length new < length old) × ((decode_frames new).rest ≡ (decode_frames old).rest)
-ReadsOn Incomplete old new = new ≡ (decode_frames old).rest
-ReadsOn Gone old new = Unit {0}
+-- ---- a reply
 
 -- Inner: after a send to a till, which is followed by the cut of its connection where it failed
 abbrev pub Delivered : Served → Scene → ℕ → List ℕ → List RoundItem → View → Type 0

@@ -109,7 +109,7 @@ HasBegun NoMemory = Unit {0}
 abbrev pub EndsRounds : Ended → Type 0
 EndsRounds Done = Unit {0}
 EndsRounds NotOpened = ⊥
-EndsRounds Disk = ⊥
+EndsRounds Disk = Unit {0}
 EndsRounds (TooLong count) = ⊥
 EndsRounds (Cut slot) = ⊥
 EndsRounds (BadRecord slot) = ⊥

@@ -1,5 +1,5 @@
 -- The tills that the gateway holds, and the connections of a log.
-use Rattle.std.specs.Prelude.{ℕ, suc, ◌<◌, ◌==◌, if◌then◌else◌, not, List, [], ◌∷◌, filter, Option, Some, None, option_map}
+use Rattle.std.specs.Prelude.{◌≡◌, ℕ, suc, ◌<◌, ◌==◌, if◌then◌else◌, not, List, [], ◌∷◌, filter, Option, Some, None, option_map}
 use Rattle.gw_site.specs.Outside.{Connection}
 use Rattle.sale_frame.specs.Decode.{decode_frames}
 use Rattle.gw_dispatch.specs.declared.tills.Till.{Till}
@@ -8,6 +8,10 @@ use Rattle.gw_dispatch.specs.declared.tills.Till.{Till}
 abbrev pub rank : ℕ → List Till → Option ℕ
 rank number [] = None
 rank number (till ∷ tills) = if till.number == number then Some 0 else option_map suc (rank number tills)
+
+-- Inner: one of the tills has this number
+abbrev pub IsThere : ℕ → List Till → Type 0
+IsThere number tills = (index : ℕ) × (rank number tills ≡ Some index)
 
 -- Inner: the tills without those of this number
 abbrev pub others : List Till → ℕ → List Till

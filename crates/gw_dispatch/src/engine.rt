@@ -1,28 +1,39 @@
 //! One run over a site: it is opened and polled, what each event brings is handled, and then what may be due.
-ghost use Rattle.std.specs.Prelude.{◌≡◌, ◌≢◌, ◌≤◌, ◌+◌, ℕ, ℤ, length, IfOk, Ok};
+ghost use Rattle.std.specs.Prelude.{◌≡◌, ◌≢◌, ◌≤◌, ◌+◌, ℕ, ℤ, length, Err, IfOk, Ok, OnOk};
 ghost use Rattle.gw_bytes.specs.Bytes.{AreBytes};
 ghost use Rattle.gw_base.specs.Setup.{IsSetup};
 ghost use Rattle.gw_base.specs.declared.setup.Setup.{Setup as TheSetup};
 ghost use Rattle.gw_site.specs.Failures.{Rose};
 ghost use Rattle.gw_site.specs.Turns.{IsWithinBuf};
-ghost use Rattle.gw_site.specs.Observed.{IfObserved};
+ghost use Rattle.gw_site.specs.Observed.{IfObserved, Observed};
+ghost use Rattle.jrn_log.specs.Journal.{StandsFor};
 ghost use Rattle.gw_site.specs.Outside.{outside_of};
 ghost use Rattle.gw_rules.specs.Acts.{Unmeasured};
 ghost use Rattle.gw_rules.specs.Triple.{Triple, TripleBy, RunTriple, IsRun, JustBegun};
 ghost use Rattle.gw_rules.specs.View.{View};
-ghost use Rattle.gw_dispatch.specs.Rounds.{IsRunOpened, IsReady, BeforeChunk, BeforeOpen, BeforePtBytes, BeforePtEnd, IsBetweenRounds, IsPolled, IsHandled, AfterEvent, AfterRound};
-ghost use Rattle.gw_dispatch.specs.RecordsOpening.{GoesOnFrom, EndsInFailure};
+ghost use Rattle.gw_dispatch.specs.Rounds.{IsReady, BeforeChunk, BeforeOpen, BeforePtBytes, BeforePtEnd, IsBetweenRounds, IsPolled, IsHandled, AfterEvent, AfterRound};
+ghost use Rattle.gw_dispatch.specs.RunState.{LeavesRoom, gateway_of};
+ghost use Rattle.gw_dispatch.specs.Growth.{EndsInFailure, HasGoneOn, GoesOnFrom, HasBroken};
+ghost use Rattle.gw_dispatch.specs.Serving.{held_without};
+ghost use Rattle.gw_dispatch.specs.Tills.{others};
+ghost use Rattle.gw_dispatch.specs.declared.fault.TurnFault.{TurnFault as TheFault};
+ghost use Rattle.gw_dispatch.specs.RecordsOpening.{HasOpened};
 ghost use Rattle.gw_dispatch.specs.RunEnd.{EndedBy, EndsByFound, HasBegun, EndsRounds, IsDueFrom, IsEndByFile, NoneBegan, ReportsFile, end_by};
 
-use crate::pts::Pts;
+use crate::fault::TurnFault;
+use crate::pts::{new_readers, on_bytes, on_closed, on_due};
 use crate::records::{Records, Unopened};
 use crate::replier::{Replier, Served};
-use crate::tills::{Till, drop_till, index_of, open_till};
+use crate::run_state::RunState;
+use crate::tills::{Tills, drop_till, index_of, open_till};
 use gw_base::Setup;
 use gw_bytes::{LONGEST_CHUNK, MOST_TILLS};
+use gw_core::{Core, Gateway};
+use gw_owes::law_records;
 use gw_site::{Failed, Polled, Site, What};
 use sale_reply::Out;
 use std::alloc::{AllocError, Global};
+use zvt_apdu::ApduReader;
 
 /// How a round ended.
 #[derive(Clone, Copy, Debug, PartialEq, Eq)]
@@ -55,30 +66,53 @@ pub enum Ended {
 /// What the gateway holds in a run.
 #[derive(Drop)]
 pub struct Dispatch {
-    replier: Replier,
+    state: RunState,
     /// The tills that are there.
-    tills: Vec<Till>,
-    pts: Pts,
-    records: Records,
+    tills: Tills,
+    /// By the terminals' numbers; each is empty as a link is made.
+    readers: Vec<ApduReader>,
 }
 
 impl Dispatch {
     /// What is held once the opening of a run with this setup is done: the readers of all terminals and the buffer of replies are made here, and nowhere later.
     pub fn open(alloc: Global, setup: &Setup, records: Records) -> Result<Dispatch, AllocError>
-        requires { IsSetup setup.now }
-        ensures begun { IfOk result (λ dispatch. (v : View) → IsRunOpened setup.now v → IsBetweenRounds setup.now dispatch 0 v) }
-        ensures ready { IfOk result IsReady }
-        ensures name { IfOk result (λ dispatch. dispatch.replier.name ≡ setup.now.name) }
+        requires setup { IsSetup setup.now }
+        requires records { LeavesRoom setup.now.slots records }
+        ensures begun { IfOk result (λ dispatch. (v : View) → HasOpened setup.now records v → IsBetweenRounds setup.now dispatch 0 v) }
+        ensures ready { IfOk result (λ dispatch. (observed : Observed) → StandsFor records.journal observed → IsReady dispatch observed) }
+        ensures gateway { IfOk result (λ dispatch. gateway_of setup.now ≡ dispatch.state.gateway) }
     {
+        law_records();
+        records.ledger.law_folded();
         let out = Out::new(alloc)?;
-        let pts = Pts::open(alloc, setup)?;
-        let name = setup.name;
+        let core = Core::open(alloc, setup)?;
+        let readers = new_readers(alloc, core.count())?;
+        let gateway = Gateway {
+            name: setup.name,
+            slots: setup.slots,
+        };
         Ok(Dispatch {
-            replier: Replier { alloc, name, out },
-            tills: Vec::new(alloc),
-            pts,
-            records,
+            state: RunState {
+                gateway,
+                core,
+                records,
+            },
+            tills: Tills {
+                replier: Replier { alloc, out },
+                list: Vec::new(alloc),
+            },
+            readers,
         })
+    }
+
+    /// Forgets a till that is gone: replies to it aren't sent later.
+    fn forget(&mut self, till: u64)
+        ensures state { self.new.state ≡ held_without self.old.state till }
+        ensures list { self.new.tills.list.items ≡ others self.old.tills.list.items till }
+        ensures readers { self.new.readers ≡ self.old.readers }
+    {
+        drop_till(&mut self.tills.list, till);
+        self.state.core.forget(till);
     }
 
     /// Handles the bytes that a till's connection has brought.
@@ -88,99 +122,121 @@ impl Dispatch {
         now: i64,
         number: u64,
         bytes: &[u8],
-    ) -> Result<RoundEnd, AllocError>
+    ) -> Result<RoundEnd, TurnFault>
         requires chunk { length bytes.now ≤ 4096 }
-        requires ready { IsReady self.old }
-        ensures triple { (setup : TheSetup) (polls : ℕ) → setup.name ≡ self.old.replier.name → Triple (S.observed site.old) (S.observed site.new)
+        requires ready { IsReady self.old (S.observed site.old) }
+        ensures triple { (setup : TheSetup) (polls : ℕ) → gateway_of setup ≡ self.old.state.gateway → Triple (S.observed site.old) (S.observed site.new)
             (BeforeChunk setup self.old polls now number bytes.now)
             (AfterEvent result setup self.new polls now) }
         ensures went { result ≢ Ok RoundEnd.Stopped }
-        ensures ready { IsReady self.new }
-        ensures name { self.new.replier.name ≡ self.old.replier.name }
-        ensures later { (S.observed site.old).faults ≤ (S.observed site.new).faults }
+        ensures failed { result ≡ Err TheFault.Disk → HasBroken (S.observed site.old) (S.observed site.new) }
+        ensures ready { OnOk result (IsReady self.new (S.observed site.new)) }
+        ensures gateway { self.new.state.gateway ≡ self.old.state.gateway }
+        ensures goes_on { HasGoneOn (S.observed site.old) (S.observed site.new) }
     {
-        let index = match index_of(&self.tills, number) {
+        let index = match index_of(&self.tills.list, number) {
             Some(index) => index,
             None => return Ok(RoundEnd::Went),
         };
-        match self
+        let till = &mut self.tills.list[index];
+        let served = self
+            .tills
             .replier
-            .read_chunk(site, &self.pts.core, now, &mut self.tills[index], bytes)
-        {
+            .read_chunk(&mut self.state, site, now, till, bytes);
+        match served {
             Ok(Served::Gone) => {
-                drop_till(&mut self.tills, number);
-                self.pts.forget(number);
+                self.forget(number);
                 Ok(RoundEnd::Went)
             }
             Ok(Served::Incomplete) => Ok(RoundEnd::Went),
             Ok(Served::More) => Ok(RoundEnd::Went),
-            Err(AllocError) => Err(AllocError),
+            Err(fault) => Err(fault),
         }
     }
 
     /// Handles the opening of a till.
-    fn on_open<S: Site>(&mut self, site: &mut S, number: u64) -> Result<RoundEnd, AllocError>
-        requires ready { IsReady self.old }
+    fn on_open<S: Site>(&mut self, site: &mut S, number: u64) -> Result<RoundEnd, TurnFault>
+        requires ready { IsReady self.old (S.observed site.old) }
         ensures triple { (setup : TheSetup) (polls : ℕ) (now : ℤ) → Triple (S.observed site.old) (S.observed site.new)
             (BeforeOpen setup self.old polls now number)
             (AfterEvent result setup self.new polls now) }
         ensures went { result ≢ Ok RoundEnd.Stopped }
-        ensures ready { IsReady self.new }
-        ensures name { self.new.replier.name ≡ self.old.replier.name }
-        ensures later { (S.observed site.old).faults ≤ (S.observed site.new).faults }
+        ensures failed { result ≡ Err TheFault.Disk → HasBroken (S.observed site.old) (S.observed site.new) }
+        ensures ready { OnOk result (IsReady self.new (S.observed site.new)) }
+        ensures gateway { self.new.state.gateway ≡ self.old.state.gateway }
+        ensures goes_on { HasGoneOn (S.observed site.old) (S.observed site.new) }
     {
-        match index_of(&self.tills, number) {
+        match index_of(&self.tills.list, number) {
             Some(_) => return Ok(RoundEnd::Went),
             None => {}
         }
-        if self.tills.len() >= MOST_TILLS {
+        if self.tills.list.len() >= MOST_TILLS {
             site.cut_till(number);
-            self.pts.forget(number);
+            self.state.core.forget(number);
             return Ok(RoundEnd::Went);
         }
-        match open_till(self.replier.alloc, &mut self.tills, number) {
+        match open_till(self.tills.replier.alloc, &mut self.tills.list, number) {
             Ok(()) => Ok(RoundEnd::Went),
-            Err(AllocError) => Err(AllocError),
+            Err(AllocError) => Err(TurnFault::Memory),
         }
     }
 
     /// Handles the bytes that a terminal's connection has brought. Those of a link that isn't held have no effect.
-    fn on_pt_bytes<S: Site>(&mut self, site: &mut S, now: i64, pt: u16, bytes: &[u8])
+    fn on_pt_bytes<S: Site>(
+        &mut self,
+        site: &mut S,
+        now: i64,
+        pt: u16,
+        bytes: &[u8],
+    ) -> Result<RoundEnd, TurnFault>
         requires chunk { length bytes.now ≤ 4096 }
-        requires ready { IsReady self.old }
+        requires ready { IsReady self.old (S.observed site.old) }
         ensures triple { (setup : TheSetup) (polls : ℕ) → Triple (S.observed site.old) (S.observed site.new)
             (BeforePtBytes setup self.old polls now pt bytes.now)
-            (IsHandled setup self.new polls now) }
-        ensures ready { IsReady self.new }
-        ensures name { self.new.replier.name ≡ self.old.replier.name }
-        ensures later { (S.observed site.old).faults ≤ (S.observed site.new).faults }
+            (AfterEvent result setup self.new polls now) }
+        ensures went { result ≢ Ok RoundEnd.Stopped }
+        ensures failed { result ≡ Err TheFault.Disk → HasBroken (S.observed site.old) (S.observed site.new) }
+        ensures ready { OnOk result (IsReady self.new (S.observed site.new)) }
+        ensures gateway { self.new.state.gateway ≡ self.old.state.gateway }
+        ensures goes_on { HasGoneOn (S.observed site.old) (S.observed site.new) }
     {
-        if pt >= self.pts.core.count() {
-            return;
+        if pt >= self.state.core.count() {
+            return Ok(RoundEnd::Went);
         }
-        if !self.pts.core.is_linked(pt) {
-            return;
+        if !self.state.core.is_linked(pt) {
+            return Ok(RoundEnd::Went);
         }
-        self.pts.on_bytes(site, pt, bytes, now);
+        match on_bytes(
+            &mut self.state,
+            &mut self.tills,
+            &mut self.readers,
+            site,
+            pt,
+            bytes,
+            now,
+        ) {
+            Ok(()) => Ok(RoundEnd::Went),
+            Err(Failed) => Err(TurnFault::Disk),
+        }
     }
 
     /// Handles the end of a terminal's connection. That of a link that isn't held has no effect.
     fn on_pt_closed<S: Site>(&mut self, site: &mut S, now: i64, pt: u16)
-        requires ready { IsReady self.old }
+        requires ready { IsReady self.old (S.observed site.old) }
         ensures triple { (setup : TheSetup) (polls : ℕ) → Triple (S.observed site.old) (S.observed site.new)
             (BeforePtEnd setup self.old polls now pt)
             (IsHandled setup self.new polls now) }
-        ensures ready { IsReady self.new }
-        ensures name { self.new.replier.name ≡ self.old.replier.name }
-        ensures later { (S.observed site.old).faults ≤ (S.observed site.new).faults }
+        ensures ready { IsReady self.new (S.observed site.new) }
+        ensures gateway { self.new.state.gateway ≡ self.old.state.gateway }
+        ensures goes_on { HasGoneOn (S.observed site.old) (S.observed site.new) }
     {
-        if pt >= self.pts.core.count() {
+        if pt >= self.state.core.count() {
             return;
         }
-        if !self.pts.core.is_linked(pt) {
+        if !self.state.core.is_linked(pt) {
             return;
         }
-        self.pts.on_closed(site, pt, now);
+        on_closed(&mut self.state.core, &self.readers, site, pt, now);
     }
 
     /// Handles what a poll has brought.
@@ -190,30 +246,27 @@ impl Dispatch {
         now: i64,
         what: What,
         buf: &[u8; 4096],
-    ) -> Result<RoundEnd, AllocError>
+    ) -> Result<RoundEnd, TurnFault>
         requires within { IsWithinBuf what }
-        requires ready { IsReady self.old }
-        ensures triple { (setup : TheSetup) (polls : ℕ) → setup.name ≡ self.old.replier.name → Triple (S.observed site.old) (S.observed site.new)
+        requires ready { IsReady self.old (S.observed site.old) }
+        ensures triple { (setup : TheSetup) (polls : ℕ) → gateway_of setup ≡ self.old.state.gateway → Triple (S.observed site.old) (S.observed site.new)
             (IsPolled setup self.old polls now what buf.now)
             (AfterEvent result setup self.new (polls + 1) now) }
         ensures bytes { AreBytes buf.now }
-        ensures ready { IsReady self.new }
-        ensures name { self.new.replier.name ≡ self.old.replier.name }
-        ensures later { (S.observed site.old).faults ≤ (S.observed site.new).faults }
+        ensures failed { result ≡ Err TheFault.Disk → HasBroken (S.observed site.old) (S.observed site.new) }
+        ensures ready { OnOk result (IsReady self.new (S.observed site.new)) }
+        ensures gateway { self.new.state.gateway ≡ self.old.state.gateway }
+        ensures goes_on { HasGoneOn (S.observed site.old) (S.observed site.new) }
     {
         match what {
             What::Stopped => Ok(RoundEnd::Stopped),
             What::TillOpened(number) => self.on_open(site, number),
             What::TillBytes(number, count) => self.on_bytes(site, now, number, &buf[..count]),
             What::TillClosed(number) => {
-                drop_till(&mut self.tills, number);
-                self.pts.forget(number);
+                self.forget(number);
                 Ok(RoundEnd::Went)
             }
-            What::PtBytes(pt, count) => {
-                self.on_pt_bytes(site, now, pt, &buf[..count]);
-                Ok(RoundEnd::Went)
-            }
+            What::PtBytes(pt, count) => self.on_pt_bytes(site, now, pt, &buf[..count]),
             What::PtClosed(pt) => {
                 self.on_pt_closed(site, now, pt);
                 Ok(RoundEnd::Went)
@@ -230,24 +283,25 @@ impl Dispatch {
         &mut self,
         site: &mut S,
         buf: &mut [u8; 4096],
-    ) -> Result<RoundEnd, AllocError>
-        requires ready { IsReady self.old }
-        ensures triple { (setup : TheSetup) (polls : ℕ) → setup.name ≡ self.old.replier.name → Triple (S.observed site.old) (S.observed site.new)
+    ) -> Result<RoundEnd, TurnFault>
+        requires ready { IsReady self.old (S.observed site.old) }
+        ensures triple { (setup : TheSetup) (polls : ℕ) → gateway_of setup ≡ self.old.state.gateway → Triple (S.observed site.old) (S.observed site.new)
             (IsBetweenRounds setup self.old polls)
             (AfterRound result setup self.new (polls + 1)) }
         ensures buf { length buf.new ≡ 4096 }
-        ensures ready { IsReady self.new }
-        ensures name { self.new.replier.name ≡ self.old.replier.name }
-        ensures later { (S.observed site.old).faults ≤ (S.observed site.new).faults }
+        ensures failed { result ≡ Err TheFault.Disk → HasBroken (S.observed site.old) (S.observed site.new) }
+        ensures ready { OnOk result (IsReady self.new (S.observed site.new)) }
+        ensures gateway { self.new.state.gateway ≡ self.old.state.gateway }
+        ensures goes_on { HasGoneOn (S.observed site.old) (S.observed site.new) }
     {
         let Polled { now, what } = site.poll(buf);
         match self.on_event(site, now, what, buf) {
             Ok(RoundEnd::Went) => {
-                self.pts.on_due(site, now);
+                on_due(&mut self.state.core, &mut self.readers, site, now);
                 Ok(RoundEnd::Went)
             }
             Ok(RoundEnd::Stopped) => Ok(RoundEnd::Stopped),
-            Err(AllocError) => Err(AllocError),
+            Err(fault) => Err(fault),
         }
     }
 }
@@ -260,10 +314,13 @@ pub(crate) fn rounds<S: Site>(
     records: Records,
     most: u64,
 ) -> Ended
-    requires { IsSetup setup.now }
-    ensures triple { Triple (S.observed site.old) (S.observed site.new) (IsRunOpened setup.now) (EndedBy result most) }
+    requires setup { IsSetup setup.now }
+    requires records { LeavesRoom setup.now.slots records }
+    requires stands { StandsFor records.journal (S.observed site.old) }
+    ensures failed { result ≡ Ended.Disk → HasBroken (S.observed site.old) (S.observed site.new) }
+    ensures triple { Triple (S.observed site.old) (S.observed site.new) (HasOpened setup.now records) (EndedBy result most) }
     ensures ran { EndsRounds result }
-    ensures later { (S.observed site.old).faults ≤ (S.observed site.new).faults }
+    ensures goes_on { HasGoneOn (S.observed site.old) (S.observed site.new) }
 {
     let mut dispatch = match Dispatch::open(alloc, setup, records) {
         Ok(dispatch) => dispatch,
@@ -275,7 +332,8 @@ pub(crate) fn rounds<S: Site>(
         match dispatch.turn(site, &mut buf) {
             Ok(RoundEnd::Went) => {}
             Ok(RoundEnd::Stopped) => return Ended::Done,
-            Err(AllocError) => return Ended::NoMemory,
+            Err(TurnFault::Disk) => return Ended::Disk,
+            Err(TurnFault::Memory) => return Ended::NoMemory,
         }
     }
     Ended::Done

@@ -2,12 +2,16 @@
 #![tactic(auto)]
 
 mod engine;
+mod fault;
 mod keeping;
+mod messages;
 mod perform;
 mod pts;
 mod records;
 mod replier;
+mod run_state;
 mod tills;
 
 pub use engine::{Dispatch, Ended, RoundEnd, run};
+pub use fault::TurnFault;
 pub use records::{Records, Unopened};

@@ -7,10 +7,12 @@ ghost use Rattle.gw_site.specs.Outside.{outside_of};
 ghost use Rattle.jrn_log.specs.Journal.{StandsFor};
 ghost use Rattle.gw_ledger.specs.Sums.{open_count_of};
 ghost use Rattle.gw_rules.specs.Triple.{TripleBy, JustBegun};
-ghost use Rattle.gw_dispatch.specs.RecordsOpening.{GoesOnFrom, EndsInFailure, LedgerGives, HoldsFile, IsExactlyCut, IsExactlyBad, IsExactlyRefused, OpenedBy, OpensBy, cause_of};
+ghost use Rattle.gw_dispatch.specs.RecordsOpening.{LedgerGives, HoldsFile, IsExactlyCut, IsExactlyBad, IsExactlyRefused, OpenedBy, OpensBy, cause_of};
+ghost use Rattle.gw_dispatch.specs.Growth.{EndsInFailure, GoesOnFrom};
 
 use gw_base::Bodies;
 use gw_ledger::{BadRecord, Ledger, LedgerFault};
+use gw_rules::{law_kept_files, law_records_in_order};
 use gw_site::Site;
 use jrn_log::{Journal, OpenFault};
 use std::alloc::Global;
@@ -107,6 +109,8 @@ impl Records {
         ensures triple { (setup : TheSetup) → setup.slots ≡ slots → TripleBy (OpensBy setup result) (S.observed site.old) (S.observed site.new) (JustBegun setup) (OpenedBy setup result) }
         ensures stands { IfOk result (λ records. StandsFor records.journal (S.observed site.new)) }
     {
+        law_kept_files();
+        law_records_in_order();
         match Journal::open(alloc, site, slots) {
             Err(fault) => Err(unopened_by(fault)),
             Ok((journal, bodies)) => with_ledger(alloc, journal, &bodies),

@@ -1,8 +1,23 @@
 //! The tills that are there, each with the reader of its frames.
-ghost use Rattle.std.specs.Prelude.{◌≡◌, ◌++◌, ◌∷◌, ◌<◌, [], OnOk, OnErr, IfSome, length};
+ghost use Rattle.std.specs.Prelude.{◌≡◌, ◌⊎◌, ◌++◌, ◌∷◌, ◌<◌, [], ℕ, ℤ, List, OnOk, OnErr, IfSome, length};
+ghost use Rattle.gw_base.specs.declared.setup.Setup.{Setup};
+ghost use Rattle.jrn_record.specs.declared.records.Record.{Record};
+ghost use Rattle.sale_reply.specs.Limits.{IsWithinLimits};
+ghost use Rattle.sale_reply.specs.Reply.{tree_of};
+ghost use Rattle.gw_owes.specs.Calls.{SendTill};
+ghost use Rattle.gw_owes.specs.Items.{RoundItem};
+ghost use Rattle.gw_owes.specs.Reply.{ReplyValue, reply_value_tree};
+ghost use Rattle.gw_owes.specs.Terminals.{core_without};
+ghost use Rattle.gw_rules.specs.Triple.{Triple};
+ghost use Rattle.gw_dispatch.specs.Growth.{GoesOnBesideDisk};
+ghost use Rattle.gw_dispatch.specs.MidRound.{AreHeard, MidRound};
 ghost use Rattle.gw_dispatch.specs.Tills.{rank, others};
 
+use crate::replier::{Replier, Served};
+use gw_core::Core;
+use gw_site::Site;
 use sale_frame::FrameReader;
+use sale_reply::SaleReply;
 use std::alloc::{AllocError, Global};
 
 /// A till, by the number of its connection.
@@ -42,4 +57,36 @@ pub(crate) fn drop_till(tills: &mut Vec<Till>, number: u64)
     ensures { tills.new.items ≡ others tills.old.items number }
 {
     tills.retain(|till| till.number != number);
+}
+
+/// The tills that are there, and what makes the replies to them.
+#[derive(Drop)]
+pub(crate) struct Tills {
+    pub(crate) replier: Replier,
+    pub(crate) list: Vec<Till>,
+}
+
+/// Sends a till a reply. Where that fails it was cut, and is forgotten.
+pub(crate) fn deliver<S: Site>(
+    core: &mut Core,
+    tills: &mut Tills,
+    site: &mut S,
+    till: u64,
+    reply: &SaleReply<'_>,
+)
+    requires { IsWithinLimits reply.now }
+    ensures triple { (owed : ReplyValue) → tree_of reply.now ≡ reply_value_tree owed → (setup : Setup) (kept : List Record) (polls : ℕ) (now : ℤ) (heard : ℕ → List ℕ) (items : List RoundItem) → Triple (S.observed site.old) (S.observed site.new)
+        (MidRound setup core.old kept tills.old.list.items polls now (AreHeard heard) (SendTill till owed ∷ []) items)
+        (MidRound setup core.new kept tills.new.list.items polls now (AreHeard heard) [] items) }
+    ensures core { (core.new ≡ core.old) ⊎ (core.new ≡ core_without core.old till) }
+    ensures goes_on { GoesOnBesideDisk (S.observed site.old) (S.observed site.new) }
+{
+    match tills.replier.send_reply(site, till, reply) {
+        Served::Gone => {
+            drop_till(&mut tills.list, till);
+            core.forget(till);
+        }
+        Served::More => {}
+        Served::Incomplete => {}
+    }
 }

@@ -1,40 +1,44 @@
 -- Each terminal has the dialogue of its standing.
 use Rattle.std.proofs.Common.{◌≡◌, ◌≢◌, ℕ, zero, suc, ◌+◌, List, [], ◌∷◌, refl, sym, ◌∙◌, ap, subst, arith, Bool, true, false, cond, eqb}
-use Rattle.std.specs.Prelude.{map, set, slice_get, pos, ◌+ℤ◌, nat_le, Option, Some, None, if◌then◌else◌}
+use Rattle.std.specs.Prelude.{map, set, nat_lt, slice_get, pos, ◌+ℤ◌, nat_le, Option, Some, None, if◌then◌else◌}
 use Rattle.std.specs.Option.{option_map}
 use Rattle.gw_base.specs.declared.figures.Figures.{Figures}
 use Rattle.gw_base.specs.declared.setup.Pt.{Pt}
 use Rattle.zvt_bmp.specs.declared.fields.Fields.{Fields}
 use Rattle.zvt_msg.specs.Message.{MessageValue, Ack, Nack, Intermediate, Line, Block, Status, Completion, Abort, Other}
 use Rattle.zvt_talk.specs.declared.dialogue_kind.DialogueKind.{DialogueKind}
-use Rattle.zvt_talk.specs.declared.dialogue_kind.DialogueKind.TheVariants.{Registration, Enquiry}
+use Rattle.zvt_talk.specs.declared.dialogue_kind.DialogueKind.TheVariants.{Registration, Enquiry, Payment}
 use Rattle.zvt_talk.specs.declared.meaning.Heard.{Heard}
 use Rattle.zvt_talk.specs.declared.meaning.Heard.TheVariants as heard
 use Rattle.zvt_talk.specs.declared.phase.Phase.{Phase}
 use Rattle.zvt_talk.specs.declared.phase.Phase.TheVariants.{Asked, Begun, Ended}
 use Rattle.zvt_talk.specs.declared.statuses.Statuses.{Statuses}
 use Rattle.zvt_talk.specs.Came.{is_taken}
-use Rattle.zvt_talk.specs.Table.{full_figures, declined, enquiry_aborted, enquiry_approved, enquiry_completed, enquiry_result, service_completed, service_result}
+use Rattle.zvt_talk.specs.Table.{full_figures, declined, declined_unless, approved_with, transaction_result, transaction_completed, enquiry_aborted, enquiry_approved, enquiry_completed, enquiry_result, service_completed, service_result}
 use Rattle.zvt_talk.specs.Talk.{TalkFacts}
 use Rattle.zvt_talk.specs.TalkSteps.{meaning_in_phase, next_phase, next_talk}
+use Rattle.gw_owes.specs.declared.terminal.Service.{Service}
+use Rattle.gw_owes.specs.declared.terminal.Service.TheVariants.{Transaction, EndOfDay, Display}
 use Rattle.gw_owes.specs.declared.terminal.Standing.{Standing}
 use Rattle.gw_owes.specs.declared.terminal.Standing.TheVariants.{Unlinked, Registering, Enquiring, Ready, Serving, Aside}
 use Rattle.gw_owes.specs.declared.terminal.Terminal.{Terminal}
 use Rattle.gw_owes.specs.Core.{Core, new_terminal}
-use Rattle.gw_owes.specs.Items.{Crowded, Message, Asked as AskedItem, Unframed, Gone, Greet, Handle, NextWaiting, Oversized, LinkLost, Late, Overdue, Due}
+use Rattle.gw_owes.specs.Items.{Crowded, Message, Asked as AskedItem, Unframed, Gone, Greet, Handle, Serve, NextWaiting, Oversized, LinkLost, Late, Overdue, Due}
 use Rattle.gw_owes.specs.Row.{Known, Row}
-use Rattle.gw_owes.specs.Terminals.{terminal_at, of_terminal, with_terminal, link_made, link_lost, registers, unlinks, unlinked_terminal}
+use Rattle.gw_owes.specs.Terminals.{terminal_at, of_terminal, with_terminal, terminal_becomes, link_made, link_lost, registers, unlinks, unlinked_terminal}
 use Rattle.gw_owes.specs.Links.{LinkIsMade, LinkHasFailed, LinkIsLost}
-use Rattle.gw_owes.specs.Reports.{standing_reported}
-use Rattle.gw_owes.specs.Handling.{awaited_after, taken_as, meaning_for, meaning_at, taking, registering, enquiring, consequence}
+use Rattle.gw_owes.specs.Reports.{on_record, report_against, standing_reported, at_rest}
+use Rattle.gw_owes.specs.Serving.{approved_outcome, resolves, approved_row, serving_transaction}
+use Rattle.gw_owes.specs.Handling.{awaited_after, taken_as, meaning_for, meaning_at, taking, registering, enquiring, serving, consequence}
 use Rattle.gw_owes.specs.Greeting.{greet_row, oversized_row}
 use Rattle.gw_owes.specs.Deadlines.{late_row, due_row}
 use Rattle.gw_owes.specs.TerminalLaws.{owes_cut}
-use Rattle.gw_owes.specs.Dialogues.{AwaitedIn, RunsDialogue, RunsNone, IsDialogueOf, HasItsDialogue, AllHaveDialogues, OthersHaveDialogues, NewCoreHasDialogues, EachRowKeepsDialogues, EachLinkGivesDialogues}
+use Rattle.gw_owes.specs.Dialogues.{AwaitedIn, RunsDialogue, RunsNone, IsDialogueOfService, IsDialogueOf, HasItsDialogue, AllHaveDialogues, OthersHaveDialogues, NewCoreHasDialogues, EachRowKeepsDialogues, EachLinkGivesDialogues}
 use Rattle.gw_owes.proofs.HandlingLemmas.{each-handled}
+use Rattle.gw_owes.proofs.PaymentLemmas.{each-served}
 use Rattle.gw_owes.proofs.TerminalLemmas.{greeting-changes-nothing, late-same, due-same, oversized-same}
 
--- ---- what a message means in a registration, and in an enquiry
+-- ---- what a message means in a registration, in an enquiry, and in a payment
 
 either : (P : Heard → Type 0) (b : Bool) (x y : Heard) → P x → P y → P (cond b x y)
 either P true x y p q = p
@@ -78,7 +82,7 @@ service-next phase awaited statuses (Some status) e = service-result-next phase 
 
 registration-next : (none : ℕ) (phase : Phase) (message : MessageValue) (awaited : ℕ) → AwaitedIn phase awaited → is_taken message ≡ true
     → RegistrationNext (next_phase Registration phase (taken_as awaited message)) (awaited_after message awaited) (meaning_in_phase Registration none phase (taken_as awaited message))
-registration-next none (Asked stop_wished) Ack awaited e taken = omega arith
+registration-next none (Asked stop_wished) Ack awaited e taken = (e.0, omega arith)
 registration-next none (Asked stop_wished) (Nack error_code) awaited e taken =
     let handed : ℕ = if nat_le 2 awaited then 0 else error_code in
     either (RegistrationNext (Ended false) (awaited_after (Nack error_code) awaited)) (eqb handed 0) heard.Unclear (heard.Declined handed None) tt tt
@@ -89,13 +93,13 @@ registration-next none (Asked stop_wished) (Status fields) awaited e taken = tt
 registration-next none (Asked stop_wished) Completion awaited e taken = tt
 registration-next none (Asked stop_wished) (Abort result_code) awaited e taken = tt
 registration-next none (Asked stop_wished) Other awaited e taken = absurd cc
-registration-next none (Begun stop_sent statuses) Ack awaited e taken = omega arith
-registration-next none (Begun stop_sent statuses) (Nack error_code) awaited e taken = omega arith
+registration-next none (Begun stop_sent statuses) Ack awaited e taken = (e.0, omega arith)
+registration-next none (Begun stop_sent statuses) (Nack error_code) awaited e taken = (e.0, omega arith)
 registration-next none (Begun stop_sent statuses) (Intermediate intermediate_status) awaited e taken = e
 registration-next none (Begun stop_sent statuses) (Line text) awaited e taken = e
 registration-next none (Begun stop_sent statuses) (Block objects) awaited e taken = e
 registration-next none (Begun stop_sent statuses) (Status fields) awaited e taken = e
-registration-next none (Begun stop_sent statuses) Completion awaited e taken = service-next (Ended stop_sent) awaited statuses statuses.last e
+registration-next none (Begun stop_sent statuses) Completion awaited e taken = service-next (Ended stop_sent) awaited statuses statuses.last e.1
 registration-next none (Begun stop_sent statuses) (Abort None) awaited e taken = tt
 registration-next none (Begun stop_sent statuses) (Abort (Some result_code)) awaited e taken = either (RegistrationNext (Ended stop_sent) awaited) (eqb result_code 0) heard.Unclear (declined statuses result_code) tt tt
 registration-next none (Begun stop_sent statuses) Other awaited e taken = absurd cc
@@ -121,7 +125,7 @@ enquiry-aborted-next phase awaited none (Some status) result_code e = tt
 
 enquiry-next : (none : ℕ) (phase : Phase) (message : MessageValue) (awaited : ℕ) → AwaitedIn phase awaited → is_taken message ≡ true
     → EnquiryNext (next_phase Enquiry phase (taken_as awaited message)) (awaited_after message awaited) (meaning_in_phase Enquiry none phase (taken_as awaited message))
-enquiry-next none (Asked stop_wished) Ack awaited e taken = omega arith
+enquiry-next none (Asked stop_wished) Ack awaited e taken = (e.0, omega arith)
 enquiry-next none (Asked stop_wished) (Nack error_code) awaited e taken =
     let handed : ℕ = if nat_le 2 awaited then 0 else error_code in
     either (EnquiryNext (Ended false) (awaited_after (Nack error_code) awaited)) (eqb handed 0) heard.Unclear (heard.Declined handed None) tt tt
@@ -132,18 +136,80 @@ enquiry-next none (Asked stop_wished) (Status fields) awaited e taken = tt
 enquiry-next none (Asked stop_wished) Completion awaited e taken = tt
 enquiry-next none (Asked stop_wished) (Abort result_code) awaited e taken = tt
 enquiry-next none (Asked stop_wished) Other awaited e taken = absurd cc
-enquiry-next none (Begun stop_sent statuses) Ack awaited e taken = omega arith
-enquiry-next none (Begun stop_sent statuses) (Nack error_code) awaited e taken = omega arith
+enquiry-next none (Begun stop_sent statuses) Ack awaited e taken = (e.0, omega arith)
+enquiry-next none (Begun stop_sent statuses) (Nack error_code) awaited e taken = (e.0, omega arith)
 enquiry-next none (Begun stop_sent statuses) (Intermediate intermediate_status) awaited e taken = e
 enquiry-next none (Begun stop_sent statuses) (Line text) awaited e taken = e
 enquiry-next none (Begun stop_sent statuses) (Block objects) awaited e taken = e
 enquiry-next none (Begun stop_sent statuses) (Status fields) awaited e taken = e
-enquiry-next none (Begun stop_sent statuses) Completion awaited e taken = enquiry-completed-next (Ended stop_sent) awaited statuses.last e
+enquiry-next none (Begun stop_sent statuses) Completion awaited e taken = enquiry-completed-next (Ended stop_sent) awaited statuses.last e.1
 enquiry-next none (Begun stop_sent statuses) (Abort None) awaited e taken = tt
 enquiry-next none (Begun stop_sent statuses) (Abort (Some result_code)) awaited e taken =
-    either (EnquiryNext (Ended stop_sent) awaited) (eqb result_code 0) heard.Unclear (enquiry_aborted none statuses.last result_code) tt (enquiry-aborted-next (Ended stop_sent) awaited none statuses.last result_code e)
+    either (EnquiryNext (Ended stop_sent) awaited) (eqb result_code 0) heard.Unclear (enquiry_aborted none statuses.last result_code) tt (enquiry-aborted-next (Ended stop_sent) awaited none statuses.last result_code e.1)
 enquiry-next none (Begun stop_sent statuses) Other awaited e taken = absurd cc
 enquiry-next none (Ended stop_sent) message awaited e taken = absurd e
+
+-- the same of a payment, which is approved or declined, and in which no stop is wished
+abbrev PaymentNext : Phase → ℕ → Heard → Type 0
+PaymentNext phase awaited (heard.Begun true) = ⊥
+PaymentNext phase awaited (heard.Begun false) = AwaitedIn phase awaited
+PaymentNext phase awaited (heard.Note intermediate_status) = AwaitedIn phase awaited
+PaymentNext phase awaited heard.Line = AwaitedIn phase awaited
+PaymentNext phase awaited heard.Block = AwaitedIn phase awaited
+PaymentNext phase awaited heard.Seen = AwaitedIn phase awaited
+PaymentNext phase awaited (heard.Approved figures) = awaited ≡ 0
+PaymentNext phase awaited heard.Done = ⊥
+PaymentNext phase awaited (heard.Told reported approved result_code) = ⊥
+PaymentNext phase awaited (heard.Declined result_code reported) = awaited ≡ 0
+PaymentNext phase awaited heard.Unclear = Unit {0}
+PaymentNext phase awaited heard.Stray = AwaitedIn phase awaited
+
+full-next : (phase : Phase) (awaited : ℕ) (figures : Option Figures) → awaited ≡ 0 → PaymentNext phase awaited (approved_with figures)
+full-next phase awaited None e = tt
+full-next phase awaited (Some figures) e = e
+
+declined-next : (phase : Phase) (awaited : ℕ) (said_approved : Bool) (statuses : Statuses) (result_code : ℕ) → awaited ≡ 0 → PaymentNext phase awaited (declined_unless said_approved statuses result_code)
+declined-next phase awaited true statuses result_code e = tt
+declined-next phase awaited false statuses result_code e = e
+
+transaction-next : (phase : Phase) (awaited : ℕ) (statuses : Statuses) (status : Fields) (result : Option ℕ) → awaited ≡ 0 → PaymentNext phase awaited (transaction_result statuses status result)
+transaction-next phase awaited statuses status None e = tt
+transaction-next phase awaited statuses status (Some result_code) e =
+    either (PaymentNext phase awaited) (eqb result_code 0) (approved_with (full_figures status)) (declined_unless statuses.approved statuses result_code) (full-next phase awaited (full_figures status) e) (declined-next phase awaited statuses.approved statuses result_code e)
+
+completed-next : (phase : Phase) (awaited : ℕ) (statuses : Statuses) (last : Option Fields) → awaited ≡ 0 → PaymentNext phase awaited (transaction_completed statuses last)
+completed-next phase awaited statuses None e = tt
+completed-next phase awaited statuses (Some status) e = transaction-next phase awaited statuses status status.result e
+
+payment-next : (none : ℕ) (phase : Phase) (message : MessageValue) (awaited : ℕ) → AwaitedIn phase awaited → is_taken message ≡ true
+    → PaymentNext (next_phase Payment phase (taken_as awaited message)) (awaited_after message awaited) (meaning_in_phase Payment none phase (taken_as awaited message))
+payment-next none (Asked true) Ack awaited e taken = absurd (wished e.0)
+  where
+    wished : true ≡ false → ⊥
+    wished is = cc
+payment-next none (Asked false) Ack awaited e taken = (refl, omega arith)
+payment-next none (Asked stop_wished) (Nack error_code) awaited e taken =
+    let handed : ℕ = if nat_le 2 awaited then 0 else error_code in
+    either (PaymentNext (Ended false) (awaited_after (Nack error_code) awaited)) (eqb handed 0) heard.Unclear (heard.Declined handed None) tt (omega arith)
+payment-next none (Asked stop_wished) (Intermediate intermediate_status) awaited e taken = tt
+payment-next none (Asked stop_wished) (Line text) awaited e taken = tt
+payment-next none (Asked stop_wished) (Block objects) awaited e taken = tt
+payment-next none (Asked stop_wished) (Status fields) awaited e taken = tt
+payment-next none (Asked stop_wished) Completion awaited e taken = tt
+payment-next none (Asked stop_wished) (Abort result_code) awaited e taken = tt
+payment-next none (Asked stop_wished) Other awaited e taken = absurd cc
+payment-next none (Begun stop_sent statuses) Ack awaited e taken = (e.0, omega arith)
+payment-next none (Begun stop_sent statuses) (Nack error_code) awaited e taken = (e.0, omega arith)
+payment-next none (Begun stop_sent statuses) (Intermediate intermediate_status) awaited e taken = e
+payment-next none (Begun stop_sent statuses) (Line text) awaited e taken = e
+payment-next none (Begun stop_sent statuses) (Block objects) awaited e taken = e
+payment-next none (Begun stop_sent statuses) (Status fields) awaited e taken = e
+payment-next none (Begun stop_sent statuses) Completion awaited e taken = completed-next (Ended stop_sent) awaited statuses statuses.last e.1
+payment-next none (Begun stop_sent statuses) (Abort None) awaited e taken = tt
+payment-next none (Begun stop_sent statuses) (Abort (Some result_code)) awaited e taken =
+    either (PaymentNext (Ended stop_sent) awaited) (eqb result_code 0) heard.Unclear (declined_unless statuses.approved statuses result_code) tt (declined-next (Ended stop_sent) awaited statuses.approved statuses result_code e.1)
+payment-next none (Begun stop_sent statuses) Other awaited e taken = absurd cc
+payment-next none (Ended stop_sent) message awaited e taken = absurd e
 
 -- ---- the dialogue after a message
 
@@ -218,7 +284,7 @@ registering-keeps known number terminal phase heard.Block all next has no_cut = 
 registering-keeps known number terminal phase heard.Seen all next has no_cut = all-with known.core number terminal (but-one known.core number all) (has next)
 registering-keeps known number terminal phase (heard.Approved figures) all next has no_cut = absurd next
 registering-keeps known number terminal phase heard.Done all next has no_cut =
-    all-with known.core number _ (but-one known.core number all) (record { facts = _; talk_is = refl; kind_is = refl; awaited_is = ap (λ (n : ℕ). n + 1) next })
+    all-with known.core number _ (but-one known.core number all) (record { facts = _; talk_is = refl; kind_is = refl; awaited_is = (refl, ap (λ (n : ℕ). n + 1) next) })
 registering-keeps known number terminal phase (heard.Told reported approved result_code) all next has no_cut = absurd next
 registering-keeps known number terminal phase (heard.Declined result_code reported) all next has no_cut = absurd cc
 registering-keeps known number terminal phase heard.Unclear all next has no_cut = absurd cc
@@ -231,6 +297,11 @@ reported-rests least reported talk awaited none = by-least (nat_le least reporte
     by-least true = none
     by-least false = none
 
+report-keeps : (known : Known) (number : ℕ) (terminal : Terminal) (open_with : Option ℕ) (last reported : ℕ) → AllHaveDialogues known.core → terminal.awaited ≡ 0 → Keeps (report_against open_with last known number terminal reported)
+report-keeps known number terminal None last reported all none no_cut =
+    all-with known.core number _ (but-one known.core number all) (reported-rests last reported None terminal.awaited (record { none = refl; awaited_is = none }))
+report-keeps known number terminal (Some before) last reported all none no_cut = absurd cc
+
 enquiring-keeps : (known : Known) (number : ℕ) (terminal : Terminal) (phase : Phase) (meant : Heard) → AllHaveDialogues known.core → EnquiryNext phase terminal.awaited meant
     → (AwaitedIn phase terminal.awaited → HasItsDialogue terminal) → Keeps (enquiring known number terminal meant)
 enquiring-keeps known number terminal phase (heard.Begun stop) all next has no_cut = all-with known.core number terminal (but-one known.core number all) (has next)
@@ -240,11 +311,33 @@ enquiring-keeps known number terminal phase heard.Block all next has no_cut = al
 enquiring-keeps known number terminal phase heard.Seen all next has no_cut = all-with known.core number terminal (but-one known.core number all) (has next)
 enquiring-keeps known number terminal phase (heard.Approved figures) all next has no_cut = absurd next
 enquiring-keeps known number terminal phase heard.Done all next has no_cut = absurd next
-enquiring-keeps known number terminal phase (heard.Told reported approved result_code) all next has no_cut =
-    all-with known.core number _ (but-one known.core number all) (reported-rests 0 reported None terminal.awaited (record { none = refl; awaited_is = next }))
+enquiring-keeps known number terminal phase (heard.Told reported approved result_code) all next has no_cut = report-keeps known number terminal (on_record known.kept terminal.pt.poi).open_before (on_record known.kept terminal.pt.poi).last reported all next no_cut
 enquiring-keeps known number terminal phase (heard.Declined result_code reported) all next has no_cut = absurd cc
 enquiring-keeps known number terminal phase heard.Unclear all next has no_cut = absurd cc
 enquiring-keeps known number terminal phase heard.Stray all next has no_cut = all-with known.core number terminal (but-one known.core number all) (has next)
+
+resolved-keeps : (known : Known) (number : ℕ) (terminal : Terminal) (slot last : ℕ) (figures : Figures) → AllHaveDialogues known.core → terminal.awaited ≡ 0 → AllHaveDialogues (approved_row known number terminal slot last figures).core
+resolved-keeps known number terminal slot last figures all none = by-number (nat_lt last figures.number)
+  where
+    by-number : (above : Bool) → AllHaveDialogues (if above then resolves known number terminal (Ready figures.number) (approved_outcome slot figures known.moment) else terminal_becomes known number (at_rest terminal (Aside last figures.number)) []).core
+    by-number true = all-with known.core number _ (but-one known.core number all) (record { none = refl; awaited_is = none })
+    by-number false = all-with known.core number _ (but-one known.core number all) (record { none = refl; awaited_is = none })
+
+payment-keeps : (known : Known) (number : ℕ) (terminal : Terminal) (slot last : ℕ) (phase : Phase) (meant : Heard) → AllHaveDialogues known.core → PaymentNext phase terminal.awaited meant
+    → (AwaitedIn phase terminal.awaited → HasItsDialogue terminal) → Keeps (serving_transaction known number terminal slot last meant)
+payment-keeps known number terminal slot last phase (heard.Begun true) all next has no_cut = absurd next
+payment-keeps known number terminal slot last phase (heard.Begun false) all next has no_cut = all-with known.core number terminal (but-one known.core number all) (has next)
+payment-keeps known number terminal slot last phase (heard.Note intermediate_status) all next has no_cut = all-with known.core number terminal (but-one known.core number all) (has next)
+payment-keeps known number terminal slot last phase heard.Line all next has no_cut = all-with known.core number terminal (but-one known.core number all) (has next)
+payment-keeps known number terminal slot last phase heard.Block all next has no_cut = all-with known.core number terminal (but-one known.core number all) (has next)
+payment-keeps known number terminal slot last phase heard.Seen all next has no_cut = all-with known.core number terminal (but-one known.core number all) (has next)
+payment-keeps known number terminal slot last phase (heard.Approved figures) all next has no_cut = resolved-keeps known number terminal slot last figures all next
+payment-keeps known number terminal slot last phase heard.Done all next has no_cut = absurd next
+payment-keeps known number terminal slot last phase (heard.Told reported approved result_code) all next has no_cut = absurd next
+payment-keeps known number terminal slot last phase (heard.Declined result_code reported) all next has no_cut =
+    all-with known.core number _ (but-one known.core number all) (record { none = refl; awaited_is = next })
+payment-keeps known number terminal slot last phase heard.Unclear all next has no_cut = absurd cc
+payment-keeps known number terminal slot last phase heard.Stray all next has no_cut = all-with known.core number terminal (but-one known.core number all) (has next)
 
 -- a terminal without a dialogue takes a message: an Ack or a Nack of which none is awaited
 rests-on : (terminal : Terminal) (message : MessageValue) (moment : ℕ) → RunsNone terminal.talk terminal.awaited → RunsNone (taking terminal message moment).talk (taking terminal message moment).awaited
@@ -264,6 +357,17 @@ rests-on terminal message moment none = record {
     none-after (Abort result_code) e = e
     none-after Other e = e
 
+serving-keeps : (known : Known) (number : ℕ) (terminal : Terminal) (message : MessageValue) (service : Service) (last : ℕ) → AllHaveDialogues known.core → is_taken message ≡ true → terminal.standing ≡ Serving service last
+    → IsDialogueOfService service terminal.talk terminal.awaited → Keeps (serving known number (taking terminal message known.moment) service last (meaning_at terminal message))
+serving-keeps known number terminal message (Transaction slot) last all taken is runs no_cut =
+    payment-keeps known number (taking terminal message known.moment) slot last _ (meaning_at terminal message) all
+    (subst (PaymentNext (next_phase Payment runs.facts.phase (taken_as terminal.awaited message)) (awaited_after message terminal.awaited)) (sym (means-in Payment terminal message runs))
+    (payment-next runs.facts.none runs.facts.phase message terminal.awaited runs.awaited_is taken))
+    (λ awaits. subst (λ (s : Standing). IsDialogueOf s (taking terminal message known.moment).talk (taking terminal message known.moment).awaited) (sym is) (goes-on Payment terminal message known.moment runs taken awaits))
+    no_cut
+serving-keeps known number terminal message (EndOfDay header period) last all taken is never no_cut = absurd never
+serving-keeps known number terminal message (Display header outputs) last all taken is never no_cut = absurd never
+
 consequence-keeps : (known : Known) (number : ℕ) (terminal : Terminal) (message : MessageValue) (standing : Standing) → AllHaveDialogues known.core → is_taken message ≡ true → terminal.standing ≡ standing
     → IsDialogueOf standing terminal.talk terminal.awaited → Keeps (consequence known number (taking terminal message known.moment) (meaning_at terminal message) standing)
 consequence-keeps known number terminal message (Unlinked due) all taken is has no_cut = all
@@ -282,7 +386,7 @@ consequence-keeps known number terminal message Enquiring all taken is runs no_c
 consequence-keeps known number terminal message (Ready last) all taken is none no_cut =
     all-with known.core number _ (but-one known.core number all)
     (subst (λ (s : Standing). IsDialogueOf s (taking terminal message known.moment).talk (taking terminal message known.moment).awaited) (sym is) (rests-on terminal message known.moment none))
-consequence-keeps known number terminal message (Serving service last) all taken is never no_cut = absurd never
+consequence-keeps known number terminal message (Serving service last) all taken is runs no_cut = serving-keeps known number terminal message service last all taken is runs no_cut
 consequence-keeps known number terminal message (Aside before reported) all taken is none no_cut =
     all-with known.core number _ (but-one known.core number all)
     (subst (λ (s : Standing). IsDialogueOf s (taking terminal message known.moment).talk (taking terminal message known.moment).awaited) (sym is) (rests-on terminal message known.moment none))
@@ -308,12 +412,15 @@ made-gives known number others = by-found (terminal_at known number) refl
       where
         missing : (other : ℕ) (terminal : Terminal) → other ≡ number → slice_get known.core.terminals other ≡ Some terminal → ⊥
         missing other terminal e f = let k : Some terminal ≡ None = sym f ∙ ap (slice_get known.core.terminals) e ∙ is in cc
-    by-found (Some terminal) is = all-with known.core number _ others (record { facts = _; talk_is = refl; kind_is = refl; awaited_is = refl })
+    by-found (Some terminal) is = all-with known.core number _ others (record { facts = _; talk_is = refl; kind_is = refl; awaited_is = (refl, refl) })
 
 pub links-give : EachLinkGivesDialogues
 links-give known number LinkIsMade others = made-gives known number others
 links-give known number LinkHasFailed others = lost-gives known number others
 links-give known number LinkIsLost others = lost-gives known number others
+
+none-awaited : (terminal : Terminal) (last : ℕ) → terminal.standing ≡ Ready last → HasItsDialogue terminal → terminal.awaited ≡ 0
+none-awaited terminal last is has = let none : RunsNone terminal.talk terminal.awaited = subst (λ (s : Standing). IsDialogueOf s terminal.talk terminal.awaited) is has in none.awaited_is
 
 pub rows-keep : EachRowKeepsDialogues
 rows-keep known (Crowded till) all = λ no_cut. all
@@ -325,6 +432,10 @@ rows-keep known (Greet number apdu) all = same-keeps known (greet_row known numb
 rows-keep known (Handle number apdu) all =
     each-handled Keeps known number apdu (λ no_cut. all)
     (λ terminal message found linked is taken. consequence-keeps known number terminal message terminal.standing all taken refl (all number terminal found))
+rows-keep known (Serve number till header request) all =
+    each-served Keeps known number till header request (λ no_cut. all)
+    (λ payment terminal last is at no_cut. all-with known.core number _ (but-one known.core number all)
+    (record { facts = _; talk_is = refl; kind_is = refl; awaited_is = (refl, ap (λ (n : ℕ). n + 1) (none-awaited terminal last at.standing_is (all number terminal at.found))) }))
 rows-keep known (NextWaiting number) all = λ no_cut. all
 rows-keep known (Oversized number) all = same-keeps known (oversized_row known number) all (oversized-same known number)
 rows-keep known (LinkLost number) all = λ no_cut. lost-gives known number (but-one known.core number all)

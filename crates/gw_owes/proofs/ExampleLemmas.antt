@@ -1,12 +1,13 @@
 -- The examples of what terminals are owed are computed.
 use Rattle.std.proofs.Common.{refl}
+use Rattle.gw_ledger.specs.History.{history}
 use Rattle.zvt_apdu.specs.DecodeStream.{decode_apdus, decode_apdus_within}
 use Rattle.zvt_bmp.specs.Decode.{decode_field_value, decode_status_field, decode_status_within, decode_status}
 use Rattle.zvt_msg.specs.MessageDecode.{decode_pt_message}
 use Rattle.gw_owes.specs.TerminalExample.{ExampleBecomesReady, ExampleReportsLast, ExampleRegistrationFails, ExampleEnquiryFails, ExampleLinkFails, ExampleSilence, ExampleStrayMessages, ExampleForeignCommand, ExampleOutside, ExampleFailedSend, ExampleUnlinked, ExampleAside, ExampleStop, ExampleLateStop, ExampleComparedReports, ExampleManyTerminals, ExampleDiagnosis, ExampleUnserved}
 
 pub becomes-ready : ExampleBecomesReady
-unfolding decode_apdus decode_apdus_within decode_pt_message
+unfolding decode_apdus decode_apdus_within decode_pt_message history
 becomes-ready = record {
   linked = record { calls_are = refl; standing_is = refl; awaited_is = refl };
   acknowledged = record { calls_are = refl; standing_is = refl; awaited_is = refl };
@@ -16,14 +17,14 @@ becomes-ready = record {
 }
 
 pub reports-last : ExampleReportsLast
-unfolding decode_apdus decode_apdus_within decode_pt_message decode_status decode_status_within decode_status_field decode_field_value
+unfolding decode_apdus decode_apdus_within decode_pt_message decode_status decode_status_within decode_status_field decode_field_value history
 reports-last = record {
   apart = record { calls_are = refl; standing_is = refl; awaited_is = refl };
   together = record { calls_are = refl; standing_is = refl; awaited_is = refl };
 }
 
 pub registration-fails : ExampleRegistrationFails
-unfolding decode_apdus decode_apdus_within decode_pt_message decode_status decode_status_within decode_status_field decode_field_value
+unfolding decode_apdus decode_apdus_within decode_pt_message decode_status decode_status_within decode_status_field decode_field_value history
 registration-fails = record {
   declined = record { calls_are = refl; standing_is = refl; awaited_is = refl };
   not_due = record { calls_are = refl; standing_is = refl; awaited_is = refl };
@@ -35,7 +36,7 @@ registration-fails = record {
 }
 
 pub enquiry-fails : ExampleEnquiryFails
-unfolding decode_apdus decode_apdus_within decode_pt_message
+unfolding decode_apdus decode_apdus_within decode_pt_message history
 enquiry-fails = record {
   unclear = record { calls_are = refl; standing_is = refl; awaited_is = refl };
   refused = record { calls_are = refl; standing_is = refl; awaited_is = refl };
@@ -43,7 +44,7 @@ enquiry-fails = record {
 }
 
 pub link-fails : ExampleLinkFails
-unfolding decode_apdus decode_apdus_within decode_pt_message
+unfolding decode_apdus decode_apdus_within decode_pt_message history
 link-fails = record {
   failed = record { calls_are = refl; standing_is = refl; awaited_is = refl };
   again = record { calls_are = refl; standing_is = refl; awaited_is = refl };
@@ -51,7 +52,7 @@ link-fails = record {
 }
 
 pub silence : ExampleSilence
-unfolding decode_apdus decode_apdus_within decode_pt_message
+unfolding decode_apdus decode_apdus_within decode_pt_message history
 silence = record {
   asked = record { calls_are = refl; standing_is = refl; awaited_is = refl };
   asked_late = record { calls_are = refl; standing_is = refl; awaited_is = refl };
@@ -63,21 +64,21 @@ silence = record {
 }
 
 pub stray-messages : ExampleStrayMessages
-unfolding decode_apdus decode_apdus_within decode_pt_message
+unfolding decode_apdus decode_apdus_within decode_pt_message history
 stray-messages = record {
   acknowledged = record { calls_are = refl; standing_is = refl; awaited_is = refl };
   ack_alone = record { calls_are = refl; standing_is = refl; awaited_is = refl };
 }
 
 pub foreign-command : ExampleForeignCommand
-unfolding decode_apdus decode_apdus_within decode_pt_message
+unfolding decode_apdus decode_apdus_within decode_pt_message history
 foreign-command = record {
   refused = record { calls_are = refl; standing_is = refl; awaited_is = refl };
   in_dialogue = record { calls_are = refl; standing_is = refl; awaited_is = refl };
 }
 
 pub outside : ExampleOutside
-unfolding decode_apdus decode_apdus_within decode_pt_message decode_status decode_status_within decode_status_field decode_field_value
+unfolding decode_apdus decode_apdus_within decode_pt_message decode_status decode_status_within decode_status_field decode_field_value history
 outside = record {
   status = record { calls_are = refl; standing_is = refl; awaited_is = refl };
   oversized = record { calls_are = refl; standing_is = refl; awaited_is = refl };
@@ -85,7 +86,7 @@ outside = record {
 }
 
 pub failed-send : ExampleFailedSend
-unfolding decode_apdus decode_apdus_within decode_pt_message decode_status decode_status_within decode_status_field decode_field_value
+unfolding decode_apdus decode_apdus_within decode_pt_message decode_status decode_status_within decode_status_field decode_field_value history
 failed-send = record {
   first = record { calls_are = refl; standing_is = refl; awaited_is = refl };
   second = record { calls_are = refl; standing_is = refl; awaited_is = refl };
@@ -93,14 +94,14 @@ failed-send = record {
 }
 
 pub unlinked : ExampleUnlinked
-unfolding decode_apdus decode_apdus_within decode_pt_message decode_status decode_status_within decode_status_field decode_field_value
+unfolding decode_apdus decode_apdus_within decode_pt_message decode_status decode_status_within decode_status_field decode_field_value history
 unlinked = record {
   unlinked = record { calls_are = refl; standing_is = refl; awaited_is = refl };
   absent = record { calls_are = refl; standing_is = refl; awaited_is = refl };
 }
 
 pub aside : ExampleAside
-unfolding decode_apdus decode_apdus_within decode_pt_message
+unfolding decode_apdus decode_apdus_within decode_pt_message history
 aside = record {
   message = record { calls_are = refl; standing_is = refl; awaited_is = refl };
   foreign = record { calls_are = refl; standing_is = refl; awaited_is = refl };
@@ -108,7 +109,7 @@ aside = record {
 }
 
 pub stop : ExampleStop
-unfolding decode_apdus decode_apdus_within decode_pt_message
+unfolding decode_apdus decode_apdus_within decode_pt_message history
 stop = record {
   sent = record { calls_are = refl; standing_is = refl; awaited_is = refl };
   refused = record { calls_are = refl; standing_is = refl; awaited_is = refl };
@@ -116,7 +117,7 @@ stop = record {
 }
 
 pub late-stop : ExampleLateStop
-unfolding decode_apdus decode_apdus_within decode_pt_message
+unfolding decode_apdus decode_apdus_within decode_pt_message history
 late-stop = record {
   nack = record { calls_are = refl; standing_is = refl; awaited_is = refl };
   ack_first = record { calls_are = refl; standing_is = refl; awaited_is = refl };
@@ -132,7 +133,7 @@ compared-reports = record {
 }
 
 pub many-terminals : ExampleManyTerminals
-unfolding decode_apdus decode_apdus_within decode_pt_message
+unfolding decode_apdus decode_apdus_within decode_pt_message history
 many-terminals = record {
   all_linked = refl;
   last_alone = refl;

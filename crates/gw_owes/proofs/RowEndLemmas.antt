@@ -3,7 +3,7 @@ use Rattle.std.proofs.Common.{[], ◌∷◌, refl}
 use Rattle.std.specs.Prelude.{Some}
 use Rattle.gw_site.specs.Outside.{is_connected}
 use Rattle.gw_owes.specs.Calls.{CutTill}
-use Rattle.gw_owes.specs.Items.{Crowded, Message, Asked, Unframed, Gone, Greet, Handle, NextWaiting, Oversized, LinkLost, Late, Overdue, Due}
+use Rattle.gw_owes.specs.Items.{Crowded, Message, Asked, Unframed, Gone, Greet, Handle, Serve, NextWaiting, Oversized, LinkLost, Late, Overdue, Due}
 use Rattle.gw_owes.specs.Row.{owing}
 use Rattle.gw_owes.specs.Requests.{reply_to}
 use Rattle.gw_owes.specs.Rows.{asked_row}
@@ -19,6 +19,7 @@ rows-end tills known (Unframed till) = where-ends (is_connected tills till) know
 rows-end tills known (Gone till) = refl
 rows-end tills known (Greet number apdu) = terminal-rows-end known (Greet number apdu)
 rows-end tills known (Handle number apdu) = terminal-rows-end known (Handle number apdu)
+rows-end tills known (Serve number till header request) = terminal-rows-end known (Serve number till header request)
 rows-end tills known (NextWaiting number) = refl
 rows-end tills known (Oversized number) = terminal-rows-end known (Oversized number)
 rows-end tills known (LinkLost number) = terminal-rows-end known (LinkLost number)

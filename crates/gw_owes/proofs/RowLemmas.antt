@@ -6,11 +6,24 @@ use Rattle.gw_owes.specs.Reply.{ReplyValue}
 use Rattle.gw_owes.specs.Row.{Known, Row, owing_where}
 use Rattle.gw_owes.specs.Terminals.{terminal_at, of_terminal, registers, link_made, reply_calls_to, reply_to_lost, unlinks, link_lost}
 use Rattle.gw_owes.specs.Laws.{ends_in_one, EndsInOne, LinksEndInOne}
+use Rattle.gw_owes.specs.TerminalLaws.{commands_in, owes_cut}
 
 pub reply-ends : (asker : Option ℕ) (reply : Option ReplyValue) → ends_in_one (reply_calls_to asker reply) ≡ true
 reply-ends None reply = refl
 reply-ends (Some till) None = refl
 reply-ends (Some till) (Some reply) = refl
+
+-- a reply is no command
+pub reply-commands : (asker : Option ℕ) (reply : Option ReplyValue) → commands_in (reply_calls_to asker reply) ≡ 0
+reply-commands None reply = refl
+reply-commands (Some till) None = refl
+reply-commands (Some till) (Some reply) = refl
+
+-- and cuts no terminal
+pub reply-no-cut : (asker : Option ℕ) (reply : Option ReplyValue) → owes_cut (reply_calls_to asker reply) ≡ false
+reply-no-cut None reply = refl
+reply-no-cut (Some till) None = refl
+reply-no-cut (Some till) (Some reply) = refl
 
 pub where-ends : (there : Bool) (known : Known) (row : Row) → EndsInOne row → EndsInOne (owing_where there known row)
 where-ends true known row h = h

@@ -5,23 +5,26 @@ use Rattle.zvt_apdu.specs.Grammar.{ApduValue}
 use Rattle.zvt_msg.specs.declared.fault.PtFault.{PtFault}
 use Rattle.zvt_msg.specs.Message.{MessageValue, Ack, Nack, Intermediate, Line, Block, Status, Completion, Abort, Other}
 use Rattle.zvt_msg.specs.MessageDecode.{decode_pt_message}
+use Rattle.sale_values.specs.declared.header.Header.{Header}
+use Rattle.sale_values.specs.declared.request.SaleRequest.{SaleRequest}
 use Rattle.zvt_talk.specs.Laws.{IsAckOrNack}
 use Rattle.zvt_talk.specs.Talk.{TalkFacts}
 use Rattle.gw_owes.specs.Calls.{SendPt, CutPt, LinkPt, Ask, Acknowledge, Refuse}
 use Rattle.gw_owes.specs.declared.terminal.Standing.TheVariants.{Unlinked, Registering}
 use Rattle.gw_owes.specs.declared.terminal.Terminal.{Terminal}
-use Rattle.gw_owes.specs.Items.{RoundItem, Crowded, Message, Asked, Unframed, Gone, Greet, Handle, NextWaiting, Oversized, LinkLost, Late, Overdue, Due}
-use Rattle.gw_owes.specs.Reply.{ReplyValue}
+use Rattle.gw_owes.specs.Items.{RoundItem, Crowded, Message, Asked, Unframed, Gone, Greet, Handle, Serve, NextWaiting, Oversized, LinkLost, Late, Overdue, Due}
 use Rattle.gw_owes.specs.Row.{Known, Row, owing, owing_nothing, owing_where}
-use Rattle.gw_owes.specs.Terminals.{terminal_at, of_terminal, registers, registration, unlinks, unlinked_terminal, reply_calls_to, reply_to_lost}
+use Rattle.gw_owes.specs.Terminals.{terminal_at, of_terminal, registers, registration, unlinks, unlinked_terminal, reply_to_lost}
 use Rattle.gw_owes.specs.Links.{is_linked, of_linked, cutting, LinkEvent, LinkIsMade, LinkHasFailed, LinkIsLost, link_row}
 use Rattle.gw_owes.specs.Greeting.{greeting, sending_calls, greet_decoded, greet_row, oversized_row}
 use Rattle.gw_owes.specs.Handling.{handle_decoded, handle_row}
+use Rattle.gw_owes.specs.Payments.{serve_row}
 use Rattle.gw_owes.specs.Deadlines.{is_late, is_due, late_row, due_row}
 use Rattle.gw_owes.specs.TerminalRows.{terminal_row}
 use Rattle.gw_owes.specs.Laws.{ends_in_one, EndsInOne}
-use Rattle.gw_owes.specs.TerminalLaws.{ChangesTerminalAlone, EachRowChangesItsTerminal, EachLinkChangesItsTerminal, GreetingChangesNothing, UnlinkedIsOwedNothing, AbsentIsOwedNothing, commands_in, Awaits, EachLinkCountsAnew, owes_cut, BreaksDialogue, IsLateAt, EachCutHasCause, EachCauseCuts, EachMessageIsGreeted, NoLinkEventCuts, GoesOnTo, DueIsLinked, LinkedIsRegistered}
-use Rattle.gw_owes.proofs.RowLemmas.{links-end}
+use Rattle.gw_owes.specs.TerminalLaws.{ChangesTerminalAlone, EachRowChangesItsTerminal, EachLinkChangesItsTerminal, GreetingChangesNothing, UnlinkedIsOwedNothing, AbsentIsOwedNothing, Awaits, EachLinkCountsAnew, owes_cut, BreaksDialogue, IsLateAt, EachCutHasCause, EachCauseCuts, EachMessageIsGreeted, NoLinkEventCuts, GoesOnTo, DueIsLinked, LinkedIsRegistered}
+use Rattle.gw_owes.proofs.PaymentLemmas.{each-served}
+use Rattle.gw_owes.proofs.RowLemmas.{links-end, reply-commands, reply-no-cut}
 use Rattle.gw_owes.proofs.SetLemmas.{new-is-there, alone-same, alone-set}
 use Rattle.gw_owes.proofs.HandlingLemmas.{breaks-cut, by-where, linked-row, each-terminal, each-linked, handle-alone, handle-ends, handle-cuts}
 
@@ -50,6 +53,9 @@ due-ends : (known : Known) (number : ℕ) → EndsInOne (due_row known number)
 due-ends known number = each-terminal EndsInOne known number (λ terminal. owing_where (is_due known.moment terminal.standing) known (owing known (LinkPt number ∷ []))) refl
     (λ terminal found. by-where EndsInOne known (owing known (LinkPt number ∷ [])) (is_due known.moment terminal.standing) refl (λ due. refl))
 
+serve-ends : (known : Known) (number till : ℕ) (header : Header) (request : SaleRequest) → EndsInOne (serve_row known number till header request)
+serve-ends known number till header request = each-served EndsInOne known number till header request refl (λ payment terminal last is at. refl)
+
 pub link-rows-end : (known : Known) (number : ℕ) (event : LinkEvent) → EndsInOne (link_row known number event)
 link-rows-end known number LinkIsMade = let ends = links-end known number in ends.made
 link-rows-end known number LinkHasFailed = let ends = links-end known number in ends.lost
@@ -63,6 +69,7 @@ terminal-rows-end known (Unframed till) = refl
 terminal-rows-end known (Gone till) = refl
 terminal-rows-end known (Greet number apdu) = greet-decoded-ends known number (decode_pt_message apdu)
 terminal-rows-end known (Handle number apdu) = handle-ends known number apdu
+terminal-rows-end known (Serve number till header request) = serve-ends known number till header request
 terminal-rows-end known (NextWaiting number) = refl
 terminal-rows-end known (Oversized number) = each-linked EndsInOne known number (λ terminal. cutting known number) refl (λ terminal found linked. refl)
 terminal-rows-end known (LinkLost number) = link-rows-end known number LinkIsLost
@@ -105,6 +112,12 @@ link-changes-alone known number LinkIsMade =
 link-changes-alone known number LinkHasFailed = lost-alone known number
 link-changes-alone known number LinkIsLost = lost-alone known number
 
+-- a request that a terminal begins to serve changes it alone
+pub serve-alone : (known : Known) (number till : ℕ) (header : Header) (request : SaleRequest) → ChangesTerminalAlone number known.core (serve_row known number till header request).core
+serve-alone known number till header request =
+    each-served (λ (row : Row). ChangesTerminalAlone number known.core row.core) known number till header request (alone-same number known.core)
+    (λ payment terminal last is at. alone-set number known.core terminal _ at.found refl)
+
 pub row-changes-alone : EachRowChangesItsTerminal
 row-changes-alone known (Crowded till) number is = absurd cc
 row-changes-alone known (Message till bytes) number is = absurd cc
@@ -113,6 +126,7 @@ row-changes-alone known (Unframed till) number is = absurd cc
 row-changes-alone known (Gone till) number is = absurd cc
 row-changes-alone known (Greet pt apdu) number is = same-alone number known (greet_row known pt apdu) (greeting-changes-nothing known pt apdu)
 row-changes-alone known (Handle pt apdu) number is = let e : pt ≡ number = cc in subst (λ n. ChangesTerminalAlone n known.core (handle_row known pt apdu).core) e (handle-alone known pt apdu)
+row-changes-alone known (Serve pt till header request) number is = let e : pt ≡ number = cc in subst (λ n. ChangesTerminalAlone n known.core (serve_row known pt till header request).core) e (serve-alone known pt till header request)
 row-changes-alone known (NextWaiting pt) number is = alone-same number known.core
 row-changes-alone known (Oversized pt) number is = same-alone number known (oversized_row known pt) (oversized-same known pt)
 row-changes-alone known (LinkLost pt) number is = let e : pt ≡ number = cc in subst (λ n. ChangesTerminalAlone n known.core (link_row known pt LinkIsLost).core) e (lost-alone known pt)
@@ -160,11 +174,6 @@ absent-owes-nothing known number apdu none = record {
 
 -- ---- what is awaited
 
-reply-commands : (asker : Option ℕ) (reply : Option ReplyValue) → commands_in (reply_calls_to asker reply) ≡ 0
-reply-commands None reply = refl
-reply-commands (Some till) None = refl
-reply-commands (Some till) (Some reply) = refl
-
 lost-counts : (known : Known) (number : ℕ) (terminal : Terminal) → terminal_at known number ≡ Some terminal → Awaits number 0 (of_terminal known (unlinks known number) (terminal_at known number))
 lost-counts known number terminal found =
     subst (λ (o : Option Terminal). Awaits number 0 (of_terminal known (unlinks known number) o)) (sym found) (record {
@@ -184,11 +193,6 @@ link-counts-anew known number LinkHasFailed terminal found = lost-counts known n
 link-counts-anew known number LinkIsLost terminal found = lost-counts known number terminal found
 
 -- ---- cuts
-
-reply-no-cut : (asker : Option ℕ) (reply : Option ReplyValue) → owes_cut (reply_calls_to asker reply) ≡ false
-reply-no-cut None reply = refl
-reply-no-cut (Some till) None = refl
-reply-no-cut (Some till) (Some reply) = refl
 
 lost-no-cut : (known : Known) (number : ℕ) → owes_cut (of_terminal known (unlinks known number) (terminal_at known number)).calls ≡ false
 lost-no-cut known number = each-terminal (λ (row : Row). owes_cut row.calls ≡ false) known number (unlinks known number) refl (λ terminal found. reply-no-cut terminal.asker (reply_to_lost terminal.standing))
@@ -244,6 +248,9 @@ due-no-cut : (known : Known) (number : ℕ) → owes_cut (due_row known number).
 due-no-cut known number = each-terminal (λ (row : Row). owes_cut row.calls ≡ false) known number (λ terminal. owing_where (is_due known.moment terminal.standing) known (owing known (LinkPt number ∷ []))) refl
     (λ terminal found. by-where (λ (row : Row). owes_cut row.calls ≡ false) known (owing known (LinkPt number ∷ [])) (is_due known.moment terminal.standing) refl (λ due. refl))
 
+serve-no-cut : (known : Known) (number till : ℕ) (header : Header) (request : SaleRequest) → owes_cut (serve_row known number till header request).calls ≡ false
+serve-no-cut known number till header request = each-served (λ (row : Row). owes_cut row.calls ≡ false) known number till header request refl (λ payment terminal last is at. refl)
+
 pub cuts-have-cause : EachCutHasCause
 cuts-have-cause known (Crowded till) cuts = absurd cc
 cuts-have-cause known (Message till bytes) cuts = absurd cc
@@ -252,6 +259,7 @@ cuts-have-cause known (Unframed till) cuts = absurd cc
 cuts-have-cause known (Gone till) cuts = absurd cc
 cuts-have-cause known (Greet number apdu) cuts = greet-cuts known number apdu cuts
 cuts-have-cause known (Handle number apdu) cuts = handle-cuts known number apdu cuts
+cuts-have-cause known (Serve number till header request) cuts = never _ (serve-no-cut known number till header request) cuts
 cuts-have-cause known (NextWaiting number) cuts = absurd cc
 cuts-have-cause known (Oversized number) cuts = tt
 cuts-have-cause known (LinkLost number) cuts = never _ (lost-no-cut known number) cuts
@@ -274,6 +282,7 @@ causes-cut known (Greet pt apdu) number is there cause =
 causes-cut known (Handle pt apdu) number is there cause =
     let e : pt ≡ number = cc in
     subst (λ n. (handle_row known n apdu).calls ≡ CutPt number ∷ []) (sym e) (breaks-cut known number apdu there (subst (λ n. BreaksDialogue known n apdu) e cause))
+causes-cut known (Serve pt till header request) number is there cause = absurd cause
 causes-cut known (NextWaiting pt) number is there cause = absurd cause
 causes-cut known (Oversized pt) number is there cause =
     let e : pt ≡ number = cc in

@@ -51,6 +51,19 @@ pub data OwedCall : Type 0 where
 abbrev pub keep_calls : ℕ → Record → List OwedCall
 keep_calls slot the_record = WriteBody slot the_record ∷ Sync ∷ WriteGate slot the_record ∷ Sync ∷ []
 
+-- the records that these calls keep, the oldest first: those whose gates they open
+abbrev pub records_kept : List OwedCall → List Record
+records_kept [] = []
+records_kept (SendTill till reply ∷ calls) = records_kept calls
+records_kept (SendPt pt sending ∷ calls) = records_kept calls
+records_kept (CutTill till ∷ calls) = records_kept calls
+records_kept (CutPt pt ∷ calls) = records_kept calls
+records_kept (LinkPt pt ∷ calls) = records_kept calls
+records_kept (WriteBody slot the_record ∷ calls) = records_kept calls
+records_kept (WriteGate slot the_record ∷ calls) = the_record ∷ records_kept calls
+records_kept (WriteFirstGate ∷ calls) = records_kept calls
+records_kept (Sync ∷ calls) = records_kept calls
+
 -- the turn of a call that writes; every other call has none
 abbrev pub write_turn : OwedCall → Option Turn
 write_turn (SendTill till reply) = None

@@ -2,10 +2,12 @@
 use Rattle.std.specs.Prelude.{◌≡◌, ◌≢◌, ℕ, false, slice_get, Option, Some, None}
 use Rattle.gw_base.specs.declared.setup.Setup.{Setup}
 use Rattle.zvt_talk.specs.declared.dialogue_kind.DialogueKind.{DialogueKind}
-use Rattle.zvt_talk.specs.declared.dialogue_kind.DialogueKind.TheVariants.{Registration, Enquiry}
+use Rattle.zvt_talk.specs.declared.dialogue_kind.DialogueKind.TheVariants.{Registration, Enquiry, Payment}
 use Rattle.zvt_talk.specs.declared.phase.Phase.{Phase}
 use Rattle.zvt_talk.specs.declared.phase.Phase.TheVariants.{Asked, Begun, Ended}
 use Rattle.zvt_talk.specs.Talk.{TalkFacts}
+use Rattle.gw_owes.specs.declared.terminal.Service.{Service}
+use Rattle.gw_owes.specs.declared.terminal.Service.TheVariants.{Transaction, EndOfDay, Display}
 use Rattle.gw_owes.specs.declared.terminal.Standing.{Standing}
 use Rattle.gw_owes.specs.declared.terminal.Standing.TheVariants.{Unlinked, Registering, Enquiring, Ready, Serving, Aside}
 use Rattle.gw_owes.specs.declared.terminal.Terminal.{Terminal}
@@ -18,10 +20,10 @@ use Rattle.gw_owes.specs.TerminalRows.{terminal_row}
 
 -- ---- one terminal
 
--- so many Acks and Nacks are awaited in a dialogue that goes on, and no stop was sent on the link: that of its command until it comes
+-- so many Acks and Nacks are awaited in a dialogue that goes on: that of its command until it comes; no stop is wished yet, and so none was sent
 abbrev pub AwaitedIn : Phase → ℕ → Type 0
-AwaitedIn (Asked stop_wished) awaited = awaited ≡ 1
-AwaitedIn (Begun stop_sent statuses) awaited = awaited ≡ 0
+AwaitedIn (Asked stop_wished) awaited = (stop_wished ≡ false) × (awaited ≡ 1)
+AwaitedIn (Begun stop_sent statuses) awaited = (stop_sent ≡ false) × (awaited ≡ 0)
 AwaitedIn (Ended stop_sent) awaited = ⊥
 
 -- a dialogue of this kind runs, and so many Acks and Nacks are awaited
@@ -36,13 +38,19 @@ pub record RunsNone (talk : Option TalkFacts) (awaited : ℕ) : Type 0 where
   pub none : talk ≡ None
   pub awaited_is : awaited ≡ 0
 
--- the dialogue of a standing; nothing is served yet
+-- the dialogue of what is served; only payments are begun yet
+abbrev pub IsDialogueOfService : Service → Option TalkFacts → ℕ → Type 0
+IsDialogueOfService (Transaction slot) talk awaited = RunsDialogue Payment talk awaited
+IsDialogueOfService (EndOfDay header period) talk awaited = ⊥
+IsDialogueOfService (Display header outputs) talk awaited = ⊥
+
+-- the dialogue of a standing
 abbrev pub IsDialogueOf : Standing → Option TalkFacts → ℕ → Type 0
 IsDialogueOf (Unlinked due) talk awaited = RunsNone talk awaited
 IsDialogueOf Registering talk awaited = RunsDialogue Registration talk awaited
 IsDialogueOf Enquiring talk awaited = RunsDialogue Enquiry talk awaited
 IsDialogueOf (Ready last) talk awaited = RunsNone talk awaited
-IsDialogueOf (Serving service last) talk awaited = ⊥
+IsDialogueOf (Serving service last) talk awaited = IsDialogueOfService service talk awaited
 IsDialogueOf (Aside before reported) talk awaited = RunsNone talk awaited
 
 -- the terminal has the dialogue of its standing

@@ -1,5 +1,5 @@
 -- What a message of a terminal means in each of its standings, and what follows from it. It was acknowledged before.
-use Rattle.std.specs.Prelude.{ℕ, ◌+◌, ◌-◌, pos, nat_le, true, false, if◌then◌else◌, [], ◌∷◌, Option, Some, None, Result, Ok, Err}
+use Rattle.std.specs.Prelude.{ℕ, ◌-◌, pos, nat_le, true, false, if◌then◌else◌, [], ◌∷◌, Option, Some, None, Result, Ok, Err}
 use Rattle.std.specs.Option.{option_map}
 use Rattle.gw_base.specs.declared.setup.Pt.{Pt}
 use Rattle.zvt_apdu.specs.Grammar.{ApduValue}
@@ -13,7 +13,9 @@ use Rattle.zvt_talk.specs.declared.meaning.Heard.TheVariants as heard
 use Rattle.zvt_talk.specs.Came.{is_taken}
 use Rattle.zvt_talk.specs.Talk.{TalkFacts}
 use Rattle.zvt_talk.specs.TalkSteps.{meaning_for_talk, next_talk}
-use Rattle.gw_owes.specs.Calls.{Ask, SendPt, CutPt}
+use Rattle.gw_owes.specs.Calls.{Ask, SendPt}
+use Rattle.gw_owes.specs.declared.terminal.Service.{Service}
+use Rattle.gw_owes.specs.declared.terminal.Service.TheVariants.{Transaction, EndOfDay, Display}
 use Rattle.gw_owes.specs.declared.terminal.Standing.{Standing}
 use Rattle.gw_owes.specs.declared.terminal.Standing.TheVariants.{Unlinked, Registering, Enquiring, Ready, Serving, Aside}
 use Rattle.gw_owes.specs.declared.terminal.Terminal.{Terminal}
@@ -21,6 +23,7 @@ use Rattle.gw_owes.specs.Row.{Known, Row, owing_nothing, owing_where}
 use Rattle.gw_owes.specs.Terminals.{terminal_becomes, after_command}
 use Rattle.gw_owes.specs.Links.{of_linked}
 use Rattle.gw_owes.specs.Reports.{on_record, report_row}
+use Rattle.gw_owes.specs.Serving.{staying, breaking, stops, serving_transaction}
 
 -- ---- what is awaited
 
@@ -68,14 +71,6 @@ taking terminal message moment = record terminal {
 
 -- ---- what follows: the terminal has taken the message
 
--- nothing: the terminal stays as it has become
-abbrev pub staying : Known → ℕ → Terminal → Row
-staying known number terminal = terminal_becomes known number terminal []
-
--- the cut of its connection
-abbrev pub breaking : Known → ℕ → Terminal → Row
-breaking known number terminal = terminal_becomes known number terminal (CutPt number ∷ [])
-
 -- the enquiry of a terminal's last transaction
 abbrev pub enquiry_command : Pt → Command
 enquiry_command pt = command.Enquire pt.password
@@ -84,10 +79,6 @@ enquiry_command pt = command.Enquire pt.password
 abbrev pub enquires : Known → ℕ → Terminal → Row
 enquires known number terminal =
     terminal_becomes known number (after_command terminal (enquiry_command terminal.pt) Enquiring known.moment) (SendPt number (Ask (enquiry_command terminal.pt)) ∷ [])
-
--- the stop of what is served, whose dialogue goes on
-abbrev pub stops : Known → ℕ → Terminal → Row
-stops known number terminal = terminal_becomes known number (record terminal { awaited = terminal.awaited + 1 }) (SendPt number (Ask command.Stop) ∷ [])
 
 -- A registration: once it is done the terminal is enquired; where it is declined or unclear the connection is cut. It is never approved, and reports nothing.
 abbrev pub registering : Known → ℕ → Terminal → Heard → Row
@@ -117,20 +108,26 @@ enquiring known number terminal (heard.Declined result_code reported) = breaking
 enquiring known number terminal heard.Unclear = breaking known number terminal
 enquiring known number terminal heard.Stray = staying known number terminal
 
--- What is served: a stop that was wished is sent once the command is acknowledged; where the end is unclear the connection is cut. No service is begun yet, so that none brings its till anything and none has another end.
-abbrev pub serving : Known → ℕ → Terminal → Heard → Row
-serving known number terminal (heard.Begun true) = stops known number terminal
-serving known number terminal (heard.Begun false) = staying known number terminal
-serving known number terminal (heard.Note intermediate_status) = staying known number terminal
-serving known number terminal heard.Line = staying known number terminal
-serving known number terminal heard.Block = staying known number terminal
-serving known number terminal heard.Seen = staying known number terminal
-serving known number terminal (heard.Approved figures) = staying known number terminal
-serving known number terminal heard.Done = staying known number terminal
-serving known number terminal (heard.Told reported approved result_code) = staying known number terminal
-serving known number terminal (heard.Declined result_code reported) = staying known number terminal
-serving known number terminal heard.Unclear = breaking known number terminal
-serving known number terminal heard.Stray = staying known number terminal
+-- An end of day or a display, of which none is begun yet: a stop that was wished is sent once the command is acknowledged; where the end is unclear the connection is cut.
+abbrev pub serving_other : Known → ℕ → Terminal → Heard → Row
+serving_other known number terminal (heard.Begun true) = stops known number terminal
+serving_other known number terminal (heard.Begun false) = staying known number terminal
+serving_other known number terminal (heard.Note intermediate_status) = staying known number terminal
+serving_other known number terminal heard.Line = staying known number terminal
+serving_other known number terminal heard.Block = staying known number terminal
+serving_other known number terminal heard.Seen = staying known number terminal
+serving_other known number terminal (heard.Approved figures) = staying known number terminal
+serving_other known number terminal heard.Done = staying known number terminal
+serving_other known number terminal (heard.Told reported approved result_code) = staying known number terminal
+serving_other known number terminal (heard.Declined result_code reported) = staying known number terminal
+serving_other known number terminal heard.Unclear = breaking known number terminal
+serving_other known number terminal heard.Stray = staying known number terminal
+
+-- what is served, by its service and the last trace number before it
+abbrev pub serving : Known → ℕ → Terminal → Service → ℕ → Heard → Row
+serving known number terminal (Transaction slot) last meant = serving_transaction known number terminal slot last meant
+serving known number terminal (EndOfDay header period) last meant = serving_other known number terminal meant
+serving known number terminal (Display header outputs) last meant = serving_other known number terminal meant
 
 -- by the standing: where no dialogue runs nothing follows
 abbrev pub consequence : Known → ℕ → Terminal → Heard → Standing → Row
@@ -138,7 +135,7 @@ consequence known number terminal meant (Unlinked due) = owing_nothing known
 consequence known number terminal meant Registering = registering known number terminal meant
 consequence known number terminal meant Enquiring = enquiring known number terminal meant
 consequence known number terminal meant (Ready last) = staying known number terminal
-consequence known number terminal meant (Serving service last) = serving known number terminal meant
+consequence known number terminal meant (Serving service last) = serving known number terminal service last meant
 consequence known number terminal meant (Aside before reported) = staying known number terminal
 
 -- ---- the row

@@ -1,6 +1,8 @@
 -- What a round has to handle.
 use Rattle.std.specs.Prelude.{ℕ, List}
 use Rattle.gw_base.specs.declared.key.Key.{Key}
+use Rattle.sale_values.specs.declared.header.Header.{Header}
+use Rattle.sale_values.specs.declared.request.SaleRequest.{SaleRequest}
 use Rattle.zvt_apdu.specs.Grammar.{ApduValue}
 use Rattle.gw_owes.specs.ReadAs.{ReadAs}
 
@@ -20,6 +22,8 @@ pub data RoundItem : Type 0 where
   Greet : ℕ → ApduValue → RoundItem
   -- the dialogue of a terminal takes the APDU
   Handle : ℕ → ApduValue → RoundItem
+  -- a terminal begins to serve a request of a till
+  Serve : ℕ → ℕ → Header → SaleRequest → RoundItem
   -- the first request that waits for a terminal is begun or refused
   NextWaiting : ℕ → RoundItem
   -- bytes of a terminal that begin an APDU above the limit

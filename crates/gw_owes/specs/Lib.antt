@@ -1,5 +1,6 @@
 -- The definitions of what each item of a round owes: what a till's bytes are read as, the calls, and what is remembered.
 pub mod Calls
+pub mod Content
 pub mod Core
 pub mod Deadlines
 pub mod Diagnosis
@@ -7,16 +8,27 @@ pub mod Dialogues
 pub mod Events
 pub mod Greeting
 pub mod Handling
+pub mod HeardLaws
 pub mod Items
+pub mod KeptReplies
 pub mod Laws
 pub mod Links
+pub mod PaymentExample
+pub mod PaymentLaws
+pub mod Payments
 pub mod ReadAs
+pub mod RecordExample
+pub mod RecordLaws
 pub mod Replies
 pub mod Reply
 pub mod Reports
 pub mod Requests
 pub mod Row
 pub mod Rows
+pub mod Serving
+pub mod StepExample
+pub mod StepLaws
+pub mod Steps
 pub mod TerminalExample
 pub mod TerminalLaws
 pub mod TerminalRows

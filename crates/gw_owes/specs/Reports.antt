@@ -1,6 +1,9 @@
 -- What a terminal's report of its last transaction leads to, by what the records say of it.
-use Rattle.std.specs.Prelude.{ℕ, nat_le, if◌then◌else◌, List, [], ◌∷◌, Option, Some, None}
+use Rattle.std.specs.Prelude.{ℕ, nat_le, if◌then◌else◌, List, [], ◌∷◌, Option, Some, None, option_map}
 use Rattle.jrn_record.specs.declared.records.Record.{Record}
+use Rattle.gw_ledger.specs.declared.entry.Entry.{Entry}
+use Rattle.gw_ledger.specs.Accounts.{last_number_of}
+use Rattle.gw_ledger.specs.Fold.{open_entry}
 use Rattle.gw_owes.specs.Calls.{CutPt}
 use Rattle.gw_owes.specs.declared.terminal.Standing.{Standing}
 use Rattle.gw_owes.specs.declared.terminal.Standing.TheVariants.{Ready, Aside}
@@ -15,9 +18,9 @@ pub record OnRecord : Type 0 where
   -- the trace number before its payment or reversal that is open, where one is
   pub open_before : Option ℕ
 
--- What the records say of the terminal with this POIID. While no payment and no reversal is kept they say nothing.
+-- what the records say of the terminal with this POIID
 abbrev pub on_record : List Record → List ℕ → OnRecord
-on_record kept poi = record { last = 0; open_before = None }
+on_record kept poi = record { last = last_number_of kept poi; open_before = option_map (λ (entry : Entry). entry.intent.before) (open_entry kept poi) }
 
 -- a report's standing, by the least trace number that may be reported: the terminal is ready with the one reported, or else set aside
 abbrev pub standing_reported : ℕ → ℕ → Standing

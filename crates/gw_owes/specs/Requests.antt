@@ -1,7 +1,7 @@
--- The reply to each message of a till: one table, with a row for each kind of message. A Diagnosis is served, and no other service of a terminal.
-use Rattle.std.specs.Prelude.{pos, Option, Some, None}
+-- The reply to each message of a till: one table, with a row for each kind of message. A Payment and a Diagnosis are served, and no other service of a terminal; what the records have is said.
+use Rattle.std.specs.Prelude.{ℕ, pos, Bool, true, false, List, [], Option, Some, None}
 use Rattle.gw_base.specs.declared.condition.Condition.{Condition}
-use Rattle.gw_base.specs.declared.condition.Condition.TheVariants.{NotFound, UnavailableDevice, UnavailableService}
+use Rattle.gw_base.specs.declared.condition.Condition.TheVariants.{UnavailableDevice, UnavailableService}
 use Rattle.sale_values.specs.declared.header.Header.{Header}
 use Rattle.sale_values.specs.declared.request.SaleRequest.{SaleRequest}
 use Rattle.sale_values.specs.declared.request.SaleRequest.TheVariants as requests
@@ -11,6 +11,9 @@ use Rattle.gw_owes.specs.Replies.{header_of_reply, failure, failure_reply, displ
 use Rattle.gw_owes.specs.ReadAs.{ReadAs, Request, Silent, NoMessage, NoJson}
 use Rattle.gw_owes.specs.Row.{Known}
 use Rattle.gw_owes.specs.Diagnosis.{NamedTerminal, named_terminal, diagnosis_reply}
+use Rattle.gw_owes.specs.KeptReplies.{found_by_status, is_open_key, status_reply}
+use Rattle.gw_owes.specs.Items.{RoundItem}
+use Rattle.gw_owes.specs.Steps.{service_reply, service_items}
 
 -- ---- requests
 
@@ -19,15 +22,20 @@ abbrev pub unserved_for : Option NamedTerminal → Condition
 unserved_for None = UnavailableDevice
 unserved_for (Some named) = UnavailableService
 
--- The reply to a request, by the terminal that its POIID names. No payment and no reversal is kept, none waits and no end of day is served: so no key is known, and none can be aborted.
+-- an Abort of a key that is open gets nothing; that of another is rejected
+abbrev pub abort_reply : Bool → Known → Header → Option ReplyValue
+abort_reply true known header = None
+abort_reply false known header = Some (Reject header.sale header.poi (pos known.moment) details.Abort)
+
+-- The reply to a request, by the terminal that its POIID names. None waits and no end of day is served.
 abbrev pub reply_at : Option NamedTerminal → Known → Header → SaleRequest → Option ReplyValue
 reply_at named known header requests.Login = Some (failure_reply header (unserved_for named))
 reply_at named known header requests.Logout = Some (failure_reply header (unserved_for named))
-reply_at named known header (requests.Payment ask) = Some (failure_reply header (unserved_for named))
-reply_at named known header (requests.Reversal ask) = Some (failure_reply header (unserved_for named))
-reply_at named known header (requests.Abort reference) = Some (Reject header.sale header.poi (pos known.moment) details.Abort)
-reply_at named known header (requests.Status reference) = Some (failure_reply header NotFound)
-reply_at named known header (requests.Reconciliation period) = Some (failure_reply header (unserved_for named))
+reply_at named known header (requests.Payment ask) = service_reply known header (requests.Payment ask) named
+reply_at named known header (requests.Reversal ask) = service_reply known header (requests.Reversal ask) named
+reply_at named known header (requests.Abort reference) = abort_reply (is_open_key known.kept header reference) known header
+reply_at named known header (requests.Status reference) = Some (status_reply header (found_by_status known.kept header reference))
+reply_at named known header (requests.Reconciliation period) = service_reply known header (requests.Reconciliation period) named
 reply_at named known header (requests.Display outputs) = display_refusal (unserved_for named) header outputs
 reply_at named known header (requests.Print qualifier) = Some (Print (header_of_reply header) qualifier (failure UnavailableDevice))
 reply_at named known header requests.Diagnosis = Some (diagnosis_reply header named)
@@ -44,3 +52,25 @@ reply_to known (Request header request) = request_reply known header request
 reply_to known Silent = None
 reply_to known (NoMessage fault) = Some (reply_to_fault known.setup.name known.moment fault)
 reply_to known (NoJson fault) = Some (reject_event known.setup.name known.moment (details.Json fault))
+
+-- ---- what begins
+
+-- what a request of a till begins, at the terminal that its POIID names
+abbrev pub begun_at : Option NamedTerminal → Known → ℕ → Header → SaleRequest → List RoundItem
+begun_at named known till header requests.Login = []
+begun_at named known till header requests.Logout = []
+begun_at named known till header (requests.Payment ask) = service_items known till header (requests.Payment ask) named
+begun_at named known till header (requests.Reversal ask) = service_items known till header (requests.Reversal ask) named
+begun_at named known till header (requests.Abort reference) = []
+begun_at named known till header (requests.Status reference) = []
+begun_at named known till header (requests.Reconciliation period) = service_items known till header (requests.Reconciliation period) named
+begun_at named known till header (requests.Display outputs) = []
+begun_at named known till header (requests.Print qualifier) = []
+begun_at named known till header requests.Diagnosis = []
+
+-- what a till's message begins, by what it is read as
+abbrev pub begun_by : Known → ℕ → ReadAs → List RoundItem
+begun_by known till (Request header request) = begun_at (named_terminal known.core header.poi) known till header request
+begun_by known till Silent = []
+begun_by known till (NoMessage fault) = []
+begun_by known till (NoJson fault) = []

@@ -1,5 +1,5 @@
 -- Laws of what the items of terminals, and their links, leave and owe.
-use Rattle.std.specs.Prelude.{◌≡◌, ◌≢◌, ◌⊎◌, ◌≤◌, ℕ, ◌+◌, pos, int_le, Bool, true, false, List, [], ◌∷◌, length, map, slice_get, Option, Some, None, Ok, Err}
+use Rattle.std.specs.Prelude.{◌≡◌, ◌≢◌, ◌⊎◌, ◌<◌, ◌≤◌, ℕ, ◌+◌, pos, int_le, Bool, true, false, List, [], ◌∷◌, length, map, slice_get, Option, Some, None, Ok, Err}
 use Rattle.gw_base.specs.declared.figures.Figures.{Figures}
 use Rattle.gw_base.specs.declared.setup.Pt.{Pt}
 use Rattle.zvt_apdu.specs.Grammar.{ApduValue}
@@ -11,11 +11,12 @@ use Rattle.zvt_talk.specs.declared.phase.Phase.TheVariants.{Asked}
 use Rattle.zvt_talk.specs.Laws.{IsAckOrNack}
 use Rattle.zvt_talk.specs.Talk.{TalkFacts}
 use Rattle.gw_owes.specs.Calls.{Sending, Ask, Acknowledge, Refuse, OwedCall, SendTill, SendPt, CutTill, CutPt, LinkPt, WriteBody, WriteGate, WriteFirstGate, Sync, sending_bytes}
+use Rattle.gw_owes.specs.declared.terminal.Service.TheVariants.{Transaction}
 use Rattle.gw_owes.specs.declared.terminal.Standing.{Standing}
 use Rattle.gw_owes.specs.declared.terminal.Standing.TheVariants.{Unlinked, Registering, Enquiring, Ready, Serving, Aside}
 use Rattle.gw_owes.specs.declared.terminal.Terminal.{Terminal}
 use Rattle.gw_owes.specs.Core.{Core}
-use Rattle.gw_owes.specs.Items.{RoundItem, Crowded, Message, Asked as AskedItem, Unframed, Gone, Greet, Handle, NextWaiting, Oversized, LinkLost, Late, Overdue, Due}
+use Rattle.gw_owes.specs.Items.{RoundItem, Crowded, Message, Asked as AskedItem, Unframed, Gone, Greet, Handle, Serve, NextWaiting, Oversized, LinkLost, Late, Overdue, Due}
 use Rattle.gw_owes.specs.Row.{Known, Row, owing_nothing}
 use Rattle.gw_owes.specs.Terminals.{terminal_at, registration}
 use Rattle.gw_owes.specs.Links.{is_linked, LinkEvent, LinkIsMade, link_row}
@@ -150,13 +151,30 @@ owes_cut (Sync ∷ calls) = owes_cut calls
 abbrev pub IsBeforeReady : Standing → Type 0
 IsBeforeReady standing = (standing ≡ Registering) ⊎ (standing ≡ Enquiring)
 
--- the message leaves its dialogue unclear, or declines a registration or an enquiry
+-- the terminal reports its last transaction while a payment or a reversal of it is open, which is as unclear as no report
+pub record ReportsWhileOpen (known : Known) (terminal : Terminal) (message : MessageValue) : Type 0 where
+  pub standing_is : terminal.standing ≡ Enquiring
+  pub reported : ℕ
+  pub approved : Option Figures
+  pub result_code : ℕ
+  pub meant : meaning_at terminal message ≡ heard.Told reported approved result_code
+  pub before : ℕ
+  pub is_open : (on_record known.kept terminal.pt.poi).open_before ≡ Some before
+
+-- why a message breaks its dialogue: its end is unclear, it declines a registration or an enquiry, or it reports while a key is open
+abbrev pub Breaks : Known → Terminal → MessageValue → Type 0
+Breaks known terminal message =
+    (meaning_at terminal message ≡ heard.Unclear)
+    ⊎ (((result_code : ℕ) × (trace : Option ℕ) × (meaning_at terminal message ≡ heard.Declined result_code trace) × IsBeforeReady terminal.standing)
+    ⊎ ReportsWhileOpen known terminal message)
+
+-- the message of an APDU breaks its dialogue
 pub record BreaksDialogue (known : Known) (number : ℕ) (apdu : ApduValue) : Type 0 where
   pub terminal : Terminal
   pub found : terminal_at known number ≡ Some terminal
   pub message : MessageValue
   pub decoded : decode_pt_message apdu ≡ Ok message
-  pub why : (meaning_at terminal message ≡ heard.Unclear) ⊎ ((result_code : ℕ) × (trace : Option ℕ) × (meaning_at terminal message ≡ heard.Declined result_code trace) × IsBeforeReady terminal.standing)
+  pub why : Breaks known terminal message
 
 -- the terminal has a dialogue whose deadline is now or before
 pub record IsLateAt (known : Known) (number : ℕ) : Type 0 where
@@ -175,6 +193,7 @@ MayCut known (Unframed till) = ⊥
 MayCut known (Gone till) = ⊥
 MayCut known (Greet number apdu) = (fault : PtFault) × (decode_pt_message apdu ≡ Err fault)
 MayCut known (Handle number apdu) = BreaksDialogue known number apdu
+MayCut known (Serve number till header request) = ⊥
 MayCut known (NextWaiting number) = ⊥
 MayCut known (Oversized number) = Unit {0}
 MayCut known (LinkLost number) = ⊥
@@ -269,3 +288,58 @@ EnquiredIsReady =
     → terminal.standing ≡ Enquiring → decode_pt_message apdu ≡ Ok message → meaning_at terminal message ≡ heard.Told reported approved result_code
     → (on_record known.kept terminal.pt.poi).open_before ≡ None → (on_record known.kept terminal.pt.poi).last ≤ reported
     → GoesOnTo number (Ready reported) [] (handle_row known number apdu)
+
+-- ---- terminals that are set aside
+
+-- the terminal of this number is set aside, since it reported this number where that one was the last
+pub record IsAsideAt (core : Core) (number before reported : ℕ) : Type 0 where
+  pub terminal : Terminal
+  pub found : slice_get core.terminals number ≡ Some terminal
+  pub standing_is : terminal.standing ≡ Aside before reported
+
+-- the terminal is enquired and reports a trace number below the last one of its records, while no payment and no reversal of it is open
+pub record ReportsBelow (known : Known) (terminal : Terminal) (message : MessageValue) (before reported : ℕ) : Type 0 where
+  pub standing_is : terminal.standing ≡ Enquiring
+  pub approved : Option Figures
+  pub result_code : ℕ
+  pub meant : meaning_at terminal message ≡ heard.Told reported approved result_code
+  pub none_open : (on_record known.kept terminal.pt.poi).open_before ≡ None
+  pub before_is : before ≡ (on_record known.kept terminal.pt.poi).last
+  pub below : reported < before
+
+-- the terminal approves what it serves with a trace number that is not above the one before
+pub record ApprovedNotAbove (terminal : Terminal) (message : MessageValue) (before reported : ℕ) : Type 0 where
+  pub slot : ℕ
+  pub standing_is : terminal.standing ≡ Serving (Transaction slot) before
+  pub figures : Figures
+  pub meant : meaning_at terminal message ≡ heard.Approved figures
+  pub reported_is : reported ≡ figures.number
+  pub not_above : reported ≤ before
+
+-- the item is a message of the terminal, by which it is set aside for one of these two reasons
+pub record IsSetAside (known : Known) (item : RoundItem) (number before reported : ℕ) : Type 0 where
+  pub apdu : ApduValue
+  pub item_is : item ≡ Handle number apdu
+  pub terminal : Terminal
+  pub found : terminal_at known number ≡ Some terminal
+  pub message : MessageValue
+  pub decoded : decode_pt_message apdu ≡ Ok message
+  pub why : ReportsBelow known terminal message before reported ⊎ ApprovedNotAbove terminal message before reported
+
+-- no item of a terminal sets it aside for another reason
+abbrev pub EachAsideHasCause : Type 0
+EachAsideHasCause =
+    (known : Known) (item : RoundItem) (number before reported : ℕ) → terminal_of item ≡ Some number → ((least other : ℕ) → IsAsideAt known.core number least other → ⊥)
+    → IsAsideAt (terminal_row known item).core number before reported → IsSetAside known item number before reported
+
+-- and no event of its link does
+abbrev pub NoLinkEventSetsAside : Type 0
+NoLinkEventSetsAside = (known : Known) (number : ℕ) (event : LinkEvent) (before reported : ℕ) → ((least other : ℕ) → IsAsideAt known.core number least other → ⊥) → IsAsideAt (link_row known number event).core number before reported → ⊥
+
+-- one whose enquiry reports a trace number below the last one, where no payment and no reversal of it is open, is set aside
+abbrev pub EnquiredIsSetAside : Type 0
+EnquiredIsSetAside =
+    (known : Known) (number : ℕ) (apdu : ApduValue) (terminal : Terminal) (message : MessageValue) (reported : ℕ) (approved : Option Figures) (result_code : ℕ) → terminal_at known number ≡ Some terminal
+    → terminal.standing ≡ Enquiring → decode_pt_message apdu ≡ Ok message → meaning_at terminal message ≡ heard.Told reported approved result_code
+    → (on_record known.kept terminal.pt.poi).open_before ≡ None → reported < (on_record known.kept terminal.pt.poi).last
+    → GoesOnTo number (Aside (on_record known.kept terminal.pt.poi).last reported) [] (handle_row known number apdu)

@@ -1,10 +1,11 @@
 -- What each item of a terminal owes.
 use Rattle.std.specs.Prelude.{ℕ, Option, Some, None}
-use Rattle.gw_owes.specs.Items.{RoundItem, Crowded, Message, Asked, Unframed, Gone, Greet, Handle, NextWaiting, Oversized, LinkLost, Late, Overdue, Due}
+use Rattle.gw_owes.specs.Items.{RoundItem, Crowded, Message, Asked, Unframed, Gone, Greet, Handle, Serve, NextWaiting, Oversized, LinkLost, Late, Overdue, Due}
 use Rattle.gw_owes.specs.Row.{Known, Row, owing_nothing}
 use Rattle.gw_owes.specs.Links.{LinkIsLost, link_row}
 use Rattle.gw_owes.specs.Greeting.{greet_row, oversized_row}
 use Rattle.gw_owes.specs.Handling.{handle_row}
+use Rattle.gw_owes.specs.Payments.{serve_row}
 use Rattle.gw_owes.specs.Deadlines.{late_row, due_row}
 
 -- the terminal that the item is about; a till's item, and that of a request that waits, is about none
@@ -16,6 +17,7 @@ terminal_of (Unframed till) = None
 terminal_of (Gone till) = None
 terminal_of (Greet number apdu) = Some number
 terminal_of (Handle number apdu) = Some number
+terminal_of (Serve number till header request) = Some number
 terminal_of (NextWaiting number) = Some number
 terminal_of (Oversized number) = Some number
 terminal_of (LinkLost number) = Some number
@@ -32,6 +34,7 @@ terminal_row known (Unframed till) = owing_nothing known
 terminal_row known (Gone till) = owing_nothing known
 terminal_row known (Greet number apdu) = greet_row known number apdu
 terminal_row known (Handle number apdu) = handle_row known number apdu
+terminal_row known (Serve number till header request) = serve_row known number till header request
 terminal_row known (NextWaiting number) = owing_nothing known
 terminal_row known (Oversized number) = oversized_row known number
 terminal_row known (LinkLost number) = link_row known number LinkIsLost

@@ -1,30 +1,32 @@
 -- The transcript of a terminal's link, which is all that was sent and taken on it, and what the gateway remembers of the terminal by that flat list.
-use Rattle.std.specs.Prelude.{◌≡◌, ℕ, ◌+◌, pos, Bool, true, false, if◌then◌else◌, List, [], ◌∷◌, ◌++◌, slice_get, Option, Some, None, is_some, option_and_then, Result, Ok, Err, ◌==◌}
+use Rattle.std.specs.Prelude.{◌≡◌, ℕ, ◌+◌, pos, Bool, true, false, if◌then◌else◌, List, [], ◌∷◌, ◌++◌, nat_lt, slice_get, Option, Some, None, is_some, option_and_then, Result, Ok, Err, ◌==◌}
 use Rattle.std.specs.Option.{option_or}
 use Rattle.gw_base.specs.declared.setup.Pt.{Pt}
 use Rattle.gw_base.specs.declared.setup.Setup.{Setup}
 use Rattle.zvt_msg.specs.declared.command.Command.{Command}
+use Rattle.zvt_msg.specs.declared.command.Command.TheVariants as commands
 use Rattle.zvt_msg.specs.declared.fault.PtFault.{PtFault}
 use Rattle.zvt_msg.specs.Message.{MessageValue}
 use Rattle.zvt_msg.specs.MessageDecode.{decode_pt_message}
-use Rattle.zvt_talk.specs.declared.dialogue_kind.DialogueKind.{DialogueKind}
-use Rattle.zvt_talk.specs.declared.dialogue_kind.DialogueKind.TheVariants.{Registration, Enquiry, Payment, Reversal, EndOfDay, Display}
 use Rattle.zvt_talk.specs.declared.meaning.Heard.{Heard}
 use Rattle.zvt_talk.specs.declared.meaning.Heard.TheVariants as heard
 use Rattle.zvt_talk.specs.Came.{Came, Message as CameMessage, is_taken}
 use Rattle.zvt_talk.specs.Dialogue.{Dialogue, dialogue_kind_of, dialogue_of}
 use Rattle.zvt_talk.specs.Talk.{TalkFacts, end_of, talk_after, talk_goes_on}
 use Rattle.jrn_record.specs.declared.records.Record.{Record}
-use Rattle.gw_owes.specs.Calls.{Sending, Ask, Acknowledge, Refuse, OwedCall, SendTill, SendPt, CutTill, CutPt, LinkPt, WriteBody, WriteGate, WriteFirstGate, Sync}
+use Rattle.gw_owes.specs.Calls.{Sending, Ask, Acknowledge, Refuse, OwedCall, SendTill, SendPt, CutTill, CutPt, LinkPt, WriteBody, WriteGate, WriteFirstGate, Sync, records_kept}
+use Rattle.gw_owes.specs.declared.terminal.Service.{Service}
+use Rattle.gw_owes.specs.declared.terminal.Service.TheVariants.{Transaction, EndOfDay, Display}
 use Rattle.gw_owes.specs.declared.terminal.Standing.{Standing}
 use Rattle.gw_owes.specs.declared.terminal.Standing.TheVariants.{Unlinked, Registering, Enquiring, Ready, Serving, Aside}
 use Rattle.gw_owes.specs.declared.terminal.Terminal.{Terminal}
 use Rattle.gw_owes.specs.Core.{Core, new_core}
-use Rattle.gw_owes.specs.Items.{RoundItem, Crowded, Message, Asked, Unframed, Gone, Greet, Handle, NextWaiting, Oversized, LinkLost, Late, Overdue, Due}
+use Rattle.gw_owes.specs.Items.{RoundItem, Crowded, Message, Asked, Unframed, Gone, Greet, Handle, Serve, NextWaiting, Oversized, LinkLost, Late, Overdue, Due}
 use Rattle.gw_owes.specs.Row.{Known, Row}
 use Rattle.gw_owes.specs.Terminals.{terminal_at}
 use Rattle.gw_owes.specs.Links.{is_linked, LinkEvent, LinkIsLost, link_row}
 use Rattle.gw_owes.specs.Reports.{standing_reported, on_record}
+use Rattle.gw_owes.specs.Serving.{last_after_decline}
 use Rattle.gw_owes.specs.Handling.{awaited_after, taken_as}
 use Rattle.gw_owes.specs.TerminalLaws.{owes_cut}
 use Rattle.gw_owes.specs.TerminalRows.{terminal_of, terminal_row}
@@ -33,8 +35,8 @@ use Rattle.gw_owes.specs.TerminalRows.{terminal_of, terminal_row}
 pub data Carried : Type 0 where
   -- this command was sent
   Commanded : Command → ℕ → Carried
-  -- this message was taken
-  Took : MessageValue → ℕ → Carried
+  -- this message was taken, when the records had this last trace number of the terminal
+  Took : MessageValue → ℕ → ℕ → Carried
 
 -- ---- what is remembered, by the transcript
 
@@ -42,19 +44,23 @@ pub data Carried : Type 0 where
 abbrev pub awaited_by : List Carried → ℕ
 awaited_by [] = 0
 awaited_by (Commanded command moment ∷ earlier) = awaited_by earlier + 1
-awaited_by (Took message moment ∷ earlier) = awaited_after message (awaited_by earlier)
+awaited_by (Took message moment last ∷ earlier) = awaited_after message (awaited_by earlier)
 
 -- the dialogue of the last command that begins one
 abbrev pub dialogue_by : Pt → List Carried → Option Dialogue
 dialogue_by pt [] = None
 dialogue_by pt (Commanded command moment ∷ earlier) = option_or (dialogue_of command pt.none pt.answer pt.command (pos moment)) (dialogue_by pt earlier)
-dialogue_by pt (Took message moment ∷ earlier) = dialogue_by pt earlier
+dialogue_by pt (Took message moment last ∷ earlier) = dialogue_by pt earlier
 
--- all that came since that command, the oldest first: each message as the dialogue is handed it
+-- one message more, as the dialogue is handed it where so many Acks and Nacks are awaited
+abbrev pub came_with : MessageValue → ℕ → ℕ → List Came → List Came
+came_with message moment awaited came = came ++ CameMessage (taken_as awaited message) (pos moment) ∷ []
+
+-- all that came since that command, the oldest first
 abbrev pub came_by : List Carried → List Came
 came_by [] = []
 came_by (Commanded command moment ∷ earlier) = if is_some (dialogue_kind_of command) then [] else came_by earlier
-came_by (Took message moment ∷ earlier) = came_by earlier ++ CameMessage (taken_as (awaited_by earlier) message) (pos moment) ∷ []
+came_by (Took message moment last ∷ earlier) = came_with message moment (awaited_by earlier) (came_by earlier)
 
 -- the talk of a dialogue after all that came, while it goes on
 abbrev pub talk_going_on : Dialogue → List Came → Option TalkFacts
@@ -78,42 +84,94 @@ standing_enquired least (heard.Declined result_code reported) = None
 standing_enquired least heard.Unclear = None
 standing_enquired least heard.Stray = None
 
--- Which standing a terminal has by a dialogue of this kind, which goes on or has this end. What follows a registration's end is a command or a cut; nothing is served yet.
-abbrev pub standing_in_dialogue : ℕ → DialogueKind → Option Heard → Option Standing
-standing_in_dialogue least Registration None = Some Registering
-standing_in_dialogue least Registration (Some end) = None
-standing_in_dialogue least Enquiry None = Some Enquiring
-standing_in_dialogue least Enquiry (Some end) = standing_enquired least end
-standing_in_dialogue least Payment end = None
-standing_in_dialogue least Reversal end = None
-standing_in_dialogue least EndOfDay end = None
-standing_in_dialogue least Display end = None
+-- the standing that the end of a payment or a reversal leads to, by the last trace number before it: only an approval and a decline lead to one without a cut
+abbrev pub standing_served : Heard → ℕ → Option Standing
+standing_served (heard.Begun stop) last = None
+standing_served (heard.Note intermediate_status) last = None
+standing_served heard.Line last = None
+standing_served heard.Block last = None
+standing_served heard.Seen last = None
+standing_served (heard.Approved figures) last = Some (if nat_lt last figures.number then Ready figures.number else Aside last figures.number)
+standing_served heard.Done last = None
+standing_served (heard.Told reported approved result_code) last = None
+standing_served (heard.Declined result_code reported) last = Some (Ready (last_after_decline last reported))
+standing_served heard.Unclear last = None
+standing_served heard.Stray last = None
 
--- which standing the last dialogue leads to with all that came in it; without one the terminal is unlinked
-abbrev pub standing_after : ℕ → Option Dialogue → List Came → Option Standing
-standing_after least None came = Some (Unlinked None)
-standing_after least (Some dialogue) came = standing_in_dialogue least dialogue.dialogue_kind (end_of dialogue came)
+-- the standing that the end of what is served leads to; only payments are begun yet
+abbrev pub standing_of_service : Heard → Service → ℕ → Option Standing
+standing_of_service end (Transaction slot) last = standing_served end last
+standing_of_service end (EndOfDay header period) last = None
+standing_of_service end (Display header outputs) last = None
 
--- the standing, where the transcript leaves one
-abbrev pub standing_by : ℕ → Pt → List Carried → Option Standing
-standing_by least pt transcript = standing_after least (dialogue_by pt transcript) (came_by transcript)
+-- the standing that the end of a dialogue leads to, by the one in which it ran and the least trace number that may be reported; what follows a registration's end is a command or a cut
+abbrev pub standing_ended : ℕ → Heard → Standing → Option Standing
+standing_ended least end (Unlinked due) = None
+standing_ended least end Registering = None
+standing_ended least end Enquiring = standing_enquired least end
+standing_ended least end (Ready last) = None
+standing_ended least end (Serving service last) = standing_of_service end service last
+standing_ended least end (Aside before reported) = None
 
--- a standing without the moment at which the terminal is linked again, of which no transcript says anything
-abbrev pub without_due : Standing → Standing
-without_due (Unlinked due) = Unlinked None
-without_due Registering = Registering
-without_due Enquiring = Enquiring
-without_due (Ready last) = Ready last
-without_due (Serving service last) = Serving service last
-without_due (Aside before reported) = Aside before reported
+-- which standing a message leads to: another only where the dialogue has ended with it
+abbrev pub standing_taken : ℕ → Option Heard → Standing → Option Standing
+standing_taken least None standing = Some standing
+standing_taken least (Some end) standing = standing_ended least end standing
+
+-- how the dialogue that runs ends with this message, where it does
+abbrev pub ended_with : Pt → MessageValue → ℕ → List Carried → Option Heard
+ended_with pt message moment earlier =
+    if is_some (talk_by pt earlier)
+    then option_and_then (λ dialogue. end_of dialogue (came_with message moment (awaited_by earlier) (came_by earlier))) (dialogue_by pt earlier)
+    else None
+
+-- a terminal that is ready serves a payment or a reversal
+abbrev pub standing_asked : Standing → Option Standing
+standing_asked (Unlinked due) = None
+standing_asked Registering = None
+standing_asked Enquiring = None
+standing_asked (Ready last) = Some (Serving (Transaction 0) last)
+standing_asked (Serving service last) = None
+standing_asked (Aside before reported) = None
+
+-- which standing a command leads to: a stop leaves it; no end of day and no display is begun yet
+abbrev pub standing_commanded : Command → Option Standing → Option Standing
+standing_commanded (commands.Register password config currency) standing = Some Registering
+standing_commanded (commands.Authorise amount currency) standing = option_and_then standing_asked standing
+standing_commanded (commands.Enquire password) standing = Some Enquiring
+standing_commanded (commands.Reverse password receipt) standing = option_and_then standing_asked standing
+standing_commanded (commands.EndOfDay password) standing = None
+standing_commanded commands.Stop standing = standing
+standing_commanded (commands.Show lines) standing = None
+
+-- the standing, where the transcript leaves one: without a command the terminal is unlinked
+abbrev pub standing_by : Pt → List Carried → Option Standing
+standing_by pt [] = Some (Unlinked None)
+standing_by pt (Commanded command moment ∷ earlier) = standing_commanded command (standing_by pt earlier)
+standing_by pt (Took message moment last ∷ earlier) = option_and_then (standing_taken last (ended_with pt message moment earlier)) (standing_by pt earlier)
+
+-- what is served without its slot in the records
+abbrev pub without_slot : Service → Service
+without_slot (Transaction slot) = Transaction 0
+without_slot (EndOfDay header period) = EndOfDay header period
+without_slot (Display header outputs) = Display header outputs
+
+-- a standing without that of which no transcript says anything: the moment at which the terminal is linked again, and the slot of what it serves
+abbrev pub as_carried : Standing → Standing
+as_carried (Unlinked due) = Unlinked None
+as_carried Registering = Registering
+as_carried Enquiring = Enquiring
+as_carried (Ready last) = Ready last
+as_carried (Serving service last) = Serving (without_slot service) last
+as_carried (Aside before reported) = Aside before reported
 
 -- the terminal of this number is there, and its dialogue, what it awaits and its standing are those of the transcript
-pub record FollowsTranscript (kept : List Record) (number : ℕ) (transcript : List Carried) (core : Core) : Type 0 where
+pub record FollowsTranscript (number : ℕ) (transcript : List Carried) (core : Core) : Type 0 where
   pub terminal : Terminal
   pub found : slice_get core.terminals number ≡ Some terminal
   pub talk_is : terminal.talk ≡ talk_by terminal.pt transcript
   pub awaited_is : terminal.awaited ≡ awaited_by transcript
-  pub standing_is : Some (without_due terminal.standing) ≡ standing_by (on_record kept terminal.pt.poi).last terminal.pt transcript
+  pub standing_is : Some (as_carried terminal.standing) ≡ standing_by terminal.pt transcript
 
 -- ---- what a row adds
 
@@ -137,14 +195,14 @@ commanded_by moment (WriteFirstGate ∷ calls) = commanded_by moment calls
 commanded_by moment (Sync ∷ calls) = commanded_by moment calls
 
 -- a message is taken but where it is outside the table; an APDU outside the grammar is none
-abbrev pub took_decoded : ℕ → Result MessageValue PtFault → List Carried
-took_decoded moment (Ok message) = if is_taken message then Took message moment ∷ [] else []
-took_decoded moment (Err fault) = []
+abbrev pub took_decoded : ℕ → ℕ → Result MessageValue PtFault → List Carried
+took_decoded moment last (Ok message) = if is_taken message then Took message moment last ∷ [] else []
+took_decoded moment last (Err fault) = []
 
 -- what is taken of a terminal, where there is one and it is linked
-abbrev pub took_of : ℕ → Option Terminal → Result MessageValue PtFault → List Carried
-took_of moment None decoded = []
-took_of moment (Some terminal) decoded = if is_linked terminal.standing then took_decoded moment decoded else []
+abbrev pub took_of : Known → Option Terminal → Result MessageValue PtFault → List Carried
+took_of known None decoded = []
+took_of known (Some terminal) decoded = if is_linked terminal.standing then took_decoded known.moment (on_record known.kept terminal.pt.poi).last decoded else []
 
 -- the message that an item takes
 abbrev pub took_by : Known → RoundItem → List Carried
@@ -154,7 +212,8 @@ took_by known (Asked till as_read) = []
 took_by known (Unframed till) = []
 took_by known (Gone till) = []
 took_by known (Greet number apdu) = []
-took_by known (Handle number apdu) = took_of known.moment (terminal_at known number) (decode_pt_message apdu)
+took_by known (Handle number apdu) = took_of known (terminal_at known number) (decode_pt_message apdu)
+took_by known (Serve number till header request) = []
 took_by known (NextWaiting number) = []
 took_by known (Oversized number) = []
 took_by known (LinkLost number) = []
@@ -181,6 +240,7 @@ is_link_lost (Unframed till) = false
 is_link_lost (Gone till) = false
 is_link_lost (Greet number apdu) = false
 is_link_lost (Handle number apdu) = false
+is_link_lost (Serve number till header request) = false
 is_link_lost (NextWaiting number) = false
 is_link_lost (Oversized number) = false
 is_link_lost (LinkLost number) = true
@@ -194,19 +254,19 @@ transcript_after known item transcript = if is_link_lost item then [] else trans
 
 -- as a run begins each terminal has the transcript of no link
 abbrev pub NewCoreFollowsTranscript : Type 0
-NewCoreFollowsTranscript = (setup : Setup) (kept : List Record) (number : ℕ) (pt : Pt) → slice_get setup.terminals number ≡ Some pt → FollowsTranscript kept number [] (new_core setup)
+NewCoreFollowsTranscript = (setup : Setup) (number : ℕ) (pt : Pt) → slice_get setup.terminals number ≡ Some pt → FollowsTranscript number [] (new_core setup)
 
 -- an item of a terminal that cuts no connection adds to the terminal's transcript what it takes and sends, and what is remembered follows
 abbrev pub EachRowFollowsTranscript : Type 0
 EachRowFollowsTranscript =
-    (known : Known) (item : RoundItem) (number : ℕ) (transcript : List Carried) → terminal_of item ≡ Some number → FollowsTranscript known.kept number transcript known.core
-    → owes_cut (terminal_row known item).calls ≡ false → FollowsTranscript known.kept number (transcript_after known item transcript) (terminal_row known item).core
+    (known : Known) (item : RoundItem) (number : ℕ) (transcript : List Carried) → terminal_of item ≡ Some number → FollowsTranscript number transcript known.core
+    → owes_cut (terminal_row known item).calls ≡ false → FollowsTranscript number (transcript_after known item transcript) (terminal_row known item).core
 
 -- an event of its link begins the transcript anew, whatever was before: so a cut, with which the link is lost, leaves the terminal without one
 abbrev pub EachLinkBeginsTranscript : Type 0
 EachLinkBeginsTranscript =
     (known : Known) (number : ℕ) (event : LinkEvent) (terminal : Terminal) → terminal_at known number ≡ Some terminal
-    → FollowsTranscript known.kept number (transcript_anew known number event) (link_row known number event).core
+    → FollowsTranscript number (transcript_anew known number event) (link_row known number event).core
 
 -- ---- after a list of steps
 
@@ -248,9 +308,18 @@ transcript_after_step number known (ChangesLink other event) transcript = if oth
 abbrev pub known_before : Known → StepAt → Known
 known_before known first = record known { moment = first.moment }
 
+-- the records that an item's row keeps; an event of a link keeps none
+abbrev pub kept_in_step : Known → TerminalStep → List Record
+kept_in_step known (HandlesItem item) = records_kept (terminal_row known item).calls
+kept_in_step known (ChangesLink number event) = []
+
 -- what is known after it
 abbrev pub known_after : Known → StepAt → Known
-known_after known first = record known { moment = first.moment; core = core_after (known_before known first) first.step }
+known_after known first = record known {
+  moment = first.moment;
+  core = core_after (known_before known first) first.step;
+  kept = known.kept ++ kept_in_step (known_before known first) first.step;
+}
 
 -- what is remembered after these steps, the oldest first
 abbrev pub core_along : Known → List StepAt → Core
@@ -270,4 +339,4 @@ known_new setup kept = record { setup = setup; core = new_core setup; kept = kep
 abbrev pub EachStepFollowsTranscript : Type 0
 EachStepFollowsTranscript =
     (setup : Setup) (kept : List Record) (steps : List StepAt) (number : ℕ) (pt : Pt) → slice_get setup.terminals number ≡ Some pt
-    → FollowsTranscript kept number (transcript_along number (known_new setup kept) [] steps) (core_along (known_new setup kept) steps)
+    → FollowsTranscript number (transcript_along number (known_new setup kept) [] steps) (core_along (known_new setup kept) steps)

@@ -1,14 +1,24 @@
--- A closed example of a transcript: a terminal that becomes ready, message by message.
-use Rattle.std.specs.Prelude.{◌≡◌, ℕ, List, [], ◌∷◌, ◌++◌, Some, None}
-use Rattle.zvt_msg.specs.Message.{Ack, Completion, Abort}
-use Rattle.gw_owes.specs.declared.terminal.Standing.TheVariants.{Enquiring, Ready}
-use Rattle.gw_owes.specs.Items.{Handle}
+-- Closed examples of transcripts, message by message: a terminal that becomes ready, and then serves payments, each of which ends in another way.
+use Rattle.std.specs.Prelude.{◌≡◌, ℕ, List, [], ◌∷◌, ◌++◌, Option, Some, None, codes, slice_get}
+use Rattle.std.specs.Option.{option_map}
+use Rattle.sale_values.specs.declared.request.PaymentAsk.{PaymentAsk}
+use Rattle.sale_values.specs.declared.request.SaleRequest.TheVariants as requests
+use Rattle.zvt_msg.specs.declared.command.Command.TheVariants.{Authorise}
+use Rattle.zvt_msg.specs.Message.{Ack, Nack, Status, Completion, Abort}
+use Rattle.gw_owes.specs.declared.terminal.Service.TheVariants.{Transaction}
+use Rattle.gw_owes.specs.declared.terminal.Standing.{Standing}
+use Rattle.gw_owes.specs.declared.terminal.Standing.TheVariants.{Unlinked, Enquiring, Ready, Serving, Aside}
+use Rattle.gw_owes.specs.declared.terminal.Terminal.{Terminal}
+use Rattle.gw_owes.specs.Core.{Core}
+use Rattle.gw_owes.specs.Items.{Handle, Serve}
 use Rattle.gw_owes.specs.Row.{Known}
 use Rattle.gw_owes.specs.Terminals.{registration}
 use Rattle.gw_owes.specs.Links.{LinkIsMade}
 use Rattle.gw_owes.specs.Handling.{enquiry_command}
-use Rattle.gw_owes.specs.TerminalExample.{one_pt, setup_with}
+use Rattle.gw_owes.specs.TerminalExample.{one_pt, setup_with, header_for}
 use Rattle.gw_owes.specs.Transcript.{Carried, Commanded, Took, awaited_by, talk_by, standing_by, StepAt, HandlesItem, ChangesLink, FollowsTranscript, core_along, transcript_along, known_new}
+
+-- ---- what happens
 
 -- an APDU of the terminal with this class, instruction and data is handled at this moment
 abbrev pub handles : ℕ → ℕ → ℕ → List ℕ → StepAt
@@ -38,28 +48,149 @@ steps_to_ready = steps_to_registered ++ acknowledges 3 ∷ aborts 4 ∷ []
 abbrev pub steps_to_cut : List StepAt
 steps_to_cut = steps_to_registered ++ aborts 3 ∷ []
 
+-- the data of a Status with this result code, the trace number 0 to 9999 of these two bytes, 10.99 and the receipt number 17
+abbrev pub status_data : ℕ → ℕ → ℕ → List ℕ
+status_data result_code hundreds units =
+    0x27 ∷ result_code ∷ 0x04 ∷ 0x00 ∷ 0x00 ∷ 0x00 ∷ 0x00 ∷ 0x10 ∷ 0x99 ∷ 0x0B ∷ 0x00 ∷ hundreds ∷ units ∷ 0x87 ∷ 0x00 ∷ 0x17 ∷ []
+
+-- it sends that Status
+abbrev pub reports : ℕ → ℕ → ℕ → ℕ → StepAt
+reports moment result_code hundreds units = handles moment 0x04 0x0F (status_data result_code hundreds units)
+
+-- it refuses a command with the code 6C
+abbrev pub refuses : ℕ → StepAt
+refuses moment = handles moment 0x84 0x6C []
+
+-- a payment of 10.99
+abbrev pub payment_of_10_99 : PaymentAsk
+payment_of_10_99 = record { transaction = codes "9"; stamp = codes "2026-01-01T00:00:00Z"; currency = codes "EUR"; amount = 1099; kind = None }
+
+-- till 3 asks for it with this ServiceID, and the terminal begins to serve it
+abbrev pub begins_service : ℕ → List ℕ → StepAt
+begins_service moment service =
+    record { moment = moment; step = HandlesItem (Serve 0 3 (record (header_for (codes "Payment") (codes "T1")) { service = Some service }) (requests.Payment payment_of_10_99)) }
+
+-- ---- where it leads to
+
+-- the first payment is begun
+abbrev pub steps_to_serving : List StepAt
+steps_to_serving = steps_to_ready ++ begins_service 5 (codes "1") ∷ []
+
+-- it is acknowledged, and approved with the trace number 123
+abbrev pub steps_to_approved : List StepAt
+steps_to_approved = steps_to_serving ++ acknowledges 6 ∷ reports 7 0x00 0x01 0x23 ∷ completes 8 ∷ []
+
+-- the second payment is begun
+abbrev pub steps_to_serving_again : List StepAt
+steps_to_serving_again = steps_to_approved ++ begins_service 9 (codes "2") ∷ []
+
+-- it is declined with the code 05, and the greater trace number 200
+abbrev pub steps_to_declined : List StepAt
+steps_to_declined = steps_to_serving_again ++ acknowledges 10 ∷ reports 11 0x05 0x02 0x00 ∷ completes 12 ∷ []
+
+-- the third one is refused at once
+abbrev pub steps_to_refused : List StepAt
+steps_to_refused = steps_to_declined ++ begins_service 13 (codes "3") ∷ refuses 14 ∷ []
+
+-- the fourth one is approved with the trace number 150, which isn't above that before
+abbrev pub steps_to_aside : List StepAt
+steps_to_aside = steps_to_refused ++ begins_service 15 (codes "4") ∷ acknowledges 16 ∷ reports 17 0x00 0x01 0x50 ∷ completes 18 ∷ []
+
+-- the first one is acknowledged and completed without a Status, which is unclear: the connection is cut
+abbrev pub steps_to_unclear : List StepAt
+steps_to_unclear = steps_to_serving ++ acknowledges 6 ∷ completes 7 ∷ []
+
 -- what is known as the run of the one terminal begins
 abbrev pub one_known : Known
 one_known = known_new (setup_with (one_pt ∷ [])) []
 
+-- what is remembered after these steps of its run
+abbrev pub core_after_steps : List StepAt → Core
+core_after_steps steps = core_along one_known steps
+
+-- the standing of the terminal then
+abbrev pub standing_after_steps : List StepAt → Option Standing
+standing_after_steps steps = option_map (λ (terminal : Terminal). terminal.standing) (slice_get (core_after_steps steps).terminals 0)
+
+-- its transcript then
+abbrev pub transcript_after_steps : List StepAt → List Carried
+transcript_after_steps steps = transcript_along 0 one_known [] steps
+
+-- ---- the transcripts
+
 -- the transcript once the registration is done, the newest first
 abbrev pub registered_transcript : List Carried
-registered_transcript = Commanded (enquiry_command one_pt) 2 ∷ Took Completion 2 ∷ Took Ack 1 ∷ Commanded (registration one_pt) 0 ∷ []
+registered_transcript = Commanded (enquiry_command one_pt) 2 ∷ Took Completion 2 0 ∷ Took Ack 1 0 ∷ Commanded (registration one_pt) 0 ∷ []
 
 -- the transcript of the terminal that is ready
 abbrev pub ready_transcript : List Carried
-ready_transcript = Took (Abort (Some 0x83)) 4 ∷ Took Ack 3 ∷ registered_transcript
+ready_transcript = Took (Abort (Some 0x83)) 4 0 ∷ Took Ack 3 0 ∷ registered_transcript
 
--- the transcripts of the way to ready, and what they say: an enquiry with its Ack awaited, and then a terminal that is ready with 0, without a dialogue; and the one after a cut
-pub record ExampleTranscript : Type 0 where
-  pub registered : transcript_along 0 one_known [] steps_to_registered ≡ registered_transcript
+-- that of the one that serves the first payment: 10.99 in the currency 978 was asked for
+abbrev pub serving_transcript : List Carried
+serving_transcript = Commanded (Authorise 1099 978) 5 ∷ ready_transcript
+
+-- a Status with this result code and this trace number is taken
+abbrev pub took_status : ℕ → ℕ → ℕ → ℕ → Carried
+took_status result_code trace moment last =
+    Took (Status (record { result = Some result_code; amount = Some 1099; trace = Some trace; receipt = Some 17; currency = None; tail = 16 })) moment last
+
+-- that of the one whose payment was approved
+abbrev pub approved_transcript : List Carried
+approved_transcript = Took Completion 8 0 ∷ took_status 0x00 123 7 0 ∷ Took Ack 6 0 ∷ serving_transcript
+
+-- that of the one that serves the second payment
+abbrev pub serving_again_transcript : List Carried
+serving_again_transcript = Commanded (Authorise 1099 978) 9 ∷ approved_transcript
+
+-- that of the one whose second payment was declined
+abbrev pub declined_transcript : List Carried
+declined_transcript = Took Completion 12 123 ∷ took_status 0x05 200 11 123 ∷ Took Ack 10 123 ∷ serving_again_transcript
+
+-- that of the one that has refused the third payment; the third Intent has the last trace number, 200
+abbrev pub refused_transcript : List Carried
+refused_transcript = Took (Nack 0x6C) 14 200 ∷ Commanded (Authorise 1099 978) 13 ∷ declined_transcript
+
+-- that of the one that is set aside with the fourth payment
+abbrev pub aside_transcript : List Carried
+aside_transcript = Took Completion 18 200 ∷ took_status 0x00 150 17 200 ∷ Took Ack 16 200 ∷ Commanded (Authorise 1099 978) 15 ∷ refused_transcript
+
+-- ---- the examples
+
+-- the transcripts on the way to ready, and what they say: an enquiry with its Ack awaited, and then a terminal that is ready with 0, without a dialogue; and the one after a cut
+pub record ExampleReadyTranscript : Type 0 where
+  pub registered : transcript_after_steps steps_to_registered ≡ registered_transcript
   pub registered_awaits : awaited_by registered_transcript ≡ 1
-  pub registered_standing : standing_by 0 one_pt registered_transcript ≡ Some Enquiring
-  pub registered_follows : FollowsTranscript [] 0 registered_transcript (core_along one_known steps_to_registered)
-  pub ready : transcript_along 0 one_known [] steps_to_ready ≡ ready_transcript
+  pub registered_standing : standing_by one_pt registered_transcript ≡ Some Enquiring
+  pub registered_follows : FollowsTranscript 0 registered_transcript (core_after_steps steps_to_registered)
+  pub ready : transcript_after_steps steps_to_ready ≡ ready_transcript
   pub ready_awaits : awaited_by ready_transcript ≡ 0
   pub ready_talk : talk_by one_pt ready_transcript ≡ None
-  pub ready_standing : standing_by 0 one_pt ready_transcript ≡ Some (Ready 0)
-  pub ready_follows : FollowsTranscript [] 0 ready_transcript (core_along one_known steps_to_ready)
-  pub cut : transcript_along 0 one_known [] steps_to_cut ≡ []
-  pub cut_follows : FollowsTranscript [] 0 [] (core_along one_known steps_to_cut)
+  pub ready_standing : standing_by one_pt ready_transcript ≡ Some (Ready 0)
+  pub ready_follows : FollowsTranscript 0 ready_transcript (core_after_steps steps_to_ready)
+  pub cut : transcript_after_steps steps_to_cut ≡ []
+  pub cut_follows : FollowsTranscript 0 [] (core_after_steps steps_to_cut)
+
+-- the transcript after steps, which end in this standing: it says the same but for the slot of what is served, and the moment at which the terminal is linked again
+pub record EndsWithTranscript (steps : List StepAt) (transcript : List Carried) (carried standing : Standing) : Type 0 where
+  pub transcript_is : transcript_after_steps steps ≡ transcript
+  pub carried_is : standing_by one_pt transcript ≡ Some carried
+  pub standing_is : standing_after_steps steps ≡ Some standing
+  pub follows : FollowsTranscript 0 transcript (core_after_steps steps)
+
+-- the transcripts of four payments: the first is approved, the second is declined with a greater trace number, the third is refused without one, and the fourth is approved with one that isn't greater; and of a payment whose end is unclear
+pub record ExamplePaymentTranscript : Type 0 where
+  pub serving : EndsWithTranscript steps_to_serving serving_transcript (Serving (Transaction 0) 0) (Serving (Transaction 0) 0)
+  pub serving_awaits : awaited_by serving_transcript ≡ 1
+  pub approved : EndsWithTranscript steps_to_approved approved_transcript (Ready 123) (Ready 123)
+  pub approved_talk : talk_by one_pt approved_transcript ≡ None
+  pub serving_again : EndsWithTranscript steps_to_serving_again serving_again_transcript (Serving (Transaction 0) 123) (Serving (Transaction 2) 123)
+  pub declined : EndsWithTranscript steps_to_declined declined_transcript (Ready 200) (Ready 200)
+  pub refused : EndsWithTranscript steps_to_refused refused_transcript (Ready 200) (Ready 200)
+  pub aside : EndsWithTranscript steps_to_aside aside_transcript (Aside 200 150) (Aside 200 150)
+  pub unclear : EndsWithTranscript steps_to_unclear [] (Unlinked None) (Unlinked (Some 12))
+
+-- the examples
+pub record ExampleTranscript : Type 0 where
+  pub ready : ExampleReadyTranscript
+  pub payments : ExamplePaymentTranscript

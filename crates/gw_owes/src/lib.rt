@@ -4,13 +4,19 @@
 
 ghost use Rattle.gw_owes.specs.Laws.{EachRowEndsInOne, FindsBadLengths, LinksEndInOne, PtBytesGiveItems, ReadsOneWay, TillBytesGiveItems};
 
+mod payment_laws;
+mod record_laws;
+mod step_laws;
 mod terminal;
 mod terminal_laws;
 
+pub use payment_laws::{law_payment_begins, law_payment_ends, law_payment_examples, law_repeats};
+pub use record_laws::{law_meanings, law_record_examples, law_records};
+pub use step_laws::{law_on_record, law_step_examples};
 pub use terminal::{Service, Standing, Terminal};
 pub use terminal_laws::{
-    law_awaited, law_dialogues, law_greetings, law_terminal_alone, law_terminal_cuts,
-    law_terminal_row_examples, law_transcript, law_unlinked, law_way_to_ready,
+    law_awaited, law_dialogues, law_greetings, law_set_aside, law_terminal_alone,
+    law_terminal_cuts, law_terminal_row_examples, law_transcript, law_unlinked, law_way_to_ready,
 };
 
 /// A till's bytes are read one way.

@@ -1,7 +1,8 @@
 //! Laws of what the items of terminals and their links leave and owe. Each function does nothing: its contract is the law.
 ghost use Rattle.gw_owes.specs.Dialogues.{EachLinkGivesDialogues, EachRowKeepsDialogues, NewCoreHasDialogues};
+ghost use Rattle.gw_owes.specs.PaymentExample.{ExampleReportBelow};
 ghost use Rattle.gw_owes.specs.TerminalExample.{ExampleAside, ExampleBecomesReady, ExampleComparedReports, ExampleDiagnosis, ExampleEnquiryFails, ExampleFailedSend, ExampleForeignCommand, ExampleLateStop, ExampleLinkFails, ExampleManyTerminals, ExampleOutside, ExampleRegistrationFails, ExampleReportsLast, ExampleSilence, ExampleStop, ExampleStrayMessages, ExampleUnlinked, ExampleUnserved};
-ghost use Rattle.gw_owes.specs.TerminalLaws.{AbsentIsOwedNothing, DueIsLinked, EachAckTakesOne, EachCauseCuts, EachCutHasCause, EachLinkChangesItsTerminal, EachLinkCountsAnew, EachMessageCounts, EachMessageIsGreeted, EachRowChangesItsTerminal, EnquiredIsReady, ForeignHasNoEffect, GreetingChangesNothing, GreetingsAreSpelled, LateNackIsUnclear, LinkedIsRegistered, NoLinkEventCuts, RegisteredIsEnquired, UnlinkedIsOwedNothing};
+ghost use Rattle.gw_owes.specs.TerminalLaws.{AbsentIsOwedNothing, DueIsLinked, EachAckTakesOne, EachAsideHasCause, EachCauseCuts, EachCutHasCause, EachLinkChangesItsTerminal, EachLinkCountsAnew, EachMessageCounts, EachMessageIsGreeted, EachRowChangesItsTerminal, EnquiredIsReady, EnquiredIsSetAside, ForeignHasNoEffect, GreetingChangesNothing, GreetingsAreSpelled, LateNackIsUnclear, LinkedIsRegistered, NoLinkEventCuts, NoLinkEventSetsAside, RegisteredIsEnquired, UnlinkedIsOwedNothing};
 ghost use Rattle.gw_owes.specs.Transcript.{EachLinkBeginsTranscript, EachRowFollowsTranscript, EachStepFollowsTranscript, NewCoreFollowsTranscript};
 ghost use Rattle.gw_owes.specs.TranscriptExample.{ExampleTranscript};
 
@@ -32,8 +33,8 @@ pub fn law_awaited()
 {}
 
 /// A terminal's connection is cut only for an APDU outside the grammar, bytes that begin one above the limit, an unclear end, a
-/// declined registration or enquiry, and a deadline; and where it is linked it is cut for each of these, and nothing else is
-/// owed then. Beside these there is the cut after a send that fails, which no item owes.
+/// declined registration or enquiry, a report while a key of it is open, and a deadline; and where it is linked it is cut for each
+/// of these, and nothing else is owed then. Beside these there is the cut after a send that fails, which no item owes.
 pub fn law_terminal_cuts()
     ensures items { EachCutHasCause }
     ensures causes { EachCauseCuts }
@@ -55,9 +56,19 @@ pub fn law_way_to_ready()
     ensures enquired { EnquiredIsReady }
 {}
 
-/// Each terminal has the dialogue of its standing: a registration or an enquiry that goes on, with the Ack or Nack of its command
-/// awaited until it comes, or none, with nothing awaited. It has it as a run begins, and each item that cuts no connection, and each
-/// event of a link, leaves it so.
+/// A terminal is set aside only by a message of its own: where it is enquired, no payment and no reversal of it is open, and it
+/// reports a trace number below the last one of its records; or where it approves what it serves with one that isn't above the one
+/// before. And it is set aside by each such report.
+pub fn law_set_aside()
+    ensures items { EachAsideHasCause }
+    ensures links { NoLinkEventSetsAside }
+    ensures enquired { EnquiredIsSetAside }
+    ensures example { ExampleReportBelow }
+{}
+
+/// Each terminal has the dialogue of its standing: a registration, an enquiry or a payment that goes on, with the Ack or Nack of its
+/// command awaited until it comes, or none, with nothing awaited. It has it as a run begins, and each item that cuts no connection,
+/// and each event of a link, leaves it so.
 pub fn law_dialogues()
     ensures new { NewCoreHasDialogues }
     ensures rows { EachRowKeepsDialogues }
@@ -67,7 +78,8 @@ pub fn law_dialogues()
 /// What is remembered of a terminal is a few facts, which each item moves on. They are what the transcript of its link says, the
 /// flat list of all that was sent and taken on it: the dialogue that runs, how many Acks and Nacks are awaited, and the standing.
 /// So it is as a run begins; each item of the terminal that cuts no connection, and each event of its link, leaves it so; and so it
-/// is after every list of such steps from there, with the cuts among them, whatever brings them.
+/// is after every list of such steps from there, with the cuts among them, whatever brings them. Examples are computed: a terminal
+/// that becomes ready, and then serves payments, each of which ends in another way.
 pub fn law_transcript()
     ensures new { NewCoreFollowsTranscript }
     ensures rows { EachRowFollowsTranscript }

@@ -1,7 +1,8 @@
 -- An APDU outside the grammar, and bytes that begin one above the limit, change nothing but the link of their terminal.
 use Rattle.std.proofs.Common.{◌≡◌, ◌≢◌, ℕ, List, [], ◌∷◌, ◌++◌, refl, sym, ◌∙◌, ap, subst, true, false, inl, inr, append_assoc}
-use Rattle.std.specs.Prelude.{Bool, ℤ, ◌+◌, ◌⊎◌, nat_le, if◌then◌else◌, slice_get, Option, Some, None, Err}
+use Rattle.std.specs.Prelude.{Bool, ℤ, ◌+◌, ◌⊎◌, nat_le, nat_lt, if◌then◌else◌, option_and_then, slice_get, Option, Some, None, Err}
 use Rattle.std.specs.List.{flat_map}
+use Rattle.gw_base.specs.declared.setup.Pt.{Pt}
 use Rattle.gw_base.specs.declared.setup.Setup.{Setup}
 use Rattle.gw_bytes.specs.Bytes.{AreBytes}
 use Rattle.gw_site.specs.Outside.{Connection, is_connected, heard_on}
@@ -13,25 +14,25 @@ use Rattle.zvt_apdu.specs.Decode.{decode_apdu}
 use Rattle.zvt_apdu.specs.DecodeStream.{DecodedApdus, decode_apdus}
 use Rattle.zvt_msg.specs.MessageDecode.{decode_pt_message}
 use Rattle.zvt_msg.specs.declared.fault.PtFault.{PtFault}
-use Rattle.zvt_talk.specs.declared.dialogue_kind.DialogueKind.{DialogueKind}
-use Rattle.zvt_talk.specs.declared.dialogue_kind.DialogueKind.TheVariants.{Registration, Enquiry, Payment, Reversal, EndOfDay, Display}
+use Rattle.zvt_msg.specs.declared.command.Command.{Command}
+use Rattle.zvt_msg.specs.declared.command.Command.TheVariants as commands
 use Rattle.zvt_talk.specs.declared.meaning.Heard.{Heard}
 use Rattle.zvt_talk.specs.declared.meaning.Heard.TheVariants as heard
-use Rattle.zvt_talk.specs.Came.{Came}
-use Rattle.zvt_talk.specs.Dialogue.{Dialogue}
-use Rattle.zvt_talk.specs.Talk.{TalkFacts, end_of}
+use Rattle.zvt_talk.specs.Talk.{TalkFacts}
 use Rattle.gw_owes.specs.Calls.{OwedCall, CutPt as OwedCutPt}
 use Rattle.gw_owes.specs.Events.{is_oversized, apdu_items, decoded_apdu_items, pt_bytes_items, items_due}
 use Rattle.gw_owes.specs.Greeting.{greet_decoded, outside_row}
-use Rattle.gw_owes.specs.Items.{RoundItem, Crowded, Message, Asked, Unframed, Gone, Greet, Handle, NextWaiting, Oversized, LinkLost, Late, Overdue, Due}
+use Rattle.gw_owes.specs.Items.{RoundItem, Crowded, Message, Asked, Unframed, Gone, Greet, Handle, Serve, NextWaiting, Oversized, LinkLost, Late, Overdue, Due}
 use Rattle.gw_owes.specs.Links.{is_linked, cutting}
 use Rattle.gw_owes.specs.ReadAs.{ReadAs}
-use Rattle.gw_owes.specs.Reports.{on_record}
+use Rattle.gw_owes.specs.Reports.{standing_reported}
 use Rattle.gw_owes.specs.Row.{Known, owing_nothing, becoming}
 use Rattle.gw_owes.specs.Rows.{row_of}
 use Rattle.gw_owes.specs.TerminalLaws.{IsOwedNothing}
-use Rattle.gw_owes.specs.Terminals.{of_terminal, with_terminal, terminal_becomes, reply_calls_to, reply_to_lost, unlinked_terminal, unlinks, link_lost}
-use Rattle.gw_owes.specs.Transcript.{Carried, standing_enquired, standing_in_dialogue, standing_after, without_due, dialogue_by, came_by, EachRowFollowsTranscript}
+use Rattle.gw_owes.specs.Terminals.{of_terminal, with_terminal, terminal_becomes, reply_calls_to, reply_to_unfinished, reply_to_lost, unlinked_terminal, unlinks, link_lost}
+use Rattle.gw_owes.specs.Transcript.{Carried, Commanded, Took, standing_enquired, standing_served, standing_of_service, standing_ended, standing_taken, ended_with, standing_asked, standing_commanded, standing_by, without_slot, as_carried, EachRowFollowsTranscript}
+use Rattle.gw_owes.specs.declared.terminal.Service.{Service}
+use Rattle.gw_owes.specs.declared.terminal.Service.TheVariants.{Transaction, EndOfDay, Display}
 use Rattle.gw_owes.specs.declared.terminal.Standing.{Standing}
 use Rattle.gw_owes.specs.declared.terminal.Standing.TheVariants.{Unlinked, Registering, Enquiring, Ready, Serving, Aside}
 use Rattle.gw_owes.specs.declared.terminal.Terminal.{Terminal}
@@ -53,7 +54,7 @@ use Rattle.gw_rules.proofs.KeptLemmas.{begins-first}
 use Rattle.gw_rules.proofs.LinkStateLemmas.{state_of, standing_state}
 use Rattle.gw_rules.proofs.LinkedLemmas.{Agrees, Settled, Losing, is_on, round-setup, course-agrees, move-agrees, turn-agrees}
 use Rattle.gw_rules.proofs.OutsideCutLemmas.{cut-is, cut-makes, same-rest}
-use Rattle.gw_rules.proofs.PendingLemmas.{SameItems, turn-items}
+use Rattle.gw_rules.proofs.PendingLemmas.{ask_none, read-asks-none, bytes-ask-none, begins-alone, SameItems, turn-items}
 use Rattle.gw_rules.proofs.PrefixLemmas.{Along}
 use Rattle.gw_rules.proofs.SetupLemmas.{HasSetup}
 use Rattle.gw_rules.proofs.SplitLemmas.{SplitAt, split-log, split-agrees, split-outside, split-stands}
@@ -91,6 +92,7 @@ of-begins pt scene (Unframed till) items is = absurd is
 of-begins pt scene (Gone till) items is = absurd is
 of-begins pt scene (Greet number apdu) items is = refl
 of-begins pt scene (Handle number apdu) items is = refl
+of-begins pt scene (Serve number till header request) items is = absurd is
 of-begins pt scene (NextWaiting number) items is = refl
 of-begins pt scene (Oversized number) items is = refl
 of-begins pt scene (LinkLost number) items is = absurd is
@@ -107,6 +109,7 @@ of-nothing tills known pt (Unframed till) is none = absurd is
 of-nothing tills known pt (Gone till) is none = absurd is
 of-nothing tills known pt (Greet number apdu) is none = subst (λ n. row_of tills known (Greet n apdu) ≡ owing_nothing known) (sym is) (none apdu).greeted
 of-nothing tills known pt (Handle number apdu) is none = subst (λ n. row_of tills known (Handle n apdu) ≡ owing_nothing known) (sym is) (none apdu).handled
+of-nothing tills known pt (Serve number till header request) is none = absurd is
 of-nothing tills known pt (NextWaiting number) is none = refl
 of-nothing tills known pt (Oversized number) is none = subst (λ n. row_of tills known (Oversized n) ≡ owing_nothing known) (sym is) (none (record { class = 0; instr = 0; body = [] })).oversized
 of-nothing tills known pt (LinkLost number) is none = absurd is
@@ -196,6 +199,7 @@ read-rest as_read (Unframed till) items = (Unframed till, refl)
 read-rest as_read (Gone till) items = (Gone till, refl)
 read-rest as_read (Greet number apdu) items = (Greet number apdu, refl)
 read-rest as_read (Handle number apdu) items = (Handle number apdu, refl)
+read-rest as_read (Serve number till header request) items = (Serve number till header request, refl)
 read-rest as_read (NextWaiting number) items = (NextWaiting number, refl)
 read-rest as_read (Oversized number) items = (Oversized number, refl)
 read-rest as_read (LinkLost number) items = (LinkLost number, refl)
@@ -231,32 +235,33 @@ never-polled now rest v (Make turn ∷ moves) (other ∷ inside) dead c t r =
     let tails : turns_of moves ≡ inside ++ Polled now ∷ rest = (let n : turn ∷ turns_of moves ≡ other ∷ (inside ++ Polled now ∷ rest) = t in cc) in
     never-polled now rest (after_turn v turn) moves inside (dead-turn v turn dead c.0 (ap (λ t. is_sort_of_round (sort_of t)) heads ∙ r.0)) c.1 tails r.1
 
--- an item that isn't a message begins before the next poll, and those after it are left
-reaches : (item : RoundItem) (items : List RoundItem) (now : ℤ) (rest : List Turn) → first_message (item ∷ items) ≡ None → (v : View) (moves : List Move) (inside : List Turn) (before : List RoundItem) → Agrees v → v.scene.stage ≡ Handling
+-- where no message of a till is to come, an item that isn't one begins before the next poll, and those after it are left
+reaches : (item : RoundItem) (items : List RoundItem) (now : ℤ) (rest : List Turn) → first_message (item ∷ items) ≡ None → (v : View) (moves : List Move) (inside : List Turn) (before : List RoundItem) → Agrees v → v.scene.stage ≡ Handling → ask_none v.items ≡ true
     → v.items ≡ before ++ item ∷ items → IsCourse v moves → turns_of moves ≡ inside ++ Polled now ∷ rest → AreOfRound inside → Reaches v item items inside (Polled now ∷ rest)
-reaches item items now rest no_message v [] [] before a at e c t r = absurd (let n : [] ≡ Polled now ∷ rest = t in cc)
-reaches item items now rest no_message v [] (turn ∷ inside) before a at e c t r = absurd (let n : [] ≡ turn ∷ (inside ++ Polled now ∷ rest) = t in cc)
-reaches item items now rest no_message v (Begin ∷ moves) inside [] a at e c t r =
+reaches item items now rest no_message v [] [] before a at none e c t r = absurd (let n : [] ≡ Polled now ∷ rest = t in cc)
+reaches item items now rest no_message v [] (turn ∷ inside) before a at none e c t r = absurd (let n : [] ≡ turn ∷ (inside ++ Polled now ∷ rest) = t in cc)
+reaches item items now rest no_message v (Begin ∷ moves) inside [] a at none e c t r =
     record { first = []; second = inside; inside_is = refl; moves = []; turns_are = refl; lawful = tt; begins = c.0; items_are = e; stage = at; onward = record { moves = moves; turns_are = t; lawful = c.1 } }
-reaches item items now rest no_message v (Begin ∷ moves) inside (x ∷ before) a at e c t r =
+reaches item items now rest no_message v (Begin ∷ moves) inside (x ∷ before) a at none e c t r =
     let f = begins-first v a c.0 in
+    let alone = begins-alone v f none in
     let tails : f.rest ≡ before ++ item ∷ items = (let n : f.item ∷ f.rest ≡ x ∷ (before ++ item ∷ items) = sym f.items_are ∙ e in cc) in
-    let m = reaches item items now rest no_message (after v Begin) moves inside before (move-agrees v Begin a c.0) (begin-stage v.scene v.items ∙ ap busy at) (f.left ∙ tails) c.1 t r in
+    let m = reaches item items now rest no_message (after v Begin) moves inside before (move-agrees v Begin a c.0) (begin-stage v.scene v.items ∙ ap busy at) (ap ask_none alone.left ∙ alone.rest) (alone.left ∙ tails) c.1 t r in
     record { first = m.first; second = m.second; inside_is = m.inside_is; moves = Begin ∷ m.moves; turns_are = m.turns_are; lawful = (c.0, m.lawful); begins = m.begins; items_are = m.items_are; stage = m.stage; onward = m.onward }
-reaches item items now rest no_message v (Read as_read ∷ moves) inside [] a at e c t r = absurd (let n : None ≡ Some c.0.bytes = sym no_message ∙ sym (ap first_message e) ∙ c.0.message in cc)
-reaches item items now rest no_message v (Read as_read ∷ moves) inside (x ∷ before) a at e c t r =
+reaches item items now rest no_message v (Read as_read ∷ moves) inside [] a at none e c t r = absurd (let n : None ≡ Some c.0.bytes = sym no_message ∙ sym (ap first_message e) ∙ c.0.message in cc)
+reaches item items now rest no_message v (Read as_read ∷ moves) inside (x ∷ before) a at none e c t r =
     let read = read-rest as_read x (before ++ item ∷ items) in
-    let m = reaches item items now rest no_message (after v (Read as_read)) moves inside (read.0 ∷ before) (move-agrees v (Read as_read) a c.0) (ap busy at) (ap (read_first as_read) e ∙ read.1) c.1 t r in
+    let m = reaches item items now rest no_message (after v (Read as_read)) moves inside (read.0 ∷ before) (move-agrees v (Read as_read) a c.0) (ap busy at) (read-asks-none as_read v.items none) (ap (read_first as_read) e ∙ read.1) c.1 t r in
     record { first = m.first; second = m.second; inside_is = m.inside_is; moves = Read as_read ∷ m.moves; turns_are = m.turns_are; lawful = (c.0, m.lawful); begins = m.begins; items_are = m.items_are; stage = m.stage; onward = m.onward }
-reaches item items now rest no_message v (Make turn ∷ moves) [] before a at e c t r =
+reaches item items now rest no_message v (Make turn ∷ moves) [] before a at none e c t r =
     let heads : turn ≡ Polled now = (let n : turn ∷ turns_of moves ≡ Polled now ∷ rest = t in cc) in
     let ok : AllowedTurn v (Polled now) = subst (AllowedTurn v) heads c.0 in
     none-among item v.items (before, items, e) ok.items
-reaches item items now rest no_message v (Make turn ∷ moves) (other ∷ inside) before a at e c t r =
+reaches item items now rest no_message v (Make turn ∷ moves) (other ∷ inside) before a at none e c t r =
     let heads : turn ≡ other = (let n : turn ∷ turns_of moves ≡ other ∷ (inside ++ Polled now ∷ rest) = t in cc) in
     let tails : turns_of moves ≡ inside ++ Polled now ∷ rest = (let n : turn ∷ turns_of moves ≡ other ∷ (inside ++ Polled now ∷ rest) = t in cc) in
     let sort : is_sort_of_round (sort_of turn) ≡ true = ap (λ t. is_sort_of_round (sort_of t)) heads ∙ r.0 in
-    by_items heads tails (λ same stage. reaches item items now rest no_message (after_turn v turn) moves inside before (turn-agrees v turn a c.0) stage (same ∙ e) c.1 tails r.1) (turn-items v turn a at c.0 sort)
+    by_items heads tails (λ same stage. reaches item items now rest no_message (after_turn v turn) moves inside before (turn-agrees v turn a c.0) stage (ap ask_none same ∙ none) (same ∙ e) c.1 tails r.1) (turn-items v turn a at c.0 sort)
   where
     by_items : turn ≡ other → turns_of moves ≡ inside ++ Polled now ∷ rest
         → ((after_turn v turn).items ≡ v.items → (after_turn v turn).scene.stage ≡ Handling → Reaches (after_turn v turn) item items inside (Polled now ∷ rest)) → SameItems v turn → Reaches v item items (other ∷ inside) (Polled now ∷ rest)
@@ -276,76 +281,141 @@ reaches item items now rest no_message v (Make turn ∷ moves) (other ∷ inside
           onward = m.onward;
         }
 
--- ---- nothing is served yet
+-- ---- no reply is owed
 
-abbrev serves : Standing → Bool
-serves (Unlinked due) = false
-serves Registering = false
-serves Enquiring = false
-serves (Ready last) = false
-serves (Serving service last) = true
-serves (Aside before reported) = false
+-- the loss of its link owes a reply: it serves an end of day or a display, of which none is begun yet
+abbrev service_replies : Service → Bool
+service_replies (Transaction slot) = false
+service_replies (EndOfDay header period) = true
+service_replies (Display header outputs) = true
 
-abbrev serves_any : Option Standing → Bool
-serves_any None = false
-serves_any (Some standing) = serves standing
+abbrev replies : Standing → Bool
+replies (Unlinked due) = false
+replies Registering = false
+replies Enquiring = false
+replies (Ready last) = false
+replies (Serving service last) = service_replies service
+replies (Aside before reported) = false
 
-serves-due : (standing : Standing) → serves (without_due standing) ≡ serves standing
-serves-due (Unlinked due) = refl
-serves-due Registering = refl
-serves-due Enquiring = refl
-serves-due (Ready last) = refl
-serves-due (Serving service last) = refl
-serves-due (Aside before reported) = refl
+abbrev replies_any : Option Standing → Bool
+replies_any None = false
+replies_any (Some standing) = replies standing
 
-enquired-serves-none : (least : ℕ) (end : Heard) → serves_any (standing_enquired least end) ≡ false
-enquired-serves-none least (heard.Begun stop) = refl
-enquired-serves-none least (heard.Note intermediate_status) = refl
-enquired-serves-none least heard.Line = refl
-enquired-serves-none least heard.Block = refl
-enquired-serves-none least heard.Seen = refl
-enquired-serves-none least (heard.Approved figures) = refl
-enquired-serves-none least heard.Done = refl
-enquired-serves-none least (heard.Told reported approved result_code) = by_test (nat_le least reported)
+service-carried : (service : Service) → service_replies (without_slot service) ≡ service_replies service
+service-carried (Transaction slot) = refl
+service-carried (EndOfDay header period) = refl
+service-carried (Display header outputs) = refl
+
+replies-carried : (standing : Standing) → replies (as_carried standing) ≡ replies standing
+replies-carried (Unlinked due) = refl
+replies-carried Registering = refl
+replies-carried Enquiring = refl
+replies-carried (Ready last) = refl
+replies-carried (Serving service last) = service-carried service
+replies-carried (Aside before reported) = refl
+
+reported-replies : (least reported : ℕ) → replies (standing_reported least reported) ≡ false
+reported-replies least reported = by_test (nat_le least reported)
   where
-    by_test : (test : Bool) → serves (if test then Ready reported else Aside least reported) ≡ false
+    by_test : (test : Bool) → replies (if test then Ready reported else Aside least reported) ≡ false
     by_test true = refl
     by_test false = refl
-enquired-serves-none least (heard.Declined result_code reported) = refl
-enquired-serves-none least heard.Unclear = refl
-enquired-serves-none least heard.Stray = refl
 
-dialogue-serves-none : (least : ℕ) (kind : DialogueKind) (end : Option Heard) → serves_any (standing_in_dialogue least kind end) ≡ false
-dialogue-serves-none least Registration None = refl
-dialogue-serves-none least Registration (Some end) = refl
-dialogue-serves-none least Enquiry None = refl
-dialogue-serves-none least Enquiry (Some end) = enquired-serves-none least end
-dialogue-serves-none least Payment end = refl
-dialogue-serves-none least Reversal end = refl
-dialogue-serves-none least EndOfDay end = refl
-dialogue-serves-none least Display end = refl
+enquired-replies : (least : ℕ) (end : Heard) → replies_any (standing_enquired least end) ≡ false
+enquired-replies least (heard.Begun stop) = refl
+enquired-replies least (heard.Note intermediate_status) = refl
+enquired-replies least heard.Line = refl
+enquired-replies least heard.Block = refl
+enquired-replies least heard.Seen = refl
+enquired-replies least (heard.Approved figures) = refl
+enquired-replies least heard.Done = refl
+enquired-replies least (heard.Told reported approved result_code) = reported-replies least reported
+enquired-replies least (heard.Declined result_code reported) = refl
+enquired-replies least heard.Unclear = refl
+enquired-replies least heard.Stray = refl
 
-transcript-serves-none : (least : ℕ) (dialogue : Option Dialogue) (came : List Came) → serves_any (standing_after least dialogue came) ≡ false
-transcript-serves-none least None came = refl
-transcript-serves-none least (Some dialogue) came = dialogue-serves-none least dialogue.dialogue_kind (end_of dialogue came)
+approved-replies : (last number : ℕ) → replies (if nat_lt last number then Ready number else Aside last number) ≡ false
+approved-replies last number = by_test (nat_lt last number)
+  where
+    by_test : (test : Bool) → replies (if test then Ready number else Aside last number) ≡ false
+    by_test true = refl
+    by_test false = refl
 
--- by the transcript no terminal serves anything, so that the loss of its link owes no reply
-none-served : EachRowFollowsTranscript → (log : List Turn) (v : View) (s : Stands log v) (pt : ℕ) (terminal : Terminal) → slice_get v.scene.core.terminals pt ≡ Some terminal → v.scene.stage ≡ Handling → v.calls ≡ [] → serves terminal.standing ≡ false
-none-served rows log v s pt terminal found at calls =
+served-replies : (end : Heard) (last : ℕ) → replies_any (standing_served end last) ≡ false
+served-replies (heard.Begun stop) last = refl
+served-replies (heard.Note intermediate_status) last = refl
+served-replies heard.Line last = refl
+served-replies heard.Block last = refl
+served-replies heard.Seen last = refl
+served-replies (heard.Approved figures) last = approved-replies last figures.number
+served-replies heard.Done last = refl
+served-replies (heard.Told reported approved result_code) last = refl
+served-replies (heard.Declined result_code reported) last = refl
+served-replies heard.Unclear last = refl
+served-replies heard.Stray last = refl
+
+service-replies : (end : Heard) (service : Service) (last : ℕ) → replies_any (standing_of_service end service last) ≡ false
+service-replies end (Transaction slot) last = served-replies end last
+service-replies end (EndOfDay header period) last = refl
+service-replies end (Display header outputs) last = refl
+
+ended-replies : (least : ℕ) (end : Heard) (standing : Standing) → replies_any (standing_ended least end standing) ≡ false
+ended-replies least end (Unlinked due) = refl
+ended-replies least end Registering = refl
+ended-replies least end Enquiring = enquired-replies least end
+ended-replies least end (Ready last) = refl
+ended-replies least end (Serving service last) = service-replies end service last
+ended-replies least end (Aside before reported) = refl
+
+taken-replies : (least : ℕ) (end : Option Heard) (standing : Option Standing) → replies_any standing ≡ false → replies_any (option_and_then (standing_taken least end) standing) ≡ false
+taken-replies least end None none = refl
+taken-replies least None (Some standing) none = none
+taken-replies least (Some end) (Some standing) none = ended-replies least end standing
+
+asked-replies : (standing : Option Standing) → replies_any (option_and_then standing_asked standing) ≡ false
+asked-replies None = refl
+asked-replies (Some (Unlinked due)) = refl
+asked-replies (Some Registering) = refl
+asked-replies (Some Enquiring) = refl
+asked-replies (Some (Ready last)) = refl
+asked-replies (Some (Serving service last)) = refl
+asked-replies (Some (Aside before reported)) = refl
+
+commanded-replies : (command : Command) (standing : Option Standing) → replies_any standing ≡ false → replies_any (standing_commanded command standing) ≡ false
+commanded-replies (commands.Register password config currency) standing none = refl
+commanded-replies (commands.Authorise amount currency) standing none = asked-replies standing
+commanded-replies (commands.Enquire password) standing none = refl
+commanded-replies (commands.Reverse password receipt) standing none = asked-replies standing
+commanded-replies (commands.EndOfDay password) standing none = refl
+commanded-replies commands.Stop standing none = none
+commanded-replies (commands.Show texts) standing none = refl
+
+transcript-replies : (pt : Pt) (transcript : List Carried) → replies_any (standing_by pt transcript) ≡ false
+transcript-replies pt [] = refl
+transcript-replies pt (Commanded command moment ∷ earlier) = commanded-replies command (standing_by pt earlier) (transcript-replies pt earlier)
+transcript-replies pt (Took message moment last ∷ earlier) = taken-replies last (ended_with pt message moment earlier) (standing_by pt earlier) (transcript-replies pt earlier)
+
+-- by the transcript no terminal serves what owes one
+none-replied : EachRowFollowsTranscript → (log : List Turn) (v : View) (s : Stands log v) (pt : ℕ) (terminal : Terminal) → slice_get v.scene.core.terminals pt ≡ Some terminal → v.scene.stage ≡ Handling → v.calls ≡ [] → replies terminal.standing ≡ false
+none-replied rows log v s pt terminal found at calls =
     let follows = idle-follows rows log v s pt terminal found (ap is_broken at) calls in
     let same : follows.terminal ≡ terminal = same-some follows.terminal terminal (sym follows.found ∙ found) in
     let transcript : List Carried = transcript_of pt s.course in
-    let none : serves follows.terminal.standing ≡ false =
-    sym (serves-due follows.terminal.standing) ∙ ap serves_any follows.standing_is ∙ transcript-serves-none (on_record v.scene.kept follows.terminal.pt.poi).last (dialogue_by follows.terminal.pt transcript) (came_by transcript) in
-    ap (λ (t : Terminal). serves t.standing) (sym same) ∙ none
+    let none : replies follows.terminal.standing ≡ false = sym (replies-carried follows.terminal.standing) ∙ ap replies_any follows.standing_is ∙ transcript-replies follows.terminal.pt transcript in
+    ap (λ (t : Terminal). replies t.standing) (sym same) ∙ none
 
-no-reply : (asker : Option ℕ) (standing : Standing) → serves standing ≡ false → reply_calls_to asker (reply_to_lost standing) ≡ []
+unfinished-none : (till : ℕ) (service : Service) → service_replies service ≡ false → reply_calls_to (Some till) (reply_to_unfinished service) ≡ []
+unfinished-none till (Transaction slot) none = refl
+unfinished-none till (EndOfDay header period) none = no-true (sym none)
+unfinished-none till (Display header outputs) none = no-true (sym none)
+
+no-reply : (asker : Option ℕ) (standing : Standing) → replies standing ≡ false → reply_calls_to asker (reply_to_lost standing) ≡ []
 no-reply None standing none = refl
 no-reply (Some till) (Unlinked due) none = refl
 no-reply (Some till) Registering none = refl
 no-reply (Some till) Enquiring none = refl
 no-reply (Some till) (Ready last) none = refl
-no-reply (Some till) (Serving service last) none = no-true (sym none)
+no-reply (Some till) (Serving service last) none = unfinished-none till service none
 no-reply (Some till) (Aside before reported) none = refl
 
 -- ---- the cut
@@ -369,7 +439,7 @@ oversized-outside : (pt : ℕ) → IsOutsideItem pt (Oversized pt)
 oversized-outside pt = record { rows = λ tills known. refl; of_bytes = refl; no_message = λ items. refl; keeps_link = λ number e. cc }
 
 -- with the cut its terminal is unlinked, and nothing more is owed
-cut-is-made : (scene : Scene) (setup : Setup) (pt : ℕ) (terminal : Terminal) (items : List RoundItem) → scene.setup ≡ Some setup → scene.stage ≡ Handling → slice_get scene.core.terminals pt ≡ Some terminal → serves terminal.standing ≡ false
+cut-is-made : (scene : Scene) (setup : Setup) (pt : ℕ) (terminal : Terminal) (items : List RoundItem) → scene.setup ≡ Some setup → scene.stage ≡ Handling → slice_get scene.core.terminals pt ≡ Some terminal → replies terminal.standing ≡ false
     → after_turn (record { scene = scene; calls = OwedCutPt pt ∷ []; items = items }) (CutPt pt) ≡ idle_with (link_cut scene pt terminal) items
 cut-is-made scene setup pt terminal items is at found none =
     let known : Known = known_in scene setup in
@@ -451,7 +521,7 @@ changes-alone rows log second rest pt now v item own due s a settled is own_are 
         scene = link_cut v.scene pt terminal
 
         made : after_turn owing (CutPt pt) ≡ idle_with scene (own ++ due)
-        made = cut-is-made v.scene has.setup pt terminal (own ++ due) has.setup_is at found (none-served rows log v s pt terminal found at begins.idle.calls)
+        made = cut-is-made v.scene has.setup pt terminal (own ++ due) has.setup_is at found (none-replied rows log v s pt terminal found at begins.idle.calls)
 
         unlinked : (apdu : ApduValue) → IsOwedNothing (known_in scene has.setup) pt apdu
         unlinked apdu = unlinked-owes-nothing (known_in scene has.setup) pt (unlinked_terminal terminal v.scene.outside.moment) (Some (v.scene.outside.moment + 5)) apdu (new-is-there v.scene.core.terminals pt terminal (unlinked_terminal terminal v.scene.outside.moment) found) refl
@@ -538,7 +608,7 @@ item-is-alone rows before inside rest pt chunk now item earlier next last x is e
     u_agrees = turn-agrees v (HeardPt pt chunk) (split-agrees before (HeardPt pt chunk) (inside ++ Polled now ∷ rest) x) x.allowed
 
     r : Reaches u item (own ++ due) inside (Polled now ∷ rest)
-    r = reaches item (own ++ due) now rest (is.no_message (own ++ due)) u x.onward.moves inside earlier u_agrees refl (ap (λ l. l ++ due) e ∙ append_assoc earlier (item ∷ own) due) x.onward.lawful x.onward.turns_are round
+    r = reaches item (own ++ due) now rest (is.no_message (own ++ due)) u x.onward.moves inside earlier u_agrees refl (bytes-ask-none pt (decode_apdus ((decode_apdus (heard_on v.scene.outside.links pt)).rest ++ chunk)) v.scene.core) (ap (λ l. l ++ due) e ∙ append_assoc earlier (item ∷ own) due) x.onward.lawful x.onward.turns_are round
 
     z : View
     z = view_from u r.moves

@@ -2,6 +2,7 @@
 use Rattle.std.proofs.Common.{ℕ, List, [], ◌∷◌, ◌++◌, refl, inl, inr, arith}
 use Rattle.std.specs.Prelude.{pos, slice_get, Option, Some, None}
 use Rattle.gw_base.specs.declared.figures.Figures.{Figures}
+use Rattle.gw_ledger.specs.History.{history}
 use Rattle.gw_site.specs.Outside.{heard_on, outside_of}
 use Rattle.gw_site.specs.declared.turn.Turn.TheVariants.{Polled, HeardPt, CutPt, Stopped}
 use Rattle.zvt_apdu.specs.DecodeStream.{decode_apdus, decode_apdus_within}
@@ -118,7 +119,7 @@ abbrev rest_chunk : List ℕ
 rest_chunk = 0x0F ∷ 0x00 ∷ []
 
 report-ends : EndsAlong (IsReport 123) report_log report_view report_moves 0 (found (slice_get report_view.scene.core.terminals 0)) Enquiring
-unfolding decode_apdus decode_apdus_within decode_pt_message decode_status decode_status_within decode_status_field decode_field_value
+unfolding decode_apdus decode_apdus_within decode_pt_message decode_status decode_status_within decode_status_field decode_field_value history
 report-ends = record {
   chunk = rest_chunk;
   new = record { class = 0x06; instr = 0x0F; body = [] } ∷ [];
@@ -140,10 +141,10 @@ report-ends = record {
 }
 
 pub split-report : SplitReport
-unfolding report-ends
+unfolding report-ends history
 split-report = record {
   terminal = found (slice_get report_view.scene.core.terminals 0);
   ends = report-ends;
   chunk_is = refl;
-  ready = report-makes-ready report_log report_view report_moves 0 (found (slice_get report_view.scene.core.terminals 0)) 123 report-ends;
+  ready = report-makes-ready report_log report_view report_moves 0 (found (slice_get report_view.scene.core.terminals 0)) 123 report-ends refl (omega arith);
 }

@@ -1,5 +1,6 @@
 -- Why a terminal is cut in a lawful log.
 use Rattle.std.proofs.Common.{◌≡◌, ℕ, ◌+◌, List, [], ◌∷◌, ◌++◌, refl, sym, ◌∙◌, ap, subst, true, false, inl, inr, append_assoc, append-nil}
+use Rattle.std.proofs.lemmas.Bool.{and_parts}
 use Rattle.std.specs.Prelude.{Bool, ◌⊎◌, nat_lt, if◌then◌else◌, length, map, Option, Some, None, Result, Ok, Err}
 use Rattle.std.specs.List.{flat_map}
 use Rattle.gw_base.specs.declared.setup.Setup.{Setup}
@@ -9,6 +10,8 @@ use Rattle.gw_site.specs.Outside.{Connection, Outside, is_connected, heard_on}
 use Rattle.gw_site.specs.Sorts.{AreOfRound, is_sort_of_round, sort_of, is_between}
 use Rattle.gw_site.specs.declared.turn.Turn.{Turn}
 use Rattle.gw_site.specs.declared.turn.Turn.TheVariants.{Start, OpenFailed, Polled, Opened, HeardTill, Closed, HeardPt, Lost, Stopped, Linked, LinkFailed, SentTill, SentPt, CutTill, CutPt, Wrote, Synced, DiskFailed, Crash}
+use Rattle.sale_values.specs.declared.header.Header.{Header}
+use Rattle.sale_values.specs.declared.request.SaleRequest.{SaleRequest}
 use Rattle.sale_frame.specs.Decode.{DecodedFrames, decode_after, decode_frames}
 use Rattle.zvt_apdu.specs.DecodeStream.{decode_apdus}
 use Rattle.zvt_apdu.specs.Grammar.{ApduValue}
@@ -17,30 +20,29 @@ use Rattle.zvt_apdu.proofs.DecodeStreamLemmas.{split_is}
 use Rattle.zvt_msg.specs.Message.{MessageValue}
 use Rattle.zvt_msg.specs.MessageDecode.{decode_pt_message}
 use Rattle.zvt_msg.specs.declared.fault.PtFault.{PtFault}
-use Rattle.zvt_talk.specs.declared.meaning.Heard.{Heard}
-use Rattle.zvt_talk.specs.declared.meaning.Heard.TheVariants as heard
 use Rattle.gw_owes.specs.Calls.{Sending, OwedCall, SendTill, SendPt, LinkPt, WriteBody, WriteGate, WriteFirstGate, Sync, write_turn, CutTill as OwedCutTill, CutPt as OwedCutPt}
 use Rattle.gw_owes.specs.Core.{Core, Wait}
 use Rattle.gw_owes.specs.Deadlines.{is_late, is_due, late_row, due_row}
 use Rattle.gw_owes.specs.Events.{till_opened_items, has_bad_length, decoded_items, apdu_items, pt_bytes_items, for_each_terminal, waits_by_deadline, items_due}
 use Rattle.gw_owes.specs.Greeting.{greeting, sending_calls, greet_decoded, oversized_row}
-use Rattle.gw_owes.specs.Handling.{taking, meaning_at, registering, enquiring, serving, consequence, handle_row}
-use Rattle.gw_owes.specs.Items.{RoundItem, Crowded, Message, Asked, Unframed, Gone, Greet, Handle, NextWaiting, Oversized, LinkLost, Late, Overdue, Due}
+use Rattle.gw_owes.specs.Handling.{taking, handle_row}
+use Rattle.gw_owes.specs.Items.{RoundItem, Crowded, Message, Asked, Unframed, Gone, Greet, Handle, Serve, NextWaiting, Oversized, LinkLost, Late, Overdue, Due}
 use Rattle.gw_owes.specs.Laws.{BringsApdus}
 use Rattle.gw_owes.specs.Links.{LinkIsMade, LinkIsLost, cutting}
+use Rattle.gw_owes.specs.Payments.{serve_row}
 use Rattle.gw_owes.specs.ReadAs.{ReadAs}
 use Rattle.gw_owes.specs.Reply.{ReplyValue}
 use Rattle.gw_owes.specs.Requests.{reply_to}
 use Rattle.gw_owes.specs.Row.{Known, Row, owing, owing_where}
 use Rattle.gw_owes.specs.Rows.{asked_row, row_of}
+use Rattle.gw_owes.specs.Serving.{reply_to_outcome}
 use Rattle.gw_owes.specs.TerminalLaws.{owes_cut, BreaksDialogue, IsLateAt, MayCut}
 use Rattle.gw_owes.specs.TerminalRows.{terminal_of}
 use Rattle.gw_owes.specs.Terminals.{reply_calls_to, link_made, link_lost}
-use Rattle.gw_owes.specs.declared.terminal.Standing.{Standing}
-use Rattle.gw_owes.specs.declared.terminal.Standing.TheVariants.{Unlinked, Registering, Enquiring, Ready, Serving, Aside}
 use Rattle.gw_owes.specs.declared.terminal.Terminal.{Terminal}
 use Rattle.gw_owes.proofs.ApduLemmas.{pt-bytes-give}
-use Rattle.gw_owes.proofs.HandlingLemmas.{by-where, each-terminal, each-linked, each-handled}
+use Rattle.gw_owes.proofs.HandlingLemmas.{by-where, each-terminal, each-linked}
+use Rattle.gw_owes.proofs.PaymentLemmas.{each-served}
 use Rattle.gw_owes.proofs.TerminalLemmas.{cuts-have-cause, no-link-event-cuts}
 use Rattle.gw_rules.specs.CutCauses.{HasSaidInRound, HasSaidApdu, HasBegunTooLong, BeginsCut, CutCause, SendFailed, SaidOutside, BegunTooLong, BrokeDialogue, DeadlineCame, EachPtCutHasCause, FailedSendCuts}
 use Rattle.gw_rules.specs.Lawful.{first_call, Begins, AllowedTurn, IsCourse, turns_of, Stands}
@@ -52,10 +54,12 @@ use Rattle.gw_rules.proofs.CourseLemmas.{stands-more, stands-outside}
 use Rattle.gw_rules.proofs.HeardLemmas.{heard-bytes, bytes-append, stands-bytes}
 use Rattle.gw_rules.proofs.KeptLemmas.{BeginsFirst, begins-first}
 use Rattle.gw_rules.proofs.LinkLawLemmas.{busy-not-poll, same-call}
+use Rattle.gw_rules.proofs.LinkStateLemmas.{is_serve, all_serve}
 use Rattle.gw_rules.proofs.LinkedLemmas.{Agrees, call-setup, made-at-turns, lost-at-turns, first-agrees, course-agrees, round-setup}
 use Rattle.gw_rules.proofs.OpeningLemmas.{other-not-looking, course-disk, first-owes-disk}
 use Rattle.gw_rules.proofs.OpensLemmas.{opens-cut-none}
 use Rattle.gw_rules.proofs.OutsideCutLemmas.{in-owes}
+use Rattle.gw_rules.proofs.RowFormLemmas.{EachForm, form-handled}
 use Rattle.gw_rules.proofs.SetupLemmas.{HasSetup}
 use Rattle.gw_rules.proofs.SplitLemmas.{SplitAt, split-log}
 use Rattle.gw_rules.proofs.StageLemmas.{no-true, no-call}
@@ -67,58 +71,26 @@ use Rattle.gw_rules.proofs.UnlawfulLemmas.{take-owed}
 abbrev CutsAlone : ℕ → Row → Type 0
 CutsAlone number row = owes_cut row.calls ≡ true → row.calls ≡ OwedCutPt number ∷ []
 
-registering-alone : (known : Known) (number : ℕ) (terminal : Terminal) (meant : Heard) → CutsAlone number (registering known number terminal meant)
-registering-alone known number terminal (heard.Begun stop) cuts = no-true cuts
-registering-alone known number terminal (heard.Note intermediate_status) cuts = no-true cuts
-registering-alone known number terminal heard.Line cuts = no-true cuts
-registering-alone known number terminal heard.Block cuts = no-true cuts
-registering-alone known number terminal heard.Seen cuts = no-true cuts
-registering-alone known number terminal (heard.Approved figures) cuts = no-true cuts
-registering-alone known number terminal heard.Done cuts = no-true cuts
-registering-alone known number terminal (heard.Told reported approved result_code) cuts = no-true cuts
-registering-alone known number terminal (heard.Declined result_code reported) cuts = refl
-registering-alone known number terminal heard.Unclear cuts = refl
-registering-alone known number terminal heard.Stray cuts = no-true cuts
+-- the till's reply cuts no terminal
+reply-cuts-none : (asker : Option ℕ) (reply : Option ReplyValue) → owes_cut (reply_calls_to asker reply) ≡ false
+reply-cuts-none None reply = refl
+reply-cuts-none (Some till) None = refl
+reply-cuts-none (Some till) (Some reply) = refl
 
-enquiring-alone : (known : Known) (number : ℕ) (terminal : Terminal) (meant : Heard) → CutsAlone number (enquiring known number terminal meant)
-enquiring-alone known number terminal (heard.Begun stop) cuts = no-true cuts
-enquiring-alone known number terminal (heard.Note intermediate_status) cuts = no-true cuts
-enquiring-alone known number terminal heard.Line cuts = no-true cuts
-enquiring-alone known number terminal heard.Block cuts = no-true cuts
-enquiring-alone known number terminal heard.Seen cuts = no-true cuts
-enquiring-alone known number terminal (heard.Approved figures) cuts = no-true cuts
-enquiring-alone known number terminal heard.Done cuts = no-true cuts
-enquiring-alone known number terminal (heard.Told reported approved result_code) cuts = no-true cuts
-enquiring-alone known number terminal (heard.Declined result_code reported) cuts = refl
-enquiring-alone known number terminal heard.Unclear cuts = refl
-enquiring-alone known number terminal heard.Stray cuts = no-true cuts
-
-serving-alone : (known : Known) (number : ℕ) (terminal : Terminal) (meant : Heard) → CutsAlone number (serving known number terminal meant)
-serving-alone known number terminal (heard.Begun true) cuts = no-true cuts
-serving-alone known number terminal (heard.Begun false) cuts = no-true cuts
-serving-alone known number terminal (heard.Note intermediate_status) cuts = no-true cuts
-serving-alone known number terminal heard.Line cuts = no-true cuts
-serving-alone known number terminal heard.Block cuts = no-true cuts
-serving-alone known number terminal heard.Seen cuts = no-true cuts
-serving-alone known number terminal (heard.Approved figures) cuts = no-true cuts
-serving-alone known number terminal heard.Done cuts = no-true cuts
-serving-alone known number terminal (heard.Told reported approved result_code) cuts = no-true cuts
-serving-alone known number terminal (heard.Declined result_code reported) cuts = no-true cuts
-serving-alone known number terminal heard.Unclear cuts = refl
-serving-alone known number terminal heard.Stray cuts = no-true cuts
-
-consequence-alone : (known : Known) (number : ℕ) (terminal : Terminal) (meant : Heard) (standing : Standing) → CutsAlone number (consequence known number terminal meant standing)
-consequence-alone known number terminal meant (Unlinked due) cuts = no-true cuts
-consequence-alone known number terminal meant Registering cuts = registering-alone known number terminal meant cuts
-consequence-alone known number terminal meant Enquiring cuts = enquiring-alone known number terminal meant cuts
-consequence-alone known number terminal meant (Ready last) cuts = no-true cuts
-consequence-alone known number terminal meant (Serving service last) cuts = serving-alone known number terminal meant cuts
-consequence-alone known number terminal meant (Aside before reported) cuts = no-true cuts
+forms-alone : (known : Known) (number : ℕ) (terminal : Terminal) → EachForm (CutsAlone number) known number terminal
+forms-alone known number terminal = record {
+  nothing = λ cuts. no-true cuts;
+  stays = λ cuts. no-true cuts;
+  cuts = λ cuts. refl;
+  stops = λ cuts. no-true cuts;
+  enquires = λ cuts. no-true cuts;
+  rests = λ standing linked cuts. no-true cuts;
+  resolves = λ standing outcome linked cuts. no-true (sym (reply-cuts-none terminal.asker (reply_to_outcome known.kept outcome.slot outcome)) ∙ cuts);
+}
 
 handle-alone : (known : Known) (number : ℕ) (apdu : ApduValue) → CutsAlone number (handle_row known number apdu)
 handle-alone known number apdu =
-    each-handled (CutsAlone number) known number apdu (λ cuts. no-true cuts)
-    (λ terminal message found linked is taken. consequence-alone known number (taking terminal message known.moment) (meaning_at terminal message) terminal.standing)
+    form-handled (CutsAlone number) known number apdu (λ cuts. no-true cuts) (λ terminal message found linked is taken. forms-alone known number (taking terminal message known.moment))
 
 sends-alone : (known : Known) (number : ℕ) (sending : Option Sending) → CutsAlone number (owing known (sending_calls number sending))
 sends-alone known number None cuts = no-true cuts
@@ -146,16 +118,14 @@ due-none known number =
     each-terminal CutsNone known number (λ terminal. owing_where (is_due known.moment terminal.standing) known (owing known (LinkPt number ∷ []))) refl
     (λ terminal found. by-where CutsNone known (owing known (LinkPt number ∷ [])) (is_due known.moment terminal.standing) refl (λ due. refl))
 
-replied-none : (known : Known) (asker : Option ℕ) (reply : Option ReplyValue) → CutsNone (owing known (reply_calls_to asker reply))
-replied-none known None reply = refl
-replied-none known (Some till) None = refl
-replied-none known (Some till) (Some reply) = refl
-
 asked-none : (tills : List Connection) (known : Known) (till : ℕ) (as_read : ReadAs) → CutsNone (owing_where (is_connected tills till) known (asked_row known till as_read))
-asked-none tills known till as_read = by-where CutsNone known (asked_row known till as_read) (is_connected tills till) refl (λ there. replied-none known (Some till) (reply_to known as_read))
+asked-none tills known till as_read = by-where CutsNone known (asked_row known till as_read) (is_connected tills till) refl (λ there. reply-cuts-none (Some till) (reply_to known as_read))
 
 unframed-none : (tills : List Connection) (known : Known) (till : ℕ) → CutsNone (owing_where (is_connected tills till) known (owing known (OwedCutTill till ∷ [])))
 unframed-none tills known till = by-where CutsNone known (owing known (OwedCutTill till ∷ [])) (is_connected tills till) refl (λ there. refl)
+
+serve-none : (known : Known) (number till : ℕ) (header : Header) (request : SaleRequest) → CutsNone (serve_row known number till header request)
+serve-none known number till header request = each-served CutsNone known number till header request refl (λ payment terminal last is begins. refl)
 
 -- an item that cuts is of the terminal that it cuts, owes nothing else, and has a cause
 record OwesCut (tills : List Connection) (known : Known) (item : RoundItem) : Type 0 where
@@ -172,6 +142,7 @@ row-cuts tills known (Unframed till) cuts = no-true (sym (unframed-none tills kn
 row-cuts tills known (Gone till) cuts = no-true cuts
 row-cuts tills known (Greet number apdu) cuts = record { pt = number; of_it = refl; calls_are = greet-alone known number (decode_pt_message apdu) cuts; cause = cuts-have-cause known (Greet number apdu) cuts }
 row-cuts tills known (Handle number apdu) cuts = record { pt = number; of_it = refl; calls_are = handle-alone known number apdu cuts; cause = cuts-have-cause known (Handle number apdu) cuts }
+row-cuts tills known (Serve number till header request) cuts = no-true (sym (serve-none known number till header request) ∙ cuts)
 row-cuts tills known (NextWaiting number) cuts = no-true cuts
 row-cuts tills known (Oversized number) cuts = record { pt = number; of_it = refl; calls_are = oversized-alone known number cuts; cause = tt }
 row-cuts tills known (LinkLost number) cuts = no-true (sym (no-link-event-cuts known number LinkIsLost) ∙ cuts)
@@ -190,6 +161,7 @@ IsBrought log (Unframed till) = Unit {0}
 IsBrought log (Gone till) = Unit {0}
 IsBrought log (Greet pt apdu) = HasSaidApdu log pt apdu
 IsBrought log (Handle pt apdu) = HasSaidApdu log pt apdu
+IsBrought log (Serve pt till header request) = Unit {0}
 IsBrought log (NextWaiting pt) = Unit {0}
 IsBrought log (Oversized pt) = HasBegunTooLong log pt
 IsBrought log (LinkLost pt) = Unit {0}
@@ -200,6 +172,27 @@ IsBrought log (Due pt) = Unit {0}
 abbrev pub AreBrought : List Turn → List RoundItem → Type 0
 AreBrought log [] = Unit {0}
 AreBrought log (item ∷ items) = IsBrought log item × AreBrought log items
+
+-- an item that begins to serve is of no APDU
+serve-brought : (log : List Turn) (item : RoundItem) → is_serve item ≡ true → IsBrought log item
+serve-brought log (Crowded till) e = no-true e
+serve-brought log (Message till bytes) e = no-true e
+serve-brought log (Asked till as_read) e = no-true e
+serve-brought log (Unframed till) e = no-true e
+serve-brought log (Gone till) e = no-true e
+serve-brought log (Greet pt apdu) e = no-true e
+serve-brought log (Handle pt apdu) e = no-true e
+serve-brought log (Serve pt till header request) e = tt
+serve-brought log (NextWaiting pt) e = no-true e
+serve-brought log (Oversized pt) e = no-true e
+serve-brought log (LinkLost pt) e = no-true e
+serve-brought log (Late pt) e = no-true e
+serve-brought log (Overdue key) e = no-true e
+serve-brought log (Due pt) e = no-true e
+
+serves-brought : (log : List Turn) (items : List RoundItem) → all_serve items ≡ true → AreBrought log items
+serves-brought log [] e = tt
+serves-brought log (item ∷ items) e = let p = and_parts (is_serve item) (all_serve items) e in (serve-brought log item p.0, serves-brought log items p.1)
 
 brought-append : (log : List Turn) (items more : List RoundItem) → AreBrought log items → AreBrought log more → AreBrought log (items ++ more)
 brought-append log [] more h k = k
@@ -230,6 +223,7 @@ item-later log (Unframed till) turn e h = tt
 item-later log (Gone till) turn e h = tt
 item-later log (Greet pt apdu) turn e h = apdu-later log pt apdu turn e h
 item-later log (Handle pt apdu) turn e h = apdu-later log pt apdu turn e h
+item-later log (Serve pt till header request) turn e h = tt
 item-later log (NextWaiting pt) turn e h = tt
 item-later log (Oversized pt) turn e h = record { new = h.new; left = h.left; length = h.length; said = said-later log pt h.new h.left turn e h.said; too_long = h.too_long }
 item-later log (LinkLost pt) turn e h = tt
@@ -252,6 +246,7 @@ read-brought log as_read (Unframed till ∷ items) h = h
 read-brought log as_read (Gone till ∷ items) h = h
 read-brought log as_read (Greet pt apdu ∷ items) h = h
 read-brought log as_read (Handle pt apdu ∷ items) h = h
+read-brought log as_read (Serve pt till header request ∷ items) h = h
 read-brought log as_read (NextWaiting pt ∷ items) h = h
 read-brought log as_read (Oversized pt ∷ items) h = h
 read-brought log as_read (LinkLost pt ∷ items) h = h
@@ -346,6 +341,7 @@ cause-of log known (Greet other apdu) pt of_it cause brought begins =
 cause-of log known (Handle other apdu) pt of_it cause brought begins =
     let same : other ≡ pt = cc in
     BrokeDialogue apdu known (subst (λ n. HasSaidApdu log n apdu) same brought) (subst (λ n. BeginsCut log pt (Handle n apdu) known) same begins) (subst (λ n. BreaksDialogue known n apdu) same cause)
+cause-of log known (Serve other till header request) pt of_it cause brought begins = absurd cause
 cause-of log known (NextWaiting other) pt of_it cause brought begins = absurd cause
 cause-of log known (Oversized other) pt of_it cause brought begins =
     let same : other ≡ pt = cc in
@@ -478,7 +474,7 @@ turn-items log v turn s a h ok = by_turn turn ok
 -- ---- moves
 
 begin-causes : (log : List Turn) (v : View) → Stands log v → Agrees v → HasCauses log v → Begins v → HasCauses log (after v Begin)
-begin-causes log v s a h b = record { items = subst (AreBrought log) (sym first.left) brought.1; calls = by_test (owes_cut row.calls) refl }
+begin-causes log v s a h b = record { items = subst (AreBrought log) (sym first.left) (brought-append log first.new first.rest (serves-brought log first.new first.new_is) brought.1); calls = by_test (owes_cut row.calls) refl }
   where
     first : BeginsFirst v
     first = begins-first v a b

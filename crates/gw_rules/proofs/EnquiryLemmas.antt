@@ -37,9 +37,9 @@ use Rattle.gw_rules.specs.Scene.{known_in, row_in, row_at}
 use Rattle.gw_rules.specs.Stage.{Handling, busy, is_looking}
 use Rattle.gw_rules.specs.View.{View, Move, Begin, Read, Make, later, after, after_turn}
 use Rattle.gw_rules.proofs.CourseLemmas.{begin-outside, begin-stage}
-use Rattle.gw_rules.proofs.KeptLemmas.{Kept, kept_in, without_asker, change_none, due-change-none, begins-first}
+use Rattle.gw_rules.proofs.KeptLemmas.{Kept, kept_in, without_asker, change_none, due-change-none, begins-first, left-alone}
 use Rattle.gw_rules.proofs.LinkLawLemmas.{sent-next}
-use Rattle.gw_rules.proofs.LinkStateLemmas.{On, state_of, on-linked}
+use Rattle.gw_rules.proofs.LinkStateLemmas.{On, state_of, on-linked, is_asked}
 use Rattle.gw_rules.proofs.LinkedLemmas.{Agrees, move-agrees, turn-agrees}
 use Rattle.gw_rules.proofs.PrefixLemmas.{Along}
 use Rattle.gw_rules.proofs.SetupLemmas.{begin-setup}
@@ -68,10 +68,11 @@ pub record OwesThen (known : Known) (pt : ℕ) (terminal : Terminal) (calls : Li
   pub linked : state_of (Some terminal) ≡ On
   pub calls_are : row.calls ≡ calls
 
-begin-owing : (setup : Setup) (pt : ℕ) (terminal new : Terminal) (heard : List ℕ) (o : Outside) (calls : List OwedCall) (item : RoundItem) (rest : List RoundItem) (v : View) → Owing setup pt terminal heard o [] (item ∷ rest) v → Begins v
+begin-owing : (setup : Setup) (pt : ℕ) (terminal new : Terminal) (heard : List ℕ) (o : Outside) (calls : List OwedCall) (item : RoundItem) (rest : List RoundItem) (v : View) → is_asked item ≡ false → Owing setup pt terminal heard o [] (item ∷ rest) v → Begins v
     → OwesThen (known_in v.scene setup) pt new calls (row_of v.scene.outside.tills (known_in v.scene setup) item) → Owing setup pt new heard o calls rest (after v Begin)
-begin-owing setup pt terminal new heard o calls item rest v w b g =
+begin-owing setup pt terminal new heard o calls item rest v other w b g =
     let first = begins-first v w.agrees b in
+    let heads : first.item ≡ item = (let n : first.item ∷ first.rest ≡ item ∷ rest = sym first.items_are ∙ w.items_are in cc) in
     let tails : first.rest ≡ rest = (let n : first.item ∷ first.rest ≡ item ∷ rest = sym first.items_are ∙ w.items_are in cc) in
     let row : row_at v.scene item ≡ row_of v.scene.outside.tills (known_in v.scene setup) item = ap (λ (s : Option Setup). row_in v.scene (λ known. row_of v.scene.outside.tills known item) s) w.setup_is in
     record {
@@ -83,7 +84,7 @@ begin-owing setup pt terminal new heard o calls item rest v w b g =
       heard_is = w.heard_is;
       stage = begin-stage v.scene v.items ∙ ap busy w.stage;
       calls_are = ap (λ l. (after (record v { items = l }) Begin).calls) w.items_are ∙ ap (λ (r : Row). r.calls) row ∙ g.calls_are;
-      items_are = first.left ∙ tails;
+      items_are = left-alone v first (ap is_asked heads ∙ other) ∙ tails;
     }
 
 -- the next of these turns is of the run
@@ -261,11 +262,11 @@ takes-ack setup settings pt sent turns v a is k ok onward goes =
     let heard = after_turn v (HeardPt pt ack_bytes) in
     let h = heard-owing setup pt (registered settings sent) [] ack_bytes (apdu_then pt ack_apdu []) v a is k ok (brings-ack pt) in
     let first = item-begins heard (Greet pt ack_apdu) (Handle pt ack_apdu ∷ NextWaiting pt ∷ due) turns h.stage h.calls_are h.items_are refl goes onward in
-    let g = begin-owing setup pt (registered settings sent) (registered settings sent) ack_bytes o [] (Greet pt ack_apdu) (Handle pt ack_apdu ∷ NextWaiting pt ∷ due) heard h first.0
+    let g = begin-owing setup pt (registered settings sent) (registered settings sent) ack_bytes o [] (Greet pt ack_apdu) (Handle pt ack_apdu ∷ NextWaiting pt ∷ due) heard refl h first.0
     (greets-ack (known_in heard.scene setup) pt (registered settings sent) h.kept h.linked) in
     let greeted = after heard Begin in
     let second = item-begins greeted (Handle pt ack_apdu) (NextWaiting pt ∷ due) turns g.stage g.calls_are g.items_are refl goes first.1 in
-    let b = begin-owing setup pt (registered settings sent) (acknowledged settings sent o.moment) ack_bytes o [] (Handle pt ack_apdu) (NextWaiting pt ∷ due) greeted g second.0
+    let b = begin-owing setup pt (registered settings sent) (acknowledged settings sent o.moment) ack_bytes o [] (Handle pt ack_apdu) (NextWaiting pt ∷ due) greeted refl g second.0
     (subst (λ (p : Outside). OwesThen (known_in greeted.scene setup) pt (acknowledged settings sent p.moment) [] (handle_row (known_in greeted.scene setup) pt ack_apdu)) g.outside_is (handles-ack (known_in greeted.scene setup) pt settings sent g.kept)) in
     (after greeted Begin, b, second.1)
 
@@ -292,6 +293,7 @@ acknowledged-silent before run first second rest setup settings pt turn lawful q
     let kept : Kept pt (acknowledged settings sent r.view.scene.outside.moment) ack_bytes v = record {
       kept = w.kept;
       linked = refl;
+      unready = refl;
       items = ap (change_none pt) w.items_are ∙ due-change-none pt r.view.scene.core;
       heard_is = ap (λ (o : Outside). heard_on o.links pt) w.outside_is ∙ w.heard_is;
     } in
@@ -312,7 +314,7 @@ acknowledges-done setup settings pt sent moment turns v a is k ok onward goes =
     let heard = after_turn v (HeardPt pt completion_bytes) in
     let h = heard-owing setup pt terminal ack_bytes completion_bytes (apdu_then pt done_apdu []) v a is k ok (brings-done pt) in
     let begins = item-begins heard (Greet pt done_apdu) (Handle pt done_apdu ∷ NextWaiting pt ∷ due) turns h.stage h.calls_are h.items_are refl goes onward in
-    let g = begin-owing setup pt terminal terminal (ack_bytes ++ completion_bytes) o (SendPt pt Acknowledge ∷ []) (Greet pt done_apdu) (Handle pt done_apdu ∷ NextWaiting pt ∷ due) heard h begins.0
+    let g = begin-owing setup pt terminal terminal (ack_bytes ++ completion_bytes) o (SendPt pt Acknowledge ∷ []) (Greet pt done_apdu) (Handle pt done_apdu ∷ NextWaiting pt ∷ due) heard refl h begins.0
     (greets-done (known_in heard.scene setup) pt terminal h.kept h.linked) in
     (after heard Begin, g, begins.1)
 
@@ -325,7 +327,7 @@ enquires-then setup settings pt sent moment o due turns v g ok onward goes =
     let command : OwedCall = SendPt pt (Ask (enquiry_command settings)) in
     let s = sent-owing setup pt (acknowledged settings sent moment) (ack_bytes ++ completion_bytes) ack_bytes o (SendPt pt Acknowledge) (Handle pt done_apdu ∷ NextWaiting pt ∷ due) v g ok in
     let begins = item-begins acked (Handle pt done_apdu) (NextWaiting pt ∷ due) turns s.stage s.calls_are s.items_are refl goes onward in
-    let e = begin-owing setup pt (acknowledged settings sent moment) (enquired settings sent moment o.moment) (ack_bytes ++ completion_bytes) o (command ∷ []) (Handle pt done_apdu) (NextWaiting pt ∷ due) acked s begins.0
+    let e = begin-owing setup pt (acknowledged settings sent moment) (enquired settings sent moment o.moment) (ack_bytes ++ completion_bytes) o (command ∷ []) (Handle pt done_apdu) (NextWaiting pt ∷ due) acked refl s begins.0
     (subst (λ (p : Outside). OwesThen (known_in acked.scene setup) pt (enquired settings sent moment p.moment) (command ∷ []) (handle_row (known_in acked.scene setup) pt done_apdu)) s.outside_is (handles-done (known_in acked.scene setup) pt settings sent moment s.kept)) in
     (after acked Begin, e, begins.1)
 
@@ -389,6 +391,7 @@ silent-enquiry-is-cut before run first second third inside rest setup settings p
     let kept : Kept pt terminal (ack_bytes ++ completion_bytes) v = record {
       kept = w.kept;
       linked = refl;
+      unready = refl;
       items = ap (change_none pt) w.items_are ∙ due-change-none pt k.view.scene.core;
       heard_is = ap (λ (o : Outside). heard_on o.links pt) w.outside_is ∙ w.heard_is;
     } in

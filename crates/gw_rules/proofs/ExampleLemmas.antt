@@ -13,7 +13,7 @@ use Rattle.gw_ledger.specs.History.{history}
 use Rattle.gw_owes.specs.Calls.{OwedCall}
 use Rattle.gw_owes.specs.Items.{RoundItem}
 use Rattle.gw_owes.specs.ReadAs.{Silent}
-use Rattle.gw_rules.specs.Example.{example_setup, status_request, status_reply, silent_message, status_asked, not_found, heard_log, asked_log, failed_send_log, tills_open, crowded_log, StatusIsLawful, FailedSendIsLawful, SilentIsLawful, BadFrameIsLawful, CrowdedIsLawful, RestartedIsLawful, CrashedIsLawful, LooksMayFail, RefusedIsNotPolled, DiskFailureEnds, NoRunWhereNotOpened, first_turns, first_file, began, began_moves}
+use Rattle.gw_rules.specs.Example.{example_setup, status_request, status_reply_bytes, silent_message, status_asked, not_found, heard_log, asked_log, failed_send_log, tills_open, crowded_log, StatusIsLawful, FailedSendIsLawful, SilentIsLawful, BadFrameIsLawful, CrowdedIsLawful, RestartedIsLawful, CrashedIsLawful, LooksMayFail, RefusedIsNotPolled, DiskFailureEnds, NoRunWhereNotOpened, first_turns, first_file, began, began_moves}
 use Rattle.gw_rules.specs.Lawful.{AllowedTurn, IsClear, IsCourse, IsChunk, turns_of, IsLawful}
 use Rattle.gw_rules.specs.Stage.{Stage, Resting, Opening, Looking, AtPoll, Handling, Over, Broken, is_running}
 use Rattle.gw_rules.specs.View.{View, Move, Begin, Read, Make, after_turn, view_from, at_first}
@@ -69,10 +69,10 @@ reading-course = (
 )
 
 abbrev replied_moves : List Move
-replied_moves = Make (SentTill 1 (frame status_reply) true) ∷ Make (Polled (pos 0)) ∷ Make Stopped ∷ []
+replied_moves = Make (SentTill 1 (frame status_reply_bytes) true) ∷ Make (Polled (pos 0)) ∷ Make Stopped ∷ []
 
 replied-course : IsCourse replying_view replied_moves
-unfolding status_request
+unfolding status_request history
 replied-course = ((not_found, refl, reply-bytes), (record { running = refl; calls = refl; items = refl }, (refl, tt)))
 
 pub status-lawful : StatusIsLawful
@@ -83,12 +83,12 @@ status-lawful = record {
 }
 
 abbrev failed_moves : List Move
-failed_moves = Make (SentTill 1 (take 5 (frame status_reply)) false) ∷ Make (CutTill 1) ∷ Make (Polled (pos 0)) ∷ Make Stopped ∷ []
+failed_moves = Make (SentTill 1 (take 5 (frame status_reply_bytes)) false) ∷ Make (CutTill 1) ∷ Make (Polled (pos 0)) ∷ Make Stopped ∷ []
 
 failed-course : IsCourse replying_view failed_moves
-unfolding status_request
+unfolding status_request history
 failed-course = (
-  (not_found, refl, (drop 5 (frame status_reply), sym reply-bytes ∙ sym (take-append-drop 5 (frame status_reply)))),
+  (not_found, refl, (drop 5 (frame status_reply_bytes), sym reply-bytes ∙ sym (take-append-drop 5 (frame status_reply_bytes)))),
   (refl, (record { running = refl; calls = refl; items = refl }, (refl, tt))),
 )
 
@@ -96,8 +96,8 @@ pub failed-send-lawful : FailedSendIsLawful
 failed-send-lawful = lawful-after (frame status_request) (reading_moves ++ failed_moves) request-chunk (course-append (heard_view (frame status_request)) reading_moves failed_moves reading-course failed-course)
 
 -- the log up to that send
-pub failing-lawful : IsLawful (asked_log ++ SentTill 1 (take 5 (frame status_reply)) false ∷ [])
-failing-lawful = prefix-lawful (asked_log ++ SentTill 1 (take 5 (frame status_reply)) false ∷ []) failed_send_log (CutTill 1 ∷ Polled (pos 0) ∷ Stopped ∷ [], refl) failed-send-lawful
+pub failing-lawful : IsLawful (asked_log ++ SentTill 1 (take 5 (frame status_reply_bytes)) false ∷ [])
+failing-lawful = prefix-lawful (asked_log ++ SentTill 1 (take 5 (frame status_reply_bytes)) false ∷ []) failed_send_log (CutTill 1 ∷ Polled (pos 0) ∷ Stopped ∷ [], refl) failed-send-lawful
 
 -- ---- a silent message
 
@@ -125,10 +125,10 @@ unfolding status_request
 bad-chunk = record { count = (omega arith, omega arith); bytes = bytes-tested bad_bytes refl }
 
 abbrev bad_moves : List Move
-bad_moves = Read status_asked ∷ Begin ∷ Make (SentTill 1 (frame status_reply) true) ∷ Begin ∷ Make (CutTill 1) ∷ Make (Polled (pos 0)) ∷ Make Stopped ∷ []
+bad_moves = Read status_asked ∷ Begin ∷ Make (SentTill 1 (frame status_reply_bytes) true) ∷ Begin ∷ Make (CutTill 1) ∷ Make (Polled (pos 0)) ∷ Make Stopped ∷ []
 
 bad-course : IsCourse (heard_view bad_bytes) bad_moves
-unfolding status_request
+unfolding status_request history
 bad-course = (
   record { idle = record { round = refl; calls = refl }; waits = refl; bytes = status_request; message = refl; reads = request-read },
   (

@@ -21,10 +21,10 @@ use Rattle.jrn_log.specs.JournalTurns.{body_write, gate_write, first_gate, first
 use Rattle.jrn_log.specs.Slots.{AreSlots}
 use Rattle.jrn_log.proofs.AppendLemmas.{append_rests}
 use Rattle.jrn_log.proofs.DecodeLemmas.{decoded_are_slots}
-use Rattle.jrn_log.proofs.ForeignLemmas.{append_closed, append_leaves, opening_closed, opening_leaves, beginning_leaves, crash_leaves, file_can, others_leave}
+use Rattle.jrn_log.proofs.ForeignLemmas.{append_closed, append_leaves, opening_closed, opening_leaves, crash_leaves, file_can, others_leave}
 use Rattle.jrn_log.proofs.JournalLogLemmas.{opening_rests}
 use Rattle.gw_owes.specs.Calls.{OwedCall, SendTill, SendPt, LinkPt, WriteBody, WriteGate, WriteFirstGate, Sync, keep_calls, write_turn, CutTill as OwedCutTill, CutPt as OwedCutPt}
-use Rattle.gw_rules.specs.JournalFiles.{HasJournalFiles, EachHasJournalFiles, is_on_disk, spare_disk, OpeningLeavesJournalFiles, IsOpened, OpeningHasJournal, HasJournal, KeepingLeavesJournals, IsKept, KeepingHasJournal, journal_log, OpenedHasJournal, journal_view, kept_moves, KeptFileIsJournal}
+use Rattle.gw_rules.specs.JournalFiles.{HasJournalFiles, is_on_disk, spare_disk, ItemsSpareDisk, OpeningLeavesJournalFiles, IsOpened, OpeningHasJournal, HasJournal, KeepingLeavesJournals, IsKept, KeepingHasJournal, journal_log, OpenedHasJournal, journal_view, kept_moves, KeptFileIsJournal}
 use Rattle.gw_rules.specs.Lawful.{first_call, AllowedTurn, IsCourse, turns_of}
 use Rattle.gw_rules.specs.Opening.{opening_calls}
 use Rattle.gw_rules.specs.RowExample.{example_record, terminal_setup}
@@ -33,7 +33,7 @@ use Rattle.gw_rules.specs.View.{View, Move, Begin, Read, Make, later, after, aft
 use Rattle.gw_rules.proofs.CourseLemmas.{after-outside, begin-outside}
 use Rattle.gw_rules.proofs.ExampleLemmas.{began-course}
 use Rattle.gw_rules.proofs.RowExampleLemmas.{formed}
-use Rattle.gw_rules.proofs.SpareLemmas.{begin-spares, made-at-spares, lost-at-spares}
+use Rattle.gw_rules.proofs.SpareLemmas.{made-at-spares, lost-at-spares}
 use Rattle.gw_rules.proofs.StageLemmas.{no-true}
 
 -- ---- calls
@@ -373,21 +373,17 @@ turn-goes v log (Crash file) e g ok = inl (record { spares = refl; leaves = cras
 
 -- ---- along a course
 
-course-leaves : (v : View) (log : List Turn) (moves : List Move) → v.scene.outside ≡ outside_of log → Goes log v.calls → IsCourse v moves → LeavesJournals (log ++ turns_of moves)
-course-leaves v log [] e g c = subst LeavesJournals (sym (append-nil log)) (goes-leaves log v.calls g)
-course-leaves v log (Begin ∷ moves) e g c =
-    course-leaves (after v Begin) log moves (begin-outside v.scene v.items ∙ e) (inl (record { spares = begin-spares v.scene v.items; leaves = goes-leaves log v.calls g })) c.1
-course-leaves v log (Read as_read ∷ moves) e g c = course-leaves (after v (Read as_read)) log moves e (inl (record { spares = refl; leaves = goes-leaves log v.calls g })) c.1
-course-leaves v log (Make turn ∷ moves) e g c =
+course-leaves : (v : View) (log : List Turn) (moves : List Move) → v.scene.outside ≡ outside_of log → Goes log v.calls → IsCourse v moves → ItemsSpareDisk v moves → LeavesJournals (log ++ turns_of moves)
+course-leaves v log [] e g c spare = subst LeavesJournals (sym (append-nil log)) (goes-leaves log v.calls g)
+course-leaves v log (Begin ∷ moves) e g c spare =
+    course-leaves (after v Begin) log moves (begin-outside v.scene v.items ∙ e) (inl (record { spares = spare.0; leaves = goes-leaves log v.calls g })) c.1 spare.1
+course-leaves v log (Read as_read ∷ moves) e g c spare = course-leaves (after v (Read as_read)) log moves e (inl (record { spares = refl; leaves = goes-leaves log v.calls g })) c.1 spare
+course-leaves v log (Make turn ∷ moves) e g c spare =
     subst LeavesJournals (append_assoc log (turn ∷ []) (turns_of moves))
-    (course-leaves (after_turn v turn) (log ++ turn ∷ []) moves (after-outside v turn ∙ ap (λ o. outside_after o turn) e ∙ sym (outside_of-append log (turn ∷ []))) (turn-goes v log turn e g c.0) c.1)
+    (course-leaves (after_turn v turn) (log ++ turn ∷ []) moves (after-outside v turn ∙ ap (λ o. outside_after o turn) e ∙ sym (outside_of-append log (turn ∷ []))) (turn-goes v log turn e g c.0) c.1 spare)
 
 has-files : (log : List Turn) → LeavesJournals log → HasJournalFiles log
 has-files log leaves = record { file = file_can log leaves; stable = leaves (outside_of log).stable (stable_image log); images = leaves }
-
-pub each-has-journal-files : EachHasJournalFiles
-each-has-journal-files log (v, s) =
-    has-files log (subst LeavesJournals s.log_is (course-leaves at_first [] s.course refl (inl (record { spares = refl; leaves = beginning_leaves })) s.lawful))
 
 keeping-goes : (log : List Turn) (v : View) (the_record : Record) (calls : List OwedCall) → HasJournal log v → length (record_body the_record) ≡ 255 → v.calls ≡ owed_all (length v.scene.kept) the_record ++ calls → spare_disk calls ≡ true → Goes log v.calls
 keeping-goes log v the_record calls h size e spares =
@@ -408,12 +404,12 @@ keeping-goes log v the_record calls h size e spares =
     })))
 
 pub keeping-leaves-journals : KeepingLeavesJournals
-keeping-leaves-journals log v the_record calls moves h is e spares course =
-    has-files (log ++ turns_of moves) (course-leaves v log moves h.outside_is (keeping-goes log v the_record calls h (record_body-offsets the_record is).0 e spares) course)
+keeping-leaves-journals log v the_record calls moves h is e spares course spare =
+    has-files (log ++ turns_of moves) (course-leaves v log moves h.outside_is (keeping-goes log v the_record calls h (record_body-offsets the_record is).0 e spares) course spare)
 
 pub opening-leaves-journal-files : OpeningLeavesJournalFiles
-opening-leaves-journal-files log v calls moves o leaves e spares course =
-    has-files (log ++ turns_of moves) (course-leaves v log moves o (inr (inl (inl (record { more = calls; leaves = leaves; calls_are = e; spares = spares })))) course)
+opening-leaves-journal-files log v calls moves o leaves e spares course spare =
+    has-files (log ++ turns_of moves) (course-leaves v log moves o (inr (inl (inl (record { more = calls; leaves = leaves; calls_are = e; spares = spares })))) course spare)
 
 -- ---- a journal is opened
 
@@ -552,7 +548,7 @@ kept-file-is-journal = record {
   lawful = kept-course;
   kept_is = refl;
   file_is = refl;
-  files = has-files (journal_log ++ turns_of kept_moves) (course-leaves journal_view journal_log kept_moves refl (keeping-goes journal_log journal_view example_record [] has-journal refl refl refl) kept-course);
+  files = has-files (journal_log ++ turns_of kept_moves) (course-leaves journal_view journal_log kept_moves refl (keeping-goes journal_log journal_view example_record [] has-journal refl refl refl) kept-course tt);
 }
 
 pub opened-has-journal : OpenedHasJournal

@@ -22,21 +22,72 @@ use Rattle.jrn_log.specs.JournalTurns.{gate_write}
 use Rattle.jrn_log.specs.Slots.{AreSlots, HasGate, IsTruncatedSlot, IsFileTooLong}
 use Rattle.jrn_log.proofs.ImageLemmas.{Rest, has_body, after_body, after_gate, body_leaves, body_sync_rest, gate_leaves, gate_sync_rest}
 use Rattle.jrn_log.proofs.SlotLemmas.{end_closed, one_byte_slots, one_slots, push_length, slot_gate}
-use Rattle.gw_rules.specs.KeptLaws.{RecordRules, AreInOrder, slots_needed, RanWith, HadMoreSlots}
+use Rattle.gw_rules.specs.KeptLaws.{RecordRules, AreInSequence, slots_needed, RanWith, HadMoreSlots}
+
+-- ---- whose journal it is
+
+-- The rules of the records, and whether the journal is this gateway's own from its first turn on. Of one that is handed in, nothing is known of the order of its records nor of the runs before.
+pub record Basis : Type 0 where
+  pub own : Bool
+  pub rules : RecordRules
+
+abbrev pub owned : RecordRules → Basis
+owned rules = record { own = true; rules = rules }
+
+abbrev pub handed : RecordRules → Basis
+handed rules = record { own = false; rules = rules }
+
+-- the records are in sequence, where the journal is its own
+abbrev pub InOrderWhere : Bool → RecordRules → List Record → Type 0
+InOrderWhere true rules records = AreInSequence rules [] records
+InOrderWhere false rules records = Unit {0}
+
+abbrev pub InOrder : Basis → List Record → Type 0
+InOrder basis records = InOrderWhere basis.own basis.rules records
+
+-- a run had more slots than these, where the journal is its own
+abbrev pub HadWhere : Bool → ℕ → List Turn → Type 0
+HadWhere true slots log = HadMoreSlots slots log
+HadWhere false slots log = Unit {0}
+
+abbrev pub Had : Basis → ℕ → List Turn → Type 0
+Had basis slots log = HadWhere basis.own slots log
 
 -- ---- records in order
 
 -- so are the first of them
-in-order-first : (rules : RecordRules) (before records more : List Record) → AreInOrder rules before (records ++ more) → AreInOrder rules before records
+pub in-order-first : (rules : RecordRules) (before records more : List Record) → AreInSequence rules before (records ++ more) → AreInSequence rules before records
 in-order-first rules before [] more h = tt
 in-order-first rules before (the_record ∷ records) more h = (h.0, h.1, in-order-first rules (before ++ the_record ∷ []) records more h.2)
 
 -- and they with one more
-pub in-order-more : (rules : RecordRules) (before records : List Record) (the_record : Record) → AreInOrder rules before records → IsRecord the_record → IsTrue (rules.may_follow (before ++ records) the_record)
-    → AreInOrder rules before (records ++ the_record ∷ [])
+pub in-order-more : (rules : RecordRules) (before records : List Record) (the_record : Record) → AreInSequence rules before records → IsRecord the_record → IsTrue (rules.may_follow (before ++ records) the_record)
+    → AreInSequence rules before (records ++ the_record ∷ [])
 in-order-more rules before [] the_record h is follows = (is, subst (λ l. IsTrue (rules.may_follow l the_record)) (append-nil before) follows, tt)
 in-order-more rules before (first ∷ records) the_record h is follows =
     (h.0, h.1, in-order-more rules (before ++ first ∷ []) records the_record h.2 is (subst (λ l. IsTrue (rules.may_follow l the_record)) (sym (append_assoc before (first ∷ []) records)) follows))
+
+-- the same, of those that are in order
+order-first : (basis : Basis) (records more : List Record) → InOrder basis (records ++ more) → InOrder basis records
+order-first basis records more h = by_own basis.own h
+  where
+    by_own : (own : Bool) → InOrderWhere own basis.rules (records ++ more) → InOrderWhere own basis.rules records
+    by_own true h = in-order-first basis.rules [] records more h
+    by_own false h = tt
+
+pub order-more : (basis : Basis) (records : List Record) (the_record : Record) → InOrder basis records → IsRecord the_record → IsTrue (basis.rules.may_follow records the_record) → InOrder basis (records ++ the_record ∷ [])
+order-more basis records the_record h is follows = by_own basis.own h
+  where
+    by_own : (own : Bool) → InOrderWhere own basis.rules records → InOrderWhere own basis.rules (records ++ the_record ∷ [])
+    by_own true h = in-order-more basis.rules [] records the_record h is follows
+    by_own false h = tt
+
+pub order-none : (basis : Basis) → InOrder basis []
+order-none basis = by_own basis.own
+  where
+    by_own : (own : Bool) → InOrderWhere own basis.rules []
+    by_own true = tt
+    by_own false = tt
 
 -- ---- gates
 
@@ -93,8 +144,8 @@ kept-by-either P kept flight file h k = by_test (has_gate file (length kept))
     by_test false = h
 
 -- and of those that are in order
-pub kept-by-order : (rules : RecordRules) (kept : List Record) (flight : Option Record) (file : List ℕ) → AreInOrder rules [] (records_by kept flight) → AreInOrder rules [] (kept_by kept flight file)
-kept-by-order rules kept flight file h = kept-by-either (λ l. AreInOrder rules [] l) kept flight file (in-order-first rules [] kept (option_to_list flight) h) h
+pub kept-by-order : (basis : Basis) (kept : List Record) (flight : Option Record) (file : List ℕ) → InOrder basis (records_by kept flight) → InOrder basis (kept_by kept flight file)
+kept-by-order basis kept flight file h = kept-by-either (λ l. InOrder basis l) kept flight file (order-first basis kept (option_to_list flight) h) h
 
 -- where none is in flight, those of the file are those that are kept
 pub by-none : (P : List Record → Type 0) (records : List Record) → P records → P (records_by records None)
@@ -130,7 +181,7 @@ clean-image o image synced clean is =
     let e : length o.file ≡ length o.stable = ap length synced in
     same_number_lists image o.stable (omega arith) (λ i lt. is.kept i (omega arith) (rw clean refl))
 
-clean-files : (log : List Turn) (o : Outside) (kept : List Record) → outside_of log ≡ o → o.file ≡ o.stable → o.written ≡ [] → AreSlots o.stable (map record_body kept) → HasGateAfter o.stable (length kept) → Files log kept None
+pub clean-files : (log : List Turn) (o : Outside) (kept : List Record) → outside_of log ≡ o → o.file ≡ o.stable → o.written ≡ [] → AreSlots o.stable (map record_body kept) → HasGateAfter o.stable (length kept) → Files log kept None
 clean-files log o kept e synced clean slots gate = files-of-images log kept (λ image is. subst (λ f. AreSlots f (map record_body kept)) (sym (same image is)) slots) (λ image is. subst (λ f. HasGateAfter f (length kept)) (sym (same image is)) gate)
   where
     same : (image : List ℕ) → Image (outside_of log) image → image ≡ o.stable
@@ -259,31 +310,39 @@ gate-files log o kept the_record e r size = record {
 pub ran-later : (log more : List Turn) (setup : Setup) → RanWith setup log → RanWith setup (log ++ more)
 ran-later log more setup r = record { before = r.before; rest = r.rest ++ more; log_is = ap (λ l. l ++ more) r.log_is ∙ append_assoc r.before (Start setup ∷ r.rest) more }
 
-pub more-later : (log more : List Turn) (slots : ℕ) → HadMoreSlots slots log → HadMoreSlots slots (log ++ more)
-more-later log more slots h = record { setup = h.setup; ran = ran-later log more h.setup h.ran; more = h.more }
+pub more-later : (basis : Basis) (log more : List Turn) (slots : ℕ) → Had basis slots log → Had basis slots (log ++ more)
+more-later basis log more slots h = by_own basis.own h
+  where
+    by_own : (own : Bool) → HadWhere own slots log → HadWhere own slots (log ++ more)
+    by_own true h = record { setup = h.setup; ran = ran-later log more h.setup h.ran; more = h.more }
+    by_own false h = tt
 
-pub fewer-slots : (log : List Turn) (slots fewer : ℕ) → fewer ≤ slots → HadMoreSlots slots log → HadMoreSlots fewer log
-fewer-slots log slots fewer le h = record { setup = h.setup; ran = h.ran; more = let m = h.more in omega (arith, le, m) }
+pub fewer-slots : (basis : Basis) (log : List Turn) (slots fewer : ℕ) → fewer ≤ slots → Had basis slots log → Had basis fewer log
+fewer-slots basis log slots fewer le h = by_own basis.own h
+  where
+    by_own : (own : Bool) → HadWhere own slots log → HadWhere own fewer log
+    by_own true h = record { setup = h.setup; ran = h.ran; more = let m = h.more in omega (arith, le, m) }
+    by_own false h = tt
 
 -- the file is too long for so many slots only where a run had more
-abbrev pub LongFile : List Turn → Type 0
-LongFile log = (slots : ℕ) → IsFileTooLong slots (outside_of log).file → HadMoreSlots slots log
+abbrev pub LongFile : Basis → List Turn → Type 0
+LongFile basis log = (slots : ℕ) → IsFileTooLong slots (outside_of log).file → Had basis slots log
 
 -- where the file is no longer than before
-pub no-longer-file : (log : List Turn) (turn : Turn) → length (outside_of (log ++ turn ∷ [])).file ≤ length (outside_of log).file → LongFile log → LongFile (log ++ turn ∷ [])
-no-longer-file log turn le long slots too_long = more-later log (turn ∷ []) slots (long slots (omega (arith, le, too_long)))
+pub no-longer-file : (basis : Basis) (log : List Turn) (turn : Turn) → length (outside_of (log ++ turn ∷ [])).file ≤ length (outside_of log).file → LongFile basis log → LongFile basis (log ++ turn ∷ [])
+no-longer-file basis log turn le long slots too_long = more-later basis log (turn ∷ []) slots (long slots (omega (arith, le, too_long)))
 
-pub one-byte-file : (log : List Turn) → length (outside_of log).file ≤ 1 → LongFile log
-one-byte-file log few slots too_long = absurd (omega (arith, few, too_long))
+pub one-byte-file : (basis : Basis) (log : List Turn) → length (outside_of log).file ≤ 1 → LongFile basis log
+one-byte-file basis log few slots too_long = absurd (omega (arith, few, too_long))
 
 -- a write makes the file no longer than a bound on the file and on the write's end
 pub write-bound : (file : List ℕ) (offset : ℕ) (bytes : List ℕ) (bound : ℕ) → length file ≤ bound → offset + length bytes ≤ bound → length (overwrite file offset bytes) ≤ bound
 write-bound file offset bytes bound le reach = simp (length-append, length-take, length-replicate, length-drop) (omega arith)
 
 -- where the write ends within slots that a run had
-pub wrote-file : (log : List Turn) (offset : ℕ) (bytes : List ℕ) → ((slots : ℕ) → 256 * slots + 1 < offset + length bytes → HadMoreSlots slots log) → LongFile log → LongFile (log ++ Wrote offset bytes ∷ [])
-wrote-file log offset bytes within long slots too_long =
-    more-later log (Wrote offset bytes ∷ []) slots (elim (cases_lt (256 * slots + 1) (length (outside_of log).file)) [ inl lt ↦ long slots lt | inr le ↦ elim (cases_lt (256 * slots + 1) (offset + length bytes)) [ inl lt ↦ within slots lt | inr reach ↦ absurd (beyond le reach) ] ])
+pub wrote-file : (basis : Basis) (log : List Turn) (offset : ℕ) (bytes : List ℕ) → ((slots : ℕ) → 256 * slots + 1 < offset + length bytes → Had basis slots log) → LongFile basis log → LongFile basis (log ++ Wrote offset bytes ∷ [])
+wrote-file basis log offset bytes within long slots too_long =
+    more-later basis log (Wrote offset bytes ∷ []) slots (elim (cases_lt (256 * slots + 1) (length (outside_of log).file)) [ inl lt ↦ long slots lt | inr le ↦ elim (cases_lt (256 * slots + 1) (offset + length bytes)) [ inl lt ↦ within slots lt | inr reach ↦ absurd (beyond le reach) ] ])
   where
     size : length (outside_of (log ++ Wrote offset bytes ∷ [])).file ≡ length (overwrite (outside_of log).file offset bytes)
     size = ap (λ (p : Outside). length p.file) (outside_of_more log (Wrote offset bytes))
@@ -297,15 +356,15 @@ wrote-file log offset bytes within long slots too_long =
 -- ---- how many slots records need
 
 -- these records need more than so many slots only where a run had more
-abbrev pub FreeSlots : RecordRules → List Turn → List Record → Type 0
-FreeSlots rules log records = (slots : ℕ) → slots < slots_needed rules records → HadMoreSlots slots log
+abbrev pub FreeSlots : Basis → List Turn → List Record → Type 0
+FreeSlots basis log records = (slots : ℕ) → slots < slots_needed basis.rules records → Had basis slots log
 
-pub free-later : (rules : RecordRules) (log more : List Turn) (records : List Record) → FreeSlots rules log records → FreeSlots rules (log ++ more) records
-free-later rules log more records free slots needs = more-later log more slots (free slots needs)
+pub free-later : (basis : Basis) (log more : List Turn) (records : List Record) → FreeSlots basis log records → FreeSlots basis (log ++ more) records
+free-later basis log more records free slots needs = more-later basis log more slots (free slots needs)
 
 -- no record needs a slot
-pub free-none : (rules : RecordRules) (log : List Turn) → FreeSlots rules log []
-free-none rules log slots needs = absurd (let none = rules.none_open in let few : slots < 0 + rules.open_keys [] = needs in omega (arith, none, few))
+pub free-none : (basis : Basis) (log : List Turn) → FreeSlots basis log []
+free-none basis log slots needs = absurd (let none = basis.rules.none_open in let few : slots < 0 + basis.rules.open_keys [] = needs in omega (arith, none, few))
 
 -- ---- no truncated slot
 

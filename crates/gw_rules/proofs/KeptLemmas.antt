@@ -9,6 +9,8 @@ use Rattle.gw_site.specs.Outside.{Connection, Outside, is_connected, without, he
 use Rattle.gw_site.specs.Sorts.{IsQuiet, is_between}
 use Rattle.gw_site.specs.declared.turn.Turn.{Turn}
 use Rattle.gw_site.specs.declared.turn.Turn.TheVariants.{Start, OpenFailed, Polled, Opened, HeardTill, Closed, HeardPt, Lost, Stopped, Linked, LinkFailed, SentTill, SentPt, CutTill, CutPt, Wrote, Synced, DiskFailed, Crash}
+use Rattle.sale_values.specs.declared.header.Header.{Header}
+use Rattle.sale_values.specs.declared.request.SaleRequest.{SaleRequest}
 use Rattle.sale_frame.specs.Decode.{DecodedFrames, decode_after, decode_frames}
 use Rattle.zvt_apdu.specs.Decode.{decode_apdu}
 use Rattle.zvt_apdu.specs.DecodeStream.{DecodedApdus, decode_apdus}
@@ -16,21 +18,24 @@ use Rattle.zvt_apdu.specs.Grammar.{ApduValue}
 use Rattle.gw_owes.specs.Calls.{LinkPt, CutPt as OwedCutPt}
 use Rattle.gw_owes.specs.Core.{Core, Wait}
 use Rattle.gw_owes.specs.Events.{till_opened_items, has_bad_length, decoded_items, is_oversized, apdu_items, decoded_apdu_items, for_each_terminal, waits_by_deadline, items_due}
-use Rattle.gw_owes.specs.Items.{RoundItem, Crowded, Message, Asked, Unframed, Gone, Greet, Handle, NextWaiting, Oversized, LinkLost, Late, Overdue, Due}
+use Rattle.gw_owes.specs.Items.{RoundItem, Crowded, Message, Asked, Unframed, Gone, Greet, Handle, Serve, NextWaiting, Oversized, LinkLost, Late, Overdue, Due}
 use Rattle.gw_owes.specs.Links.{LinkIsMade, LinkIsLost}
+use Rattle.gw_owes.specs.Payments.{serve_row}
 use Rattle.gw_owes.specs.ReadAs.{ReadAs}
 use Rattle.gw_owes.specs.Row.{Known, Row, owing_where}
 use Rattle.gw_owes.specs.Rows.{row_of, asked_row}
+use Rattle.gw_owes.specs.Steps.{is_ready_standing}
 use Rattle.gw_owes.specs.Terminals.{link_made, link_lost, forgets_till}
 use Rattle.gw_owes.specs.declared.terminal.Terminal.{Terminal}
+use Rattle.gw_owes.proofs.PaymentLemmas.{each-served}
 use Rattle.gw_owes.proofs.TerminalLemmas.{greeting-changes-nothing, late-same, due-same, oversized-same, link-changes-alone, row-changes-alone}
 use Rattle.gw_rules.specs.LinkLaws.{IsOfTerminal, BringNothing, EndsNone}
 use Rattle.gw_rules.specs.Lawful.{may_begin, Begins, AllowedTurn, IsCourse, turns_of}
 use Rattle.gw_rules.specs.Scene.{Scene, known_in, row_in, row_at, link_made_at, link_lost_at}
 use Rattle.gw_rules.specs.View.{View, Move, Begin, Read, Make, read_first, after, after_turn, view_from}
 use Rattle.gw_rules.proofs.CourseLemmas.{begin-outside}
-use Rattle.gw_rules.proofs.LinkStateLemmas.{On, state_of, state_in, loses, apart}
-use Rattle.gw_rules.proofs.LinkedLemmas.{Agrees, Settled, Losing, lose_none, at-keeps, call-settled, call-setup, lost-at-turns, made-at-turns, move-agrees, round-setup}
+use Rattle.gw_rules.proofs.LinkStateLemmas.{On, state_of, state_in, is_serve, all_serve, is_asked, loses, apart}
+use Rattle.gw_rules.proofs.LinkedLemmas.{Agrees, Settled, Losing, lose_none, at-keeps, at-keeps-alone, call-settled, call-setup, lost-at-turns, made-at-turns, move-agrees, round-setup}
 use Rattle.gw_rules.proofs.OutsideCutLemmas.{no-link}
 use Rattle.gw_rules.proofs.StageLemmas.{no-true, not-true}
 
@@ -43,7 +48,15 @@ without_asker terminal = record terminal { asker = None }
 abbrev pub kept_in : Core → ℕ → Option Terminal
 kept_in core number = option_map without_asker (slice_get core.terminals number)
 
--- the item may change what is remembered of this terminal
+-- the terminal is ready, so that it may begin to serve
+abbrev pub is_ready_found : Option Terminal → Bool
+is_ready_found None = false
+is_ready_found (Some terminal) = is_ready_standing terminal.standing
+
+abbrev pub ready_in : Core → ℕ → Bool
+ready_in core number = is_ready_found (slice_get core.terminals number)
+
+-- the item may change what is remembered of this terminal, where it isn't ready; one that begins to serve changes one that is
 abbrev pub changes : ℕ → RoundItem → Bool
 changes pt (Crowded till) = false
 changes pt (Message till bytes) = false
@@ -52,6 +65,7 @@ changes pt (Unframed till) = false
 changes pt (Gone till) = false
 changes pt (Greet other apdu) = false
 changes pt (Handle other apdu) = other == pt
+changes pt (Serve other till header request) = false
 changes pt (NextWaiting other) = false
 changes pt (Oversized other) = false
 changes pt (LinkLost other) = other == pt
@@ -77,27 +91,46 @@ where-core false known row e = refl
 pub other-number : (pt other : ℕ) → (other == pt) ≡ false → pt ≢ other
 other-number pt other e same = apart other pt e (sym same)
 
-rows-kept : (tills : List Connection) (known : Known) (item : RoundItem) (pt : ℕ) → changes pt item ≡ false → kept_in (row_of tills known item).core pt ≡ kept_in known.core pt
-rows-kept tills known (Crowded till) pt e = refl
-rows-kept tills known (Message till bytes) pt e = refl
-rows-kept tills known (Asked till as_read) pt e = ap (λ c. kept_in c pt) (where-core (is_connected tills till) known (asked_row known till as_read) refl)
-rows-kept tills known (Unframed till) pt e = ap (λ c. kept_in c pt) (where-core (is_connected tills till) known _ refl)
-rows-kept tills known (Gone till) pt e = without-kept till known.core.terminals pt
-rows-kept tills known (Greet number apdu) pt e = ap (λ c. kept_in c pt) (greeting-changes-nothing known number apdu)
-rows-kept tills known (Handle number apdu) pt e = ap (option_map without_asker) ((row-changes-alone known (Handle number apdu) number refl).others pt (other-number pt number e))
-rows-kept tills known (NextWaiting number) pt e = refl
-rows-kept tills known (Oversized number) pt e = ap (λ c. kept_in c pt) (oversized-same known number)
-rows-kept tills known (LinkLost number) pt e = ap (option_map without_asker) ((row-changes-alone known (LinkLost number) number refl).others pt (other-number pt number e))
-rows-kept tills known (Late number) pt e = ap (λ c. kept_in c pt) (late-same known number)
-rows-kept tills known (Overdue key) pt e = refl
-rows-kept tills known (Due number) pt e = ap (λ c. kept_in c pt) (due-same known number)
+pub by-equal : {A : Type 0} (pt other : ℕ) → (other ≡ pt → A) → ((other == pt) ≡ false → A) → A
+by-equal {A} pt other same differs = by_test (other == pt) refl
+  where
+    by_test : (test : Bool) → (other == pt) ≡ test → A
+    by_test true e = same (eqb-true other pt e)
+    by_test false e = differs e
 
-pub at-kept : (scene : Scene) (item : RoundItem) (pt : ℕ) → changes pt item ≡ false → kept_in (row_at scene item).core pt ≡ kept_in scene.core pt
-at-kept scene item pt e = by_setup scene.setup
+-- a terminal that isn't ready begins to serve nothing
+serve-same : (known : Known) (number till : ℕ) (header : Header) (request : SaleRequest) → ready_in known.core number ≡ false → (serve_row known number till header request).core ≡ known.core
+serve-same known number till header request none =
+    each-served (λ (row : Row). row.core ≡ known.core) known number till header request refl
+    (λ payment terminal last is at. no-true (sym none ∙ ap is_ready_found at.found ∙ ap is_ready_standing at.standing_is))
+
+serve-kept : (known : Known) (number till : ℕ) (header : Header) (request : SaleRequest) (pt : ℕ) → ready_in known.core pt ≡ false → kept_in (serve_row known number till header request).core pt ≡ kept_in known.core pt
+serve-kept known number till header request pt none = by-equal pt number
+    (λ is. ap (λ c. kept_in c pt) (serve-same known number till header request (ap (ready_in known.core) is ∙ none)))
+    (λ differs. ap (option_map without_asker) ((row-changes-alone known (Serve number till header request) number refl).others pt (other-number pt number differs)))
+
+rows-kept : (tills : List Connection) (known : Known) (item : RoundItem) (pt : ℕ) → (is_serve item ≡ true → ready_in known.core pt ≡ false) → changes pt item ≡ false → kept_in (row_of tills known item).core pt ≡ kept_in known.core pt
+rows-kept tills known (Crowded till) pt none e = refl
+rows-kept tills known (Message till bytes) pt none e = refl
+rows-kept tills known (Asked till as_read) pt none e = ap (λ c. kept_in c pt) (where-core (is_connected tills till) known (asked_row known till as_read) refl)
+rows-kept tills known (Unframed till) pt none e = ap (λ c. kept_in c pt) (where-core (is_connected tills till) known _ refl)
+rows-kept tills known (Gone till) pt none e = without-kept till known.core.terminals pt
+rows-kept tills known (Greet number apdu) pt none e = ap (λ c. kept_in c pt) (greeting-changes-nothing known number apdu)
+rows-kept tills known (Handle number apdu) pt none e = ap (option_map without_asker) ((row-changes-alone known (Handle number apdu) number refl).others pt (other-number pt number e))
+rows-kept tills known (Serve number till header request) pt none e = serve-kept known number till header request pt (none refl)
+rows-kept tills known (NextWaiting number) pt none e = refl
+rows-kept tills known (Oversized number) pt none e = ap (λ c. kept_in c pt) (oversized-same known number)
+rows-kept tills known (LinkLost number) pt none e = ap (option_map without_asker) ((row-changes-alone known (LinkLost number) number refl).others pt (other-number pt number e))
+rows-kept tills known (Late number) pt none e = ap (λ c. kept_in c pt) (late-same known number)
+rows-kept tills known (Overdue key) pt none e = refl
+rows-kept tills known (Due number) pt none e = ap (λ c. kept_in c pt) (due-same known number)
+
+pub at-kept : (scene : Scene) (item : RoundItem) (pt : ℕ) → (is_serve item ≡ true → ready_in scene.core pt ≡ false) → changes pt item ≡ false → kept_in (row_at scene item).core pt ≡ kept_in scene.core pt
+at-kept scene item pt none e = by_setup scene.setup
   where
     by_setup : (setup : Option Setup) → kept_in (row_in scene (λ known. row_of scene.outside.tills known item) setup).core pt ≡ kept_in scene.core pt
     by_setup None = refl
-    by_setup (Some setup) = rows-kept scene.outside.tills (known_in scene setup) item pt e
+    by_setup (Some setup) = rows-kept scene.outside.tills (known_in scene setup) item pt none e
 
 pub made-kept : (scene : Scene) (other pt : ℕ) → pt ≢ other → kept_in (link_made_at scene other).core pt ≡ kept_in scene.core pt
 made-kept scene other pt differs = by_setup scene.setup
@@ -115,11 +148,33 @@ lost-kept scene other pt differs = by_setup scene.setup
 
 -- ---- items
 
-none-append : (pt : ℕ) (items more : List RoundItem) → change_none pt items ≡ true → change_none pt more ≡ true → change_none pt (items ++ more) ≡ true
-none-append pt [] more h k = k
-none-append pt (item ∷ items) more h k =
+pub change-none-append : (pt : ℕ) (items more : List RoundItem) → change_none pt items ≡ true → change_none pt more ≡ true → change_none pt (items ++ more) ≡ true
+change-none-append pt [] more h k = k
+change-none-append pt (item ∷ items) more h k =
     let p = and_parts (not (changes pt item)) (change_none pt items) h in
-    rw (p.0, none-append pt items more p.1 k) refl
+    rw (p.0, change-none-append pt items more p.1 k) refl
+
+serve-changes-none : (pt : ℕ) (item : RoundItem) → is_serve item ≡ true → changes pt item ≡ false
+serve-changes-none pt (Crowded till) e = no-true e
+serve-changes-none pt (Message till bytes) e = no-true e
+serve-changes-none pt (Asked till as_read) e = no-true e
+serve-changes-none pt (Unframed till) e = no-true e
+serve-changes-none pt (Gone till) e = no-true e
+serve-changes-none pt (Greet number apdu) e = no-true e
+serve-changes-none pt (Handle number apdu) e = no-true e
+serve-changes-none pt (Serve number till header request) e = refl
+serve-changes-none pt (NextWaiting number) e = no-true e
+serve-changes-none pt (Oversized number) e = no-true e
+serve-changes-none pt (LinkLost number) e = no-true e
+serve-changes-none pt (Late number) e = no-true e
+serve-changes-none pt (Overdue key) e = no-true e
+serve-changes-none pt (Due number) e = no-true e
+
+pub serves-change-none : (pt : ℕ) (items : List RoundItem) → all_serve items ≡ true → change_none pt items ≡ true
+serves-change-none pt [] e = refl
+serves-change-none pt (item ∷ items) e =
+    let p = and_parts (is_serve item) (all_serve items) e in
+    rw (serve-changes-none pt item p.0, serves-change-none pt items p.1) refl
 
 none-each : (pt number : ℕ) (item : ℕ → RoundItem) (terminals : List Terminal) → ((n : ℕ) → changes pt (item n) ≡ false) → change_none pt (for_each_terminal number item terminals) ≡ true
 none-each pt number item [] never = refl
@@ -131,8 +186,8 @@ none-overdue pt (wait ∷ waits) = none-overdue pt waits
 
 pub due-change-none : (pt : ℕ) (core : Core) → change_none pt (items_due core) ≡ true
 due-change-none pt core =
-    none-append pt (for_each_terminal 0 Late core.terminals) (map (λ (wait : Wait). Overdue wait.key) (waits_by_deadline core.waits) ++ for_each_terminal 0 Due core.terminals) (none-each pt 0 Late core.terminals (λ n. refl))
-    (none-append pt (map (λ (wait : Wait). Overdue wait.key) (waits_by_deadline core.waits)) (for_each_terminal 0 Due core.terminals) (none-overdue pt (waits_by_deadline core.waits)) (none-each pt 0 Due core.terminals (λ n. refl)))
+    change-none-append pt (for_each_terminal 0 Late core.terminals) (map (λ (wait : Wait). Overdue wait.key) (waits_by_deadline core.waits) ++ for_each_terminal 0 Due core.terminals) (none-each pt 0 Late core.terminals (λ n. refl))
+    (change-none-append pt (map (λ (wait : Wait). Overdue wait.key) (waits_by_deadline core.waits)) (for_each_terminal 0 Due core.terminals) (none-overdue pt (waits_by_deadline core.waits)) (none-each pt 0 Due core.terminals (λ n. refl)))
 
 none-where : (pt : ℕ) (test : Bool) (item : RoundItem) → changes pt item ≡ false → change_none pt (if test then item ∷ [] else []) ≡ true
 none-where pt true item never = rw never refl
@@ -150,48 +205,57 @@ none-messages pt till [] = refl
 none-messages pt till (payload ∷ payloads) = none-messages pt till payloads
 
 none-till : (pt till : ℕ) (decoded : DecodedFrames) → change_none pt (decoded_items till decoded) ≡ true
-none-till pt till decoded = none-append pt (map (Message till) decoded.payloads) _ (none-messages pt till decoded.payloads) (none-where pt (has_bad_length decoded.rest) (Unframed till) refl)
+none-till pt till decoded = change-none-append pt (map (Message till) decoded.payloads) _ (none-messages pt till decoded.payloads) (none-where pt (has_bad_length decoded.rest) (Unframed till) refl)
 
 none-apdus : (pt other : ℕ) (apdus : List ApduValue) → (other == pt) ≡ false → change_none pt (flat_map (apdu_items other) apdus) ≡ true
 none-apdus pt other [] e = refl
 none-apdus pt other (apdu ∷ apdus) e = rw (e, none-apdus pt other apdus e) refl
 
 none-pt : (pt other : ℕ) (decoded : DecodedApdus) → (other == pt) ≡ false → change_none pt (decoded_apdu_items other decoded) ≡ true
-none-pt pt other decoded e = none-append pt (flat_map (apdu_items other) decoded.apdus) _ (none-apdus pt other decoded.apdus e) (none-where pt (is_oversized (decode_apdu decoded.rest)) (Oversized other) refl)
+none-pt pt other decoded e = change-none-append pt (flat_map (apdu_items other) decoded.apdus) _ (none-apdus pt other decoded.apdus e) (none-where pt (is_oversized (decode_apdu decoded.rest)) (Oversized other) refl)
 
 -- what each event brings but bytes of this terminal and the loss of its link
 pub opened-none : (pt till : ℕ) (tills : List Connection) (core : Core) → change_none pt (till_opened_items till tills ++ items_due core) ≡ true
-opened-none pt till tills core = none-append pt (till_opened_items till tills) (items_due core) (none-opened pt till tills) (due-change-none pt core)
+opened-none pt till tills core = change-none-append pt (till_opened_items till tills) (items_due core) (none-opened pt till tills) (due-change-none pt core)
 
 pub till-none : (pt till : ℕ) (decoded : DecodedFrames) (core : Core) → change_none pt (decoded_items till decoded ++ items_due core) ≡ true
-till-none pt till decoded core = none-append pt (decoded_items till decoded) (items_due core) (none-till pt till decoded) (due-change-none pt core)
+till-none pt till decoded core = change-none-append pt (decoded_items till decoded) (items_due core) (none-till pt till decoded) (due-change-none pt core)
 
 pub other-none : (pt other : ℕ) (decoded : DecodedApdus) (core : Core) → (other == pt) ≡ false → change_none pt (decoded_apdu_items other decoded ++ items_due core) ≡ true
-other-none pt other decoded core e = none-append pt (decoded_apdu_items other decoded) (items_due core) (none-pt pt other decoded e) (due-change-none pt core)
+other-none pt other decoded core e = change-none-append pt (decoded_apdu_items other decoded) (items_due core) (none-pt pt other decoded e) (due-change-none pt core)
 
--- an item that begins is the first, and those after it are left
+-- an item that begins is the first, and those after it are left; where it is a message that was read, one that begins to serve may come before them
 pub record BeginsFirst (v : View) : Type 0 where
   pub item : RoundItem
   pub rest : List RoundItem
+  pub new : List RoundItem
   pub items_are : v.items ≡ item ∷ rest
-  pub left : (after v Begin).items ≡ rest
+  pub new_is : all_serve new ≡ true
+  pub left : (after v Begin).items ≡ new ++ rest
+  pub alone : is_asked item ≡ false → new ≡ []
+
+pub left-alone : (v : View) (f : BeginsFirst v) → is_asked f.item ≡ false → (after v Begin).items ≡ f.rest
+left-alone v f none = f.left ∙ ap (λ l. l ++ f.rest) (f.alone none)
 
 pub begins-first : (v : View) → Agrees v → Begins v → BeginsFirst v
 begins-first v a b = by_items v.items refl
   where
     by_items : (items : List RoundItem) → v.items ≡ items → BeginsFirst v
     by_items [] e = no-true (sym (ap (may_begin v.scene) e) ∙ b.first)
-    by_items (item ∷ rest) e = record { item = item; rest = rest; items_are = e; left = ap (λ l. (after (record v { items = l }) Begin).items) e ∙ ap (λ l. l ++ rest) (by_links a.links) }
+    by_items (item ∷ rest) e =
+        let known = round-setup v a.run b.idle.round in
+        let adds = by_links known.setup known.setup_is a.links in
+        record { item = item; rest = rest; new = (row_at v.scene item).items; items_are = e; new_is = adds.0; left = ap (λ l. (after (record v { items = l }) Begin).items) e; alone = adds.1 }
       where
-        by_links : Settled v ⊎ Losing v → (row_at v.scene item).items ≡ []
-        by_links (inl s) =
-            let known = round-setup v a.run b.idle.round in
+        by_links : (setup : Setup) → v.scene.setup ≡ Some setup → Settled v ⊎ Losing v → (all_serve (row_at v.scene item).items ≡ true) × (is_asked item ≡ false → (row_at v.scene item).items ≡ [])
+        by_links setup is (inl s) =
             let none : lose_none (item ∷ rest) ≡ true = subst (λ l. lose_none l ≡ true) e s.none in
-            (at-keeps v.scene item known.setup known.setup_is s.even (not-true (loses item) (and_parts (not (loses item)) (lose_none rest) none).0)).items
-        by_links (inr l) =
-            let known = round-setup v a.run b.idle.round in
+            let stays = not-true (loses item) (and_parts (not (loses item)) (lose_none rest) none).0 in
+            ((at-keeps v.scene item setup is s.even stays).items, λ asked. (at-keeps-alone v.scene item setup is s.even stays asked).items)
+        by_links setup is (inr l) =
             let same : LinkLost l.pt ≡ item = (let n : LinkLost l.pt ∷ l.rest ≡ item ∷ rest = sym l.items_are ∙ e in cc) in
-            subst (λ i. (row_at v.scene i).items ≡ []) same (lost-at-turns v.scene l.pt known.setup known.setup_is).items
+            let none : (row_at v.scene item).items ≡ [] = subst (λ i. (row_at v.scene i).items ≡ []) same (lost-at-turns v.scene l.pt setup is).items in
+            (ap all_serve none, λ asked. none)
 
 pub read-none : (pt : ℕ) (as_read : ReadAs) (items : List RoundItem) → change_none pt items ≡ true → change_none pt (read_first as_read items) ≡ true
 read-none pt as_read [] e = e
@@ -202,6 +266,7 @@ read-none pt as_read (Unframed till ∷ items) e = e
 read-none pt as_read (Gone till ∷ items) e = e
 read-none pt as_read (Greet other apdu ∷ items) e = e
 read-none pt as_read (Handle other apdu ∷ items) e = e
+read-none pt as_read (Serve other till header request ∷ items) e = e
 read-none pt as_read (NextWaiting other ∷ items) e = e
 read-none pt as_read (Oversized other ∷ items) e = e
 read-none pt as_read (LinkLost other ∷ items) e = e
@@ -241,10 +306,11 @@ heard-new (connection ∷ connections) other pt e = by_test (connection.number =
 
 -- ---- what is kept
 
--- this is remembered of the terminal, which is linked, and this was heard on its link; no item is left that may change it
+-- this is remembered of the terminal, which is linked and not ready, and this was heard on its link; no item is left that may change it
 pub record Kept (pt : ℕ) (terminal : Terminal) (heard : List ℕ) (v : View) : Type 0 where
   pub kept : kept_in v.scene.core pt ≡ Some terminal
   pub linked : state_of (Some terminal) ≡ On
+  pub unready : is_ready_standing terminal.standing ≡ false
   pub items : change_none pt v.items ≡ true
   pub heard_is : heard_on v.scene.outside.links pt ≡ heard
 
@@ -255,9 +321,17 @@ state-kept (Some terminal) = refl
 pub kept-on : (pt : ℕ) (terminal : Terminal) (heard : List ℕ) (v : View) → Kept pt terminal heard v → state_in v.scene.core pt ≡ On
 kept-on pt terminal heard v k = sym (state-kept (slice_get v.scene.core.terminals pt)) ∙ ap state_of k.kept ∙ k.linked
 
+ready-found : (found : Option Terminal) (terminal : Terminal) → option_map without_asker found ≡ Some terminal → is_ready_found found ≡ is_ready_standing terminal.standing
+ready-found None terminal e = absurd (let n : None ≡ Some terminal = e in cc)
+ready-found (Some own) terminal e = let same : without_asker own ≡ terminal = (let n : Some (without_asker own) ≡ Some terminal = e in cc) in ap (λ (t : Terminal). is_ready_standing t.standing) same
+
+-- what is remembered says whether it is ready
+pub ready-kept : (core : Core) (pt : ℕ) (terminal : Terminal) → kept_in core pt ≡ Some terminal → ready_in core pt ≡ is_ready_standing terminal.standing
+ready-kept core pt terminal kept = ready-found (slice_get core.terminals pt) terminal kept
+
 -- with another view
 same-kept : (pt : ℕ) (terminal : Terminal) (heard : List ℕ) (v w : View) → Kept pt terminal heard v → kept_in w.scene.core pt ≡ kept_in v.scene.core pt → change_none pt w.items ≡ true → heard_on w.scene.outside.links pt ≡ heard_on v.scene.outside.links pt → Kept pt terminal heard w
-same-kept pt terminal heard v w k core items same = record { kept = core ∙ k.kept; linked = k.linked; items = items; heard_is = same ∙ k.heard_is }
+same-kept pt terminal heard v w k core items same = record { kept = core ∙ k.kept; linked = k.linked; unready = k.unready; items = items; heard_is = same ∙ k.heard_is }
 
 pub begin-kept : (pt : ℕ) (terminal : Terminal) (heard : List ℕ) (v : View) → Agrees v → Kept pt terminal heard v → Begins v → Kept pt terminal heard (after v Begin)
 begin-kept pt terminal heard v a k b =
@@ -265,19 +339,12 @@ begin-kept pt terminal heard v a k b =
     let none : change_none pt (first.item ∷ first.rest) ≡ true = subst (λ l. change_none pt l ≡ true) first.items_are k.items in
     let p = and_parts (not (changes pt first.item)) (change_none pt first.rest) none in
     same-kept pt terminal heard v (after v Begin) k
-    (ap (λ l. kept_in (after (record v { items = l }) Begin).scene.core pt) first.items_are ∙ at-kept v.scene first.item pt (not-true (changes pt first.item) p.0))
-    (ap (change_none pt) first.left ∙ p.1)
+    (ap (λ l. kept_in (after (record v { items = l }) Begin).scene.core pt) first.items_are ∙ at-kept v.scene first.item pt (λ serves. ready-kept v.scene.core pt terminal k.kept ∙ k.unready) (not-true (changes pt first.item) p.0))
+    (ap (change_none pt) first.left ∙ change-none-append pt first.new first.rest (serves-change-none pt first.new first.new_is) p.1)
     (ap (λ (o : Outside). heard_on o.links pt) (begin-outside v.scene v.items))
 
 pub read-kept : (pt : ℕ) (terminal : Terminal) (heard : List ℕ) (v : View) (as_read : ReadAs) → Kept pt terminal heard v → Kept pt terminal heard (after v (Read as_read))
 read-kept pt terminal heard v as_read k = same-kept pt terminal heard v (after v (Read as_read)) k refl (read-none pt as_read v.items k.items) refl
-
-pub by-equal : {A : Type 0} (pt other : ℕ) → (other ≡ pt → A) → ((other == pt) ≡ false → A) → A
-by-equal {A} pt other same differs = by_test (other == pt) refl
-  where
-    by_test : (test : Bool) → (other == pt) ≡ test → A
-    by_test true e = same (eqb-true other pt e)
-    by_test false e = differs e
 
 -- a turn of a run keeps it that is neither of the terminal nor cuts it
 pub turn-kept : (pt : ℕ) (terminal : Terminal) (heard : List ℕ) (v : View) (turn : Turn) → Agrees v → Kept pt terminal heard v → AllowedTurn v turn → is_between turn ≡ false → (IsOfTerminal pt turn → ⊥) → turn ≢ CutPt pt → Kept pt terminal heard (after_turn v turn)
@@ -349,7 +416,7 @@ abbrev pub KeptHere : ℕ → Terminal → View → Type 0
 KeptHere pt terminal v = Kept pt terminal (heard_on v.scene.outside.links pt) v
 
 pub kept-here : (pt : ℕ) (terminal : Terminal) (heard : List ℕ) (v : View) → Kept pt terminal heard v → KeptHere pt terminal v
-kept-here pt terminal heard v k = record { kept = k.kept; linked = k.linked; items = k.items; heard_is = refl }
+kept-here pt terminal heard v k = record { kept = k.kept; linked = k.linked; unready = k.unready; items = k.items; heard_is = refl }
 
 -- along a course in which nothing is heard of the terminal and its link lasts
 pub moves-kept : (pt : ℕ) (terminal : Terminal) (heard : List ℕ) (v : View) (moves : List Move) → Agrees v → Kept pt terminal heard v → IsCourse v moves → IsQuiet (turns_of moves) → BringNothing pt (turns_of moves) → EndsNone pt (turns_of moves)

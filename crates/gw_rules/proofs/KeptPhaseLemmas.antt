@@ -1,5 +1,5 @@
 -- How far the calls on the disk are at each moment of a log along which records are kept, and what holds there.
-use Rattle.std.proofs.Common.{◌≡◌, ℕ, ◌≤◌, true, false, List, [], ◌∷◌, ◌++◌, length, refl, sym, ◌∙◌, ap, inl, inr}
+use Rattle.std.proofs.Common.{◌≡◌, ℕ, ◌≤◌, Bool, true, false, List, [], ◌∷◌, ◌++◌, length, refl, sym, ◌∙◌, ap, inl, inr}
 use Rattle.std.proofs.lemmas.Bool.{and_parts}
 use Rattle.std.specs.Prelude.{◌⊎◌, not, map, Option, Some, None}
 use Rattle.gw_base.specs.declared.setup.Setup.{Setup}
@@ -8,17 +8,17 @@ use Rattle.gw_site.specs.declared.turn.Turn.{Turn}
 use Rattle.gw_site.specs.declared.turn.Turn.TheVariants.{Synced}
 use Rattle.jrn_record.specs.Grammar.{record_body}
 use Rattle.jrn_record.specs.declared.records.Record.{Record}
-use Rattle.jrn_log.specs.JournalLogs.{IsJournalLog}
 use Rattle.jrn_log.specs.JournalTurns.{body_write, gate_write, first_gate_write}
 use Rattle.jrn_log.specs.Slots.{AreSlots}
 use Rattle.gw_owes.specs.Calls.{OwedCall, SendTill, SendPt, LinkPt, WriteBody, WriteGate, WriteFirstGate, Sync, write_turn, CutTill as OwedCutTill, CutPt as OwedCutPt}
 use Rattle.gw_rules.specs.JournalFiles.{is_on_disk, spare_disk}
-use Rattle.gw_rules.specs.KeptLaws.{RecordRules, AreInOrder, RanWith, HadMoreSlots}
+use Rattle.gw_rules.specs.KeptLaws.{RanWith}
 use Rattle.gw_rules.specs.Lawful.{first_call}
 use Rattle.gw_rules.specs.Opening.{opening_calls}
 use Rattle.gw_rules.specs.Stage.{Stage, Resting, Opening, Looking, AtPoll, Handling, Over, Broken, busy, is_round, is_running, stage_synced, stage_wrote}
 use Rattle.gw_rules.specs.View.{View, later}
-use Rattle.gw_rules.proofs.KeptFileLemmas.{Files, FreeSlots, LongFile, records_by}
+use Rattle.gw_rules.proofs.KeptFileLemmas.{Basis, InOrder, Had, Files, FreeSlots, LongFile, records_by}
+use Rattle.gw_rules.proofs.JournalStateLemmas.{JournalState}
 use Rattle.gw_rules.proofs.StageLemmas.{no-true, no-call}
 
 -- ---- calls
@@ -100,14 +100,14 @@ round-runs Broken e = e
 -- ---- what holds at each moment
 
 -- the files, the records and the log, by the records that are kept and the one in flight
-pub record Facts (rules : RecordRules) (log : List Turn) (kept : List Record) (flight : Option Record) : Type 0 where
+pub record Facts (basis : Basis) (log : List Turn) (kept : List Record) (flight : Option Record) : Type 0 where
   pub files : Files log kept flight
-  pub in_order : AreInOrder rules [] (records_by kept flight)
-  pub long : LongFile log
-  pub free : FreeSlots rules log kept
-  pub all_free : FreeSlots rules log (records_by kept flight)
+  pub in_order : InOrder basis (records_by kept flight)
+  pub long : LongFile basis log
+  pub free : FreeSlots basis log kept
+  pub all_free : FreeSlots basis log (records_by kept flight)
   pub state : Option (List (List ℕ))
-  pub journal : IsJournalLog log state
+  pub journal : JournalState log state
 
 -- the run goes on no more, and nothing is owed
 pub record Calm (calls : List OwedCall) (stage : Stage) : Type 0 where
@@ -116,7 +116,7 @@ pub record Calm (calls : List OwedCall) (stage : Stage) : Type 0 where
 
 -- the journal is open with these records
 pub record IsOpen (log : List Turn) (kept : List Record) (flight : Option Record) : Type 0 where
-  pub journal : IsJournalLog log (Some (map record_body kept))
+  pub journal : JournalState log (Some (map record_body kept))
   pub no_flight : flight ≡ None
 
 -- no call on the disk is owed, and the journal is open
@@ -128,7 +128,7 @@ pub record Rests (log : List Turn) (kept : List Record) (flight : Option Record)
 pub record Gating (made : List Turn) (owed : List OwedCall) (log : List Turn) (kept : List Record) (flight : Option Record) (calls : List OwedCall) : Type 0 where
   pub base : List Turn
   pub state : Option (List (List ℕ))
-  pub journal : IsJournalLog base state
+  pub journal : JournalState base state
   pub slots : AreSlots (outside_of base).file (map record_body kept)
   pub few : length (outside_of base).file ≤ 1
   pub log_is : log ≡ base ++ Synced ∷ made
@@ -136,15 +136,15 @@ pub record Gating (made : List Turn) (owed : List OwedCall) (log : List Turn) (k
   pub no_flight : flight ≡ None
 
 -- so much of an append was made after a log with an open journal, and these calls are left of it
-pub record Appending (made : ℕ → List ℕ → List Turn) (owed : ℕ → Record → List OwedCall) (flying : Record → Option Record) (rules : RecordRules) (log : List Turn) (kept : List Record) (flight : Option Record) (calls : List OwedCall) : Type 0 where
+pub record Appending (made : ℕ → List ℕ → List Turn) (owed : ℕ → Record → List OwedCall) (flying : Record → Option Record) (basis : Basis) (log : List Turn) (kept : List Record) (flight : Option Record) (calls : List OwedCall) : Type 0 where
   pub base : List Turn
   pub the_record : Record
   pub more : List OwedCall
-  pub journal : IsJournalLog base (Some (map record_body kept))
+  pub journal : JournalState base (Some (map record_body kept))
   pub size : length (record_body the_record) ≡ 255
-  pub in_order : AreInOrder rules [] (kept ++ the_record ∷ [])
-  pub room : HadMoreSlots (length (map record_body kept)) log
-  pub free : FreeSlots rules log (kept ++ the_record ∷ [])
+  pub in_order : InOrder basis (kept ++ the_record ∷ [])
+  pub room : Had basis (length (map record_body kept)) log
+  pub free : FreeSlots basis log (kept ++ the_record ∷ [])
   pub log_is : log ≡ base ++ made (length (map record_body kept)) (record_body the_record)
   pub calls_are : calls ≡ owed (length (map record_body kept)) the_record ++ more
   pub spares : spare_disk more ≡ true
@@ -181,28 +181,32 @@ abbrev pub in_air : Record → Option Record
 in_air the_record = Some the_record
 
 -- how far the calls on the disk are
-pub data Mid (rules : RecordRules) (log : List Turn) (kept : List Record) (flight : Option Record) (calls : List OwedCall) : Type 0 where
-  FirstSync : calls ≡ opening_calls (length (outside_of log).file) → Mid rules log kept flight calls
-  FirstGate : Gating [] (WriteFirstGate ∷ Sync ∷ []) log kept flight calls → Mid rules log kept flight calls
-  GateSync : Gating (first_gate_write ∷ []) (Sync ∷ []) log kept flight calls → Mid rules log kept flight calls
-  Body : Appending none_made owes_all on_ground rules log kept flight calls → Mid rules log kept flight calls
-  BodySync : Appending body_made owes_sync on_ground rules log kept flight calls → Mid rules log kept flight calls
-  OpenGate : Appending body_synced owes_gate on_ground rules log kept flight calls → Mid rules log kept flight calls
-  LastSync : Appending gate_made owes_last in_air rules log kept flight calls → Mid rules log kept flight calls
+pub data Mid (basis : Basis) (log : List Turn) (kept : List Record) (flight : Option Record) (calls : List OwedCall) : Type 0 where
+  FirstSync : calls ≡ opening_calls (length (outside_of log).file) → Mid basis log kept flight calls
+  FirstGate : Gating [] (WriteFirstGate ∷ Sync ∷ []) log kept flight calls → Mid basis log kept flight calls
+  GateSync : Gating (first_gate_write ∷ []) (Sync ∷ []) log kept flight calls → Mid basis log kept flight calls
+  Body : Appending none_made owes_all on_ground basis log kept flight calls → Mid basis log kept flight calls
+  BodySync : Appending body_made owes_sync on_ground basis log kept flight calls → Mid basis log kept flight calls
+  OpenGate : Appending body_synced owes_gate on_ground basis log kept flight calls → Mid basis log kept flight calls
+  LastSync : Appending gate_made owes_last in_air basis log kept flight calls → Mid basis log kept flight calls
 
-abbrev pub Phase : RecordRules → List Turn → List Record → Option Record → List OwedCall → Stage → Type 0
-Phase rules log kept flight calls stage = Calm calls stage ⊎ (Rests log kept flight calls ⊎ (Mid rules log kept flight calls × (stage ≡ AtPoll → ⊥)))
+abbrev pub Phase : Basis → List Turn → List Record → Option Record → List OwedCall → Stage → Type 0
+Phase basis log kept flight calls stage = Calm calls stage ⊎ (Rests log kept flight calls ⊎ (Mid basis log kept flight calls × (stage ≡ AtPoll → ⊥)))
 
--- the run's setup is one with which a run of the log began
-abbrev pub IsOfLog : List Turn → Option Setup → Type 0
-IsOfLog log None = Unit {0}
-IsOfLog log (Some setup) = RanWith setup log
+-- the run's setup is one with which a run of the log began, where the journal is its own
+abbrev pub RanWhere : Bool → Setup → List Turn → Type 0
+RanWhere true setup log = RanWith setup log
+RanWhere false setup log = Unit {0}
 
-pub record Holds (rules : RecordRules) (log : List Turn) (v : View) : Type 0 where
+abbrev pub IsOfLog : Basis → List Turn → Option Setup → Type 0
+IsOfLog basis log None = Unit {0}
+IsOfLog basis log (Some setup) = RanWhere basis.own setup log
+
+pub record Holds (basis : Basis) (log : List Turn) (v : View) : Type 0 where
   pub outside_is : v.scene.outside ≡ outside_of log
-  pub facts : Facts rules log v.scene.kept v.scene.flight
-  pub setup_is : IsOfLog log v.scene.setup
-  pub phase : Phase rules log v.scene.kept v.scene.flight v.calls v.scene.stage
+  pub facts : Facts basis log v.scene.kept v.scene.flight
+  pub setup_is : IsOfLog basis log v.scene.setup
+  pub phase : Phase basis log v.scene.kept v.scene.flight v.calls v.scene.stage
 
 -- ---- which phase it is
 
@@ -213,38 +217,38 @@ record OwesDisk (calls : List OwedCall) : Type 0 where
   calls_are : calls ≡ first ∷ rest
   on_disk : is_on_disk first ≡ true
 
-owes-disk : (rules : RecordRules) (log : List Turn) (kept : List Record) (flight : Option Record) (calls : List OwedCall) → Mid rules log kept flight calls → OwesDisk calls
-owes-disk rules log kept flight calls (FirstSync e) = record { first = Sync; rest = later (opening_calls (length (outside_of log).file)); calls_are = e; on_disk = refl }
-owes-disk rules log kept flight calls (FirstGate g) = record { first = WriteFirstGate; rest = Sync ∷ []; calls_are = g.calls_are; on_disk = refl }
-owes-disk rules log kept flight calls (GateSync g) = record { first = Sync; rest = []; calls_are = g.calls_are; on_disk = refl }
-owes-disk rules log kept flight calls (Body a) =
+owes-disk : (basis : Basis) (log : List Turn) (kept : List Record) (flight : Option Record) (calls : List OwedCall) → Mid basis log kept flight calls → OwesDisk calls
+owes-disk basis log kept flight calls (FirstSync e) = record { first = Sync; rest = later (opening_calls (length (outside_of log).file)); calls_are = e; on_disk = refl }
+owes-disk basis log kept flight calls (FirstGate g) = record { first = WriteFirstGate; rest = Sync ∷ []; calls_are = g.calls_are; on_disk = refl }
+owes-disk basis log kept flight calls (GateSync g) = record { first = Sync; rest = []; calls_are = g.calls_are; on_disk = refl }
+owes-disk basis log kept flight calls (Body a) =
     record { first = WriteBody (length (map record_body kept)) a.the_record; rest = owes_sync (length (map record_body kept)) a.the_record ++ a.more; calls_are = a.calls_are; on_disk = refl }
-owes-disk rules log kept flight calls (BodySync a) = record { first = Sync; rest = owes_gate (length (map record_body kept)) a.the_record ++ a.more; calls_are = a.calls_are; on_disk = refl }
-owes-disk rules log kept flight calls (OpenGate a) =
+owes-disk basis log kept flight calls (BodySync a) = record { first = Sync; rest = owes_gate (length (map record_body kept)) a.the_record ++ a.more; calls_are = a.calls_are; on_disk = refl }
+owes-disk basis log kept flight calls (OpenGate a) =
     record { first = WriteGate (length (map record_body kept)) a.the_record; rest = owes_last (length (map record_body kept)) a.the_record ++ a.more; calls_are = a.calls_are; on_disk = refl }
-owes-disk rules log kept flight calls (LastSync a) = record { first = Sync; rest = a.more; calls_are = a.calls_are; on_disk = refl }
+owes-disk basis log kept flight calls (LastSync a) = record { first = Sync; rest = a.more; calls_are = a.calls_are; on_disk = refl }
 
 -- right after a poll, no call on the disk is owed
-pub rests-polled : (rules : RecordRules) (log : List Turn) (kept : List Record) (flight : Option Record) (calls : List OwedCall) (stage : Stage) → Phase rules log kept flight calls stage
+pub rests-polled : (basis : Basis) (log : List Turn) (kept : List Record) (flight : Option Record) (calls : List OwedCall) (stage : Stage) → Phase basis log kept flight calls stage
     → stage ≡ AtPoll → Rests log kept flight calls
-rests-polled rules log kept flight calls stage (inl c) e = no-true (sym c.over ∙ ap is_running e)
-rests-polled rules log kept flight calls stage (inr (inl r)) e = r
-rests-polled rules log kept flight calls stage (inr (inr m)) e = absurd (m.1 e)
+rests-polled basis log kept flight calls stage (inl c) e = no-true (sym c.over ∙ ap is_running e)
+rests-polled basis log kept flight calls stage (inr (inl r)) e = r
+rests-polled basis log kept flight calls stage (inr (inr m)) e = absurd (m.1 e)
 
 -- nor where the next call isn't on it
-pub rests-owing : (rules : RecordRules) (log : List Turn) (kept : List Record) (flight : Option Record) (calls : List OwedCall) (stage : Stage) (call : OwedCall) → Phase rules log kept flight calls stage
+pub rests-owing : (basis : Basis) (log : List Turn) (kept : List Record) (flight : Option Record) (calls : List OwedCall) (stage : Stage) (call : OwedCall) → Phase basis log kept flight calls stage
     → first_call calls ≡ Some call → is_on_disk call ≡ false → Rests log kept flight calls
-rests-owing rules log kept flight calls stage call (inl c) f off = no-call calls call c.calls_are f
-rests-owing rules log kept flight calls stage call (inr (inl r)) f off = r
-rests-owing rules log kept flight calls stage call (inr (inr m)) f off =
-    let d = owes-disk rules log kept flight calls m.0 in
+rests-owing basis log kept flight calls stage call (inl c) f off = no-call calls call c.calls_are f
+rests-owing basis log kept flight calls stage call (inr (inl r)) f off = r
+rests-owing basis log kept flight calls stage call (inr (inr m)) f off =
+    let d = owes-disk basis log kept flight calls m.0 in
     no-true (sym off ∙ ap is_on_disk (first-is calls d.rest d.first call d.calls_are f) ∙ d.on_disk)
 
 -- nor where the run goes on and the calls spare it
-pub rests-sparing : (rules : RecordRules) (log : List Turn) (kept : List Record) (flight : Option Record) (calls : List OwedCall) (stage : Stage) → Phase rules log kept flight calls stage
+pub rests-sparing : (basis : Basis) (log : List Turn) (kept : List Record) (flight : Option Record) (calls : List OwedCall) (stage : Stage) → Phase basis log kept flight calls stage
     → is_running stage ≡ true → spare_disk calls ≡ true → Rests log kept flight calls
-rests-sparing rules log kept flight calls stage (inl c) e h = no-true (sym c.over ∙ e)
-rests-sparing rules log kept flight calls stage (inr (inl r)) e h = r
-rests-sparing rules log kept flight calls stage (inr (inr m)) e h =
-    let d = owes-disk rules log kept flight calls m.0 in
+rests-sparing basis log kept flight calls stage (inl c) e h = no-true (sym c.over ∙ e)
+rests-sparing basis log kept flight calls stage (inr (inl r)) e h = r
+rests-sparing basis log kept flight calls stage (inr (inr m)) e h =
+    let d = owes-disk basis log kept flight calls m.0 in
     absurd (off-disk calls d.first h (ap first_call d.calls_are) d.on_disk)

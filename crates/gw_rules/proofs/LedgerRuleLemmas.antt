@@ -9,23 +9,24 @@ use Rattle.jrn_record.specs.declared.records.Record.{Record}
 use Rattle.gw_ledger.specs.Fold.{Fit, AreFolded}
 use Rattle.gw_ledger.specs.History.{history}
 use Rattle.gw_ledger.specs.Sums.{open_count_of}
-use Rattle.gw_rules.specs.KeptLaws.{AreInOrder, HadMoreSlots}
-use Rattle.gw_rules.specs.LedgerRules.{ledger_rules, EachFileFolds, EachImageFolds, RefusedOnlyWithFewerSlots, LawfulRefusedOnlyWithFewerSlots, RefusedAtLimits}
+use Rattle.gw_rules.specs.KeptLaws.{AreInSequence, HadMoreSlots}
+use Rattle.gw_rules.specs.LedgerRules.{ledger_rules, EachFileFolds, EachImageFolds, RefusedOnlyWithFewerSlots, RefusedAtLimits}
 use Rattle.gw_rules.specs.Scene.{records_of}
-use Rattle.gw_rules.proofs.KeptLawLemmas.{each-lawful-keeps-journal, has-kept, holds}
+use Rattle.gw_rules.proofs.KeptFileLemmas.{owned}
+use Rattle.gw_rules.proofs.KeptLawLemmas.{has-kept, holds}
 use Rattle.gw_rules.proofs.KeptPhaseLemmas.{Holds}
 
 -- ---- records in order by the ledger's rules are those that a ledger is the fold of
 
-in-order-within : (before records : List Record) → AreInOrder ledger_rules before records → All IsRecord records
+in-order-within : (before records : List Record) → AreInSequence ledger_rules before records → All IsRecord records
 in-order-within before [] h = All-nil IsRecord
 in-order-within before (the_record ∷ records) h = All-cons IsRecord the_record records h.0 (in-order-within (before ++ the_record ∷ []) records h.2)
 
-in-order-fit : (before records : List Record) → AreInOrder ledger_rules before records → Fit before records
+in-order-fit : (before records : List Record) → AreInSequence ledger_rules before records → Fit before records
 in-order-fit before [] h = tt
 in-order-fit before (the_record ∷ records) h = (h.1, in-order-fit (before ++ the_record ∷ []) records h.2)
 
-folded-in-order : (records : List Record) → AreInOrder ledger_rules [] records → AreFolded records
+pub folded-in-order : (records : List Record) → AreInSequence ledger_rules [] records → AreFolded records
 folded-in-order records h = record { within = in-order-within [] records h; fit = in-order-fit [] records h }
 
 pub each-file-folds : EachFileFolds
@@ -41,7 +42,7 @@ each-image-folds log v file bodies k image slots =
 pub refused-only-with-fewer-slots : RefusedOnlyWithFewerSlots
 refused-only-with-fewer-slots log v setup k e = by_long (nat_lt (256 * setup.slots + 1) (length v.scene.outside.file)) refl
   where
-    h : Holds ledger_rules log v
+    h : Holds (owned ledger_rules) log v
     h = holds ledger_rules log v k
 
     by_long : (long : Bool) → nat_lt (256 * setup.slots + 1) (length v.scene.outside.file) ≡ long → HadMoreSlots setup.slots log
@@ -52,9 +53,6 @@ refused-only-with-fewer-slots log v setup k e = by_long (nat_lt (256 * setup.slo
     by_long false is =
         let needs = length (records_of v.scene) + open_count_of (records_of v.scene) in
         h.facts.all_free setup.slots (ltb-true setup.slots needs (sym (ap (λ test. test || nat_lt setup.slots needs) is) ∙ e))
-
-pub lawful-refused-only-with-fewer-slots : LawfulRefusedOnlyWithFewerSlots
-lawful-refused-only-with-fewer-slots log v setup s = refused-only-with-fewer-slots log v setup (each-lawful-keeps-journal ledger_rules log v s)
 
 pub refused-at-limits : RefusedAtLimits
 unfolding history

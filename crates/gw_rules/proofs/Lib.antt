@@ -22,6 +22,7 @@ pub mod ExampleLemmas
 pub mod HeardLemmas
 pub mod JournalLemmas
 pub mod KeptExampleLemmas
+pub mod JournalStateLemmas
 pub mod KeptFileLemmas
 pub mod KeptLawLemmas
 pub mod KeptLemmas
@@ -38,13 +39,18 @@ pub mod OpensLemmas
 pub mod OutsideCutLemmas
 pub mod OwedLemmas
 pub mod OwingLemmas
+pub mod PaymentLogLemmas
+pub mod PaymentTextLemmas
 pub mod PendingLemmas
 pub mod PrefixLemmas
+pub mod RecordOrderLemmas
+pub mod RecordRowLemmas
 pub mod RegistrationLemmas
 pub mod ReportLemmas
 pub mod RestLemmas
 pub mod RoundLemmas
 pub mod RowExampleLemmas
+pub mod RowFormLemmas
 pub mod RunLemmas
 pub mod SaidLemmas
 pub mod SentLemmas

@@ -1,34 +1,44 @@
 -- Whether a terminal is linked, and else when it is due: what the row of each item leaves of it.
 use Rattle.std.proofs.Common.{◌≡◌, ◌≢◌, ℕ, zero, suc, List, [], ◌∷◌, refl, sym, ◌∙◌, ap, subst, true, false, eqb-true}
 use Rattle.std.proofs.lemmas.Bool.{eq-eqb}
-use Rattle.std.specs.Prelude.{Bool, ◌+◌, ◌==◌, map, slice_get, nat_le, if◌then◌else◌, Option, Some, None, Result, Ok, Err}
+use Rattle.std.specs.Prelude.{Bool, ◌+◌, ◌==◌, ◌&&◌, ◌++◌, map, length, slice_get, Option, Some, None, Result, Ok, Err}
+use Rattle.sale_values.specs.declared.header.Header.{Header}
+use Rattle.sale_values.specs.declared.request.SaleRequest.{SaleRequest}
+use Rattle.jrn_record.specs.declared.records.Intent.{Intent}
+use Rattle.jrn_record.specs.declared.records.Outcome.{Outcome}
+use Rattle.jrn_record.specs.declared.records.Record.{Record}
+use Rattle.jrn_record.specs.declared.records.Record.TheVariants.{Intent as IntentRecord, Outcome as OutcomeRecord}
 use Rattle.gw_site.specs.Outside.{Connection, is_connected}
 use Rattle.zvt_apdu.specs.Grammar.{ApduValue}
 use Rattle.zvt_msg.specs.declared.fault.PtFault.{PtFault}
 use Rattle.zvt_msg.specs.Message.{MessageValue, Ack, Nack, Intermediate, Line, Block, Status, Completion, Abort, Other}
 use Rattle.zvt_msg.specs.MessageDecode.{decode_pt_message}
 use Rattle.zvt_talk.specs.Talk.{TalkFacts}
-use Rattle.zvt_talk.specs.declared.meaning.Heard.{Heard}
-use Rattle.zvt_talk.specs.declared.meaning.Heard.TheVariants as heard
-use Rattle.gw_owes.specs.Calls.{OwedCall, SendTill, SendPt, LinkPt, WriteBody, WriteGate, WriteFirstGate, Sync, CutTill, CutPt}
+use Rattle.xlate.specs.Ask.{ask}
+use Rattle.gw_owes.specs.Calls.{OwedCall, SendTill, SendPt, LinkPt, WriteBody, WriteGate, WriteFirstGate, Sync, CutTill, CutPt, Ask, keep_calls}
 use Rattle.gw_owes.specs.Core.{Core}
 use Rattle.gw_owes.specs.Deadlines.{is_late, is_due_by, is_due, late_row, due_row}
 use Rattle.gw_owes.specs.Greeting.{greeting, sending_calls, greet_decoded, oversized_row}
-use Rattle.gw_owes.specs.Handling.{taking, meaning_at, staying, breaking, registering, enquiring, serving, consequence, handle_row}
-use Rattle.gw_owes.specs.Items.{RoundItem, Crowded, Message, Asked, Unframed, Gone, Greet, Handle, NextWaiting, Oversized, LinkLost, Late, Overdue, Due}
+use Rattle.gw_owes.specs.Handling.{taking, handle_row}
+use Rattle.gw_owes.specs.Items.{RoundItem, Crowded, Message, Asked, Unframed, Gone, Greet, Handle, Serve, NextWaiting, Oversized, LinkLost, Late, Overdue, Due}
 use Rattle.gw_owes.specs.Links.{is_linked, cutting}
 use Rattle.gw_owes.specs.Reply.{ReplyValue}
-use Rattle.gw_owes.specs.Reports.{standing_reported}
-use Rattle.gw_owes.specs.Requests.{reply_to}
+use Rattle.gw_owes.specs.Payments.{beginning_row, payment_intent, asked_for, serve_row}
+use Rattle.gw_owes.specs.ReadAs.{ReadAs}
+use Rattle.gw_owes.specs.Reports.{at_rest}
+use Rattle.gw_owes.specs.Requests.{begun_by, reply_to}
 use Rattle.gw_owes.specs.Row.{Known, Row, owing, owing_nothing, owing_where}
 use Rattle.gw_owes.specs.Rows.{asked_row, row_of}
+use Rattle.gw_owes.specs.Serving.{reply_to_outcome, done_with, resolves}
 use Rattle.gw_owes.specs.TerminalLaws.{settings_of}
 use Rattle.gw_owes.specs.Terminals.{terminal_at, of_terminal, terminal_becomes, with_terminal, registers, link_made, reply_calls_to, reply_to_lost, unlinks, unlinked_terminal, link_lost, forgets_till}
 use Rattle.gw_owes.specs.declared.terminal.Standing.{Standing}
 use Rattle.gw_owes.specs.declared.terminal.Standing.TheVariants.{Unlinked, Registering, Enquiring, Ready, Serving, Aside}
 use Rattle.gw_owes.specs.declared.terminal.Terminal.{Terminal}
-use Rattle.gw_owes.proofs.HandlingLemmas.{each-terminal, each-linked, each-handled}
+use Rattle.gw_owes.proofs.HandlingLemmas.{each-terminal, each-linked}
+use Rattle.gw_owes.proofs.PaymentLemmas.{each-served}
 use Rattle.gw_owes.proofs.SetLemmas.{others-stay, new-is-there, same-stays}
+use Rattle.gw_rules.proofs.RowFormLemmas.{EachForm, form-handled, form-begun}
 use Rattle.gw_rules.proofs.StageLemmas.{no-true}
 
 -- ---- states
@@ -137,18 +147,57 @@ reply-fits moment core None reply = tt
 reply-fits moment core (Some till) None = tt
 reply-fits moment core (Some till) (Some reply) = (tt, tt)
 
+-- so it is of the calls that keep a record, where it is of those after them
+kept-fits : (moment : ℕ) (core : Core) (slot : ℕ) (the_record : Record) (calls : List OwedCall) → EachFits moment core calls → EachFits moment core (keep_calls slot the_record ++ calls)
+kept-fits moment core slot the_record calls h = (tt, (tt, (tt, (tt, h))))
+
+-- ---- items that begin to serve
+
+abbrev pub is_serve : RoundItem → Bool
+is_serve (Crowded till) = false
+is_serve (Message till bytes) = false
+is_serve (Asked till as_read) = false
+is_serve (Unframed till) = false
+is_serve (Gone till) = false
+is_serve (Greet number apdu) = false
+is_serve (Handle number apdu) = false
+is_serve (Serve number till header request) = true
+is_serve (NextWaiting number) = false
+is_serve (Oversized number) = false
+is_serve (LinkLost number) = false
+is_serve (Late number) = false
+is_serve (Overdue key) = false
+is_serve (Due number) = false
+
+-- each of these does
+abbrev pub all_serve : List RoundItem → Bool
+all_serve [] = true
+all_serve (item ∷ items) = is_serve item && all_serve items
+
+-- what a till's message begins only begins to serve
+begins-serves : (known : Known) (till : ℕ) (as_read : ReadAs) → all_serve (begun_by known till as_read) ≡ true
+begins-serves known till as_read = form-begun (λ items. all_serve items ≡ true) known till refl as_read (λ number header request is. refl)
+
 -- ---- rows that leave each terminal linked, or due, as it was
 
-pub record LeavesLinks (moment : ℕ) (core : Core) (row : Row) : Type 0 where
+-- no item comes next
+pub record KeepsLinks (moment : ℕ) (core : Core) (row : Row) : Type 0 where
   pub states : (number : ℕ) → state_in row.core number ≡ state_in core number
   pub items : row.items ≡ []
   pub settings : settings_of row.core ≡ settings_of core
   pub fits : EachFits moment row.core row.calls
 
-owing-keeps : (known : Known) (calls : List OwedCall) → EachFits known.moment known.core calls → LeavesLinks known.moment known.core (owing known calls)
+-- the items that come next only begin to serve
+pub record LeavesLinks (moment : ℕ) (core : Core) (row : Row) : Type 0 where
+  pub states : (number : ℕ) → state_in row.core number ≡ state_in core number
+  pub items : all_serve row.items ≡ true
+  pub settings : settings_of row.core ≡ settings_of core
+  pub fits : EachFits moment row.core row.calls
+
+owing-keeps : (known : Known) (calls : List OwedCall) → EachFits known.moment known.core calls → KeepsLinks known.moment known.core (owing known calls)
 owing-keeps known calls fits = record { states = λ number. refl; items = refl; settings = refl; fits = fits }
 
-where-keeps : (there : Bool) (known : Known) (row : Row) → (there ≡ true → LeavesLinks known.moment known.core row) → LeavesLinks known.moment known.core (owing_where there known row)
+where-keeps : (there : Bool) (known : Known) (row : Row) → (there ≡ true → KeepsLinks known.moment known.core row) → KeepsLinks known.moment known.core (owing_where there known row)
 where-keeps true known row h = h refl
 where-keeps false known row h = owing-keeps known [] tt
 
@@ -157,7 +206,7 @@ apart one other e same = no-true (sym e ∙ eq-eqb one other same)
 
 -- a terminal that is linked stays linked
 becomes-keeps : (known : Known) (number : ℕ) (old new : Terminal) (calls : List OwedCall) → terminal_at known number ≡ Some old → standing_state old.standing old.talk ≡ On → standing_state new.standing new.talk ≡ On → new.pt ≡ old.pt
-    → (state_in (with_terminal known.core number new) number ≡ On → EachFits known.moment (with_terminal known.core number new) calls) → LeavesLinks known.moment known.core (terminal_becomes known number new calls)
+    → (state_in (with_terminal known.core number new) number ≡ On → EachFits known.moment (with_terminal known.core number new) calls) → KeepsLinks known.moment known.core (terminal_becomes known number new calls)
 becomes-keeps known number old new calls found on new_on same fits =
     let there : state_in (with_terminal known.core number new) number ≡ On = ap state_of (new-is-there known.core.terminals number old new found) ∙ new_on in
     record {
@@ -189,92 +238,66 @@ sending-fits moment core number Other on = (on, tt)
 found-on : (known : Known) (number : ℕ) (terminal : Terminal) → terminal_at known number ≡ Some terminal → is_linked terminal.standing ≡ true → state_in known.core number ≡ On
 found-on known number terminal found linked = ap state_of found ∙ linked-on terminal.standing terminal.talk linked
 
-outside-keeps : (known : Known) (number : ℕ) → LeavesLinks known.moment known.core (oversized_row known number)
-outside-keeps known number = each-linked (LeavesLinks known.moment known.core) known number (λ terminal. cutting known number) (owing-keeps known [] tt)
+outside-keeps : (known : Known) (number : ℕ) → KeepsLinks known.moment known.core (oversized_row known number)
+outside-keeps known number = each-linked (KeepsLinks known.moment known.core) known number (λ terminal. cutting known number) (owing-keeps known [] tt)
     (λ terminal found linked. owing-keeps known (CutPt number ∷ []) (found-on known number terminal found linked, tt))
 
-greet-keeps : (known : Known) (number : ℕ) (decoded : Result MessageValue PtFault) → LeavesLinks known.moment known.core (greet_decoded known number decoded)
-greet-keeps known number (Ok message) = each-linked (LeavesLinks known.moment known.core) known number (λ terminal. owing known (sending_calls number (greeting message))) (owing-keeps known [] tt)
+greet-keeps : (known : Known) (number : ℕ) (decoded : Result MessageValue PtFault) → KeepsLinks known.moment known.core (greet_decoded known number decoded)
+greet-keeps known number (Ok message) = each-linked (KeepsLinks known.moment known.core) known number (λ terminal. owing known (sending_calls number (greeting message))) (owing-keeps known [] tt)
     (λ terminal found linked. owing-keeps known (sending_calls number (greeting message)) (sending-fits known.moment known.core number message (found-on known number terminal found linked)))
 greet-keeps known number (Err fault) = outside-keeps known number
 
-module _ (known : Known) (number : ℕ) (old terminal : Terminal) (found : terminal_at known number ≡ Some old) (old_on : standing_state old.standing old.talk ≡ On) (on : standing_state terminal.standing terminal.talk ≡ On) (same : terminal.pt ≡ old.pt) where
-  staying-keeps : LeavesLinks known.moment known.core (staying known number terminal)
-  staying-keeps = becomes-keeps known number old terminal [] found old_on on same (λ there. tt)
+-- a record is kept and the till gets its reply, and the terminal stays linked
+resolved-keeps : (known : Known) (number : ℕ) (old terminal : Terminal) (standing : Standing) (outcome : Outcome) → terminal_at known number ≡ Some old → standing_state old.standing old.talk ≡ On → is_linked standing ≡ true → terminal.pt ≡ old.pt
+    → KeepsLinks known.moment known.core (resolves known number terminal standing outcome)
+resolved-keeps known number old terminal standing outcome found old_on linked same =
+    becomes-keeps known number old (done_with terminal standing) _ found old_on (linked-on standing None linked) same
+    (λ there.
+    let core : Core = with_terminal known.core number (done_with terminal standing) in
+    let reply : Option ReplyValue = reply_to_outcome known.kept outcome.slot outcome in
+    kept-fits known.moment core (length known.kept) (OutcomeRecord outcome) (reply_calls_to terminal.asker reply) (reply-fits known.moment core terminal.asker reply))
 
-  breaking-keeps : LeavesLinks known.moment known.core (breaking known number terminal)
-  breaking-keeps = becomes-keeps known number old terminal (CutPt number ∷ []) found old_on on same (λ there. (there, tt))
+-- so does each form that the consequence of a message may have
+forms-keep : (known : Known) (number : ℕ) (old terminal : Terminal) → terminal_at known number ≡ Some old → standing_state old.standing old.talk ≡ On → standing_state terminal.standing terminal.talk ≡ On → terminal.pt ≡ old.pt
+    → EachForm (KeepsLinks known.moment known.core) known number terminal
+forms-keep known number old terminal found old_on on same = record {
+  nothing = owing-keeps known [] tt;
+  stays = becomes-keeps known number old terminal [] found old_on on same (λ there. tt);
+  cuts = becomes-keeps known number old terminal (CutPt number ∷ []) found old_on on same (λ there. (there, tt));
+  stops = becomes-keeps known number old _ _ found old_on on same (λ there. (there, tt));
+  enquires = becomes-keeps known number old _ _ found old_on refl same (λ there. (there, tt));
+  rests = λ standing linked. becomes-keeps known number old (at_rest terminal standing) [] found old_on (linked-on standing None linked) same (λ there. tt);
+  resolves = λ standing outcome linked. resolved-keeps known number old terminal standing outcome found old_on linked same;
+}
 
-  reported-on : (least reported : ℕ) (talk : Option TalkFacts) → standing_state (standing_reported least reported) talk ≡ On
-  reported-on least reported talk = by_test (nat_le least reported)
-    where
-      by_test : (test : Bool) → standing_state (if test then Ready reported else Aside least reported) talk ≡ On
-      by_test true = refl
-      by_test false = refl
-
-  registering-keeps : (meant : Heard) → LeavesLinks known.moment known.core (registering known number terminal meant)
-  registering-keeps (heard.Begun stop) = staying-keeps
-  registering-keeps (heard.Note intermediate_status) = staying-keeps
-  registering-keeps heard.Line = staying-keeps
-  registering-keeps heard.Block = staying-keeps
-  registering-keeps heard.Seen = staying-keeps
-  registering-keeps (heard.Approved figures) = staying-keeps
-  registering-keeps heard.Done = becomes-keeps known number old _ _ found old_on refl same (λ there. (there, tt))
-  registering-keeps (heard.Told reported approved result_code) = staying-keeps
-  registering-keeps (heard.Declined result_code reported) = breaking-keeps
-  registering-keeps heard.Unclear = breaking-keeps
-  registering-keeps heard.Stray = staying-keeps
-
-  enquiring-keeps : (meant : Heard) → LeavesLinks known.moment known.core (enquiring known number terminal meant)
-  enquiring-keeps (heard.Begun stop) = staying-keeps
-  enquiring-keeps (heard.Note intermediate_status) = staying-keeps
-  enquiring-keeps heard.Line = staying-keeps
-  enquiring-keeps heard.Block = staying-keeps
-  enquiring-keeps heard.Seen = staying-keeps
-  enquiring-keeps (heard.Approved figures) = staying-keeps
-  enquiring-keeps heard.Done = staying-keeps
-  enquiring-keeps (heard.Told reported approved result_code) = becomes-keeps known number old (record terminal { standing = standing_reported 0 reported; talk = None }) [] found old_on (reported-on 0 reported None) same (λ there. tt)
-  enquiring-keeps (heard.Declined result_code reported) = breaking-keeps
-  enquiring-keeps heard.Unclear = breaking-keeps
-  enquiring-keeps heard.Stray = staying-keeps
-
-  serving-keeps : (meant : Heard) → LeavesLinks known.moment known.core (serving known number terminal meant)
-  serving-keeps (heard.Begun true) = becomes-keeps known number old _ _ found old_on on same (λ there. (there, tt))
-  serving-keeps (heard.Begun false) = staying-keeps
-  serving-keeps (heard.Note intermediate_status) = staying-keeps
-  serving-keeps heard.Line = staying-keeps
-  serving-keeps heard.Block = staying-keeps
-  serving-keeps heard.Seen = staying-keeps
-  serving-keeps (heard.Approved figures) = staying-keeps
-  serving-keeps heard.Done = staying-keeps
-  serving-keeps (heard.Told reported approved result_code) = staying-keeps
-  serving-keeps (heard.Declined result_code reported) = staying-keeps
-  serving-keeps heard.Unclear = breaking-keeps
-  serving-keeps heard.Stray = staying-keeps
-
-  consequence-keeps : (meant : Heard) (standing : Standing) → LeavesLinks known.moment known.core (consequence known number terminal meant standing)
-  consequence-keeps meant (Unlinked due) = owing-keeps known [] tt
-  consequence-keeps meant Registering = registering-keeps meant
-  consequence-keeps meant Enquiring = enquiring-keeps meant
-  consequence-keeps meant (Ready last) = staying-keeps
-  consequence-keeps meant (Serving service last) = serving-keeps meant
-  consequence-keeps meant (Aside before reported) = staying-keeps
-
-handle-keeps : (known : Known) (number : ℕ) (apdu : ApduValue) → LeavesLinks known.moment known.core (handle_row known number apdu)
-handle-keeps known number apdu = each-handled (LeavesLinks known.moment known.core) known number apdu (owing-keeps known [] tt)
+handle-keeps : (known : Known) (number : ℕ) (apdu : ApduValue) → KeepsLinks known.moment known.core (handle_row known number apdu)
+handle-keeps known number apdu = form-handled (KeepsLinks known.moment known.core) known number apdu (owing-keeps known [] tt)
     (λ terminal message found linked is taken.
-    consequence-keeps known number terminal (taking terminal message known.moment) found (linked-on terminal.standing terminal.talk linked) (linked-on terminal.standing (taking terminal message known.moment).talk linked) refl
-    (meaning_at terminal message) terminal.standing)
+    forms-keep known number terminal (taking terminal message known.moment) found (linked-on terminal.standing terminal.talk linked) (linked-on terminal.standing (taking terminal message known.moment).talk linked) refl)
+
+-- ---- a payment that begins
+
+begun-keeps : (known : Known) (number till : ℕ) (terminal : Terminal) (last : ℕ) (intent : Intent) → terminal_at known number ≡ Some terminal → standing_state terminal.standing terminal.talk ≡ On → KeepsLinks known.moment known.core (beginning_row known number till terminal last intent)
+begun-keeps known number till terminal last intent found on =
+    becomes-keeps known number terminal (asked_for known till terminal last intent) _ found on refl refl (λ there.
+    let core : Core = with_terminal known.core number (asked_for known till terminal last intent) in
+    kept-fits known.moment core (length known.kept) (IntentRecord intent) (SendPt number (Ask (ask intent None terminal.pt)) ∷ []) (there, tt))
+
+serve-keeps : (known : Known) (number till : ℕ) (header : Header) (request : SaleRequest) → KeepsLinks known.moment known.core (serve_row known number till header request)
+serve-keeps known number till header request =
+    each-served (KeepsLinks known.moment known.core) known number till header request (owing-keeps known [] tt)
+    (λ payment terminal last is at.
+    begun-keeps known number till terminal last (payment_intent header payment terminal.pt.currency last known.moment) at.found (ap (λ s. standing_state s terminal.talk) at.standing_is))
 
 -- ---- what may be due
 
-late-keeps : (known : Known) (number : ℕ) → state_in known.core number ≢ Odd → LeavesLinks known.moment known.core (late_row known number)
-late-keeps known number even = each-terminal (LeavesLinks known.moment known.core) known number (λ terminal. owing_where (is_late known.moment terminal.talk) known (cutting known number)) (owing-keeps known [] tt)
+late-keeps : (known : Known) (number : ℕ) → state_in known.core number ≢ Odd → KeepsLinks known.moment known.core (late_row known number)
+late-keeps known number even = each-terminal (KeepsLinks known.moment known.core) known number (λ terminal. owing_where (is_late known.moment terminal.talk) known (cutting known number)) (owing-keeps known [] tt)
     (λ terminal found. where-keeps (is_late known.moment terminal.talk) known (cutting known number)
     (λ late. owing-keeps known (CutPt number ∷ []) (ap state_of found ∙ late-on known.moment terminal.standing terminal.talk (λ odd. even (ap state_of found ∙ odd)) late, tt)))
 
-due-keeps : (known : Known) (number : ℕ) → state_in known.core number ≢ Odd → LeavesLinks known.moment known.core (due_row known number)
-due-keeps known number even = each-terminal (LeavesLinks known.moment known.core) known number (λ terminal. owing_where (is_due known.moment terminal.standing) known (owing known (LinkPt number ∷ []))) (owing-keeps known [] tt)
+due-keeps : (known : Known) (number : ℕ) → state_in known.core number ≢ Odd → KeepsLinks known.moment known.core (due_row known number)
+due-keeps known number even = each-terminal (KeepsLinks known.moment known.core) known number (λ terminal. owing_where (is_due known.moment terminal.standing) known (owing known (LinkPt number ∷ []))) (owing-keeps known [] tt)
     (λ terminal found. where-keeps (is_due known.moment terminal.standing) known (owing known (LinkPt number ∷ []))
     (λ due. let off = due-off known.moment terminal.standing terminal.talk (λ odd. even (ap state_of found ∙ odd)) due in owing-keeps known (LinkPt number ∷ []) ((off.0, ap state_of found ∙ off.1, off.2), tt)))
 
@@ -300,6 +323,7 @@ loses (Unframed till) = false
 loses (Gone till) = false
 loses (Greet number apdu) = false
 loses (Handle number apdu) = false
+loses (Serve number till header request) = false
 loses (NextWaiting number) = false
 loses (Oversized number) = false
 loses (LinkLost number) = true
@@ -307,20 +331,66 @@ loses (Late number) = false
 loses (Overdue key) = false
 loses (Due number) = false
 
+-- a message that was read
+abbrev pub is_asked : RoundItem → Bool
+is_asked (Crowded till) = false
+is_asked (Message till bytes) = false
+is_asked (Asked till as_read) = true
+is_asked (Unframed till) = false
+is_asked (Gone till) = false
+is_asked (Greet number apdu) = false
+is_asked (Handle number apdu) = false
+is_asked (Serve number till header request) = false
+is_asked (NextWaiting number) = false
+is_asked (Oversized number) = false
+is_asked (LinkLost number) = false
+is_asked (Late number) = false
+is_asked (Overdue key) = false
+is_asked (Due number) = false
+
+-- and no row but that of a message adds an item
+pub alone-keep : (tills : List Connection) (known : Known) (item : RoundItem) → ((number : ℕ) → state_in known.core number ≢ Odd) → loses item ≡ false → is_asked item ≡ false → KeepsLinks known.moment known.core (row_of tills known item)
+alone-keep tills known (Crowded till) even stays none = owing-keeps known (CutTill till ∷ []) (tt, tt)
+alone-keep tills known (Message till bytes) even stays none = owing-keeps known [] tt
+alone-keep tills known (Asked till as_read) even stays none = no-true (sym none)
+alone-keep tills known (Unframed till) even stays none = where-keeps (is_connected tills till) known (owing known (CutTill till ∷ [])) (λ there. owing-keeps known (CutTill till ∷ []) (tt, tt))
+alone-keep tills known (Gone till) even stays none = record { states = without-states till known.core.terminals; items = refl; settings = without-settings till known.core.terminals; fits = tt }
+alone-keep tills known (Greet number apdu) even stays none = greet-keeps known number (decode_pt_message apdu)
+alone-keep tills known (Handle number apdu) even stays none = handle-keeps known number apdu
+alone-keep tills known (Serve number till header request) even stays none = serve-keeps known number till header request
+alone-keep tills known (NextWaiting number) even stays none = owing-keeps known [] tt
+alone-keep tills known (Oversized number) even stays none = outside-keeps known number
+alone-keep tills known (LinkLost number) even stays none = no-true (sym stays)
+alone-keep tills known (Late number) even stays none = late-keeps known number (even number)
+alone-keep tills known (Overdue key) even stays none = owing-keeps known [] tt
+alone-keep tills known (Due number) even stays none = due-keeps known number (even number)
+
+asked-keeps : (there : Bool) (known : Known) (till : ℕ) (as_read : ReadAs) → LeavesLinks known.moment known.core (owing_where there known (asked_row known till as_read))
+asked-keeps true known till as_read = record { states = λ number. refl; items = begins-serves known till as_read; settings = refl; fits = reply-fits known.moment known.core (Some till) (reply_to known as_read) }
+asked-keeps false known till as_read = record { states = λ number. refl; items = refl; settings = refl; fits = tt }
+
 pub rows-keep : (tills : List Connection) (known : Known) (item : RoundItem) → ((number : ℕ) → state_in known.core number ≢ Odd) → loses item ≡ false → LeavesLinks known.moment known.core (row_of tills known item)
-rows-keep tills known (Crowded till) even stays = owing-keeps known (CutTill till ∷ []) (tt, tt)
-rows-keep tills known (Message till bytes) even stays = owing-keeps known [] tt
-rows-keep tills known (Asked till as_read) even stays = where-keeps (is_connected tills till) known (asked_row known till as_read) (λ there. owing-keeps known (reply_calls_to (Some till) (reply_to known as_read)) (reply-fits known.moment known.core (Some till) (reply_to known as_read)))
-rows-keep tills known (Unframed till) even stays = where-keeps (is_connected tills till) known (owing known (CutTill till ∷ [])) (λ there. owing-keeps known (CutTill till ∷ []) (tt, tt))
-rows-keep tills known (Gone till) even stays = record { states = without-states till known.core.terminals; items = refl; settings = without-settings till known.core.terminals; fits = tt }
-rows-keep tills known (Greet number apdu) even stays = greet-keeps known number (decode_pt_message apdu)
-rows-keep tills known (Handle number apdu) even stays = handle-keeps known number apdu
-rows-keep tills known (NextWaiting number) even stays = owing-keeps known [] tt
-rows-keep tills known (Oversized number) even stays = outside-keeps known number
-rows-keep tills known (LinkLost number) even stays = no-true (sym stays)
-rows-keep tills known (Late number) even stays = late-keeps known number (even number)
-rows-keep tills known (Overdue key) even stays = owing-keeps known [] tt
-rows-keep tills known (Due number) even stays = due-keeps known number (even number)
+rows-keep tills known item even stays = by_test item stays (is_asked item) refl
+  where
+    leaves : (item : RoundItem) → KeepsLinks known.moment known.core (row_of tills known item) → LeavesLinks known.moment known.core (row_of tills known item)
+    leaves item k = record { states = k.states; items = ap all_serve k.items; settings = k.settings; fits = k.fits }
+
+    by_test : (item : RoundItem) → loses item ≡ false → (test : Bool) → is_asked item ≡ test → LeavesLinks known.moment known.core (row_of tills known item)
+    by_test item stays false e = leaves item (alone-keep tills known item even stays e)
+    by_test (Asked till as_read) stays true e = asked-keeps (is_connected tills till) known till as_read
+    by_test (Crowded till) stays true e = no-true e
+    by_test (Message till bytes) stays true e = no-true e
+    by_test (Unframed till) stays true e = no-true e
+    by_test (Gone till) stays true e = no-true e
+    by_test (Greet number apdu) stays true e = no-true e
+    by_test (Handle number apdu) stays true e = no-true e
+    by_test (Serve number till header request) stays true e = no-true e
+    by_test (NextWaiting number) stays true e = no-true e
+    by_test (Oversized number) stays true e = no-true e
+    by_test (LinkLost number) stays true e = no-true e
+    by_test (Late number) stays true e = no-true e
+    by_test (Overdue key) stays true e = no-true e
+    by_test (Due number) stays true e = no-true e
 
 -- ---- links
 

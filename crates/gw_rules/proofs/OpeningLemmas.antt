@@ -39,7 +39,7 @@ later-disk : (calls : List OwedCall) → all_on_disk calls ≡ true → all_on_d
 later-disk [] h = h
 later-disk (call ∷ calls) h = (and_parts (is_on_disk call) (all_on_disk calls) h).1
 
-busy-opening : (stage : Stage) → is_opening (busy stage) ≡ is_opening stage
+pub busy-opening : (stage : Stage) → is_opening (busy stage) ≡ is_opening stage
 busy-opening Resting = refl
 busy-opening (Opening refused) = refl
 busy-opening (Looking refused) = refl
@@ -48,7 +48,7 @@ busy-opening Handling = refl
 busy-opening Over = refl
 busy-opening Broken = refl
 
-wrote-opening : (stage : Stage) → is_opening (stage_wrote stage) ≡ true → is_opening stage ≡ true
+pub wrote-opening : (stage : Stage) → is_opening (stage_wrote stage) ≡ true → is_opening stage ≡ true
 wrote-opening Resting e = e
 wrote-opening (Opening refused) e = e
 wrote-opening (Looking refused) e = no-true e
@@ -57,7 +57,7 @@ wrote-opening Handling e = e
 wrote-opening Over e = e
 wrote-opening Broken e = e
 
-synced-opening : (stage : Stage) → is_opening (stage_synced stage) ≡ true → is_opening stage ≡ true
+pub synced-opening : (stage : Stage) → is_opening (stage_synced stage) ≡ true → is_opening stage ≡ true
 synced-opening Resting e = e
 synced-opening (Opening refused) e = refl
 synced-opening (Looking refused) e = e

@@ -30,7 +30,7 @@ clear-where stage admits never e = by_test (is_broken stage) refl
     by_test true broken = no-true (sym never ∙ sym (ap admits (broken-is stage broken)) ∙ e)
     by_test false clear = clear
 
-wrote-broken : (stage : Stage) → is_broken (stage_wrote stage) ≡ is_broken stage
+pub wrote-broken : (stage : Stage) → is_broken (stage_wrote stage) ≡ is_broken stage
 wrote-broken Resting = refl
 wrote-broken (Opening refused) = refl
 wrote-broken (Looking refused) = refl
@@ -39,7 +39,7 @@ wrote-broken Handling = refl
 wrote-broken Over = refl
 wrote-broken Broken = refl
 
-synced-broken : (stage : Stage) → is_broken (stage_synced stage) ≡ is_broken stage
+pub synced-broken : (stage : Stage) → is_broken (stage_synced stage) ≡ is_broken stage
 synced-broken Resting = refl
 synced-broken (Opening refused) = refl
 synced-broken (Looking refused) = refl

@@ -63,6 +63,7 @@ linked-kept u setup settings pt a ok is configured none =
     record {
       kept = row;
       linked = refl;
+      unready = refl;
       items = ap (λ l. change_none pt (l ++ u.items)) (made-at-turns u.scene pt setup is).items ∙ none;
       heard_is = heard-linked u.scene.outside.links pt;
     }

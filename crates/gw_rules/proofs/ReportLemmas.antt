@@ -1,7 +1,7 @@
 -- An enquiry that reports the last transaction makes its terminal ready.
 use Rattle.std.proofs.Common.{◌≡◌, ℕ, List, [], ◌∷◌, refl, sym, ◌∙◌, ap, subst, true, false, inl, inr}
 use Rattle.std.proofs.lemmas.Bool.{and_parts}
-use Rattle.std.specs.Prelude.{◌⊎◌, not, slice_get, Option, Some}
+use Rattle.std.specs.Prelude.{◌⊎◌, ◌≤◌, not, slice_get, Option, Some, None}
 use Rattle.std.specs.Option.{option_map}
 use Rattle.gw_base.specs.declared.setup.Pt.{Pt}
 use Rattle.gw_base.specs.declared.setup.Setup.{Setup}
@@ -12,12 +12,15 @@ use Rattle.zvt_apdu.specs.Grammar.{ApduValue}
 use Rattle.zvt_talk.specs.Talk.{is_end}
 use Rattle.zvt_talk.specs.declared.meaning.Heard.{Heard}
 use Rattle.zvt_talk.specs.declared.meaning.Heard.TheVariants as heard
+use Rattle.jrn_record.specs.declared.records.Record.{Record}
 use Rattle.gw_owes.specs.Core.{Core}
-use Rattle.gw_owes.specs.Handling.{meaning_at, taking, staying, enquiring, consequence, handle_row}
-use Rattle.gw_owes.specs.Items.{RoundItem, Crowded, Message, Asked, Unframed, Gone, Greet, Handle, NextWaiting, Oversized, LinkLost, Late, Overdue, Due}
+use Rattle.gw_owes.specs.Handling.{meaning_at, taking, enquiring, consequence, handle_row}
+use Rattle.gw_owes.specs.Items.{RoundItem, Crowded, Message, Asked, Unframed, Gone, Greet, Handle, Serve, NextWaiting, Oversized, LinkLost, Late, Overdue, Due}
 use Rattle.gw_owes.specs.ReadAs.{ReadAs}
+use Rattle.gw_owes.specs.Reports.{OnRecord, on_record}
 use Rattle.gw_owes.specs.Row.{Known, Row}
 use Rattle.gw_owes.specs.Rows.{row_of}
+use Rattle.gw_owes.specs.Serving.{staying}
 use Rattle.gw_owes.specs.declared.terminal.Standing.{Standing}
 use Rattle.gw_owes.specs.declared.terminal.Standing.TheVariants.{Enquiring, Ready}
 use Rattle.gw_owes.specs.declared.terminal.Terminal.{Terminal}
@@ -32,9 +35,9 @@ use Rattle.gw_rules.specs.View.{View, Move, Begin, Read, Make, after, after_turn
 use Rattle.gw_rules.proofs.CourseLemmas.{begin-stage}
 use Rattle.gw_rules.proofs.CutLemmas.{is_dead, dead-round, dead-running, dead-turn}
 use Rattle.gw_rules.proofs.KeptLemmas.{kept_in, without_asker, changes, at-kept, by-equal, BeginsFirst, begins-first}
-use Rattle.gw_rules.proofs.LinkStateLemmas.{On, state_of, loses}
+use Rattle.gw_rules.proofs.LinkStateLemmas.{On, state_of, is_serve, loses}
 use Rattle.gw_rules.proofs.LinkedLemmas.{Agrees, Settled, lose_none, begin-agrees, read-settled, turn-agrees, move-agrees, round-setup}
-use Rattle.gw_rules.proofs.PendingLemmas.{WillEnd, GoesOnIn, Pending, Ended, begin-pending, turn-pending, read-pending, heard-pending, round-settled, turn-core, SameItems, turn-items, kept-linked}
+use Rattle.gw_rules.proofs.PendingLemmas.{WillEnd, asks, ask_none, BeginsAlone, begins-alone, read-asks-none, GoesOnIn, Pending, Ended, begin-pending, turn-pending, read-pending, heard-pending, round-settled, turn-core, SameItems, turn-items, kept-linked}
 use Rattle.gw_rules.proofs.SetupLemmas.{HasSetup}
 use Rattle.gw_rules.proofs.SilenceLemmas.{found-kept}
 use Rattle.gw_rules.proofs.StageLemmas.{no-true, not-true, round-busy}
@@ -86,20 +89,30 @@ record IsReady (pt moment reported : ℕ) (v : View) : Type 0 where
   agrees : Agrees v
   settled : Settled v
   stage : v.scene.stage ≡ Handling
+  none : ask_none v.items ≡ true
   ready : StandingKept v.scene.core pt (Ready reported)
 
 -- or will be, or the run has ended
-abbrev OrOver : Pt → ℕ → ℕ → ℕ → View → Type 0
-OrOver settings pt moment reported v = (IsReady pt moment reported v ⊎ Pending (IsReport reported) Enquiring settings pt moment v) ⊎ (is_dead v.scene.stage ≡ true)
+abbrev OrOver : Pt → List Record → ℕ → ℕ → ℕ → View → Type 0
+OrOver settings records pt moment reported v = (IsReady pt moment reported v ⊎ Pending (IsReport reported) Enquiring settings records pt moment v) ⊎ (is_dead v.scene.stage ≡ true)
+
+-- of the terminal with these settings no key is open on record, and its last trace number isn't above this
+record MayReport (settings : Pt) (records : List Record) (reported : ℕ) : Type 0 where
+  none_open : (on_record records settings.poi).open_before ≡ None
+  least : (on_record records settings.poi).last ≤ reported
 
 -- with the end of its enquiry it is
-ended-ready : (settings : Pt) (pt moment reported : ℕ) (w : View) → Ended (IsReport reported) Enquiring settings pt moment w → IsReady pt moment reported w
-ended-ready settings pt moment reported w e =
-    let ready = enquired-is-ready e.known pt e.apdu e.own e.message reported e.means.0 e.means.1 e.found e.standing_is e.decoded e.means.2 in
+ended-ready : (settings : Pt) (records : List Record) (pt moment reported : ℕ) (w : View) → MayReport settings records reported → Ended (IsReport reported) Enquiring settings records pt moment w → IsReady pt moment reported w
+ended-ready settings records pt moment reported w may e =
+    let own_record : on_record e.known.kept e.own.pt.poi ≡ on_record records settings.poi = ap (λ kept. on_record kept e.own.pt.poi) e.kept_is ∙ ap (λ (p : Pt). on_record records p.poi) e.settings_are in
+    let none_open = ap (λ (r : OnRecord). r.open_before) own_record ∙ may.none_open in
+    let least = subst (λ (r : OnRecord). r.last ≤ reported) (sym own_record) may.least in
+    let ready = enquired-is-ready e.known pt e.apdu e.own e.message reported e.means.0 e.means.1 e.found e.standing_is e.decoded e.means.2 none_open least in
     record {
       agrees = e.agrees;
       settled = e.settled;
       stage = e.stage;
+      none = e.none;
       ready = subst (λ c. StandingKept c pt (Ready reported)) (sym e.core_is) (stands-kept (handle_row e.known pt e.apdu).core pt (Ready reported) (ready.terminal, ready.found, ready.standing_is));
     }
 
@@ -109,11 +122,15 @@ begin-ready pt moment reported v r b = record {
   agrees = move-agrees v Begin r.agrees b;
   settled = (begin-agrees v r.agrees b).1;
   stage = begin-stage v.scene v.items ∙ round-busy v.scene.stage b.idle.round;
-  ready = by_item first.item core none;
+  none = ap ask_none alone.left ∙ alone.rest;
+  ready = by_item first.item core none alone.none;
 }
   where
     first : BeginsFirst v
     first = begins-first v r.agrees b
+
+    alone : BeginsAlone v first
+    alone = begins-alone v first r.none
 
     run : HasSetup v.scene
     run = round-setup v r.agrees.run b.idle.round
@@ -127,8 +144,8 @@ begin-ready pt moment reported v r b = record {
     core : (after v Begin).scene.core ≡ (row_at v.scene first.item).core
     core = ap (λ l. (after (record v { items = l }) Begin).scene.core) first.items_are
 
-    same : (item : RoundItem) → (after v Begin).scene.core ≡ (row_at v.scene item).core → changes pt item ≡ false → StandingKept (after v Begin).scene.core pt (Ready reported)
-    same item core unchanged = (r.ready.0, ap (λ c. kept_in c pt) core ∙ at-kept v.scene item pt unchanged ∙ r.ready.1, r.ready.2)
+    same : (item : RoundItem) → (after v Begin).scene.core ≡ (row_at v.scene item).core → is_serve item ≡ false → changes pt item ≡ false → StandingKept (after v Begin).scene.core pt (Ready reported)
+    same item core other unchanged = (r.ready.0, ap (λ c. kept_in c pt) core ∙ at-kept v.scene item pt (λ serves. no-true (sym other ∙ serves)) unchanged ∙ r.ready.1, r.ready.2)
 
     handle : (apdu : ApduValue) → (after v Begin).scene.core ≡ (handle_row known pt apdu).core → StandingKept (after v Begin).scene.core pt (Ready reported)
     handle apdu core =
@@ -136,22 +153,23 @@ begin-ready pt moment reported v r b = record {
         let standing : found.0.standing ≡ Ready reported = ap (λ (t : Terminal). t.standing) found.2 ∙ r.ready.2 in
         subst (λ c. StandingKept c pt (Ready reported)) (sym core) (stands-kept (handle_row known pt apdu).core pt (Ready reported) (ready-stays known pt apdu reported (found.0, found.1, standing)))
 
-    by_item : (item : RoundItem) → (after v Begin).scene.core ≡ (row_at v.scene item).core → loses item ≡ false → StandingKept (after v Begin).scene.core pt (Ready reported)
-    by_item (Crowded till) core none = same (Crowded till) core refl
-    by_item (Message till bytes) core none = same (Message till bytes) core refl
-    by_item (Asked till as_read) core none = same (Asked till as_read) core refl
-    by_item (Unframed till) core none = same (Unframed till) core refl
-    by_item (Gone till) core none = same (Gone till) core refl
-    by_item (Greet other apdu) core none = same (Greet other apdu) core refl
-    by_item (Handle other apdu) core none = by-equal pt other
+    by_item : (item : RoundItem) → (after v Begin).scene.core ≡ (row_at v.scene item).core → loses item ≡ false → asks item ≡ false → StandingKept (after v Begin).scene.core pt (Ready reported)
+    by_item (Crowded till) core none apart = same (Crowded till) core refl refl
+    by_item (Message till bytes) core none apart = no-true (sym apart)
+    by_item (Asked till as_read) core none apart = no-true (sym apart)
+    by_item (Unframed till) core none apart = same (Unframed till) core refl refl
+    by_item (Gone till) core none apart = same (Gone till) core refl refl
+    by_item (Greet other apdu) core none apart = same (Greet other apdu) core refl refl
+    by_item (Handle other apdu) core none apart = by-equal pt other
         (λ number. handle apdu (core ∙ ap (λ n. (row_at v.scene (Handle n apdu)).core) number ∙ ap (λ (o : Option Setup). (row_in v.scene (λ known. row_of v.scene.outside.tills known (Handle pt apdu)) o).core) run.setup_is))
-        (λ differs. same (Handle other apdu) core differs)
-    by_item (NextWaiting other) core none = same (NextWaiting other) core refl
-    by_item (Oversized other) core none = same (Oversized other) core refl
-    by_item (LinkLost other) core none = no-true (sym none)
-    by_item (Late other) core none = same (Late other) core refl
-    by_item (Overdue key) core none = same (Overdue key) core refl
-    by_item (Due other) core none = same (Due other) core refl
+        (λ differs. same (Handle other apdu) core refl differs)
+    by_item (Serve other till header request) core none apart = no-true (sym apart)
+    by_item (NextWaiting other) core none apart = same (NextWaiting other) core refl refl
+    by_item (Oversized other) core none apart = same (Oversized other) core refl refl
+    by_item (LinkLost other) core none apart = no-true (sym none)
+    by_item (Late other) core none apart = same (Late other) core refl refl
+    by_item (Overdue key) core none apart = same (Overdue key) core refl refl
+    by_item (Due other) core none apart = same (Due other) core refl refl
 
 -- and with each turn, unless its link ends
 turn-ready : (pt moment reported : ℕ) (v : View) (turn : Turn) → IsReady pt moment reported v → AllowedTurn v turn → is_sort_of_round (sort_of turn) ≡ true → (EndsLink pt turn → ⊥) → IsReady pt moment reported (after_turn v turn) ⊎ (is_dead (after_turn v turn).scene.stage ≡ true)
@@ -166,59 +184,62 @@ turn-ready pt moment reported v turn r ok e lasts = by_items (turn-items v turn 
       agrees = turn-agrees v turn r.agrees ok;
       settled = round-settled v turn r.agrees r.settled r.stage ok;
       stage = at;
+      none = ap ask_none items ∙ r.none;
       ready = (r.ready.0, turn-core v turn pt r.agrees (kept-linked v.scene.core pt r.ready.0 r.ready.1 on) r.settled ok e lasts ∙ r.ready.1, r.ready.2);
     })
 
 -- ---- along the course
 
-begin-over : (settings : Pt) (pt moment reported : ℕ) (v : View) → OrOver settings pt moment reported v → Begins v → OrOver settings pt moment reported (after v Begin)
-begin-over settings pt moment reported v (inr dead) b = dead-round v.scene.stage dead b.idle.round
-begin-over settings pt moment reported v (inl (inl r)) b = inl (inl (begin-ready pt moment reported v r b))
-begin-over settings pt moment reported v (inl (inr p)) b = by_end (begin-pending (IsReport reported) Enquiring settings pt moment v enquiring-goes-on p b)
+begin-over : (settings : Pt) (records : List Record) (pt moment reported : ℕ) (v : View) → MayReport settings records reported → OrOver settings records pt moment reported v → Begins v → OrOver settings records pt moment reported (after v Begin)
+begin-over settings records pt moment reported v may (inr dead) b = dead-round v.scene.stage dead b.idle.round
+begin-over settings records pt moment reported v may (inl (inl r)) b = inl (inl (begin-ready pt moment reported v r b))
+begin-over settings records pt moment reported v may (inl (inr p)) b = by_end (begin-pending (IsReport reported) Enquiring settings records pt moment v enquiring-goes-on p b)
   where
-    by_end : Pending (IsReport reported) Enquiring settings pt moment (after v Begin) ⊎ Ended (IsReport reported) Enquiring settings pt moment (after v Begin) → OrOver settings pt moment reported (after v Begin)
+    by_end : Pending (IsReport reported) Enquiring settings records pt moment (after v Begin) ⊎ Ended (IsReport reported) Enquiring settings records pt moment (after v Begin) → OrOver settings records pt moment reported (after v Begin)
     by_end (inl pending) = inl (inr pending)
-    by_end (inr ended) = inl (inl (ended-ready settings pt moment reported (after v Begin) ended))
+    by_end (inr ended) = inl (inl (ended-ready settings records pt moment reported (after v Begin) may ended))
 
-read-over : (settings : Pt) (pt moment reported : ℕ) (v : View) (as_read : ReadAs) → OrOver settings pt moment reported v → IsRead v as_read → OrOver settings pt moment reported (after v (Read as_read))
-read-over settings pt moment reported v as_read (inr dead) r = dead-round v.scene.stage dead r.idle.round
-read-over settings pt moment reported v as_read (inl (inr p)) r = inl (inr (read-pending (IsReport reported) Enquiring settings pt moment v as_read p r))
-read-over settings pt moment reported v as_read (inl (inl ready)) r = inl (inl (record {
+read-over : (settings : Pt) (records : List Record) (pt moment reported : ℕ) (v : View) (as_read : ReadAs) → OrOver settings records pt moment reported v → IsRead v as_read → OrOver settings records pt moment reported (after v (Read as_read))
+read-over settings records pt moment reported v as_read (inr dead) r = dead-round v.scene.stage dead r.idle.round
+read-over settings records pt moment reported v as_read (inl (inr p)) r = inl (inr (read-pending (IsReport reported) Enquiring settings records pt moment v as_read p r))
+read-over settings records pt moment reported v as_read (inl (inl ready)) r = inl (inl (record {
   agrees = move-agrees v (Read as_read) ready.agrees r;
   settled = read-settled v as_read ready.settled;
   stage = round-busy v.scene.stage r.idle.round;
+  none = read-asks-none as_read v.items ready.none;
   ready = ready.ready;
 }))
 
-turn-over : (settings : Pt) (pt moment reported : ℕ) (v : View) (turn : Turn) → OrOver settings pt moment reported v → AllowedTurn v turn → is_sort_of_round (sort_of turn) ≡ true → (EndsLink pt turn → ⊥) → OrOver settings pt moment reported (after_turn v turn)
-turn-over settings pt moment reported v turn (inr dead) ok e lasts = inr (dead-turn v turn dead ok e)
-turn-over settings pt moment reported v turn (inl (inl r)) ok e lasts = by_next (turn-ready pt moment reported v turn r ok e lasts)
+turn-over : (settings : Pt) (records : List Record) (pt moment reported : ℕ) (v : View) (turn : Turn) → OrOver settings records pt moment reported v → AllowedTurn v turn → is_sort_of_round (sort_of turn) ≡ true → (EndsLink pt turn → ⊥) → OrOver settings records pt moment reported (after_turn v turn)
+turn-over settings records pt moment reported v turn (inr dead) ok e lasts = inr (dead-turn v turn dead ok e)
+turn-over settings records pt moment reported v turn (inl (inl r)) ok e lasts = by_next (turn-ready pt moment reported v turn r ok e lasts)
   where
-    by_next : IsReady pt moment reported (after_turn v turn) ⊎ (is_dead (after_turn v turn).scene.stage ≡ true) → OrOver settings pt moment reported (after_turn v turn)
+    by_next : IsReady pt moment reported (after_turn v turn) ⊎ (is_dead (after_turn v turn).scene.stage ≡ true) → OrOver settings records pt moment reported (after_turn v turn)
     by_next (inl ready) = inl (inl ready)
     by_next (inr dead) = inr dead
-turn-over settings pt moment reported v turn (inl (inr p)) ok e lasts = by_next (turn-pending (IsReport reported) Enquiring settings pt moment v turn enquiring-goes-on p ok e lasts)
+turn-over settings records pt moment reported v turn (inl (inr p)) ok e lasts = by_next (turn-pending (IsReport reported) Enquiring settings records pt moment v turn enquiring-goes-on p ok e lasts)
   where
-    by_next : Pending (IsReport reported) Enquiring settings pt moment (after_turn v turn) ⊎ (is_dead (after_turn v turn).scene.stage ≡ true) → OrOver settings pt moment reported (after_turn v turn)
+    by_next : Pending (IsReport reported) Enquiring settings records pt moment (after_turn v turn) ⊎ (is_dead (after_turn v turn).scene.stage ≡ true) → OrOver settings records pt moment reported (after_turn v turn)
     by_next (inl pending) = inl (inr pending)
     by_next (inr dead) = inr dead
 
-moves-over : (settings : Pt) (pt moment reported : ℕ) (v : View) (moves : List Move) → OrOver settings pt moment reported v → IsCourse v moves → AreOfRound (turns_of moves) → EndsNone pt (turns_of moves) → OrOver settings pt moment reported (view_from v moves)
-moves-over settings pt moment reported v [] h c a lasts = h
-moves-over settings pt moment reported v (Begin ∷ moves) h c a lasts = moves-over settings pt moment reported (after v Begin) moves (begin-over settings pt moment reported v h c.0) c.1 a lasts
-moves-over settings pt moment reported v (Read as_read ∷ moves) h c a lasts = moves-over settings pt moment reported (after v (Read as_read)) moves (read-over settings pt moment reported v as_read h c.0) c.1 a lasts
-moves-over settings pt moment reported v (Make turn ∷ moves) h c a lasts = moves-over settings pt moment reported (after_turn v turn) moves (turn-over settings pt moment reported v turn h c.0 a.0 lasts.0) c.1 a.1 lasts.1
+moves-over : (settings : Pt) (records : List Record) (pt moment reported : ℕ) (v : View) (moves : List Move) → MayReport settings records reported → OrOver settings records pt moment reported v → IsCourse v moves → AreOfRound (turns_of moves) → EndsNone pt (turns_of moves) → OrOver settings records pt moment reported (view_from v moves)
+moves-over settings records pt moment reported v [] may h c a lasts = h
+moves-over settings records pt moment reported v (Begin ∷ moves) may h c a lasts = moves-over settings records pt moment reported (after v Begin) moves may (begin-over settings records pt moment reported v may h c.0) c.1 a lasts
+moves-over settings records pt moment reported v (Read as_read ∷ moves) may h c a lasts = moves-over settings records pt moment reported (after v (Read as_read)) moves may (read-over settings records pt moment reported v as_read h c.0) c.1 a lasts
+moves-over settings records pt moment reported v (Make turn ∷ moves) may h c a lasts = moves-over settings records pt moment reported (after_turn v turn) moves may (turn-over settings records pt moment reported v turn h c.0 a.0 lasts.0) c.1 a.1 lasts.1
 
 -- once the next poll may come it is ready
-over-ready : (settings : Pt) (pt moment reported : ℕ) (v : View) → OrOver settings pt moment reported v → MayPoll v → HasStanding v.scene.core pt (Ready reported)
-over-ready settings pt moment reported v (inr dead) may = dead-running v.scene.stage dead may.running
-over-ready settings pt moment reported v (inl (inr p)) may = absurd (subst (WillEnd (IsReport reported) pt moment p.terminal) may.items p.will)
-over-ready settings pt moment reported v (inl (inl r)) may =
+over-ready : (settings : Pt) (records : List Record) (pt moment reported : ℕ) (v : View) → OrOver settings records pt moment reported v → MayPoll v → HasStanding v.scene.core pt (Ready reported)
+over-ready settings records pt moment reported v (inr dead) may = dead-running v.scene.stage dead may.running
+over-ready settings records pt moment reported v (inl (inr p)) may = absurd (subst (WillEnd (IsReport reported) pt moment p.terminal) may.items p.will)
+over-ready settings records pt moment reported v (inl (inl r)) may =
     let found = found-kept (slice_get v.scene.core.terminals pt) r.ready.0 r.ready.1 in
     (found.0, found.1, ap (λ (t : Terminal). t.standing) found.2 ∙ r.ready.2)
 
 pub report-makes-ready : ReportMakesReady
-report-makes-ready log v moves pt terminal reported e =
+report-makes-ready log v moves pt terminal reported e none_open least =
     let p = heard-pending (IsReport reported) Enquiring log v moves pt terminal e in
     let moment : ℕ = v.scene.outside.moment in
-    over-ready terminal.pt pt moment reported (view_along v pt e.chunk moves) (moves-over terminal.pt pt moment reported (after_turn v (HeardPt pt e.chunk)) moves (inl (inr p)) e.lawful.1 e.round e.lasts) e.may_poll
+    let may : MayReport terminal.pt v.scene.kept reported = record { none_open = none_open; least = least } in
+    over-ready terminal.pt v.scene.kept pt moment reported (view_along v pt e.chunk moves) (moves-over terminal.pt v.scene.kept pt moment reported (after_turn v (HeardPt pt e.chunk)) moves may (inl (inr p)) e.lawful.1 e.round e.lasts) e.may_poll

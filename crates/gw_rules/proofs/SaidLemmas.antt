@@ -11,8 +11,9 @@ use Rattle.zvt_msg.specs.MessageDecode.{decode_pt_message}
 use Rattle.zvt_msg.specs.declared.fault.PtFault.{PtFault}
 use Rattle.zvt_talk.specs.Came.{is_taken}
 use Rattle.gw_owes.specs.Calls.{Sending, Ask, Acknowledge, Refuse, OwedCall, SendTill, LinkPt, WriteBody, WriteGate, WriteFirstGate, Sync, SendPt as OwedSendPt, CutTill as OwedCutTill, CutPt as OwedCutPt}
-use Rattle.gw_owes.specs.Items.{RoundItem, Crowded, Message, Asked, Unframed, Gone, Greet, Handle, NextWaiting, Oversized, LinkLost, Late, Overdue, Due}
+use Rattle.gw_owes.specs.Items.{RoundItem, Crowded, Message, Asked, Unframed, Gone, Greet, Handle, Serve, NextWaiting, Oversized, LinkLost, Late, Overdue, Due}
 use Rattle.gw_owes.specs.Links.{is_linked}
+use Rattle.gw_owes.specs.Reports.{on_record}
 use Rattle.gw_owes.specs.Row.{Known}
 use Rattle.gw_owes.specs.TerminalRows.{terminal_of}
 use Rattle.gw_owes.specs.Terminals.{terminal_at}
@@ -32,7 +33,7 @@ use Rattle.gw_rules.proofs.LinkedLemmas.{Agrees, first-agrees, move-agrees}
 said-on : (log more : List Turn) (pt : ℕ) (transcript : List Carried) → AreSaid log pt transcript → AreSaid (log ++ more) pt transcript
 said-on log more pt [] said = tt
 said-on log more pt (Commanded command moment ∷ earlier) said = said-on log more pt earlier said
-said-on log more pt (Took message moment ∷ earlier) said =
+said-on log more pt (Took message moment last ∷ earlier) said =
     let first = said.0 in (
       record { before = first.before; rest = first.rest ++ more; log_is = ap (λ l. l ++ more) first.log_is ∙ append_assoc first.before first.rest more; moment_is = first.moment_is; apdu = first.apdu; said = first.said; decoded = first.decoded },
       said-on log more pt earlier said.1,
@@ -41,20 +42,23 @@ said-on log more pt (Took message moment ∷ earlier) said =
 -- ---- items that begin
 
 -- a message that is handled, at the moment of the log
-handled-said : (log : List Turn) (pt moment : ℕ) (apdu : ApduValue) (terminal : Option Terminal) (transcript : List Carried) → (outside_of log).moment ≡ moment → HasSaidApdu log pt apdu → AreSaid log pt transcript
-    → AreSaid log pt (took_of moment terminal (decode_pt_message apdu) ++ transcript)
-handled-said log pt moment apdu None transcript now said h = h
-handled-said log pt moment apdu (Some terminal) transcript now said h = by_linked (is_linked terminal.standing)
+handled-said : (log : List Turn) (pt : ℕ) (known : Known) (apdu : ApduValue) (terminal : Option Terminal) (transcript : List Carried) → (outside_of log).moment ≡ known.moment → HasSaidApdu log pt apdu → AreSaid log pt transcript
+    → AreSaid log pt (took_of known terminal (decode_pt_message apdu) ++ transcript)
+handled-said log pt known apdu None transcript now said h = h
+handled-said log pt known apdu (Some terminal) transcript now said h = by_linked (is_linked terminal.standing)
   where
-    by_taken : (message : MessageValue) → decode_pt_message apdu ≡ Ok message → (taken : Bool) → AreSaid log pt ((if taken then Took message moment ∷ [] else []) ++ transcript)
+    last : ℕ
+    last = (on_record known.kept terminal.pt.poi).last
+
+    by_taken : (message : MessageValue) → decode_pt_message apdu ≡ Ok message → (taken : Bool) → AreSaid log pt ((if taken then Took message known.moment last ∷ [] else []) ++ transcript)
     by_taken message is true = (record { before = log; rest = []; log_is = sym (append-nil log); moment_is = now; apdu = apdu; said = said; decoded = is }, h)
     by_taken message is false = h
 
-    by_decoded : (decoded : Result MessageValue PtFault) → decode_pt_message apdu ≡ decoded → AreSaid log pt (took_decoded moment decoded ++ transcript)
+    by_decoded : (decoded : Result MessageValue PtFault) → decode_pt_message apdu ≡ decoded → AreSaid log pt (took_decoded known.moment last decoded ++ transcript)
     by_decoded (Ok message) is = by_taken message is (is_taken message)
     by_decoded (Err fault) is = h
 
-    by_linked : (linked : Bool) → AreSaid log pt ((if linked then took_decoded moment (decode_pt_message apdu) else []) ++ transcript)
+    by_linked : (linked : Bool) → AreSaid log pt ((if linked then took_decoded known.moment last (decode_pt_message apdu) else []) ++ transcript)
     by_linked true = by_decoded (decode_pt_message apdu) refl
     by_linked false = h
 
@@ -67,7 +71,8 @@ took-said log pt known (Unframed till) transcript now own brought h = h
 took-said log pt known (Gone till) transcript now own brought h = h
 took-said log pt known (Greet number apdu) transcript now own brought h = h
 took-said log pt known (Handle number apdu) transcript now own brought h =
-    handled-said log pt known.moment apdu (terminal_at known number) transcript now (subst (λ n. HasSaidApdu log n apdu) (eqb-true number pt own) brought) h
+    handled-said log pt known apdu (terminal_at known number) transcript now (subst (λ n. HasSaidApdu log n apdu) (eqb-true number pt own) brought) h
+took-said log pt known (Serve number till header request) transcript now own brought h = h
 took-said log pt known (NextWaiting number) transcript now own brought h = h
 took-said log pt known (Oversized number) transcript now own brought h = h
 took-said log pt known (LinkLost number) transcript now own brought h = h

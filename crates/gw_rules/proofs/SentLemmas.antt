@@ -10,8 +10,9 @@ use Rattle.zvt_msg.specs.MessageDecode.{decode_pt_message}
 use Rattle.zvt_msg.specs.declared.fault.PtFault.{PtFault}
 use Rattle.zvt_talk.specs.Came.{is_taken}
 use Rattle.gw_owes.specs.Calls.{Sending, Ask, Acknowledge, Refuse, sending_bytes, OwedCall, LinkPt, SendPt as OwedSendPt}
-use Rattle.gw_owes.specs.Items.{RoundItem, Crowded, Message, Asked, Unframed, Gone, Greet, Handle, NextWaiting, Oversized, LinkLost, Late, Overdue, Due}
+use Rattle.gw_owes.specs.Items.{RoundItem, Crowded, Message, Asked, Unframed, Gone, Greet, Handle, Serve, NextWaiting, Oversized, LinkLost, Late, Overdue, Due}
 use Rattle.gw_owes.specs.Links.{is_linked}
+use Rattle.gw_owes.specs.Reports.{on_record}
 use Rattle.gw_owes.specs.Row.{Known}
 use Rattle.gw_owes.specs.TerminalRows.{terminal_of}
 use Rattle.gw_owes.specs.Terminals.{terminal_at}
@@ -37,21 +38,22 @@ took-none known (Gone till) transcript = refl
 took-none known (Greet number apdu) transcript = refl
 took-none known (Handle number apdu) transcript = by_terminal (terminal_at known number) (decode_pt_message apdu)
   where
-    by_taken : (message : MessageValue) (taken : Bool) → spelled_commands ((if taken then Took message known.moment ∷ [] else []) ++ transcript) ≡ spelled_commands transcript
-    by_taken message true = refl
-    by_taken message false = refl
+    by_taken : (message : MessageValue) (last : ℕ) (taken : Bool) → spelled_commands ((if taken then Took message known.moment last ∷ [] else []) ++ transcript) ≡ spelled_commands transcript
+    by_taken message last true = refl
+    by_taken message last false = refl
 
-    by_decoded : (decoded : Result MessageValue PtFault) → spelled_commands (took_decoded known.moment decoded ++ transcript) ≡ spelled_commands transcript
-    by_decoded (Ok message) = by_taken message (is_taken message)
-    by_decoded (Err fault) = refl
+    by_decoded : (last : ℕ) (decoded : Result MessageValue PtFault) → spelled_commands (took_decoded known.moment last decoded ++ transcript) ≡ spelled_commands transcript
+    by_decoded last (Ok message) = by_taken message last (is_taken message)
+    by_decoded last (Err fault) = refl
 
-    by_linked : (linked : Bool) (decoded : Result MessageValue PtFault) → spelled_commands ((if linked then took_decoded known.moment decoded else []) ++ transcript) ≡ spelled_commands transcript
-    by_linked true decoded = by_decoded decoded
-    by_linked false decoded = refl
+    by_linked : (last : ℕ) (linked : Bool) (decoded : Result MessageValue PtFault) → spelled_commands ((if linked then took_decoded known.moment last decoded else []) ++ transcript) ≡ spelled_commands transcript
+    by_linked last true decoded = by_decoded last decoded
+    by_linked last false decoded = refl
 
-    by_terminal : (terminal : Option Terminal) (decoded : Result MessageValue PtFault) → spelled_commands (took_of known.moment terminal decoded ++ transcript) ≡ spelled_commands transcript
+    by_terminal : (terminal : Option Terminal) (decoded : Result MessageValue PtFault) → spelled_commands (took_of known terminal decoded ++ transcript) ≡ spelled_commands transcript
     by_terminal None decoded = refl
-    by_terminal (Some terminal) decoded = by_linked (is_linked terminal.standing) decoded
+    by_terminal (Some terminal) decoded = by_linked (on_record known.kept terminal.pt.poi).last (is_linked terminal.standing) decoded
+took-none known (Serve number till header request) transcript = refl
 took-none known (NextWaiting number) transcript = refl
 took-none known (Oversized number) transcript = refl
 took-none known (LinkLost number) transcript = refl
@@ -80,6 +82,7 @@ item-sent known pt item transcript lasts = by_own (is_number pt (terminal_of ite
     by_item (Gone till) lasts e = refl
     by_item (Greet number apdu) lasts e = refl
     by_item (Handle number apdu) lasts e = refl
+    by_item (Serve number till header request) lasts e = refl
     by_item (NextWaiting number) lasts e = refl
     by_item (Oversized number) lasts e = refl
     by_item (LinkLost number) lasts e = absurd (lasts (ap LinkLost (eqb-true number pt e)))

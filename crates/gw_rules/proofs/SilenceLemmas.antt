@@ -12,7 +12,7 @@ use Rattle.zvt_talk.specs.Talk.{TalkFacts}
 use Rattle.gw_owes.specs.Calls.{CutPt as OwedCutPt}
 use Rattle.gw_owes.specs.Core.{Core, Wait}
 use Rattle.gw_owes.specs.Events.{for_each_terminal, waits_by_deadline, items_due}
-use Rattle.gw_owes.specs.Items.{RoundItem, Crowded, Message, Asked, Unframed, Gone, Greet, Handle, NextWaiting, Oversized, LinkLost, Late, Overdue, Due}
+use Rattle.gw_owes.specs.Items.{RoundItem, Crowded, Message, Asked, Unframed, Gone, Greet, Handle, Serve, NextWaiting, Oversized, LinkLost, Late, Overdue, Due}
 use Rattle.gw_owes.specs.Links.{is_linked}
 use Rattle.gw_owes.specs.ReadAs.{ReadAs}
 use Rattle.gw_owes.specs.Row.{Known}
@@ -136,7 +136,7 @@ late-begin pt moment terminal P v turns s (inl (w, holds)) b = by_owed w.owed
     by_first (x ∷ before, rest, e) =
         let first = begins-first v w.agrees b in
         let tails : first.rest ≡ before ++ Late pt ∷ rest = (let n : first.item ∷ first.rest ≡ x ∷ (before ++ Late pt ∷ rest) = sym first.items_are ∙ e in cc) in
-        go_on (inl (before, rest, first.left ∙ tails))
+        go_on (inl (subst (IsAmong (Late pt)) (sym first.left) (has-after (Late pt) first.new first.rest (before, rest, tails))))
 
     by_owed : IsAmong (Late pt) v.items ⊎ ((v.scene.stage ≡ Handling) × (v.calls ≡ OwedCutPt pt ∷ [])) → IsCutOrOver pt moment terminal P (after v Begin) turns
     by_owed (inl among) = by_first among
@@ -154,6 +154,7 @@ read-late pt as_read (Unframed other ∷ items) h = h
 read-late pt as_read (Gone other ∷ items) h = h
 read-late pt as_read (Greet other apdu ∷ items) h = h
 read-late pt as_read (Handle other apdu ∷ items) h = h
+read-late pt as_read (Serve other till header request ∷ items) h = h
 read-late pt as_read (NextWaiting other ∷ items) h = h
 read-late pt as_read (Oversized other ∷ items) h = h
 read-late pt as_read (LinkLost other ∷ items) h = h

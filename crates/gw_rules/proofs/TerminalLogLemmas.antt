@@ -7,6 +7,7 @@ use Rattle.zvt_apdu.specs.DecodeStream.{decode_apdus, decode_apdus_within}
 use Rattle.zvt_bmp.specs.Decode.{decode_field_value, decode_status_field, decode_status_within, decode_status}
 use Rattle.zvt_msg.specs.MessageDecode.{decode_pt_message}
 use Rattle.zvt_msg.specs.CommandCanonical.{canonical_command}
+use Rattle.gw_ledger.specs.History.{history}
 use Rattle.gw_site.specs.Outside.{outside_of}
 use Rattle.gw_site.specs.Sorts.{IsQuiet, is_between}
 use Rattle.gw_site.specs.declared.turn.Turn.{Turn}
@@ -56,7 +57,7 @@ pub from-start : (moves : List Move) → passes_course (after at_first (Make (St
 from-start moves e = ((refl, formed), course-tested (after at_first (Make (Start terminal_setup))) moves e)
 
 pub ready-lawful : ReadyIsLawful
-unfolding decode_apdus decode_apdus_within decode_pt_message decode_status decode_status_within decode_status_field decode_field_value
+unfolding decode_apdus decode_apdus_within decode_pt_message decode_status decode_status_within decode_status_field decode_field_value history
 ready-lawful = record { along = record { turns = refl; lawful = from-start (after_start ready_course) refl }; standing_is = refl }
 
 pub due-again-lawful : DueAgainIsLawful

@@ -6,6 +6,7 @@ use Rattle.std.proofs.lemmas.Slice.Eq.{bytes_eq-Decides}
 use Rattle.std.proofs.lemmas.Str.{IsUtf8-from_is_utf8}
 use Rattle.std.specs.List.{AllByRecursion}
 use Rattle.std.specs.Prelude.{nat_lt, nat_le, ◌&&◌, ◌||◌, not, bytes_eq, codes, All, Some, None}
+use Rattle.std.specs.Fmt.{digits}
 use Rattle.std.specs.Str.{is_utf8, chars}
 use lib.Utf8.{encode}
 use Rattle.gw_base.specs.Ident.{IsIdent, IsPrintable}
@@ -13,6 +14,7 @@ use Rattle.gw_base.specs.Setup.{IsPt, IsSetup}
 use Rattle.gw_bytes.specs.Bytes.{AreBytes}
 use Rattle.json_text.specs.Tree.{Tree, null, boolean, number, string, array, object, Members, no_members, member, names}
 use Rattle.json_text.specs.Grammar.{Spells, IsNew, AreDistinct}
+use Rattle.json_text.specs.Number.{IsNumberText}
 use Rattle.json_text.specs.Spellable.{IsSpellableAt, HaveSpellable}
 use Rattle.json_text.specs.Canonical.{canonical}
 use Rattle.json_text.proofs.CanonicalLemmas.{spellable_written}
@@ -24,6 +26,8 @@ use Rattle.sale_values.specs.declared.request.Incoming.TheVariants as incoming
 use Rattle.sale_values.specs.declared.request.Reference.{Reference}
 use Rattle.sale_values.specs.declared.request.SaleRequest.TheVariants as requests
 use Rattle.sale_values.specs.MemberShapes.{text_member, only}
+use Rattle.sale_values.specs.Money.{money_text}
+use Rattle.sale_values.proofs.MoneyLemmas.{money_number}
 use Rattle.sale_msg.specs.declared.category.Category.TheVariants as categories
 use Rattle.sale_msg.specs.declared.table.Envelope.TheVariants as envelopes
 use Rattle.sale_msg.specs.Form.{IsLetter}
@@ -34,7 +38,7 @@ use Rattle.sale_msg.specs.Grammar.{IsTillMessage, HeaderHolds, Asks, parts_of}
 use Rattle.sale_reply.specs.Reply.{message_tree, header_tree, result_tree}
 use Rattle.gw_owes.specs.ReadAs.{IsReadAs, Silent}
 use Rattle.gw_owes.specs.Reply.{reply_value_tree, reply_value_bytes}
-use Rattle.gw_rules.specs.Example.{example_setup, few_setup, status_request, status_reply, silent_message, status_header, status_asked, not_found}
+use Rattle.gw_rules.specs.Example.{example_setup, few_setup, status_request, status_reply_bytes, silent_message, status_header, status_asked, not_found}
 use Rattle.gw_rules.proofs.StageLemmas.{no-true}
 
 -- ---- what holds of each number in a list is tested by computing
@@ -79,10 +83,18 @@ letter-tested byte e = by_test (nat_le 0x41 byte && nat_le byte 0x5A) refl e
     by_test true t f = let p = and_parts (nat_le 0x41 byte) (nat_le byte 0x5A) t in inl (leb-true 0x41 byte p.0, leb-true byte 0x5A p.1)
     by_test false t f = let p = and_parts (nat_le 0x61 byte) (nat_le byte 0x7A) f in inr (leb-true 0x61 byte p.0, leb-true byte 0x7A p.1)
 
-letters-tested : (bytes : List ℕ) → each_passes is_letter bytes ≡ true → All IsLetter bytes
+pub letters-tested : (bytes : List ℕ) → each_passes is_letter bytes ≡ true → All IsLetter bytes
 letters-tested bytes e = All-from_recursion IsLetter bytes (all-passed IsLetter is_letter letter-tested bytes e)
 
--- ---- a tree of objects and texts is tested by computing
+-- ---- a tree of objects, texts and the amount of the examples is tested by computing
+
+-- the amount 10.99
+abbrev pub example_amount : List ℕ
+example_amount = codes "10.99"
+
+pub amount-number : IsNumberText example_amount
+unfolding money_text digits
+amount-number = money_number 1099 (omega arith)
 
 abbrev lacks_name : List ℕ → List (List ℕ) → Bool
 lacks_name name [] = true
@@ -93,10 +105,10 @@ are_distinct [] = true
 are_distinct (name ∷ names) = lacks_name name names && are_distinct names
 
 abbrev mutual
-  is_spellable : ℕ → Tree → Bool
+  pub is_spellable : ℕ → Tree → Bool
   is_spellable d null = false
   is_spellable d (boolean b) = false
-  is_spellable d (number text) = false
+  is_spellable d (number text) = bytes_eq text example_amount
   is_spellable d (string text) = is_utf8 text
   is_spellable d (array xs) = false
   is_spellable d (object members) = nat_lt d 32 && (are_distinct (names members) && have_spellable (suc d) members)
@@ -117,10 +129,10 @@ are-distinct [] e = tt
 are-distinct (name ∷ list) e = let p = and_parts (lacks_name name list) (are_distinct list) e in (lacks-name name list p.0, are-distinct list p.1)
 
 mutual
-  spellable-tree : (d : ℕ) (tree : Tree) → is_spellable d tree ≡ true → IsSpellableAt d tree
+  pub spellable-tree : (d : ℕ) (tree : Tree) → is_spellable d tree ≡ true → IsSpellableAt d tree
   spellable-tree d null e = tt
   spellable-tree d (boolean b) e = tt
-  spellable-tree d (number text) e = no-true e
+  spellable-tree d (number text) e = subst IsNumberText (sym ((bytes_eq-Decides text example_amount).0 e)) amount-number
   spellable-tree d (string text) e = IsUtf8-from_is_utf8 text e
   spellable-tree d (array xs) e = no-true e
   spellable-tree d (object members) e =
@@ -223,12 +235,12 @@ request-message = (
 pub request-read : IsReadAs status_request status_asked
 request-read = record { tree = asked_tree; spelled = request-spelled; read = request-message }
 
-reply-canonical : status_reply ≡ canonical (reply_value_tree not_found)
-unfolding status_reply message_tree header_tree result_tree
+reply-canonical : status_reply_bytes ≡ canonical (reply_value_tree not_found)
+unfolding status_reply_bytes message_tree header_tree result_tree
 reply-canonical = refl
 
 -- the reply has its bytes
-pub reply-bytes : frame status_reply ≡ reply_value_bytes not_found
+pub reply-bytes : frame status_reply_bytes ≡ reply_value_bytes not_found
 reply-bytes = ap frame reply-canonical
 
 -- ---- the silent message

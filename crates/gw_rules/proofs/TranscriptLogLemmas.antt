@@ -12,28 +12,29 @@ use Rattle.zvt_apdu.specs.Grammar.{ApduValue}
 use Rattle.zvt_msg.specs.Message.{MessageValue, Ack, Nack, Intermediate, Line, Block, Status, Completion, Abort, Other}
 use Rattle.zvt_msg.specs.MessageDecode.{decode_pt_message}
 use Rattle.zvt_msg.specs.declared.fault.PtFault.{PtFault}
-use Rattle.zvt_talk.specs.declared.meaning.Heard.{Heard}
-use Rattle.zvt_talk.specs.declared.meaning.Heard.TheVariants as heard
-use Rattle.jrn_record.specs.declared.records.Record.{Record}
+use Rattle.sale_values.specs.declared.header.Header.{Header}
+use Rattle.sale_values.specs.declared.request.SaleRequest.{SaleRequest}
+use Rattle.gw_ledger.specs.History.{history}
 use Rattle.gw_owes.specs.Calls.{OwedCall, SendTill, LinkPt, WriteBody, WriteGate, WriteFirstGate, Sync, write_turn, SendPt as OwedSendPt, CutTill as OwedCutTill, CutPt as OwedCutPt}
 use Rattle.gw_owes.specs.Core.{Core, new_core, new_terminal}
 use Rattle.gw_owes.specs.Deadlines.{is_late, is_due, late_row, due_row}
 use Rattle.gw_owes.specs.Greeting.{greeting, sending_calls, greet_decoded, oversized_row}
-use Rattle.gw_owes.specs.Handling.{taking, meaning_at, registering, enquiring, serving, consequence, handle_row}
-use Rattle.gw_owes.specs.Items.{RoundItem, Crowded, Message, Asked, Unframed, Gone, Greet, Handle, NextWaiting, Oversized, LinkLost, Late, Overdue, Due}
+use Rattle.gw_owes.specs.Handling.{taking, handle_row}
+use Rattle.gw_owes.specs.Items.{RoundItem, Crowded, Message, Asked, Unframed, Gone, Greet, Handle, Serve, NextWaiting, Oversized, LinkLost, Late, Overdue, Due}
 use Rattle.gw_owes.specs.Links.{cutting, LinkEvent, LinkIsMade, LinkHasFailed, LinkIsLost, link_row}
+use Rattle.gw_owes.specs.Payments.{serve_row}
 use Rattle.gw_owes.specs.Reply.{ReplyValue}
 use Rattle.gw_owes.specs.Requests.{reply_to}
 use Rattle.gw_owes.specs.Row.{Known, Row, owing}
 use Rattle.gw_owes.specs.Rows.{asked_row, row_of}
+use Rattle.gw_owes.specs.Serving.{reply_to_outcome}
 use Rattle.gw_owes.specs.TerminalLaws.{settings_of, owes_cut}
 use Rattle.gw_owes.specs.TerminalRows.{terminal_of, terminal_row}
 use Rattle.gw_owes.specs.Terminals.{terminal_at, registers, reply_calls_to, reply_to_lost, unlinks, link_made, link_lost, forgets_till, core_without}
 use Rattle.gw_owes.specs.Transcript.{Carried, commanded, commanded_by, took_by, transcript_grown, is_link_lost, is_number, FollowsTranscript, EachRowFollowsTranscript}
-use Rattle.gw_owes.specs.declared.terminal.Standing.{Standing}
-use Rattle.gw_owes.specs.declared.terminal.Standing.TheVariants.{Unlinked, Registering, Enquiring, Ready, Serving, Aside}
 use Rattle.gw_owes.specs.declared.terminal.Terminal.{Terminal}
-use Rattle.gw_owes.proofs.HandlingLemmas.{by-where, each-terminal, each-linked, each-handled}
+use Rattle.gw_owes.proofs.HandlingLemmas.{by-where, each-terminal, each-linked}
+use Rattle.gw_owes.proofs.PaymentLemmas.{each-served}
 use Rattle.gw_owes.proofs.SetLemmas.{same-some}
 use Rattle.gw_owes.proofs.TerminalLemmas.{link-changes-alone, row-changes-alone}
 use Rattle.gw_owes.proofs.TranscriptLemmas.{new-follows, links-begin}
@@ -49,16 +50,17 @@ use Rattle.gw_rules.proofs.LinkedLemmas.{Agrees, first-agrees, move-agrees, roun
 use Rattle.gw_rules.proofs.OpeningLemmas.{OwesDisk, all_on_disk, first-owes-disk, course-disk}
 use Rattle.gw_rules.proofs.OwedLemmas.{call-last}
 use Rattle.gw_rules.proofs.OwingLemmas.{IsOwing, clear-where, after-clear, clear-turn, turn-clear, move-owing, first-owing, clear-owes-calls}
+use Rattle.gw_rules.proofs.RowFormLemmas.{EachForm, form-handled}
 use Rattle.gw_rules.proofs.StageLemmas.{no-true, round-busy}
 
 -- ---- terminals that are there
 
-image-there : {A B : Type 0} → (f : A → B) (all : List A) (at : ℕ) (image : B) → slice_get (map f all) at ≡ Some image → (one : A) × (slice_get all at ≡ Some one)
+pub image-there : {A B : Type 0} → (f : A → B) (all : List A) (at : ℕ) (image : B) → slice_get (map f all) at ≡ Some image → (one : A) × (slice_get all at ≡ Some one)
 image-there f [] at image found = absurd cc
 image-there f (first ∷ rest) zero image found = (first, refl)
 image-there f (first ∷ rest) (suc at) image found = image-there f rest at image found
 
-there-image : {A B : Type 0} → (f : A → B) (all : List A) (at : ℕ) (one : A) → slice_get all at ≡ Some one → slice_get (map f all) at ≡ Some (f one)
+pub there-image : {A B : Type 0} → (f : A → B) (all : List A) (at : ℕ) (one : A) → slice_get all at ≡ Some one → slice_get (map f all) at ≡ Some (f one)
 there-image f [] at one found = absurd cc
 there-image f (first ∷ rest) zero one found = ap (λ a. Some (f a)) (same-some first one found)
 there-image f (first ∷ rest) (suc at) one found = there-image f rest at one found
@@ -69,14 +71,14 @@ there-before old new pt terminal same found =
     image-there (λ (t : Terminal). t.pt) old.terminals pt terminal.pt
     (ap (λ (pts : List Pt). slice_get pts pt) (sym same) ∙ there-image (λ (t : Terminal). t.pt) new.terminals pt terminal found)
 
--- a terminal that stays as it was keeps its transcript, whatever is kept
-same-follows : (kept other : List Record) (pt : ℕ) (transcript : List Carried) (old new : Core) → slice_get new.terminals pt ≡ slice_get old.terminals pt → FollowsTranscript kept pt transcript old → FollowsTranscript other pt transcript new
-same-follows kept other pt transcript old new same has =
+-- a terminal that stays as it was keeps its transcript
+same-follows : (pt : ℕ) (transcript : List Carried) (old new : Core) → slice_get new.terminals pt ≡ slice_get old.terminals pt → FollowsTranscript pt transcript old → FollowsTranscript pt transcript new
+same-follows pt transcript old new same has =
     record { terminal = has.terminal; found = same ∙ has.found; talk_is = has.talk_is; awaited_is = has.awaited_is; standing_is = has.standing_is }
 
 -- so does one of which a till is forgotten
-gone-follows : (kept : List Record) (pt till : ℕ) (transcript : List Carried) (core : Core) → FollowsTranscript kept pt transcript core → FollowsTranscript kept pt transcript (core_without core till)
-gone-follows kept pt till transcript core has = record {
+gone-follows : (pt till : ℕ) (transcript : List Carried) (core : Core) → FollowsTranscript pt transcript core → FollowsTranscript pt transcript (core_without core till)
+gone-follows pt till transcript core has = record {
   terminal = forgets_till till has.terminal;
   found = there-image (forgets_till till) core.terminals pt has.terminal has.found;
   talk_is = has.talk_is;
@@ -87,7 +89,7 @@ gone-follows kept pt till transcript core has = record {
 -- ---- calls
 
 -- the call is none to another terminal than this
-abbrev IsCallOf : Option ℕ → OwedCall → Type 0
+abbrev pub IsCallOf : Option ℕ → OwedCall → Type 0
 IsCallOf of (SendTill till reply) = Unit {0}
 IsCallOf of (OwedSendPt number sending) = of ≡ Some number
 IsCallOf of (OwedCutTill till) = Unit {0}
@@ -99,11 +101,11 @@ IsCallOf of WriteFirstGate = Unit {0}
 IsCallOf of Sync = Unit {0}
 
 -- nor is any of these
-abbrev AreCallsOf : Option ℕ → List OwedCall → Type 0
+abbrev pub AreCallsOf : Option ℕ → List OwedCall → Type 0
 AreCallsOf of [] = Unit {0}
 AreCallsOf of (call ∷ calls) = IsCallOf of call × AreCallsOf of calls
 
-not-number : (number pt : ℕ) → number ≢ pt → (number == pt) ≡ false
+pub not-number : (number pt : ℕ) → number ≢ pt → (number == pt) ≡ false
 not-number number pt differs = by_test (number == pt) refl
   where
     by_test : (test : Bool) → (number == pt) ≡ test → test ≡ false
@@ -111,11 +113,11 @@ not-number number pt differs = by_test (number == pt) refl
     by_test false e = refl
 
 -- a call owes this terminal nothing
-abbrev OwesNothing : ℕ → ℕ → OwedCall → Type 0
+abbrev pub OwesNothing : ℕ → ℕ → OwedCall → Type 0
 OwesNothing pt moment call = (command_to pt moment call ≡ []) × (cuts_terminal pt call ≡ false)
 
 -- these commands are owed to the terminal, and its cut or not
-abbrev AreOwed : ℕ → ℕ → List OwedCall → List Carried → Bool → Type 0
+abbrev pub AreOwed : ℕ → ℕ → List OwedCall → List Carried → Bool → Type 0
 AreOwed pt moment calls commands cut = (command_owed pt moment calls ≡ commands) × (cut_owed pt calls ≡ cut)
 
 -- what is owed after a call that owes the terminal nothing is all that is
@@ -140,7 +142,7 @@ other-owed of pt moment [] are differs = (refl, refl)
 other-owed of pt moment (call ∷ calls) are differs = pass-owed pt moment call calls [] false (other-call of pt moment call are.0 differs) (other-owed of pt moment calls are.1 differs)
 
 -- the terminal is owed all of it
-own-owed : (pt moment : ℕ) (calls : List OwedCall) → AreCallsOf (Some pt) calls → AreOwed pt moment calls (commanded_by moment calls) (owes_cut calls)
+pub own-owed : (pt moment : ℕ) (calls : List OwedCall) → AreCallsOf (Some pt) calls → AreOwed pt moment calls (commanded_by moment calls) (owes_cut calls)
 own-owed pt moment [] are = (refl, refl)
 own-owed pt moment (SendTill till reply ∷ calls) are = pass-owed pt moment (SendTill till reply) calls (commanded_by moment calls) (owes_cut calls) (refl, refl) (own-owed pt moment calls are.1)
 own-owed pt moment (OwedSendPt number sending ∷ calls) are =
@@ -236,7 +238,7 @@ greeting-of number Completion = (refl, tt)
 greeting-of number (Abort result_code) = (refl, tt)
 greeting-of number Other = (refl, tt)
 
-abbrev IsRowOf : ℕ → Row → Type 0
+abbrev pub IsRowOf : ℕ → Row → Type 0
 IsRowOf number row = AreCallsOf (Some number) row.calls
 
 outside-of : (known : Known) (number : ℕ) → IsRowOf number (oversized_row known number)
@@ -246,56 +248,22 @@ greet-of : (known : Known) (number : ℕ) (decoded : Result MessageValue PtFault
 greet-of known number (Ok message) = each-linked (IsRowOf number) known number (λ terminal. owing known (sending_calls number (greeting message))) tt (λ terminal found linked. greeting-of number message)
 greet-of known number (Err fault) = outside-of known number
 
-registering-of : (known : Known) (number : ℕ) (terminal : Terminal) (meant : Heard) → IsRowOf number (registering known number terminal meant)
-registering-of known number terminal (heard.Begun stop) = tt
-registering-of known number terminal (heard.Note intermediate_status) = tt
-registering-of known number terminal heard.Line = tt
-registering-of known number terminal heard.Block = tt
-registering-of known number terminal heard.Seen = tt
-registering-of known number terminal (heard.Approved figures) = tt
-registering-of known number terminal heard.Done = (refl, tt)
-registering-of known number terminal (heard.Told reported approved result_code) = tt
-registering-of known number terminal (heard.Declined result_code reported) = (refl, tt)
-registering-of known number terminal heard.Unclear = (refl, tt)
-registering-of known number terminal heard.Stray = tt
-
-enquiring-of : (known : Known) (number : ℕ) (terminal : Terminal) (meant : Heard) → IsRowOf number (enquiring known number terminal meant)
-enquiring-of known number terminal (heard.Begun stop) = tt
-enquiring-of known number terminal (heard.Note intermediate_status) = tt
-enquiring-of known number terminal heard.Line = tt
-enquiring-of known number terminal heard.Block = tt
-enquiring-of known number terminal heard.Seen = tt
-enquiring-of known number terminal (heard.Approved figures) = tt
-enquiring-of known number terminal heard.Done = tt
-enquiring-of known number terminal (heard.Told reported approved result_code) = tt
-enquiring-of known number terminal (heard.Declined result_code reported) = (refl, tt)
-enquiring-of known number terminal heard.Unclear = (refl, tt)
-enquiring-of known number terminal heard.Stray = tt
-
-serving-of : (known : Known) (number : ℕ) (terminal : Terminal) (meant : Heard) → IsRowOf number (serving known number terminal meant)
-serving-of known number terminal (heard.Begun true) = (refl, tt)
-serving-of known number terminal (heard.Begun false) = tt
-serving-of known number terminal (heard.Note intermediate_status) = tt
-serving-of known number terminal heard.Line = tt
-serving-of known number terminal heard.Block = tt
-serving-of known number terminal heard.Seen = tt
-serving-of known number terminal (heard.Approved figures) = tt
-serving-of known number terminal heard.Done = tt
-serving-of known number terminal (heard.Told reported approved result_code) = tt
-serving-of known number terminal (heard.Declined result_code reported) = tt
-serving-of known number terminal heard.Unclear = (refl, tt)
-serving-of known number terminal heard.Stray = tt
-
-consequence-of : (known : Known) (number : ℕ) (terminal : Terminal) (meant : Heard) (standing : Standing) → IsRowOf number (consequence known number terminal meant standing)
-consequence-of known number terminal meant (Unlinked due) = tt
-consequence-of known number terminal meant Registering = registering-of known number terminal meant
-consequence-of known number terminal meant Enquiring = enquiring-of known number terminal meant
-consequence-of known number terminal meant (Ready last) = tt
-consequence-of known number terminal meant (Serving service last) = serving-of known number terminal meant
-consequence-of known number terminal meant (Aside before reported) = tt
+forms-of : (known : Known) (number : ℕ) (terminal : Terminal) → EachForm (IsRowOf number) known number terminal
+forms-of known number terminal = record {
+  nothing = tt;
+  stays = tt;
+  cuts = (refl, tt);
+  stops = (refl, tt);
+  enquires = (refl, tt);
+  rests = λ standing linked. tt;
+  resolves = λ standing outcome linked. (tt, (tt, (tt, (tt, reply-of (Some number) terminal.asker (reply_to_outcome known.kept outcome.slot outcome)))));
+}
 
 handle-of : (known : Known) (number : ℕ) (apdu : ApduValue) → IsRowOf number (handle_row known number apdu)
-handle-of known number apdu = each-handled (IsRowOf number) known number apdu tt (λ terminal message found linked is taken. consequence-of known number (taking terminal message known.moment) (meaning_at terminal message) terminal.standing)
+handle-of known number apdu = form-handled (IsRowOf number) known number apdu tt (λ terminal message found linked is taken. forms-of known number (taking terminal message known.moment))
+
+serve-of : (known : Known) (number till : ℕ) (header : Header) (request : SaleRequest) → IsRowOf number (serve_row known number till header request)
+serve-of known number till header request = each-served (IsRowOf number) known number till header request tt (λ payment terminal last asks at. (tt, (tt, (tt, (tt, (refl, tt))))))
 
 late-of : (known : Known) (number : ℕ) → IsRowOf number (late_row known number)
 late-of known number = each-terminal (IsRowOf number) known number _ tt (λ terminal found. by-where (IsRowOf number) known (cutting known number) (is_late known.moment terminal.talk) tt (λ late. (refl, tt)))
@@ -306,12 +274,12 @@ due-of known number = each-terminal (IsRowOf number) known number _ tt (λ termi
 lost-of : (known : Known) (number : ℕ) → IsRowOf number (link_lost known number)
 lost-of known number = each-terminal (IsRowOf number) known number (unlinks known number) tt (λ terminal found. reply-of (Some number) terminal.asker (reply_to_lost terminal.standing))
 
-link-of : (known : Known) (number : ℕ) (event : LinkEvent) → IsRowOf number (link_row known number event)
+pub link-of : (known : Known) (number : ℕ) (event : LinkEvent) → IsRowOf number (link_row known number event)
 link-of known number LinkIsMade = each-terminal (IsRowOf number) known number (registers known number) tt (λ terminal found. (refl, tt))
 link-of known number LinkHasFailed = lost-of known number
 link-of known number LinkIsLost = lost-of known number
 
-rows-of : (tills : List Connection) (known : Known) (item : RoundItem) → AreCallsOf (terminal_of item) (row_of tills known item).calls
+pub rows-of : (tills : List Connection) (known : Known) (item : RoundItem) → AreCallsOf (terminal_of item) (row_of tills known item).calls
 rows-of tills known (Crowded till) = (tt, tt)
 rows-of tills known (Message till bytes) = tt
 rows-of tills known (Asked till as_read) = by-where (λ (row : Row). AreCallsOf None row.calls) known (asked_row known till as_read) (is_connected tills till) tt (λ there. reply-of None (Some till) (reply_to known as_read))
@@ -319,6 +287,7 @@ rows-of tills known (Unframed till) = by-where (λ (row : Row). AreCallsOf None 
 rows-of tills known (Gone till) = tt
 rows-of tills known (Greet number apdu) = greet-of known number (decode_pt_message apdu)
 rows-of tills known (Handle number apdu) = handle-of known number apdu
+rows-of tills known (Serve number till header request) = serve-of known number till header request
 rows-of tills known (NextWaiting number) = tt
 rows-of tills known (Oversized number) = outside-of known number
 rows-of tills known (LinkLost number) = lost-of known number
@@ -335,6 +304,7 @@ rows-settings tills known (Unframed till) = by-where (λ (row : Row). settings_o
 rows-settings tills known (Gone till) = without-settings till known.core.terminals
 rows-settings tills known (Greet number apdu) = (row-changes-alone known (Greet number apdu) number refl).settings
 rows-settings tills known (Handle number apdu) = (row-changes-alone known (Handle number apdu) number refl).settings
+rows-settings tills known (Serve number till header request) = (row-changes-alone known (Serve number till header request) number refl).settings
 rows-settings tills known (NextWaiting number) = refl
 rows-settings tills known (Oversized number) = (row-changes-alone known (Oversized number) number refl).settings
 rows-settings tills known (LinkLost number) = (row-changes-alone known (LinkLost number) number refl).settings
@@ -346,29 +316,29 @@ rows-settings tills known (Due number) = (row-changes-alone known (Due number) n
 
 -- what is remembered of the terminal after a row is what this transcript says, with the command that the row owes it
 abbrev RowFollows : Known → ℕ → List Carried → Row → Type 0
-RowFollows known pt transcript row = FollowsTranscript known.kept pt (command_owed pt known.moment row.calls ++ transcript) row.core
+RowFollows known pt transcript row = FollowsTranscript pt (command_owed pt known.moment row.calls ++ transcript) row.core
 
 -- a row of a terminal, by what it leaves of that terminal
 by-number : (known : Known) (number pt : ℕ) (old new : List Carried) (row : Row) → IsRowOf number row → ((other : ℕ) → other ≢ number → slice_get row.core.terminals other ≡ slice_get known.core.terminals other)
-    → (number ≡ pt → RowFollows known pt new row) → (number ≢ pt → FollowsTranscript known.kept pt old known.core) → RowFollows known pt (if number == pt then new else old) row
+    → (number ≡ pt → RowFollows known pt new row) → (number ≢ pt → FollowsTranscript pt old known.core) → RowFollows known pt (if number == pt then new else old) row
 by-number known number pt old new row of others own has = by_test (number == pt) refl
   where
     by_test : (test : Bool) → (number == pt) ≡ test → RowFollows known pt (if test then new else old) row
     by_test true e = own (eqb-true number pt e)
     by_test false e =
         let differs : number ≢ pt = apart number pt e in
-        subst (λ (l : List Carried). FollowsTranscript known.kept pt (l ++ old) row.core) (sym (other-owed (Some number) pt known.moment row.calls of (λ same. differs (same-some number pt same))).0)
-        (same-follows known.kept known.kept pt old known.core row.core (others pt (λ same. differs (sym same))) (has differs))
+        subst (λ (l : List Carried). FollowsTranscript pt (l ++ old) row.core) (sym (other-owed (Some number) pt known.moment row.calls of (λ same. differs (same-some number pt same))).0)
+        (same-follows pt old known.core row.core (others pt (λ same. differs (sym same))) (has differs))
 
 -- an event of a link begins the transcript anew
 link-own : (known : Known) (number : ℕ) (event : LinkEvent) (terminal : Terminal) → terminal_at known number ≡ Some terminal → RowFollows known number [] (link_row known number event)
 link-own known number event terminal found =
-    subst (λ (l : List Carried). FollowsTranscript known.kept number l (link_row known number event).core)
+    subst (λ (l : List Carried). FollowsTranscript number l (link_row known number event).core)
     (sym (own-owed number known.moment (link_row known number event).calls (link-of known number event)).0 ∙ sym (append-nil (command_owed number known.moment (link_row known number event).calls)))
     (links-begin known number event terminal found)
 
 link-follows : (known : Known) (number : ℕ) (event : LinkEvent) (pt : ℕ) (transcript : List Carried) (terminal : Terminal) → slice_get (link_row known number event).core.terminals pt ≡ Some terminal
-    → (number ≢ pt → FollowsTranscript known.kept pt transcript known.core) → RowFollows known pt (if number == pt then [] else transcript) (link_row known number event)
+    → (number ≢ pt → FollowsTranscript pt transcript known.core) → RowFollows known pt (if number == pt then [] else transcript) (link_row known number event)
 link-follows known number event pt transcript terminal found has =
     let alone = link-changes-alone known number event in
     let before = there-before known.core (link_row known number event).core pt terminal alone.settings found in
@@ -377,15 +347,15 @@ link-follows known number event pt transcript terminal found has =
 
 -- an item that isn't the loss of a link
 own-row : EachRowFollowsTranscript → (known : Known) (item : RoundItem) (number : ℕ) (transcript : List Carried) → terminal_of item ≡ Some number → is_link_lost item ≡ false → IsRowOf number (terminal_row known item)
-    → FollowsTranscript known.kept number transcript known.core → cut_owed number (terminal_row known item).calls ≡ false → RowFollows known number (took_by known item ++ transcript) (terminal_row known item)
+    → FollowsTranscript number transcript known.core → cut_owed number (terminal_row known item).calls ≡ false → RowFollows known number (took_by known item ++ transcript) (terminal_row known item)
 own-row rows known item number transcript is lasts of has no_cut =
     let own = own-owed number known.moment (terminal_row known item).calls of in
-    subst (λ (l : List Carried). FollowsTranscript known.kept number (l ++ (took_by known item ++ transcript)) (terminal_row known item).core) (sym own.0)
-    (subst (λ (b : Bool). FollowsTranscript known.kept number (if b then [] else transcript_grown known item transcript) (terminal_row known item).core) lasts
+    subst (λ (l : List Carried). FollowsTranscript number (l ++ (took_by known item ++ transcript)) (terminal_row known item).core) (sym own.0)
+    (subst (λ (b : Bool). FollowsTranscript number (if b then [] else transcript_grown known item transcript) (terminal_row known item).core) lasts
     (rows known item number transcript is has (sym own.1 ∙ no_cut)))
 
 row-follows : EachRowFollowsTranscript → (known : Known) (item : RoundItem) (number pt : ℕ) (transcript : List Carried) → terminal_of item ≡ Some number → is_link_lost item ≡ false → IsRowOf number (terminal_row known item)
-    → FollowsTranscript known.kept pt transcript known.core → cut_owed pt (terminal_row known item).calls ≡ false → RowFollows known pt (if number == pt then took_by known item ++ transcript else transcript) (terminal_row known item)
+    → FollowsTranscript pt transcript known.core → cut_owed pt (terminal_row known item).calls ≡ false → RowFollows known pt (if number == pt then took_by known item ++ transcript else transcript) (terminal_row known item)
 row-follows rows known item number pt transcript is lasts of has no_cut =
     by-number known number pt transcript (took_by known item ++ transcript) (terminal_row known item) of (row-changes-alone known item number is).others
     (λ same. own-row rows known item pt transcript (is ∙ ap Some same) lasts (subst (λ n. IsRowOf n (terminal_row known item)) same of) has no_cut)
@@ -396,21 +366,22 @@ abbrev ItemFollows : List Connection → Known → RoundItem → ℕ → List Ca
 ItemFollows tills known item pt transcript = RowFollows known pt (if is_number pt (terminal_of item) then transcript_with known item transcript else transcript) (row_of tills known item)
 
 -- a row of a till
-till-follows : (known : Known) (pt : ℕ) (transcript : List Carried) (calls : List OwedCall) → AreCallsOf None calls → FollowsTranscript known.kept pt transcript known.core → RowFollows known pt transcript (owing known calls)
+till-follows : (known : Known) (pt : ℕ) (transcript : List Carried) (calls : List OwedCall) → AreCallsOf None calls → FollowsTranscript pt transcript known.core → RowFollows known pt transcript (owing known calls)
 till-follows known pt transcript calls of has =
-    subst (λ (l : List Carried). FollowsTranscript known.kept pt (l ++ transcript) known.core) (sym (other-owed None pt known.moment calls of (λ same. let n : None ≡ Some pt = same in cc)).0) has
+    subst (λ (l : List Carried). FollowsTranscript pt (l ++ transcript) known.core) (sym (other-owed None pt known.moment calls of (λ same. let n : None ≡ Some pt = same in cc)).0) has
 
 item-follows : EachRowFollowsTranscript → (tills : List Connection) (known : Known) (item : RoundItem) (pt : ℕ) (transcript : List Carried) (terminal : Terminal) → slice_get (row_of tills known item).core.terminals pt ≡ Some terminal
-    → FollowsTranscript known.kept pt transcript known.core → cut_owed pt (row_of tills known item).calls ≡ false → ItemFollows tills known item pt transcript
+    → FollowsTranscript pt transcript known.core → cut_owed pt (row_of tills known item).calls ≡ false → ItemFollows tills known item pt transcript
 item-follows rows tills known (Crowded till) pt transcript terminal found has no_cut = has
 item-follows rows tills known (Message till bytes) pt transcript terminal found has no_cut = has
 item-follows rows tills known (Asked till as_read) pt transcript terminal found has no_cut =
     by-where (RowFollows known pt transcript) known (asked_row known till as_read) (is_connected tills till) has (λ there. till-follows known pt transcript _ (reply-of None (Some till) (reply_to known as_read)) has)
 item-follows rows tills known (Unframed till) pt transcript terminal found has no_cut =
     by-where (RowFollows known pt transcript) known (owing known (OwedCutTill till ∷ [])) (is_connected tills till) has (λ there. has)
-item-follows rows tills known (Gone till) pt transcript terminal found has no_cut = gone-follows known.kept pt till transcript known.core has
+item-follows rows tills known (Gone till) pt transcript terminal found has no_cut = gone-follows pt till transcript known.core has
 item-follows rows tills known (Greet number apdu) pt transcript terminal found has no_cut = row-follows rows known (Greet number apdu) number pt transcript refl refl (greet-of known number (decode_pt_message apdu)) has no_cut
 item-follows rows tills known (Handle number apdu) pt transcript terminal found has no_cut = row-follows rows known (Handle number apdu) number pt transcript refl refl (handle-of known number apdu) has no_cut
+item-follows rows tills known (Serve number till header request) pt transcript terminal found has no_cut = row-follows rows known (Serve number till header request) number pt transcript refl refl (serve-of known number till header request) has no_cut
 item-follows rows tills known (NextWaiting number) pt transcript terminal found has no_cut = row-follows rows known (NextWaiting number) number pt transcript refl refl tt has no_cut
 item-follows rows tills known (Oversized number) pt transcript terminal found has no_cut = row-follows rows known (Oversized number) number pt transcript refl refl (outside-of known number) has no_cut
 item-follows rows tills known (LinkLost number) pt transcript terminal found has no_cut = link-follows known number LinkIsLost pt transcript terminal found (λ differs. has)
@@ -422,7 +393,7 @@ item-follows rows tills known (Due number) pt transcript terminal found has no_c
 
 -- what is remembered of the terminal is what the transcript says, with the commands that these calls owe it, but where they owe its cut
 record IsTranscribed (pt : ℕ) (transcript : List Carried) (calls : List OwedCall) (v : View) : Type 0 where
-  follows : (terminal : Terminal) → slice_get v.scene.core.terminals pt ≡ Some terminal → cut_owed pt calls ≡ false → FollowsTranscript v.scene.kept pt (command_owed pt v.scene.outside.moment calls ++ transcript) v.scene.core
+  follows : (terminal : Terminal) → slice_get v.scene.core.terminals pt ≡ Some terminal → cut_owed pt calls ≡ false → FollowsTranscript pt (command_owed pt v.scene.outside.moment calls ++ transcript) v.scene.core
 
 -- the same of the calls that the view owes
 abbrev HasTranscript : ℕ → List Carried → View → Type 0
@@ -433,10 +404,10 @@ HasTranscript pt transcript v = IsTranscribed pt transcript v.calls v
 begin-transcribed : EachRowFollowsTranscript → (pt : ℕ) (transcript : List Carried) (v : View) → Agrees v → Begins v → HasTranscript pt transcript v → HasTranscript pt (transcript_begun pt v.scene v.items transcript) (after v Begin)
 begin-transcribed rows pt transcript v a b t = by_items v.items refl
   where
-    before : (terminal : Terminal) → slice_get v.scene.core.terminals pt ≡ Some terminal → FollowsTranscript v.scene.kept pt transcript v.scene.core
+    before : (terminal : Terminal) → slice_get v.scene.core.terminals pt ≡ Some terminal → FollowsTranscript pt transcript v.scene.core
     before terminal found =
         let none = none-owed pt v.scene.outside.moment v.calls b.idle.calls in
-        subst (λ (l : List Carried). FollowsTranscript v.scene.kept pt (l ++ transcript) v.scene.core) none.0 (t.follows terminal found none.1)
+        subst (λ (l : List Carried). FollowsTranscript pt (l ++ transcript) v.scene.core) none.0 (t.follows terminal found none.1)
 
     by_items : (items : List RoundItem) → v.items ≡ items → HasTranscript pt (transcript_begun pt v.scene v.items transcript) (after v Begin)
     by_items [] e = no-true (sym (ap (may_begin v.scene) e) ∙ b.first)
@@ -447,7 +418,7 @@ begin-transcribed rows pt transcript v a b t = by_items v.items refl
         Begun setup =
             (terminal : Terminal) → slice_get (row_in v.scene (λ known. row_of v.scene.outside.tills known item) setup).core.terminals pt ≡ Some terminal
             → cut_owed pt (row_in v.scene (λ known. row_of v.scene.outside.tills known item) setup).calls ≡ false
-            → FollowsTranscript v.scene.kept pt (command_owed pt v.scene.outside.moment (row_in v.scene (λ known. row_of v.scene.outside.tills known item) setup).calls ++ transcript_in pt v.scene item transcript setup)
+            → FollowsTranscript pt (command_owed pt v.scene.outside.moment (row_in v.scene (λ known. row_of v.scene.outside.tills known item) setup).calls ++ transcript_in pt v.scene item transcript setup)
             (row_in v.scene (λ known. row_of v.scene.outside.tills known item) setup).core
 
         by_row : Begun v.scene.setup
@@ -465,8 +436,8 @@ same-transcribed : (pt : ℕ) (old new : List Carried) (v w : View) → HasTrans
 same-transcribed pt old new v w t core same = record {
   follows = λ terminal found no_cut.
       let s = same no_cut in
-      subst (λ (l : List Carried). FollowsTranscript w.scene.kept pt l w.scene.core) (sym s.1)
-      (same-follows v.scene.kept w.scene.kept pt _ v.scene.core w.scene.core (ap (λ (c : Core). slice_get c.terminals pt) core)
+      subst (λ (l : List Carried). FollowsTranscript pt l w.scene.core) (sym s.1)
+      (same-follows pt _ v.scene.core w.scene.core (ap (λ (c : Core). slice_get c.terminals pt) core)
       (t.follows terminal (ap (λ (c : Core). slice_get c.terminals pt) (sym core) ∙ found) s.0));
 }
 
@@ -494,23 +465,23 @@ link-transcribed pt transcript v w number event setup call t next last none othe
       let b = last-owed pt v.scene.outside.moment v.calls call next last in
       let there = ap (λ (c : Core). slice_get c.terminals pt) (sym core) ∙ found in
       let row = link_follows_at known terminal there (λ before found differs.
-      subst (λ (l : List Carried). FollowsTranscript v.scene.kept pt (l ++ transcript) v.scene.core) (b.0 ∙ none) (t.follows before found (b.1 ∙ other differs))) in
-      subst (λ (l : List OwedCall). FollowsTranscript w.scene.kept pt (command_owed pt w.scene.outside.moment l ++ (if number == pt then [] else transcript)) w.scene.core) (sym calls)
-      (subst (λ m. FollowsTranscript w.scene.kept pt (command_owed pt m (link_row known number event).calls ++ (if number == pt then [] else transcript)) w.scene.core) (sym moment)
-      (same-follows v.scene.kept w.scene.kept pt _ (link_row known number event).core w.scene.core (ap (λ (c : Core). slice_get c.terminals pt) core) row));
+      subst (λ (l : List Carried). FollowsTranscript pt (l ++ transcript) v.scene.core) (b.0 ∙ none) (t.follows before found (b.1 ∙ other differs))) in
+      subst (λ (l : List OwedCall). FollowsTranscript pt (command_owed pt w.scene.outside.moment l ++ (if number == pt then [] else transcript)) w.scene.core) (sym calls)
+      (subst (λ m. FollowsTranscript pt (command_owed pt m (link_row known number event).calls ++ (if number == pt then [] else transcript)) w.scene.core) (sym moment)
+      (same-follows pt _ (link_row known number event).core w.scene.core (ap (λ (c : Core). slice_get c.terminals pt) core) row));
 }
   where
     link_follows_at : (known : Known) (terminal : Terminal) → slice_get (link_row known number event).core.terminals pt ≡ Some terminal
-        → ((before : Terminal) → slice_get known.core.terminals pt ≡ Some before → number ≢ pt → FollowsTranscript known.kept pt transcript known.core) → RowFollows known pt (if number == pt then [] else transcript) (link_row known number event)
+        → ((before : Terminal) → slice_get known.core.terminals pt ≡ Some before → number ≢ pt → FollowsTranscript pt transcript known.core) → RowFollows known pt (if number == pt then [] else transcript) (link_row known number event)
     link_follows_at known terminal found has =
         let before = there-before known.core (link_row known number event).core pt terminal (link-changes-alone known number event).settings found in
         link-follows known number event pt transcript terminal found (has before.0 before.1)
 
 -- the row of an event of a link in a scene
-made-at : (scene : Scene) (number : ℕ) (setup : Setup) → scene.setup ≡ Some setup → link_made_at scene number ≡ link_row (known_in scene setup) number LinkIsMade
+pub made-at : (scene : Scene) (number : ℕ) (setup : Setup) → scene.setup ≡ Some setup → link_made_at scene number ≡ link_row (known_in scene setup) number LinkIsMade
 made-at scene number setup is = ap (λ o. row_in scene (λ known. link_made known number) o) is
 
-lost-at : (scene : Scene) (number : ℕ) (setup : Setup) → scene.setup ≡ Some setup → link_lost_at scene number ≡ link_row (known_in scene setup) number LinkIsLost
+pub lost-at : (scene : Scene) (number : ℕ) (setup : Setup) → scene.setup ≡ Some setup → link_lost_at scene number ≡ link_row (known_in scene setup) number LinkIsLost
 lost-at scene number setup is = ap (λ o. row_in scene (λ known. link_lost known number) o) is
 
 then-none : (row other : Row) (more : List OwedCall) → row ≡ other → more ≡ [] → row.calls ++ more ≡ other.calls
@@ -522,7 +493,7 @@ start-transcribed pt v setup d = record {
   follows = λ terminal found no_cut.
       let one = image-there new_terminal setup.terminals pt terminal found in
       let none = disk-owed pt (after_turn v (Start setup)).scene.outside.moment (after_turn v (Start setup)).calls (d.disk refl) in
-      subst (λ (l : List Carried). FollowsTranscript v.scene.kept pt (l ++ []) (new_core setup)) (sym none.0) (new-follows setup v.scene.kept pt one.0 one.1);
+      subst (λ (l : List Carried). FollowsTranscript pt (l ++ []) (new_core setup)) (sym none.0) (new-follows setup pt one.0 one.1);
 }
 
 -- no terminal is remembered
@@ -569,8 +540,8 @@ turn-transcribed pt transcript v (CutTill till) a d polled ok clear t = record {
   follows = λ terminal found no_cut.
       let b = next-owed pt v.scene.outside.moment v.calls (OwedCutTill till) ok (refl, refl) in
       let before = there-before v.scene.core (core_without v.scene.core till) pt terminal (without-settings till v.scene.core.terminals) found in
-      gone-follows v.scene.kept pt till (command_owed pt v.scene.outside.moment (later v.calls) ++ transcript) v.scene.core
-      (subst (λ (l : List Carried). FollowsTranscript v.scene.kept pt (l ++ transcript) v.scene.core) b.0 (t.follows before.0 before.1 (b.1 ∙ no_cut)));
+      gone-follows pt till (command_owed pt v.scene.outside.moment (later v.calls) ++ transcript) v.scene.core
+      (subst (λ (l : List Carried). FollowsTranscript pt (l ++ transcript) v.scene.core) b.0 (t.follows before.0 before.1 (b.1 ∙ no_cut)));
 }
 turn-transcribed pt transcript v (CutPt number) a d polled ok clear t =
     let k = call-setup v (OwedCutPt number) a.run ok in
@@ -634,10 +605,10 @@ logs-follow rows log v s pt terminal found no_cut =
 
 -- where nothing is owed, and no call on the disk has failed
 pub idle-follows : EachRowFollowsTranscript → (log : List Turn) (v : View) (s : Stands log v) (pt : ℕ) (terminal : Terminal) → slice_get v.scene.core.terminals pt ≡ Some terminal → is_broken v.scene.stage ≡ false → v.calls ≡ []
-    → FollowsTranscript v.scene.kept pt (transcript_of pt s.course) v.scene.core
+    → FollowsTranscript pt (transcript_of pt s.course) v.scene.core
 idle-follows rows log v s pt terminal found clear calls =
     let none = none-owed pt v.scene.outside.moment (owed_at s.course) (clear-owes-calls log v s clear ∙ calls) in
-    subst (λ (l : List Carried). FollowsTranscript v.scene.kept pt (l ++ transcript_of pt s.course) v.scene.core) none.0 (logs-follow rows log v s pt terminal found none.1)
+    subst (λ (l : List Carried). FollowsTranscript pt (l ++ transcript_of pt s.course) v.scene.core) none.0 (logs-follow rows log v s pt terminal found none.1)
 
 pub polls-follow : EachRowFollowsTranscript → EachPollFollowsTranscript
 polls-follow rows log v s pt terminal may found = idle-follows rows log v s pt terminal found (clear-where v.scene.stage is_running refl may.running) may.calls
@@ -645,7 +616,7 @@ polls-follow rows log v s pt terminal may found = idle-follows rows log v s pt t
 -- ---- the example
 
 pub example-log-transcript : ExampleLogTranscript
-unfolding decode_apdus decode_apdus_within decode_pt_message
+unfolding decode_apdus decode_apdus_within decode_pt_message history
 example-log-transcript = record {
   linked = refl;
   enquired = refl;

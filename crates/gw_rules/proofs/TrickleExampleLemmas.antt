@@ -75,7 +75,7 @@ trickle-silent = record {
   may_poll = record { running = refl; calls = refl; items = refl };
   terminal = _;
   found = refl;
-  standing_is = inl refl;
+  standing_has = tt;
   facts = _;
   talk_is = refl;
   lawful = course-tested linked_view (trickle_first ++ Make (Polled (pos 5)) ∷ trickle_second) refl;

@@ -8,11 +8,12 @@ use Rattle.gw_site.specs.declared.turn.Turn.{Turn}
 use Rattle.gw_site.specs.declared.turn.Turn.TheVariants.{Polled, HeardTill, SentTill, Synced, DiskFailed, Crash}
 use Rattle.sale_frame.specs.Grammar.{frame}
 use Rattle.jrn_log.specs.JournalTurns.{first_gate_write}
+use Rattle.gw_ledger.specs.History.{history}
 use Rattle.gw_owes.specs.Calls.{OwedCall, SendTill, WriteFirstGate, Sync, CutTill as OwedCutTill}
 use Rattle.gw_owes.specs.Items.{RoundItem}
 use Rattle.gw_owes.specs.ReadAs.{ReadAs, IsReadAs}
 use Rattle.gw_owes.proofs.ReadLemmas.{reads-one}
-use Rattle.gw_rules.specs.Example.{example_setup, status_request, status_reply, status_asked, not_found, opened_log, asked_log, UnaskedReply, PollBeforeReply, PollBeforeCut, PollWhileCrowded, CrashLeavesNoOther, NothingToLookAt, NothingToLookAtLater, PollEndsLooking, GateEndsLooking, opening_view, gated_view, first_file, began, began_moves}
+use Rattle.gw_rules.specs.Example.{example_setup, status_request, status_reply_bytes, status_asked, not_found, opened_log, asked_log, UnaskedReply, PollBeforeReply, PollBeforeCut, PollWhileCrowded, CrashLeavesNoOther, NothingToLookAt, NothingToLookAtLater, PollEndsLooking, GateEndsLooking, opening_view, gated_view, first_file, began, began_moves}
 use Rattle.gw_rules.specs.Lawful.{first_call, may_begin, first_message, AllowedTurn, IsCourse, turns_of, IsLawful}
 use Rattle.gw_rules.specs.Stage.{is_looking}
 use Rattle.gw_rules.specs.View.{View, Move, Begin, Read, Make, after, after_turn, view_from, at_first}
@@ -118,8 +119,8 @@ unasked-reply = record {
   before = prefix-lawful opened_log asked_log (Polled (pos 0) ∷ HeardTill 1 (frame status_request) ∷ [], refl) asked-lawful;
   with_turn = λ lawful.
       let v = view_from at_first (makes opened_log) in
-      let next = take-next v (SentTill 1 (frame status_reply) true) [] refl (opened-along (SentTill 1 (frame status_reply) true ∷ []) lawful) in
-      no-send v 1 (frame status_reply) true refl next.0;
+      let next = take-next v (SentTill 1 (frame status_reply_bytes) true) [] refl (opened-along (SentTill 1 (frame status_reply_bytes) true ∷ []) lawful) in
+      no-send v 1 (frame status_reply_bytes) true refl next.0;
 }
 
 asked-along : (turn : Turn) (turns : List Turn) → IsLawful (asked_log ++ turn ∷ turns) → Along (heard_view (frame status_request)) (turn ∷ turns)
@@ -142,7 +143,7 @@ unfolding status_request
 request-begins = refl
 
 reply-owed : first_call replying_view.calls ≡ Some (SendTill 1 not_found)
-unfolding status_request
+unfolding status_request history
 reply-owed = refl
 
 pub poll-before-reply : PollBeforeReply
@@ -159,7 +160,7 @@ poll-before-reply = record {
 -- ---- a failed send
 
 abbrev failed_turn : Turn
-failed_turn = SentTill 1 (take 5 (frame status_reply)) false
+failed_turn = SentTill 1 (take 5 (frame status_reply_bytes)) false
 
 pub poll-before-cut : PollBeforeCut
 poll-before-cut = record {
@@ -167,8 +168,8 @@ poll-before-cut = record {
   with_turn = λ lawful.
       let turns = Polled (pos 0) ∷ [] in
       let v = heard_view (frame status_request) in
-      let read = read-next v status_request status_asked failed_turn turns request-waits request-first request-read (no-send v 1 (take 5 (frame status_reply)) false refl) (asked-along failed_turn turns lawful) in
-      let begun = begin-next asked_view failed_turn turns request-begins (no-send asked_view 1 (take 5 (frame status_reply)) false refl) read in
+      let read = read-next v status_request status_asked failed_turn turns request-waits request-first request-read (no-send v 1 (take 5 (frame status_reply_bytes)) false refl) (asked-along failed_turn turns lawful) in
+      let begun = begin-next asked_view failed_turn turns request-begins (no-send asked_view 1 (take 5 (frame status_reply_bytes)) false refl) read in
       let sent = take-owed replying_view (SendTill 1 not_found) failed_turn turns reply-owed begun in
       let w = after_turn replying_view failed_turn in
       no-poll-call w (pos 0) (OwedCutTill 1) refl (take-owed w (OwedCutTill 1) (Polled (pos 0)) [] refl sent.1).0;

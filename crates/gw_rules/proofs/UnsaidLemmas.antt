@@ -1,7 +1,7 @@
 -- A terminal that says no whole APDU stays as it is, and is cut at its deadline.
 use Rattle.std.proofs.Common.{◌≡◌, ◌≢◌, ℕ, List, [], ◌∷◌, ◌++◌, refl, sym, ◌∙◌, ap, subst, true, false, inl, inr, eqb-true}
 use Rattle.std.proofs.lemmas.Bool.{eq-eqb}
-use Rattle.std.specs.Prelude.{Bool, ◌==◌, Option}
+use Rattle.std.specs.Prelude.{Bool, ◌==◌, Option, Some, None}
 use Rattle.std.specs.List.{flat_map}
 use Rattle.std.specs.Option.{option_map}
 use Rattle.gw_bytes.specs.Bytes.{AreBytes}
@@ -11,8 +11,10 @@ use Rattle.gw_site.specs.declared.turn.Turn.{Turn}
 use Rattle.gw_site.specs.declared.turn.Turn.TheVariants.{Start, OpenFailed, Polled, Opened, HeardTill, Closed, HeardPt, Lost, Stopped, Linked, LinkFailed, SentTill, SentPt, CutTill, CutPt, Wrote, Synced, DiskFailed, Crash}
 use Rattle.zvt_talk.specs.Talk.{TalkFacts}
 use Rattle.gw_owes.specs.Events.{apdu_items, pt_bytes_items, items_due}
-use Rattle.gw_owes.specs.TerminalLaws.{IsBeforeReady, HasDialogueOnlyIn}
+use Rattle.gw_owes.specs.TerminalLaws.{HasDialogueOnlyIn}
+use Rattle.gw_owes.specs.Steps.{is_ready_standing}
 use Rattle.gw_owes.specs.declared.terminal.Standing.{Standing}
+use Rattle.gw_owes.specs.declared.terminal.Standing.TheVariants.{Unlinked, Registering, Enquiring, Ready, Serving, Aside}
 use Rattle.gw_owes.specs.declared.terminal.Terminal.{Terminal}
 use Rattle.gw_owes.proofs.ApduLemmas.{pt-bytes-give}
 use Rattle.gw_rules.specs.LinkLaws.{EndsNone, IsOfTerminal}
@@ -96,6 +98,7 @@ turn-unsaid pt terminal v turn a bytes k ok quiet none unlost uncut = by_test (b
     with_bytes chunk ok none = record {
       kept = k.kept;
       linked = k.linked;
+      unready = k.unready;
       items = ap (λ l. change_none pt (l ++ items_due v.scene.core)) (none-brought v pt chunk bytes ok none) ∙ due-change-none pt v.scene.core;
       heard_is = refl;
     }
@@ -144,14 +147,14 @@ course-rest : (v : View) (xs ys : List Move) → IsCourse v (xs ++ ys) → IsCou
 course-rest v [] ys h = (tt, h)
 course-rest v (x ∷ xs) ys h = let rest = course-rest (after v x) xs ys h.1 in ((h.0, rest.0), rest.1)
 
--- a terminal that registers or is enquired is linked, and may have a dialogue
-before-ready-on : (standing : Standing) (talk : Option TalkFacts) → IsBeforeReady standing → standing_state standing talk ≡ On
-before-ready-on standing talk (inl is) = ap (λ s. standing_state s talk) is
-before-ready-on standing talk (inr is) = ap (λ s. standing_state s talk) is
-
-before-ready-talks : (standing : Standing) (talk : Option TalkFacts) → IsBeforeReady standing → HasDialogueOnlyIn standing talk
-before-ready-talks standing talk (inl is) = subst (λ s. HasDialogueOnlyIn s talk) (sym is) tt
-before-ready-talks standing talk (inr is) = subst (λ s. HasDialogueOnlyIn s talk) (sym is) tt
+-- a terminal with a dialogue is linked, and not ready
+talking-on : (standing : Standing) (talk : Option TalkFacts) (facts : TalkFacts) → HasDialogueOnlyIn standing talk → talk ≡ Some facts → (standing_state standing talk ≡ On) × (is_ready_standing standing ≡ false)
+talking-on (Unlinked due) talk facts none is = absurd (let n : None ≡ Some facts = sym none ∙ is in cc)
+talking-on Registering talk facts has is = (refl, refl)
+talking-on Enquiring talk facts has is = (refl, refl)
+talking-on (Ready last) talk facts none is = absurd (let n : None ≡ Some facts = sym none ∙ is in cc)
+talking-on (Serving service last) talk facts has is = (refl, refl)
+talking-on (Aside before reported) talk facts none is = absurd (let n : None ≡ Some facts = sym none ∙ is in cc)
 
 pub silent-dialogue-is-cut : SilentDialogueIsCut
 silent-dialogue-is-cut log v first second now pt s =
@@ -160,7 +163,8 @@ silent-dialogue-is-cut log v first second now pt s =
     let terminal : Terminal = without_asker s.terminal in
     let kept : KeptHere pt terminal v = record {
       kept = ap (option_map without_asker) s.found;
-      linked = before-ready-on s.terminal.standing s.terminal.talk s.standing_is;
+      linked = (talking-on s.terminal.standing s.terminal.talk s.facts s.standing_has s.talk_is).0;
+      unready = (talking-on s.terminal.standing s.terminal.talk s.facts s.standing_has s.talk_is).1;
       items = ap (change_none pt) s.may_poll.items;
       heard_is = refl;
     } in
@@ -176,4 +180,4 @@ silent-dialogue-is-cut log v first second now pt s =
     let onward = course-append polled second (Make (Polled now) ∷ []) course.1.1 (ends, tt) in
     stays-before-poll pt terminal (SaysNone pt) now now (turns_of second) [] w (says-none-stays pt terminal) (course-agrees v first agrees course.0) silent course.1.0 says
     (record { moves = second ++ Make (Polled now) ∷ []; turns_are = turns_of-append second (Make (Polled now) ∷ []); lawful = onward }) s.round
-    (before-ready-talks s.terminal.standing s.terminal.talk s.standing_is) (s.facts, s.talk_is, s.late)
+    s.standing_has (s.facts, s.talk_is, s.late)

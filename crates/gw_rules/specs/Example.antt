@@ -30,8 +30,8 @@ unfoldable pub status_request : List ℕ
 status_request = codes "{\"SaleToPOIRequest\":{\"MessageHeader\":{\"ProtocolVersion\":\"3.0\",\"MessageClass\":\"Service\",\"MessageCategory\":\"TransactionStatus\",\"MessageType\":\"Request\",\"ServiceID\":\"1\",\"SaleID\":\"S1\",\"POIID\":\"T1\"},\"TransactionStatusRequest\":{\"MessageReference\":{\"ServiceID\":\"9\"}}}}"
 
 -- no such payment is known
-unfoldable pub status_reply : List ℕ
-status_reply = codes "{\"SaleToPOIResponse\":{\"MessageHeader\":{\"ProtocolVersion\":\"3.0\",\"MessageClass\":\"Service\",\"MessageCategory\":\"TransactionStatus\",\"MessageType\":\"Response\",\"ServiceID\":\"1\",\"SaleID\":\"S1\",\"POIID\":\"T1\"},\"TransactionStatusResponse\":{\"Response\":{\"Result\":\"Failure\",\"ErrorCondition\":\"NotFound\"}}}}"
+unfoldable pub status_reply_bytes : List ℕ
+status_reply_bytes = codes "{\"SaleToPOIResponse\":{\"MessageHeader\":{\"ProtocolVersion\":\"3.0\",\"MessageClass\":\"Service\",\"MessageCategory\":\"TransactionStatus\",\"MessageType\":\"Response\",\"ServiceID\":\"1\",\"SaleID\":\"S1\",\"POIID\":\"T1\"},\"TransactionStatusResponse\":{\"Response\":{\"Result\":\"Failure\",\"ErrorCondition\":\"NotFound\"}}}}"
 
 -- a till confirms a device request, which gets no reply
 unfoldable pub silent_message : List ℕ
@@ -95,12 +95,12 @@ asked_log = heard_log (frame status_request)
 
 -- the request gets its reply
 abbrev pub status_log : List Turn
-status_log = asked_log ++ SentTill 1 (frame status_reply) true ∷ Polled (pos 0) ∷ Stopped ∷ []
+status_log = asked_log ++ SentTill 1 (frame status_reply_bytes) true ∷ Polled (pos 0) ∷ Stopped ∷ []
 
 -- the moves of the log: the request is read and begins once it was heard, and owes the reply
 abbrev pub status_course : List Move
 status_course =
-    began_moves example_setup ++ Make (Polled (pos 0)) ∷ Make (Opened 1) ∷ Make (Polled (pos 0)) ∷ Make (HeardTill 1 (frame status_request)) ∷ Read status_asked ∷ Begin ∷ Make (SentTill 1 (frame status_reply) true) ∷ Make (Polled (pos 0)) ∷ Make Stopped ∷ []
+    began_moves example_setup ++ Make (Polled (pos 0)) ∷ Make (Opened 1) ∷ Make (Polled (pos 0)) ∷ Make (HeardTill 1 (frame status_request)) ∷ Read status_asked ∷ Begin ∷ Make (SentTill 1 (frame status_reply_bytes) true) ∷ Make (Polled (pos 0)) ∷ Make Stopped ∷ []
 
 -- this is its course
 abbrev pub StatusIsLawful : Type 0
@@ -108,7 +108,7 @@ StatusIsLawful = IsCourseAlong status_log status_course
 
 -- no reply is sent where none is owed
 abbrev pub UnaskedReply : Type 0
-UnaskedReply = IsUnlawfulAfter opened_log (SentTill 1 (frame status_reply) true)
+UnaskedReply = IsUnlawfulAfter opened_log (SentTill 1 (frame status_reply_bytes) true)
 
 -- no poll comes where a reply is owed
 abbrev pub PollBeforeReply : Type 0
@@ -116,7 +116,7 @@ PollBeforeReply = IsUnlawfulAfter asked_log (Polled (pos 0))
 
 -- where the send of the reply fails, the till is cut
 abbrev pub failed_send_log : List Turn
-failed_send_log = asked_log ++ SentTill 1 (take 5 (frame status_reply)) false ∷ CutTill 1 ∷ Polled (pos 0) ∷ Stopped ∷ []
+failed_send_log = asked_log ++ SentTill 1 (take 5 (frame status_reply_bytes)) false ∷ CutTill 1 ∷ Polled (pos 0) ∷ Stopped ∷ []
 
 -- it is lawful
 abbrev pub FailedSendIsLawful : Type 0
@@ -124,7 +124,7 @@ FailedSendIsLawful = IsLawful failed_send_log
 
 -- no poll comes before that cut
 abbrev pub PollBeforeCut : Type 0
-PollBeforeCut = IsUnlawfulAfter (asked_log ++ SentTill 1 (take 5 (frame status_reply)) false ∷ []) (Polled (pos 0))
+PollBeforeCut = IsUnlawfulAfter (asked_log ++ SentTill 1 (take 5 (frame status_reply_bytes)) false ∷ []) (Polled (pos 0))
 
 -- a message that gets no reply: the next poll comes at once
 abbrev pub silent_log : List Turn
@@ -136,7 +136,7 @@ SilentIsLawful = IsLawful silent_log
 
 -- a frame of no bytes after a good one: the request gets its reply, and then the till is cut
 abbrev pub bad_frame_log : List Turn
-bad_frame_log = heard_log (frame status_request ++ 0 ∷ 0 ∷ 0 ∷ 0 ∷ []) ++ SentTill 1 (frame status_reply) true ∷ CutTill 1 ∷ Polled (pos 0) ∷ Stopped ∷ []
+bad_frame_log = heard_log (frame status_request ++ 0 ∷ 0 ∷ 0 ∷ 0 ∷ []) ++ SentTill 1 (frame status_reply_bytes) true ∷ CutTill 1 ∷ Polled (pos 0) ∷ Stopped ∷ []
 
 -- it is lawful
 abbrev pub BadFrameIsLawful : Type 0

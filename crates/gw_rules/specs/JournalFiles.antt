@@ -17,7 +17,7 @@ use Rattle.gw_rules.specs.Lawful.{IsCourse, turns_of, IsLawful}
 use Rattle.gw_rules.specs.Opening.{opening_calls}
 use Rattle.gw_rules.specs.RowExample.{terminal_setup, example_record, keep_view, gate_moves}
 use Rattle.gw_rules.specs.Scene.{records_of}
-use Rattle.gw_rules.specs.View.{View, Move, Make, view_from, at_first}
+use Rattle.gw_rules.specs.View.{View, Move, Begin, Read, Make, after, after_turn, view_from, at_first}
 
 -- ---- lawful logs
 
@@ -52,11 +52,18 @@ spare_disk (call ∷ calls) = not (is_on_disk call) && spare_disk calls
 
 -- ---- a journal that is opened
 
--- Where a view owes that a journal is opened, each lawful course from it leaves such files after each of its turns. It goes by views, so also from where no lawful log leads, as where another program has written the file.
+-- no item that begins along the course owes a call on the disk
+abbrev pub ItemsSpareDisk : View → List Move → Type 0
+ItemsSpareDisk v [] = Unit {0}
+ItemsSpareDisk v (Begin ∷ moves) = (spare_disk (after v Begin).calls ≡ true) × ItemsSpareDisk (after v Begin) moves
+ItemsSpareDisk v (Read as_read ∷ moves) = ItemsSpareDisk (after v (Read as_read)) moves
+ItemsSpareDisk v (Make turn ∷ moves) = ItemsSpareDisk (after_turn v turn) moves
+
+-- Where a view owes that a journal is opened, each lawful course from it, as long as no item owes that a record is kept, leaves such files after each of its turns. It goes by views, so also from where no lawful log leads, as where another program has written the file.
 abbrev pub OpeningLeavesJournalFiles : Type 0
 OpeningLeavesJournalFiles =
     (log : List Turn) (v : View) (calls : List OwedCall) (moves : List Move) → v.scene.outside ≡ outside_of log → LeavesJournals log
-    → v.calls ≡ opening_calls (length (outside_of log).file) ++ calls → spare_disk calls ≡ true → IsCourse v moves → HasJournalFiles (log ++ turns_of moves)
+    → v.calls ≡ opening_calls (length (outside_of log).file) ++ calls → spare_disk calls ≡ true → IsCourse v moves → ItemsSpareDisk v moves → HasJournalFiles (log ++ turns_of moves)
 
 -- ---- a record that is kept
 
@@ -68,11 +75,11 @@ pub record HasJournal (log : List Turn) (v : View) : Type 0 where
   pub kept : AreKept log (map record_body v.scene.kept)
   pub ends : EndsClosed (outside_of log).file (length v.scene.kept)
 
--- Where a view has a journal and owes that a record is kept in the next slot, each lawful course from it leaves such files after each of its turns, whichever they are.
+-- Where a view has a journal and owes that a record is kept in the next slot, each lawful course from it, as long as no item owes that another is kept, leaves such files after each of its turns, whichever they are.
 abbrev pub KeepingLeavesJournals : Type 0
 KeepingLeavesJournals =
     (log : List Turn) (v : View) (the_record : Record) (calls : List OwedCall) (moves : List Move) → HasJournal log v → IsRecord the_record
-    → v.calls ≡ keep_calls (length v.scene.kept) the_record ++ calls → spare_disk calls ≡ true → IsCourse v moves → HasJournalFiles (log ++ turns_of moves)
+    → v.calls ≡ keep_calls (length v.scene.kept) the_record ++ calls → spare_disk calls ≡ true → IsCourse v moves → ItemsSpareDisk v moves → HasJournalFiles (log ++ turns_of moves)
 
 -- once its body and its gate are written and synced, the view has the journal with this record too, and owes the later calls
 pub record IsKept (log : List Turn) (v : View) (the_record : Record) (calls : List OwedCall) (turns : List Turn) : Type 0 where

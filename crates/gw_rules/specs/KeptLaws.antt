@@ -1,5 +1,5 @@
 -- What the journal's file, and whatever a power failure leaves of it, have at each moment of a log along which records are kept, whichever rows owe that.
-use Rattle.std.specs.Prelude.{◌≡◌, ◌≢◌, ◌⊎◌, ◌+◌, ◌<◌, ◌≤◌, ℕ, Bool, true, IsTrue, List, [], ◌∷◌, ◌++◌, length, map, Some}
+use Rattle.std.specs.Prelude.{◌≡◌, ◌≢◌, ◌⊎◌, ◌+◌, ◌<◌, ◌≤◌, ℕ, Bool, true, false, IsTrue, List, [], ◌∷◌, ◌++◌, length, map, Some}
 use Rattle.gw_base.specs.declared.setup.Setup.{Setup}
 use Rattle.gw_site.specs.Image.{Image}
 use Rattle.gw_site.specs.Outside.{outside_of}
@@ -9,6 +9,7 @@ use Rattle.jrn_record.specs.Grammar.{record_body}
 use Rattle.jrn_record.specs.Limits.{IsRecord}
 use Rattle.jrn_record.specs.declared.records.Record.{Record}
 use Rattle.jrn_log.specs.Journal.{AreKept}
+use Rattle.jrn_log.specs.JournalLogs.{HasGateAfter}
 use Rattle.jrn_log.specs.JournalTurns.{first_gate}
 use Rattle.jrn_log.specs.Slots.{AreSlots, IsTruncatedSlot, IsFileTooLong}
 use Rattle.gw_owes.specs.Calls.{OwedCall, keep_calls}
@@ -16,10 +17,10 @@ use Rattle.gw_owes.specs.Items.{RoundItem}
 use Rattle.gw_owes.specs.ReadAs.{ReadAs}
 use Rattle.gw_owes.specs.Row.{Row}
 use Rattle.gw_rules.specs.JournalFiles.{HasJournalFiles, spare_disk, HasJournal, IsOpened}
-use Rattle.gw_rules.specs.Lawful.{AllowedTurn, Begins, IsRead, Stands}
+use Rattle.gw_rules.specs.Lawful.{AllowedTurn, Begins, IsRead}
 use Rattle.gw_rules.specs.Opening.{Opens, kept_of, opening_calls}
 use Rattle.gw_rules.specs.Scene.{Scene, records_of}
-use Rattle.gw_rules.specs.Stage.{is_round}
+use Rattle.gw_rules.specs.Stage.{AtPoll, is_round, is_running}
 use Rattle.gw_rules.specs.View.{View, Read, begun, started, after, after_turn, at_first}
 
 -- ---- records
@@ -32,9 +33,9 @@ pub record RecordRules : Type 0 where
   pub none_open : open_keys [] ≡ 0
 
 -- each of the records lies within its limits, and may follow those before it
-abbrev pub AreInOrder : RecordRules → List Record → List Record → Type 0
-AreInOrder rules before [] = Unit {0}
-AreInOrder rules before (the_record ∷ rest) = IsRecord the_record × IsTrue (rules.may_follow before the_record) × AreInOrder rules (before ++ the_record ∷ []) rest
+abbrev pub AreInSequence : RecordRules → List Record → List Record → Type 0
+AreInSequence rules before [] = Unit {0}
+AreInSequence rules before (the_record ∷ rest) = IsRecord the_record × IsTrue (rules.may_follow before the_record) × AreInSequence rules (before ++ the_record ∷ []) rest
 
 -- the slots that these records need: one for each, and one for each key that they leave open
 abbrev pub slots_needed : RecordRules → List Record → ℕ
@@ -66,7 +67,7 @@ KeepsAtMostOne rules scene calls = (spare_disk calls ≡ true) ⊎ KeepsRecord r
 abbrev pub opens_journal : List ℕ → Bool → Opens
 opens_journal file refused = record { calls = opening_calls (length file); refused = refused }
 
--- From one log and the view at its end, a gateway that keeps a journal goes on to another. Each run that begins opens the journal, an item that begins may owe any row whose calls keep one record at most, and every other move is one that may come next. No row of a lawful log keeps a record yet.
+-- From one log and the view at its end, a gateway that keeps a journal goes on to another. Each run that begins opens the journal, an item that begins may owe any row whose calls keep one record at most, and every other move is one that may come next.
 pub data KeepsOn (rules : RecordRules) (base : List Turn) (first : View) : List Turn → View → Type 0 where
   -- no move is made
   NoMoves : KeepsOn rules base first base first
@@ -105,7 +106,7 @@ NoneTruncated log = (file : List ℕ) (slot : ℕ) → Image (outside_of log) fi
 pub record AreOrderedBodies (rules : RecordRules) (bodies : List (List ℕ)) : Type 0 where
   pub records : List Record
   pub bodies_are : bodies ≡ map record_body records
-  pub in_order : AreInOrder rules [] records
+  pub in_order : AreInSequence rules [] records
 
 -- whatever a power failure leaves has in each open slot a record within its limits, which may follow those before it
 abbrev pub NoneBad : RecordRules → List Turn → Type 0
@@ -185,10 +186,28 @@ EachStartOpensJournal =
 abbrev pub EachKeepsJournalFiles : Type 0
 EachKeepsJournalFiles = (rules : RecordRules) (log : List Turn) (v : View) → KeepsJournal rules log v → HasJournalFiles log
 
--- Each lawful log is one of a gateway that keeps a journal, whichever the rules: each of its runs opens it. None of its rows keeps a record yet.
-abbrev pub EachLawfulKeepsJournal : Type 0
-EachLawfulKeepsJournal = (rules : RecordRules) (log : List Turn) (v : View) → Stands log v → KeepsJournal rules log v
+-- ---- a file that is handed in
 
--- so all of this is so after each lawful log
-abbrev pub EachLawfulHasKept : Type 0
-EachLawfulHasKept = (rules : RecordRules) (log : List Turn) (v : View) → Stands log v → HasKept rules log v.scene
+-- The view is one after this log, whose files have exactly its records, whoever wrote them and in whichever order. Whatever a power failure leaves of them has these records and no truncated slot, and a journal can have left it.
+pub record HasFiles (log : List Turn) (v : View) : Type 0 where
+  pub outside_is : v.scene.outside ≡ outside_of log
+  pub files : HasJournalFiles log
+  pub kept : FileHasKept log v.scene
+  pub images : ImagesHaveKept log v.scene
+  pub none_truncated : (file : List ℕ) → Image (outside_of log) file → HasGateAfter file (length (kept_of v.scene file))
+
+-- From such files, between runs: the runs that come, which open them and keep records in them, leave such files after each turn and each item.
+abbrev pub HandedInKeepsFiles : Type 0
+HandedInKeepsFiles =
+    (rules : RecordRules) (base log : List Turn) (first v : View) → HasFiles base first → is_running first.scene.stage ≡ false → first.calls ≡ [] → KeepsOn rules base first log v → HasFiles log v
+
+-- so do they where a run owes that it opens them
+abbrev pub OpeningKeepsFiles : Type 0
+OpeningKeepsFiles =
+    (rules : RecordRules) (base log : List Turn) (first v : View) → HasFiles base first → first.scene.stage ≢ AtPoll → first.calls ≡ opening_calls (length (outside_of base).file) → KeepsOn rules base first log v → HasFiles log v
+
+-- and where one has its journal, and owes that a record is kept in the next slot
+abbrev pub KeepingKeepsFiles : Type 0
+KeepingKeepsFiles =
+    (rules : RecordRules) (base log : List Turn) (first v : View) (the_record : Record) (calls : List OwedCall) → HasJournal base first → first.scene.stage ≢ AtPoll → IsRecord the_record
+    → first.calls ≡ keep_calls (length first.scene.kept) the_record ++ calls → spare_disk calls ≡ true → KeepsOn rules base first log v → HasFiles log v

@@ -9,7 +9,7 @@ use Rattle.jrn_log.specs.Slots.{AreSlots}
 use Rattle.gw_ledger.specs.Fold.{fits, AreFolded, AreBodiesOf}
 use Rattle.gw_ledger.specs.History.{history}
 use Rattle.gw_ledger.specs.Sums.{open_count_of}
-use Rattle.gw_rules.specs.KeptLaws.{RecordRules, KeepsJournal, HadMoreSlots}
+use Rattle.gw_rules.specs.KeptLaws.{RecordRules, KeepsJournal, HasKept, HadMoreSlots}
 use Rattle.gw_rules.specs.Lawful.{Stands}
 use Rattle.gw_rules.specs.Opening.{is_refused, opening}
 use Rattle.gw_rules.specs.RowExample.{example_record}
@@ -24,6 +24,14 @@ no_open_key = refl
 -- the rules of the ledger: a record may follow those after which it fits, and each Intent without its Outcome leaves its key open
 abbrev pub ledger_rules : RecordRules
 ledger_rules = record { may_follow = fits; open_keys = open_count_of; none_open = no_open_key }
+
+-- each lawful log is one of a gateway that keeps a journal by these rules: each of its runs opens it, and each record that a row keeps may follow those before it, and has room
+abbrev pub EachLawfulKeepsJournal : Type 0
+EachLawfulKeepsJournal = (log : List Turn) (v : View) → Stands log v → KeepsJournal ledger_rules log v
+
+-- so after each lawful log all of what is kept is said of it
+abbrev pub EachLawfulHasKept : Type 0
+EachLawfulHasKept = (log : List Turn) (v : View) → Stands log v → HasKept ledger_rules log v.scene
 
 -- the records of the file fold
 abbrev pub EachFileFolds : Type 0

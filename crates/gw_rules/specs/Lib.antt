@@ -22,6 +22,8 @@ pub mod LedgerRules
 pub mod LinkLaws
 pub mod Opening
 pub mod OutsideLaws
+pub mod PaymentLogExample
+pub mod RecordOrder
 pub mod RowExample
 pub mod Scene
 pub mod SilenceLaws

@@ -10,7 +10,7 @@ use Rattle.zvt_msg.specs.MessageDecode.{decode_pt_message}
 use Rattle.zvt_msg.specs.declared.fault.PtFault.{PtFault}
 use Rattle.gw_owes.specs.Core.{Core}
 use Rattle.gw_owes.specs.Events.{apdu_items, items_due}
-use Rattle.gw_owes.specs.Items.{RoundItem, Crowded, Message, Asked, Unframed, Gone, Greet, Handle, NextWaiting, Oversized, LinkLost, Late, Overdue, Due}
+use Rattle.gw_owes.specs.Items.{RoundItem, Crowded, Message, Asked, Unframed, Gone, Greet, Handle, Serve, NextWaiting, Oversized, LinkLost, Late, Overdue, Due}
 use Rattle.gw_owes.specs.TerminalLaws.{ChangesTerminalAlone}
 use Rattle.gw_owes.specs.Terminals.{with_terminal, unlinked_terminal}
 use Rattle.gw_owes.specs.declared.terminal.Terminal.{Terminal}
@@ -30,6 +30,7 @@ IsOfBytes pt (Unframed till) = ⊥
 IsOfBytes pt (Gone till) = ⊥
 IsOfBytes pt (Greet number apdu) = number ≡ pt
 IsOfBytes pt (Handle number apdu) = number ≡ pt
+IsOfBytes pt (Serve number till header request) = ⊥
 IsOfBytes pt (NextWaiting number) = number ≡ pt
 IsOfBytes pt (Oversized number) = number ≡ pt
 IsOfBytes pt (LinkLost number) = ⊥

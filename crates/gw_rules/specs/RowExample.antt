@@ -1,4 +1,4 @@
--- Example courses of a terminal that is linked, from where its link is owed, and along turns that no row owes yet, from where they would be owed. Beside them, examples of what a terminal is sent and who waits for it.
+-- Example courses of a terminal that is linked, from where its link is owed, and along the turns that keep a record, from where they are owed. Beside them, examples of what a terminal is sent and who waits for it.
 use Rattle.std.specs.Prelude.{◌≡◌, ℕ, pos, false, true, List, [], ◌∷◌, ◌++◌, slice_get, Option, Some, None, codes}
 use Rattle.std.specs.Option.{option_map}
 use Rattle.gw_base.specs.declared.condition.Condition.TheVariants.{UnavailableDevice}

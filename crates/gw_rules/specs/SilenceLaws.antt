@@ -9,7 +9,7 @@ use Rattle.gw_site.specs.declared.turn.Turn.{Turn}
 use Rattle.gw_site.specs.declared.turn.Turn.TheVariants.{Start, Polled, HeardPt, Lost, Linked}
 use Rattle.zvt_apdu.specs.Grammar.{IsProperApduPrefix}
 use Rattle.zvt_talk.specs.Talk.{TalkFacts}
-use Rattle.gw_owes.specs.TerminalLaws.{IsBeforeReady}
+use Rattle.gw_owes.specs.TerminalLaws.{HasDialogueOnlyIn}
 use Rattle.gw_owes.specs.declared.terminal.Terminal.{Terminal}
 use Rattle.gw_rules.specs.Lawful.{MayPoll, IsCourse, turns_of, Stands, IsLawful}
 use Rattle.gw_rules.specs.LinkLaws.{IsPtCutIn, EndsNone, HasSaid}
@@ -35,13 +35,13 @@ abbrev pub IsNotLostIn : ℕ → List Turn → Type 0
 IsNotLostIn pt [] = Unit {0}
 IsNotLostIn pt (turn ∷ turns) = (turn ≢ Lost pt) × IsNotLostIn pt turns
 
--- Along this lawful course, from where a poll may come after the log, the terminal registers or is enquired, in this dialogue; a poll comes after the first moves that is at its deadline or later, and the course goes on until the next poll may come. Before that poll and with what it brings the terminal says no whole APDU, whatever bytes come of it, and its link isn't lost.
+-- Along this lawful course, from where a poll may come after the log, this dialogue of the terminal runs, in a standing that has one: it registers, is enquired, or serves what a till asked for. A poll comes after the first moves that is at its deadline or later, and the course goes on until the next poll may come. Before that poll and with what it brings the terminal says no whole APDU, whatever bytes come of it, and its link isn't lost.
 pub record IsSilentAlong (log : List Turn) (v : View) (first second : List Move) (now : ℤ) (pt : ℕ) : Type 0 where
   pub before : Stands log v
   pub may_poll : MayPoll v
   pub terminal : Terminal
   pub found : slice_get v.scene.core.terminals pt ≡ Some terminal
-  pub standing_is : IsBeforeReady terminal.standing
+  pub standing_has : HasDialogueOnlyIn terminal.standing terminal.talk
   pub facts : TalkFacts
   pub talk_is : terminal.talk ≡ Some facts
   pub lawful : IsCourse v (first ++ Make (Polled now) ∷ second)

@@ -146,12 +146,12 @@ ClearOwesItsCalls = (log : List Turn) (v : View) (s : Stands log v) → IsClear 
 abbrev pub EachLogFollowsTranscript : Type 0
 EachLogFollowsTranscript =
     (log : List Turn) (v : View) (s : Stands log v) (pt : ℕ) (terminal : Terminal) → slice_get v.scene.core.terminals pt ≡ Some terminal → cut_owed pt (owed_at s.course) ≡ false
-    → FollowsTranscript v.scene.kept pt (command_owed pt v.scene.outside.moment (owed_at s.course) ++ transcript_of pt s.course) v.scene.core
+    → FollowsTranscript pt (command_owed pt v.scene.outside.moment (owed_at s.course) ++ transcript_of pt s.course) v.scene.core
 
 -- so where a poll may come they are those of what was sent and taken, and no more
 abbrev pub EachPollFollowsTranscript : Type 0
 EachPollFollowsTranscript =
-    (log : List Turn) (v : View) (s : Stands log v) (pt : ℕ) (terminal : Terminal) → MayPoll v → slice_get v.scene.core.terminals pt ≡ Some terminal → FollowsTranscript v.scene.kept pt (transcript_of pt s.course) v.scene.core
+    (log : List Turn) (v : View) (s : Stands log v) (pt : ℕ) (terminal : Terminal) → MayPoll v → slice_get v.scene.core.terminals pt ≡ Some terminal → FollowsTranscript pt (transcript_of pt s.course) v.scene.core
 
 -- ---- the commands by the log alone
 
@@ -196,7 +196,7 @@ sent_from pt sent (turn ∷ turns) = sent_from pt (sent_then pt turn sent) turns
 abbrev pub spelled_commands : List Carried → List (List ℕ)
 spelled_commands [] = []
 spelled_commands (Commanded command moment ∷ earlier) = canonical_command command ∷ spelled_commands earlier
-spelled_commands (Took message moment ∷ earlier) = spelled_commands earlier
+spelled_commands (Took message moment last ∷ earlier) = spelled_commands earlier
 
 -- the commands of the transcript of a terminal that is linked are all that the log says were sent to it since it was linked
 abbrev pub EachCommandWasSent : Type 0
@@ -218,7 +218,7 @@ pub record WasSaid (log : List Turn) (pt : ℕ) (message : MessageValue) (moment
 abbrev pub AreSaid : List Turn → ℕ → List Carried → Type 0
 AreSaid log pt [] = Unit {0}
 AreSaid log pt (Commanded command moment ∷ earlier) = AreSaid log pt earlier
-AreSaid log pt (Took message moment ∷ earlier) = WasSaid log pt message moment × AreSaid log pt earlier
+AreSaid log pt (Took message moment last ∷ earlier) = WasSaid log pt message moment × AreSaid log pt earlier
 
 -- each message of a terminal's transcript was said by it, in a round at the message's moment
 abbrev pub EachMessageWasSaid : Type 0
@@ -249,7 +249,7 @@ pub record ExampleOwed : Type 0 where
 -- the transcript once the registration was sent; once it is done, and the enquiry sent, by which the terminal is enquired; and after a cut
 pub record ExampleLogTranscript : Type 0 where
   pub linked : transcript_of 0 linked_course ≡ Commanded (registration example_pt) 0 ∷ []
-  pub enquired : transcript_of 0 enquired_course ≡ Commanded (enquiry_command example_pt) 1 ∷ Took Completion 1 ∷ Took Ack 1 ∷ Commanded (registration example_pt) 0 ∷ []
-  pub standing : standing_by 0 example_pt (transcript_of 0 enquired_course) ≡ Some Enquiring
+  pub enquired : transcript_of 0 enquired_course ≡ Commanded (enquiry_command example_pt) 1 ∷ Took Completion 1 0 ∷ Took Ack 1 0 ∷ Commanded (registration example_pt) 0 ∷ []
+  pub standing : standing_by example_pt (transcript_of 0 enquired_course) ≡ Some Enquiring
   pub cut : transcript_of 0 declined_course ≡ []
   pub owed : ExampleOwed

@@ -4,8 +4,10 @@
 ghost use Rattle.gw_rules.specs.Example.{BadFrameIsLawful, CrashLeavesNoOther, CrashedIsLawful, CrowdedIsLawful, DiskFailureEnds, FailedSendIsLawful, GateEndsLooking, LooksMayFail, NoRunWhereNotOpened, NothingToLookAt, NothingToLookAtLater, PollBeforeCut, PollBeforeReply, PollEndsLooking, PollWhileCrowded, RefusedIsNotPolled, RestartedIsLawful, SilentIsLawful, StatusIsLawful, UnaskedReply};
 ghost use Rattle.gw_rules.specs.JournalFiles.{EachHasJournalFiles, KeepingHasJournal, KeepingLeavesJournals, KeptFileIsJournal, OpenedHasJournal, OpeningHasJournal, OpeningLeavesJournalFiles};
 ghost use Rattle.gw_rules.specs.KeptExample.{FlightIsKept, UnsyncedKeepsNone};
-ghost use Rattle.gw_rules.specs.KeptLaws.{EachImageHasKept, EachKeepsFile, EachKeepsJournalFiles, EachLawfulHasKept, EachLawfulKeepsJournal, EachRoundHasJournal, EachStartOpensJournal, FullOnlyWithFewerSlots, LongOnlyWithFewerSlots, NeverBad, NeverTruncated, NoneKeptIsLost};
-ghost use Rattle.gw_rules.specs.LedgerRules.{EachFileFolds, EachImageFolds, LawfulRefusedOnlyWithFewerSlots, RefusedAtLimits, RefusedOnlyWithFewerSlots};
+ghost use Rattle.gw_rules.specs.KeptLaws.{EachImageHasKept, EachKeepsFile, EachKeepsJournalFiles, EachRoundHasJournal, EachStartOpensJournal, FullOnlyWithFewerSlots, HandedInKeepsFiles, KeepingKeepsFiles, LongOnlyWithFewerSlots, NeverBad, NeverTruncated, NoneKeptIsLost, OpeningKeepsFiles};
+ghost use Rattle.gw_rules.specs.LedgerRules.{EachFileFolds, EachImageFolds, EachLawfulHasKept, EachLawfulKeepsJournal, LawfulRefusedOnlyWithFewerSlots, RefusedAtLimits, RefusedOnlyWithFewerSlots};
+ghost use Rattle.gw_rules.specs.RecordOrder.{EachItemWasRead, EachLogComesInOrder, EachLogFolds, EachLogImageFolds, EachLogIsInOrder, EachLogLeavesSlots, ReadyHasNoneOpen, ServedIsOpen};
+ghost use Rattle.gw_rules.specs.PaymentLogExample.{BegunIsServedOpen, PaidHasNoneOpen, PaymentIsLawful, PaymentIsSilent};
 ghost use Rattle.gw_rules.specs.RowExample.{BothAreItems, ClosedGateDrops, FailedSendCutsLink, FailedSyncCrashes, GateIsInFlight, GoneTillIsForgotten, LinkIsDueAgain, LinkRegisters, LostEndOfDayReplies, LostIsDue, LostTransactionKeepsAsker, OpenGateKeeps, PollBeforeUnframedCut, RowItemsComeFirst, SendingsAreSpelled, StartLeavesFlight, SyncKeeps, UnframedIsLawful, UnlinkedIsLawful, WaitsByDeadline};
 ghost use Rattle.gw_rules.specs.ActExample.{LongerIsRead, NothingBeforeSync, OpeningIsDue, OwedBytesAreSent};
 ghost use Rattle.gw_rules.specs.ActLaws.{OneCallIsDue, OneCallIsOwed, TurnsAreOfSteps};
@@ -13,7 +15,7 @@ ghost use Rattle.gw_rules.specs.AloneExample.{OutsideLeavesOther, TooLongEndsOwn
 ghost use Rattle.gw_rules.specs.CauseExample.{OutsideIsCause, OutsideIsCut, PollBeforeOutsideCut, PollBeforeTooLongCut, SplitReport, TooLongIsCause, TooLongIsCut};
 ghost use Rattle.gw_rules.specs.ChunkExample.{PollBeforeSplitEnquiry, SplitIsEnquired};
 ghost use Rattle.gw_rules.specs.ChunkLaws.{DoneAtOnceIsEnquired};
-ghost use Rattle.gw_rules.specs.CutCauseExample.{ExampleDeclinedCut, ExampleFailedCut, ExampleLateCut, ExampleOutsideCut, ExampleTooLongCut, ExampleUnclearCut};
+ghost use Rattle.gw_rules.specs.CutCauseExample.{ExampleDeclinedCut, ExampleFailedCut, ExampleLateCut, ExampleOpenCut, ExampleOutsideCut, ExampleTooLongCut, ExampleUnclearCut};
 ghost use Rattle.gw_rules.specs.CutCauses.{EachPtCutHasCause, FailedSendCuts};
 ghost use Rattle.gw_rules.specs.DialogueLaws.{DoneRegistrationIsEnquired, ReportMakesReady};
 ghost use Rattle.gw_rules.specs.DoneExample.{ExampleDone, ExampleDoneAtOnce};
@@ -115,8 +117,8 @@ pub fn law_outside_alone()
 }
 
 /// In a lawful log a terminal is cut only for these causes: the turn right before is a send to it that has failed; with the bytes that
-/// began the round it has said an APDU outside the grammar, begun one above the limit, or said a message that leaves its dialogue unclear
-/// or declines its registration or enquiry; or the deadline of its dialogue has come. Of these four each is an item that begins right
+/// began the round it has said an APDU outside the grammar, begun one above the limit, or said a message that leaves its dialogue unclear,
+/// declines its registration or enquiry, or reports its last transaction while a key of it is open; or the deadline of its dialogue has come. Of these four each is an item that begins right
 /// before the cut, and owes it alone. After a send to it that has failed the next turn
 /// cuts it, unless the run ends there.
 pub fn law_cut_causes()
@@ -161,9 +163,9 @@ pub fn law_done_at_once()
     ensures premise { ExampleDoneAtOnce }
 {}
 
-/// Along each lawful course, a terminal that registers or is enquired, completes no APDU and begins none above the limit, is cut before the
-/// next poll, unless its link ends before, once a poll comes at its dialogue's deadline or later: bytes that complete no APDU don't put
-/// the deadline off, whichever polls bring them. So it is, in an example, where a single byte comes with each poll.
+/// Along each lawful course, a terminal that registers, is enquired or serves what a till asked for, completes no APDU and begins none above
+/// the limit, is cut before the next poll, unless its link ends before, once a poll comes at its dialogue's deadline or later: bytes that
+/// complete no APDU don't put the deadline off, whichever polls bring them, nor does what tills ask for. So it is, in an example, where a single byte comes with each poll.
 pub fn law_silent_dialogue_cuts()
     ensures cuts { SilentDialogueIsCut }
     ensures example { TrickleIsSilent }
@@ -172,15 +174,16 @@ pub fn law_silent_dialogue_cuts()
 
 /// Along each lawful course, a terminal that registers, and with newly heard bytes says APDUs that end its registration as done, is sent its
 /// enquiry before the next poll; and one that is enquired, and so reports a trace number, is ready with that number when the next poll may
-/// come. So it is unless its link ends before, and however the bytes split the APDUs.
+/// come, where on record none of its keys is open and its last trace number isn't above that. So it is unless its link ends before, and
+/// however the bytes split the APDUs.
 pub fn law_dialogue_ends()
     ensures enquired { DoneRegistrationIsEnquired }
     ensures ready { ReportMakesReady }
 {}
 
 /// After each lawful log, each terminal's dialogue, how many Acks and Nacks it awaits, and its standing, but for the moment at which one
-/// that isn't linked is due, are those of a flat list: the commands that were sent to it and the messages that were taken of it since it
-/// was linked. The commands that are owed to it count as sent, after others too; and where its cut is owed nothing is said. Where a call
+/// that isn't linked is due and the slot of what it serves, are those of a flat list: the commands that were sent to it and the messages
+/// that were taken of it since it was linked, each with the last trace number that the records had of it then. The commands that are owed to it count as sent, after others too; and where its cut is owed nothing is said. Where a call
 /// on the disk has failed, what was owed then counts so, though it is made no more. While it is linked the commands that were sent to it
 /// are all that the log says were sent to it since; and each of the messages it said in some round of the log, at that moment.
 pub fn law_standing_transcript()
@@ -195,8 +198,10 @@ pub fn law_standing_transcript()
 }
 
 /// After each lawful log the file, that of the last sync, and whatever a power failure leaves are files that a journal can have
-/// left; and so after each turn of a lawful course from where a journal is to be opened, or a record to be kept in one. An
-/// opening gives the journal in which a record is kept, and the keeping of a record gives it anew.
+/// left; and so after each turn of a lawful course from where a journal is to be opened, or a record to be kept in one, as long as no
+/// item owes that another is kept. An opening gives the journal in which a record is kept, and the keeping of a record gives it anew.
+/// So runs on files that are handed in, whoever wrote them, keep records in them: from files that have exactly the view's records, none of
+/// them truncated, each turn and each item of a gateway that keeps a journal leaves such files.
 pub fn law_journal_files()
     ensures lawful { EachHasJournalFiles }
     ensures opening { OpeningLeavesJournalFiles }
@@ -205,7 +210,12 @@ pub fn law_journal_files()
     ensures keeping { KeepingLeavesJournals }
     ensures has { KeepingHasJournal }
     ensures kept { KeptFileIsJournal }
-{}
+    ensures handed_in { HandedInKeepsFiles }
+    ensures opening_on { OpeningKeepsFiles }
+    ensures keeping_on { KeepingKeepsFiles }
+{
+    gw_owes::law_records();
+}
 
 /// What is kept in the journal, at each moment of a log of a gateway that keeps one, whichever rows owe that a record is kept: the
 /// records that are kept are what the slots of the stable file spell, and those of the file are these and then the one in flight.
@@ -216,8 +226,8 @@ pub fn law_journal_files()
 /// journal with the records of the file; and while a round goes on and no call on the disk is owed, the journal is open with the records
 /// that are kept.
 ///
-/// Each run of a lawful log opens the journal, so `lawful` says that each lawful log is one of these, and `lawful_kept` that what is kept
-/// is said of it; no row keeps a record yet. `left` says that the files are those that a journal can have left; `example` has a closed log,
+/// Each run of a lawful log opens the journal, and each record that a row keeps may follow those before it, and has room, by the rules of
+/// the ledger: so `lawful` says that each lawful log is one of these, and `lawful_kept` that what is kept is said of it. `left` says that the files are those that a journal can have left; `example` has a closed log,
 /// and `unsynced` calls that keep no record.
 pub fn law_kept_files()
     ensures file { EachKeepsFile }
@@ -234,7 +244,9 @@ pub fn law_kept_files()
     ensures lawful_kept { EachLawfulHasKept }
     ensures example { FlightIsKept }
     ensures unsynced { UnsyncedKeepsNone }
-{}
+{
+    gw_owes::law_records();
+}
 
 /// The ledger of the records that are kept can be built at each opening: those of the file, and those of whatever a power failure leaves,
 /// are folded. An opening finds the file refused, as too long for the slots or as leaving fewer slots free than keys open, only where an
@@ -246,7 +258,27 @@ pub fn law_openings()
     ensures refused { RefusedOnlyWithFewerSlots }
     ensures lawful { LawfulRefusedOnlyWithFewerSlots }
     ensures example { RefusedAtLimits }
-{}
+{
+    gw_owes::law_records();
+}
+
+/// After each lawful log the records fold: those that are kept, those of the file, those once the calls that are owed at once are made,
+/// and those of whatever a power failure leaves. While the run goes on they leave a slot for the Outcome of each open key; and until a call on the disk fails, they have what the
+/// standing of each terminal says, but of one whose cut is owed. So between items what is known is in order: of a terminal that is ready no
+/// key is open, and what a terminal serves is its one open key. Each message that is to be handled, and each request that a terminal is
+/// to begin to serve, was read from bytes.
+pub fn law_records_in_order()
+    ensures folds { EachLogFolds }
+    ensures images { EachLogImageFolds }
+    ensures slots { EachLogLeavesSlots }
+    ensures terminals { EachLogComesInOrder }
+    ensures read { EachItemWasRead }
+    ensures order { EachLogIsInOrder }
+    ensures ready { ReadyHasNoneOpen }
+    ensures served { ServedIsOpen }
+{
+    gw_owes::law_records();
+}
 
 /// A request gets its reply, and nothing is sent and no poll comes instead; where the send of the reply fails, the till is
 /// cut; a message may get no reply; a till is cut where bytes that begin no frame come after its request, and where 64 others
@@ -354,14 +386,26 @@ pub fn law_cause_examples()
 {}
 
 /// For each cause of a cut there is a lawful log after which a terminal is cut for it: a message that leaves its registration unclear,
-/// and one that declines it; an APDU outside the grammar, and one above the limit; a deadline; and a send that has failed.
+/// one that declines it, and a report while a payment of it is open; an APDU outside the grammar, and one above the limit; a deadline; and a send that has failed.
 pub fn law_cut_cause_examples()
     ensures unclear { ExampleUnclearCut }
     ensures declined { ExampleDeclinedCut }
+    ensures open_key { ExampleOpenCut }
     ensures outside { ExampleOutsideCut }
     ensures too_long { ExampleTooLongCut }
     ensures late { ExampleLateCut }
     ensures failed_send { ExampleFailedCut }
+{}
+
+/// A payment, from the bytes of the till that asks for it to the reply: its Intent is kept before its terminal is asked, with the write and
+/// the sync of its body and then those of its gate, and its Outcome is kept so before the till gets its reply. At the end both are kept, and
+/// the terminal is ready with the payment's trace number. Once it is begun it is the terminal's one open key, and once it is paid none is
+/// open. Where the terminal sends nothing, it was silent at its deadline.
+pub fn law_payment_logs()
+    ensures paid { PaymentIsLawful }
+    ensures served { BegunIsServedOpen }
+    ensures none_open { PaidHasNoneOpen }
+    ensures silent { PaymentIsSilent }
 {}
 
 /// A record is in flight once its gate is written, and kept once that is synced. A start leaves it in flight; a power failure

@@ -1,13 +1,13 @@
 -- The two tables of what is served agree: a script is served exactly where each line of its text is.
 use Rattle.std.proofs.Common.{◌≡◌, ℕ, suc, ◌+◌, List, [], ◌∷◌, ◌++◌, length, refl, sym, ◌∙◌, ap, subst, arith, true, false}
 use Rattle.std.proofs.lemmas.Bool.{lt-leb}
-use Rattle.std.specs.Prelude.{Bool, ◌&&◌, ◌||◌, nat_le, nat_lt, not, if◌then◌else◌, is_none, is_some, Option, Some, None, Result, Ok, Err, option_and_then, option_map}
+use Rattle.std.specs.Prelude.{Bool, ◌&&◌, ◌||◌, nat_eq, nat_le, nat_lt, not, if◌then◌else◌, is_some, Option, Some, None, Result, Ok, Err, option_and_then, option_map}
 use Rattle.gw_base.specs.declared.setup.Pt.{Pt}
 use Rattle.gw_script.specs.Decode.{is_empty, split_lines}
 use Rattle.gw_script.specs.site.Decode.{entry_of, lacks_poi, no_lines, script_from, script_goes_on, with_entry, with_setting}
 use Rattle.gw_script.specs.site.ScriptLine.{SetupLine, Name, Queue, Wait, Slots, Terminal, PlayedLine, Entry, Blank, Setting, Playing, Given, Script}
 use Rattle.gw_run.specs.Laws.{TablesAgree}
-use Rattle.gw_run.specs.Served.{first_unserved, is_served, is_served_entry, is_served_given, is_served_setting, is_terminal, names_terminal}
+use Rattle.gw_run.specs.Served.{first_unserved, is_served, is_served_entry, is_served_given, is_served_queue, is_served_setting, is_terminal, names_terminal}
 
 -- a terminal was given
 abbrev named : Script → Bool
@@ -29,24 +29,23 @@ never e = absurd (let h : false ≡ true = e in cc)
 -- ---- what the setup lines give
 
 -- what they give is served, by its parts
-abbrev table : Option ℕ → Option ℕ → List Pt → Bool
-table queue wait terminals = is_none queue && is_none wait && nat_le (length terminals) 1
+abbrev table : Option ℕ → List Pt → Bool
+table queue terminals = is_served_queue queue && nat_le (length terminals) 1
 
-no_queue : (n : ℕ) (wait : Option ℕ) (terminals : List Pt) → table (Some n) wait terminals ≡ false
-no_queue n wait terminals = refl
+both-of : (a b : Bool) → (a && b) ≡ true → (a ≡ true) × (b ≡ true)
+both-of true b e = (refl, e)
+both-of false b e = never e
 
-no_wait : (queue : Option ℕ) (n : ℕ) (terminals : List Pt) → table queue (Some n) terminals ≡ false
-no_wait None n terminals = refl
-no_wait (Some q) n terminals = refl
+nor-with : (a b : Bool) → b ≡ false → (a && b) ≡ false
+nor-with true b e = e
+nor-with false b e = refl
 
 past_one : (first : Pt) (pts : List Pt) (pt : Pt) → nat_le (length ((first ∷ pts) ++ pt ∷ [])) 1 ≡ false
 past_one first [] pt = refl
 past_one first (next ∷ pts) pt = lt-leb (length ((first ∷ next ∷ pts) ++ pt ∷ [])) 1 (omega arith)
 
-no_second : (queue wait : Option ℕ) (first : Pt) (pts : List Pt) (pt : Pt) → table queue wait ((first ∷ pts) ++ pt ∷ []) ≡ false
-no_second None None first pts pt = past_one first pts pt
-no_second None (Some w) first pts pt = refl
-no_second (Some q) wait first pts pt = refl
+no_second : (queue : Option ℕ) (first : Pt) (pts : List Pt) (pt : Pt) → table queue ((first ∷ pts) ++ pt ∷ []) ≡ false
+no_second queue first pts pt = nor-with (is_served_queue queue) (nat_le (length ((first ∷ pts) ++ pt ∷ [])) 1) (past_one first pts pt)
 
 -- a script of which the setup isn't served isn't
 unserved : (script : Script) → is_served_given script.given ≡ false → is_served script ≡ true → false ≡ true
@@ -70,12 +69,26 @@ refused before line after given not_line not_given is names = subst (Grows befor
 
 second : (before : Script) (terminals : List Pt) → before.given.terminals ≡ terminals → (pt : Pt) → Grows before (Some (Setting (Terminal pt))) (giving before (record before.given { terminals = terminals ++ pt ∷ [] }))
 second before [] is pt = record {
-  back = λ served. (subst (λ t. table before.given.queue before.given.wait t ≡ true) (sym is) served, ap (λ (t : List Pt). not (not (is_empty t))) is);
-  on = λ served entry. subst (λ t. table before.given.queue before.given.wait t ≡ true) is served;
+  back = λ served. (subst (λ t. table before.given.queue t ≡ true) (sym is) served, ap (λ (t : List Pt). not (not (is_empty t))) is);
+  on = λ served entry. subst (λ t. table before.given.queue t ≡ true) is served;
   names = ap (λ (t : List Pt). not (is_empty t) || true) (sym is);
 }
 second before (first ∷ pts) is pt = refused before (Terminal pt) (giving before (record before.given { terminals = (first ∷ pts) ++ pt ∷ [] })) (record before.given { terminals = (first ∷ pts) ++ pt ∷ [] })
-    (ap (λ (t : List Pt). not (not (is_empty t))) is) (no_second before.given.queue before.given.wait first pts pt) refl (ap (λ (t : List Pt). not (is_empty t) || true) (sym is))
+    (ap (λ (t : List Pt). not (not (is_empty t))) is) (no_second before.given.queue first pts pt) refl (ap (λ (t : List Pt). not (is_empty t) || true) (sym is))
+
+-- how many may wait is said, where it wasn't
+waiting : (before : Script) (n : ℕ) → is_some before.given.queue ≡ false → Grows before (Some (Setting (Queue n))) (giving before (record before.given { queue = Some n }))
+waiting before n e = by_queue before.given.queue refl e
+  where
+    by_queue : (queue : Option ℕ) → before.given.queue ≡ queue → is_some queue ≡ false → Grows before (Some (Setting (Queue n))) (giving before (record before.given { queue = Some n }))
+    by_queue None is none = record {
+      back = λ served.
+          let parts = both-of (nat_eq n 0) (nat_le (length before.given.terminals) 1) served in
+          (subst (λ q. table q before.given.terminals ≡ true) (sym is) parts.1, parts.0);
+      on = λ served entry. ap (λ b. b && nat_le (length before.given.terminals) 1) entry ∙ subst (λ q. table q before.given.terminals ≡ true) is served;
+      names = or_false (named before);
+    }
+    by_queue (Some other) is none = never (sym none)
 
 no-script : {A : Type 0} (script : Script) → ◌≡◌ {A = Option Script} None (Some script) → A
 no-script script e = absurd (let h : ◌≡◌ {A = Option Script} None (Some script) = e in cc)
@@ -86,16 +99,16 @@ setting-grows before (Name name) after e = by_test (is_some before.given.name) e
     by_test : (test : Bool) → option_map (giving before) (if test then None else Some (record before.given { name = Some name })) ≡ Some after → Grows before (Some (Setting (Name name))) after
     by_test true e = no-script after e
     by_test false e = subst (Grows before (Some (Setting (Name name)))) (some-script (giving before (record before.given { name = Some name })) after e) (record { back = λ served. (served, refl); on = λ served entry. served; names = or_false (named before) })
-setting-grows before (Queue n) after e = by_test (is_some before.given.queue) e
+setting-grows before (Queue n) after e = by_test (is_some before.given.queue) refl e
   where
-    by_test : (test : Bool) → option_map (giving before) (if test then None else Some (record before.given { queue = Some n })) ≡ Some after → Grows before (Some (Setting (Queue n))) after
-    by_test true e = no-script after e
-    by_test false e = refused before (Queue n) after (record before.given { queue = Some n }) refl (no_queue n before.given.wait before.given.terminals) (some-script _ after e) (or_false (named before))
+    by_test : (test : Bool) → is_some before.given.queue ≡ test → option_map (giving before) (if test then None else Some (record before.given { queue = Some n })) ≡ Some after → Grows before (Some (Setting (Queue n))) after
+    by_test true is e = no-script after e
+    by_test false is e = subst (Grows before (Some (Setting (Queue n)))) (some-script (giving before (record before.given { queue = Some n })) after e) (waiting before n is)
 setting-grows before (Wait n) after e = by_test (is_some before.given.wait) e
   where
     by_test : (test : Bool) → option_map (giving before) (if test then None else Some (record before.given { wait = Some n })) ≡ Some after → Grows before (Some (Setting (Wait n))) after
     by_test true e = no-script after e
-    by_test false e = refused before (Wait n) after (record before.given { wait = Some n }) refl (no_wait before.given.queue n before.given.terminals) (some-script _ after e) (or_false (named before))
+    by_test false e = subst (Grows before (Some (Setting (Wait n)))) (some-script (giving before (record before.given { wait = Some n })) after e) (record { back = λ served. (served, refl); on = λ served entry. served; names = or_false (named before) })
 setting-grows before (Slots n) after e = by_test (is_some before.given.slots) e
   where
     by_test : (test : Bool) → option_map (giving before) (if test then None else Some (record before.given { slots = Some n })) ≡ Some after → Grows before (Some (Setting (Slots n))) after

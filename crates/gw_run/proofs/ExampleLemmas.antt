@@ -13,7 +13,7 @@ use Rattle.gw_site.specs.declared.turn.Turn.TheVariants.{Start, Polled, Opened, 
 use Rattle.gw_script.specs.site.ByLines.{GoesByLines}
 use Rattle.gw_script.specs.site.ScriptLine.{Open, FromTill, Lose, Tick, FailLink, FailSendPt, At, Poll, Fail, Script, nothing_given}
 use Rattle.gw_rules.specs.Acts.{moves_of}
-use Rattle.gw_rules.specs.Example.{began_moves, example_setup, first_turns, status_request, status_reply, status_log, status_course}
+use Rattle.gw_rules.specs.Example.{began_moves, example_setup, first_turns, status_request, status_reply_bytes, status_log, status_course}
 use Rattle.gw_rules.specs.Lawful.{IsCourse, turns_of}
 use Rattle.gw_rules.specs.RowExample.{register_bytes}
 use Rattle.gw_rules.specs.View.{Move, Make, after, at_first, view_from}
@@ -43,16 +43,16 @@ status-goes : GoesByLines status_read.lines status_log
 status-goes = record {
   setup = example_setup;
   calls = first_turns;
-  later = Polled (pos 0) ∷ Opened 1 ∷ Polled (pos 0) ∷ HeardTill 1 (frame status_request) ∷ SentTill 1 (frame status_reply) true ∷ Polled (pos 0) ∷ Stopped ∷ [];
+  later = Polled (pos 0) ∷ Opened 1 ∷ Polled (pos 0) ∷ HeardTill 1 (frame status_request) ∷ SentTill 1 (frame status_reply_bytes) true ∷ Polled (pos 0) ∷ Stopped ∷ [];
   are_calls = (tt, (tt, (tt, tt)));
   log_is = refl;
   goes_on = inr (record {
     calls = [];
-    later = Polled (pos 0) ∷ HeardTill 1 (frame status_request) ∷ SentTill 1 (frame status_reply) true ∷ Polled (pos 0) ∷ Stopped ∷ [];
+    later = Polled (pos 0) ∷ HeardTill 1 (frame status_request) ∷ SentTill 1 (frame status_reply_bytes) true ∷ Polled (pos 0) ∷ Stopped ∷ [];
     not_skipped = λ less. absurd (omega (arith, less));
     are_calls = tt;
     turns_are = refl;
-    goes_on = inr (record { calls = SentTill 1 (frame status_reply) true ∷ []; later = Polled (pos 0) ∷ Stopped ∷ []; not_skipped = λ e. (let h : true ≡ false = e in cc); are_calls = (refl, tt); turns_are = refl; goes_on = refl });
+    goes_on = inr (record { calls = SentTill 1 (frame status_reply_bytes) true ∷ []; later = Polled (pos 0) ∷ Stopped ∷ []; not_skipped = λ e. (let h : true ≡ false = e in cc); are_calls = (refl, tt); turns_are = refl; goes_on = refl });
   });
 }
 
@@ -61,7 +61,7 @@ status-of-script = (log-by-lines status_script status_read status_log status-ser
     (lawful-along status_log status_course status-lawful.turns status-lawful.lawful, (_, refl, (refl, (refl, (refl, (refl, (refl, (refl, (refl, (refl, (refl, (refl, tt))))))))))), status-goes)
 
 pub status-has-text : StatusHasText
-unfolding status_request status_reply digits encode_with
+unfolding status_request status_reply_bytes digits encode_with
 status-has-text = refl
 
 -- ---- a terminal

@@ -11,6 +11,7 @@ use Rattle.gw_site.specs.declared.turn.Turn.TheVariants.{Start, Polled, Stopped,
 use Rattle.zvt_apdu.specs.DecodeStream.{decode_apdus, decode_apdus_within}
 use Rattle.zvt_bmp.specs.Decode.{decode_field_value, decode_status_field, decode_status_within, decode_status}
 use Rattle.zvt_msg.specs.MessageDecode.{decode_pt_message}
+use Rattle.gw_ledger.specs.History.{history}
 use Rattle.gw_owes.specs.TerminalExample.{ack, approved_status, completion, enquiry_sent}
 use Rattle.gw_script.specs.site.ByLines.{GoesByLines}
 use Rattle.gw_script.specs.site.ScriptLine.{FromPt, Tick, At, Poll, Script, nothing_given}
@@ -74,7 +75,7 @@ ready-goes = record {
 }
 
 ready-lawful : IsCourse at_first ready_script_course
-unfolding decode_apdus decode_apdus_within decode_pt_message decode_status decode_status_within decode_status_field decode_field_value
+unfolding decode_apdus decode_apdus_within decode_pt_message decode_status decode_status_within decode_status_field decode_field_value history
 ready-lawful = from-links (onward ready_script_course) refl
 
 ready-log : IsLogOf ready_script ready_script_log
@@ -82,7 +83,7 @@ ready-log = (log-by-lines ready_script ready_read ready_script_log ready-served 
     (lawful-along ready_script_log ready_script_course refl ready-lawful, (_, refl, (refl, (refl, (refl, (refl, (refl, (refl, (refl, (refl, (refl, (refl, (refl, (refl, (refl, (refl, (refl, (refl, tt))))))))))))))))), ready-goes)
 
 pub ready-of-script : ReadyIsOfScript
-unfolding decode_apdus decode_apdus_within decode_pt_message decode_status decode_status_within decode_status_field decode_field_value
+unfolding decode_apdus decode_apdus_within decode_pt_message decode_status decode_status_within decode_status_field decode_field_value history
 ready-of-script = record { is_log = ready-log; standing = record { along = record { turns = refl; lawful = ready-lawful }; standing_is = refl } }
 
 pub ready-has-text : ReadyHasText

@@ -13,7 +13,7 @@ use Rattle.gw_rules.specs.Stage.{Stage, Resting, Opening, Looking, AtPoll, Handl
 use Rattle.gw_rules.specs.Triple.{IsRun}
 use Rattle.gw_rules.specs.View.{View, Move, Begin, Read, Make, after, after_turn, at_first, view_from}
 use Rattle.gw_rules.proofs.CourseLemmas.{begin-stage, stands-more}
-use Rattle.gw_rules.proofs.LedgerRuleLemmas.{lawful-refused-only-with-fewer-slots}
+use Rattle.gw_rules.specs.LedgerRules.{LawfulRefusedOnlyWithFewerSlots}
 use Rattle.gw_run.specs.ScriptLog.{AreOpenings, IsOpening, is_opening, is_power_failure}
 
 -- ---- openings
@@ -115,35 +115,35 @@ wrote-refuses Over e = refl
 wrote-refuses Broken e = refl
 
 -- a run with the one setup refuses no file
-start-refuses : (own : Setup) (log : List Turn) (v : View) (setup : Setup) → Stands log v → AreOpenings own true log → setup ≡ own → (refused : Bool) → (opening setup v.scene.outside.file (records_of v.scene)).refused ≡ refused → refused ≡ false
-start-refuses own log v setup s h same false e = refl
-start-refuses own log v setup s h same true e =
-    let more = lawful-refused-only-with-fewer-slots log v setup s e in
+start-refuses : LawfulRefusedOnlyWithFewerSlots → (own : Setup) (log : List Turn) (v : View) (setup : Setup) → Stands log v → AreOpenings own true log → setup ≡ own → (refused : Bool) → (opening setup v.scene.outside.file (records_of v.scene)).refused ≡ refused → refused ≡ false
+start-refuses rules own log v setup s h same false e = refl
+start-refuses rules own log v setup s h same true e =
+    let more = rules log v setup s e in
     let other = started-own own more.setup true log h more.ran in
     absurd (let lt = more.more in let a : more.setup.slots ≡ own.slots = ap (λ (one : Setup). one.slots) other in let b : setup.slots ≡ own.slots = ap (λ (one : Setup). one.slots) same in omega (arith, lt, a, b))
 
-turn-refuses : (own : Setup) (log : List Turn) (v : View) (turn : Turn) → Stands log v → AreOpenings own true log → (is_opening (sort_of turn) ≡ true → IsOpening own turn) → is_refusing v.scene.stage ≡ false → is_refusing (after_turn v turn).scene.stage ≡ false
-turn-refuses own log v (Start setup) s h own_turn e = start-refuses own log v setup s h (started-with own setup (own_turn refl)) _ refl
-turn-refuses own log v OpenFailed s h own_turn e = refl
-turn-refuses own log v (Polled now) s h own_turn e = refl
-turn-refuses own log v (Opened till) s h own_turn e = refl
-turn-refuses own log v (HeardTill till bytes) s h own_turn e = refl
-turn-refuses own log v (Closed till) s h own_turn e = refl
-turn-refuses own log v (HeardPt pt bytes) s h own_turn e = refl
-turn-refuses own log v (Lost pt) s h own_turn e = refl
-turn-refuses own log v Stopped s h own_turn e = refl
-turn-refuses own log v (Linked pt) s h own_turn e = busy-refuses v.scene.stage e
-turn-refuses own log v (LinkFailed pt) s h own_turn e = busy-refuses v.scene.stage e
-turn-refuses own log v (SentTill till bytes true) s h own_turn e = busy-refuses v.scene.stage e
-turn-refuses own log v (SentTill till bytes false) s h own_turn e = busy-refuses v.scene.stage e
-turn-refuses own log v (SentPt pt bytes true) s h own_turn e = busy-refuses v.scene.stage e
-turn-refuses own log v (SentPt pt bytes false) s h own_turn e = busy-refuses v.scene.stage e
-turn-refuses own log v (CutTill till) s h own_turn e = busy-refuses v.scene.stage e
-turn-refuses own log v (CutPt pt) s h own_turn e = busy-refuses v.scene.stage e
-turn-refuses own log v (Wrote offset bytes) s h own_turn e = wrote-refuses v.scene.stage e
-turn-refuses own log v Synced s h own_turn e = synced-refuses v.scene.stage e
-turn-refuses own log v DiskFailed s h own_turn e = refl
-turn-refuses own log v (Crash file) s h own_turn e = refl
+turn-refuses : LawfulRefusedOnlyWithFewerSlots → (own : Setup) (log : List Turn) (v : View) (turn : Turn) → Stands log v → AreOpenings own true log → (is_opening (sort_of turn) ≡ true → IsOpening own turn) → is_refusing v.scene.stage ≡ false → is_refusing (after_turn v turn).scene.stage ≡ false
+turn-refuses rules own log v (Start setup) s h own_turn e = start-refuses rules own log v setup s h (started-with own setup (own_turn refl)) _ refl
+turn-refuses rules own log v OpenFailed s h own_turn e = refl
+turn-refuses rules own log v (Polled now) s h own_turn e = refl
+turn-refuses rules own log v (Opened till) s h own_turn e = refl
+turn-refuses rules own log v (HeardTill till bytes) s h own_turn e = refl
+turn-refuses rules own log v (Closed till) s h own_turn e = refl
+turn-refuses rules own log v (HeardPt pt bytes) s h own_turn e = refl
+turn-refuses rules own log v (Lost pt) s h own_turn e = refl
+turn-refuses rules own log v Stopped s h own_turn e = refl
+turn-refuses rules own log v (Linked pt) s h own_turn e = busy-refuses v.scene.stage e
+turn-refuses rules own log v (LinkFailed pt) s h own_turn e = busy-refuses v.scene.stage e
+turn-refuses rules own log v (SentTill till bytes true) s h own_turn e = busy-refuses v.scene.stage e
+turn-refuses rules own log v (SentTill till bytes false) s h own_turn e = busy-refuses v.scene.stage e
+turn-refuses rules own log v (SentPt pt bytes true) s h own_turn e = busy-refuses v.scene.stage e
+turn-refuses rules own log v (SentPt pt bytes false) s h own_turn e = busy-refuses v.scene.stage e
+turn-refuses rules own log v (CutTill till) s h own_turn e = busy-refuses v.scene.stage e
+turn-refuses rules own log v (CutPt pt) s h own_turn e = busy-refuses v.scene.stage e
+turn-refuses rules own log v (Wrote offset bytes) s h own_turn e = wrote-refuses v.scene.stage e
+turn-refuses rules own log v Synced s h own_turn e = synced-refuses v.scene.stage e
+turn-refuses rules own log v DiskFailed s h own_turn e = refl
+turn-refuses rules own log v (Crash file) s h own_turn e = refl
 
 -- ---- logs
 
@@ -152,24 +152,24 @@ last-own : (own : Setup) (first : Bool) (log rest : List Turn) (turn : Turn) →
 last-own own first [] rest turn k is = (k.0 is).1
 last-own own first (one ∷ log) rest turn k is = last-own own (is_power_failure (sort_of one)) log rest turn k.1 is
 
-refuses-from : (own : Setup) (log : List Turn) (v : View) (moves : List Move) → Stands log v → IsCourse v moves → AreOpenings own true (log ++ turns_of moves) → is_refusing v.scene.stage ≡ false → is_refusing (view_from v moves).scene.stage ≡ false
-refuses-from own log v [] s h k e = e
-refuses-from own log v (Begin ∷ moves) s h k e =
+refuses-from : LawfulRefusedOnlyWithFewerSlots → (own : Setup) (log : List Turn) (v : View) (moves : List Move) → Stands log v → IsCourse v moves → AreOpenings own true (log ++ turns_of moves) → is_refusing v.scene.stage ≡ false → is_refusing (view_from v moves).scene.stage ≡ false
+refuses-from rules own log v [] s h k e = e
+refuses-from rules own log v (Begin ∷ moves) s h k e =
     let next = subst (λ l. Stands l (after v Begin)) (append-nil log) (stands-more log v (Begin ∷ []) s (h.0, tt)) in
-    refuses-from own log (after v Begin) moves next h.1 k (ap is_refusing (begin-stage v.scene v.items) ∙ busy-refuses v.scene.stage e)
-refuses-from own log v (Read as_read ∷ moves) s h k e =
+    refuses-from rules own log (after v Begin) moves next h.1 k (ap is_refusing (begin-stage v.scene v.items) ∙ busy-refuses v.scene.stage e)
+refuses-from rules own log v (Read as_read ∷ moves) s h k e =
     let next = subst (λ l. Stands l (after v (Read as_read))) (append-nil log) (stands-more log v (Read as_read ∷ []) s (h.0, tt)) in
-    refuses-from own log (after v (Read as_read)) moves next h.1 k (busy-refuses v.scene.stage e)
-refuses-from own log v (Make turn ∷ moves) s h k e =
+    refuses-from rules own log (after v (Read as_read)) moves next h.1 k (busy-refuses v.scene.stage e)
+refuses-from rules own log v (Make turn ∷ moves) s h k e =
     let before = openings-prefix own true log (turn ∷ turns_of moves) k in
     let own_turn : is_opening (sort_of turn) ≡ true → IsOpening own turn = λ is. last-own own true log (turns_of moves) turn k is in
-    refuses-from own (log ++ turn ∷ []) (after_turn v turn) moves (stands-more log v (Make turn ∷ []) s (h.0, tt)) h.1
-    (subst (AreOpenings own true) (sym (append_assoc log (turn ∷ []) (turns_of moves))) k) (turn-refuses own log v turn s before own_turn e)
+    refuses-from rules own (log ++ turn ∷ []) (after_turn v turn) moves (stands-more log v (Make turn ∷ []) s (h.0, tt)) h.1
+    (subst (AreOpenings own true) (sym (append_assoc log (turn ∷ []) (turns_of moves))) k) (turn-refuses rules own log v turn s before own_turn e)
 
 -- so that none is refused
-pub never-refused : (own : Setup) (log : List Turn) (v : View) → Stands log v → AreOpenings own true log → v.scene.stage ≡ Looking true → ⊥
-never-refused own log v s h e =
-    let none = refuses-from own [] at_first s.course (record { course = []; log_is = refl; lawful = tt; view_is = refl }) s.lawful (subst (AreOpenings own true) (sym s.log_is) h) refl in
+pub never-refused : LawfulRefusedOnlyWithFewerSlots → (own : Setup) (log : List Turn) (v : View) → Stands log v → AreOpenings own true log → v.scene.stage ≡ Looking true → ⊥
+never-refused rules own log v s h e =
+    let none = refuses-from rules own [] at_first s.course (record { course = []; log_is = refl; lawful = tt; view_is = refl }) s.lawful (subst (AreOpenings own true) (sym s.log_is) h) refl in
     let is : is_refusing v.scene.stage ≡ false = ap (λ (w : View). is_refusing w.scene.stage) (sym s.view_is) ∙ none in
     let n : true ≡ false = sym (ap is_refusing e) ∙ is in
     cc

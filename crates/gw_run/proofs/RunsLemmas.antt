@@ -18,6 +18,7 @@ use Rattle.gw_script.specs.site.Playing.{PlaysLines}
 use Rattle.gw_script.specs.site.Powers.{power_failures, power_lines}
 use Rattle.gw_script.specs.site.ScriptLine.{PlayedLine, Script, setup_of}
 use Rattle.gw_script.specs.site.StepTurns.{PlaysInParts, site_turns}
+use Rattle.gw_rules.specs.LedgerRules.{LawfulRefusedOnlyWithFewerSlots}
 use Rattle.gw_rules.specs.Acts.{Act, ToBegin, ToRead, ToTake, AreDue, IsDueStep, Look, Unopened, after_act, look_after, look_from, moves_of, taken_of}
 use Rattle.gw_rules.specs.Lawful.{IsClear, IsCourse, Stands, turns_of}
 use Rattle.gw_rules.specs.Triple.{IsRun, Ran, RunTriple}
@@ -110,7 +111,7 @@ module _ (script : Script) (old new : Option Plan) (log : List Turn) (file : Lis
 pub some-log : {xs ys : List Turn} → Some xs ≡ Some ys → xs ≡ ys
 some-log e = cc
 
-module _ (script : Script) (ending : Ending) (old new : Observed) (log after : List Turn) (m : MayRun script old.plan log) (old_is : old.log ≡ Some log) (new_is : new.log ≡ Some after)
+module _ (rules : LawfulRefusedOnlyWithFewerSlots) (script : Script) (ending : Ending) (old new : Observed) (log after : List Turn) (m : MayRun script old.plan log) (old_is : old.log ≡ Some log) (new_is : new.log ≡ Some after)
     (none : ending ≡ NotOpened → NoneBegan log new) (runs : RunTriple (setup_of script.given) old new (IsRun (setup_of script.given)) (EndsRun ending 18446744073709551615)) where
   abbrev setup : Setup
   setup = setup_of script.given
@@ -160,7 +161,7 @@ module _ (script : Script) (ending : Ending) (old new : Observed) (log after : L
   end-by lit few RunNotOpened e by = inr (opening-failed lit (none e))
   end-by lit few NoMemory e by = inl refl
   end-by lit few RunDisk e by = inr (broken-ends after (view_from start r.moves) now-stands by)
-  end-by lit few (TooLong size) e by = absurd (never-refused setup after (view_from start r.moves) now-stands all-openings by.0)
+  end-by lit few (TooLong size) e by = absurd (never-refused rules setup after (view_from start r.moves) now-stands all-openings by.0)
   end-by lit few (Cut slot) e by = absurd by
   end-by lit few (BadRecord slot) e by = absurd by
 

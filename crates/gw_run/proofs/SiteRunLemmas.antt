@@ -16,6 +16,7 @@ use Rattle.sim_script.specs.declared.line.ImageKind.{ImageKind}
 use Rattle.sim_site.specs.Made.{play_at}
 use Rattle.sim_site.specs.Sites.{IsRestarted, PlaysOrigin, is_log_full, log_of, outside_there, plan_from, sim_observed}
 use Rattle.sim_site.specs.declared.site.SimSite.{SimSite}
+use Rattle.gw_rules.specs.LedgerRules.{LawfulRefusedOnlyWithFewerSlots}
 use Rattle.gw_rules.specs.Acts.{taken_of}
 use Rattle.gw_rules.specs.Triple.{IsRun, RunTriple}
 use Rattle.gw_dispatch.specs.RunEnd.{NoneBegan}
@@ -67,19 +68,19 @@ nothing-run script observed log fresh e = record {
 
 -- ---- one run more
 
-pub ran-again : (script : Script) (ending : Ending) (old back new : SimSite) → HasPlayed script (sim_observed old).plan (log_of old) → IsRestarted old back
+pub ran-again : LawfulRefusedOnlyWithFewerSlots → (script : Script) (ending : Ending) (old back new : SimSite) → HasPlayed script (sim_observed old).plan (log_of old) → IsRestarted old back
     → (ending ≡ NotOpened → IfObserved (sim_observed back) (λ before. NoneBegan before (sim_observed new)))
     → RunTriple (setup_of script.given) (sim_observed back) (sim_observed new) (IsRun (setup_of script.given)) (EndsRun ending 18446744073709551615)
     → HasRunAgain script ending (log_of old) (sim_observed new) (log_of new)
-ran-again script ending old back new p x none runs =
+ran-again rules script ending old back new p x none runs =
     let file = crash_file x.kind (outside_there old) in
     let before = log_of old ++ Crash file ∷ [] in
     let old_is : (sim_observed back).log ≡ Some before = ap Some x.log in
     let m : MayRun script (sim_observed back).plan before = may-run-again script (sim_observed old).plan (sim_observed back).plan (log_of old) file p x.image x.bytes x.taken in
     let none_is = λ (e : ending ≡ NotOpened). none e before old_is in
-    let more = failures-more script ending (sim_observed back) (sim_observed new) before (log_of new) m old_is refl none_is runs in
+    let more = failures-more rules script ending (sim_observed back) (sim_observed new) before (log_of new) m old_is refl none_is runs in
     record {
-      run = has-run script ending (sim_observed back) (sim_observed new) before (log_of new) m old_is refl none_is runs;
+      run = has-run rules script ending (sim_observed back) (sim_observed new) before (log_of new) m old_is refl none_is runs;
       fewer = fewer-left script.lines (log_of old) more.0 (log_of new) file (log-plays script (sim_observed back).plan before m.played (site-known back x.short)) more.1;
     }
 

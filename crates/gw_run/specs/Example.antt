@@ -7,7 +7,7 @@ use Rattle.gw_site.specs.declared.turn.Turn.TheVariants.{Polled, Lost, Stopped, 
 use Rattle.gw_script.specs.LogText.{log_text}
 use Rattle.gw_script.specs.site.Grammar.{ended_lines}
 use Rattle.gw_script.specs.site.ScriptLine.{nothing_given, setup_of}
-use Rattle.gw_rules.specs.Example.{began, status_request, status_reply, status_log}
+use Rattle.gw_rules.specs.Example.{began, status_request, status_reply_bytes, status_log}
 use Rattle.gw_rules.specs.RowExample.{example_pt, register_bytes}
 use Rattle.gw_run.specs.ScriptLog.{IsLogOf}
 
@@ -19,7 +19,7 @@ status_script = ended_lines (codes "open 1" ∷ (codes "say 1 " ++ status_reques
 
 -- the text of its log
 abbrev pub status_log_text : List ℕ
-status_log_text = ended_lines (codes "start" ∷ codes "synced" ∷ codes "wrote 0 00" ∷ codes "synced" ∷ codes "at 0" ∷ codes "open 1" ∷ codes "at 0" ∷ (codes "till 1 in '" ++ status_request) ∷ (codes "till 1 out '" ++ status_reply) ∷ codes "at 0" ∷ codes "stop" ∷ [])
+status_log_text = ended_lines (codes "start" ∷ codes "synced" ∷ codes "wrote 0 00" ∷ codes "synced" ∷ codes "at 0" ∷ codes "open 1" ∷ codes "at 0" ∷ (codes "till 1 in '" ++ status_request) ∷ (codes "till 1 out '" ++ status_reply_bytes) ∷ codes "at 0" ∷ codes "stop" ∷ [])
 
 -- the log is that of the script
 abbrev pub StatusIsOfScript : Type 0

@@ -1,22 +1,27 @@
 -- Which lines of a script are served. A text with another line is refused, with the number of its first line that isn't served or is of another form.
-use Rattle.std.specs.Prelude.{ℕ, ◌+◌, min, nat_le, Bool, true, false, not, ◌&&◌, ◌||◌, if◌then◌else◌, List, [], ◌∷◌, length, Option, Some, None, is_none, Result, Ok, Err}
+use Rattle.std.specs.Prelude.{ℕ, ◌+◌, min, nat_eq, nat_le, Bool, true, false, not, ◌&&◌, ◌||◌, if◌then◌else◌, List, [], ◌∷◌, length, Option, Some, None, Result, Ok, Err}
 use Rattle.gw_script.specs.Decode.{split_lines}
 use Rattle.gw_script.specs.site.Decode.{entry_of, script_of}
 use Rattle.gw_script.specs.site.ScriptLine.{SetupLine, Name, Queue, Wait, Slots, Terminal, Entry, Blank, Setting, Playing, Given, Script}
 
--- the setup lines give no line and no wait of waiting requests, and no more than one terminal
+-- no request may wait: it isn't said how many may, or none
+abbrev pub is_served_queue : Option ℕ → Bool
+is_served_queue None = true
+is_served_queue (Some n) = nat_eq n 0
+
+-- by what the setup lines give no request may wait, and there is no more than one terminal
 abbrev pub is_served_given : Given → Bool
-is_served_given given = is_none given.queue && is_none given.wait && nat_le (length given.terminals) 1
+is_served_given given = is_served_queue given.queue && nat_le (length given.terminals) 1
 
 -- the script is served: its setup lines are, and each line that is played is
 abbrev pub is_served : Script → Bool
 is_served script = is_served_given script.given
 
--- the setup line is served, where one that names a terminal came before it or not: no line, no wait, and no more than one terminal are given
+-- the setup line is served, where one that names a terminal came before it or not: no request may wait, and no more than one terminal is given
 abbrev pub is_served_setting : Bool → SetupLine → Bool
 is_served_setting named (Name name) = true
-is_served_setting named (Queue n) = false
-is_served_setting named (Wait n) = false
+is_served_setting named (Queue n) = nat_eq n 0
+is_served_setting named (Wait n) = true
 is_served_setting named (Slots n) = true
 is_served_setting named (Terminal pt) = not named
 

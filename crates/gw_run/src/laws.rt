@@ -3,7 +3,7 @@ ghost use Rattle.gw_run.specs.Example.{LinksHasText, LinksIsOfScript, StatusHasT
 ghost use Rattle.gw_run.specs.Laws.{LogGoesByLines, LogHasEvents, LogHasScript, LogIsPlayed, OneLog, TablesAgree};
 ghost use Rattle.gw_run.specs.PowerExample.{LaterIsOfScript, PowerHasText, PowerIsOfScript, UnmeasuredIsOfScript, UnopenedIsOfScript};
 ghost use Rattle.gw_run.specs.ReadyExample.{FailedIsNotOfScript, ReadyHasText, ReadyIsOfScript};
-ghost use Rattle.gw_run.specs.ServedExample.{ScriptIsServed, SecondTerminalIsUnserved};
+ghost use Rattle.gw_run.specs.ServedExample.{ScriptIsServed, SecondTerminalIsUnserved, WaitingRequestIsUnserved};
 
 /// A script has one log at most, whatever calls on the disk and power failures its lines make fail: while the power is there one call is
 /// due, but that the journal's file may be read once more, which leaves no turn; the script says what the turns of each step are;
@@ -67,4 +67,5 @@ pub fn law_served()
     ensures agree { TablesAgree }
     ensures served { ScriptIsServed }
     ensures second { SecondTerminalIsUnserved }
+    ensures waiting { WaitingRequestIsUnserved }
 {}

@@ -4,7 +4,7 @@ ghost use Rattle.gw_base.specs.Setup.{IsSetup};
 ghost use Rattle.gw_site.specs.Failures.{Rose};
 ghost use Rattle.gw_site.specs.Observed.{IfObserved};
 ghost use Rattle.gw_rules.specs.Triple.{IsRun, RunTriple};
-ghost use Rattle.gw_dispatch.specs.RecordsOpening.{EndsInFailure};
+ghost use Rattle.gw_dispatch.specs.Growth.{EndsInFailure};
 ghost use Rattle.gw_dispatch.specs.RunEnd.{EndsByFound, NoneBegan};
 ghost use Rattle.gw_run.specs.RunEnds.{EndsRun, EndsWithStatus, GivesEnd, GivesStatus, ending_of};
 

@@ -14,6 +14,7 @@ use crate::last_lines::write_last_lines;
 use crate::one_run::run_ended;
 use crate::text::{Unwritten, write_log};
 use gw_base::Setup;
+use gw_rules::law_openings;
 use gw_site::{Sink, Turn};
 use sim_site::SimSite;
 use std::alloc::{AllocError, Global};
@@ -26,6 +27,7 @@ fn run_first(alloc: Global, setup: &Setup, site: &mut SimSite) -> Ending
     ensures run { HasRun (played_script site.old) result (sim_observed site.new) (log_of site.new) }
     ensures origin { (sim_observed site.new).origin ≡ (sim_observed site.old).origin }
 {
+    law_openings();
     run_ended(alloc, setup, site, u64::MAX)
 }
 
@@ -38,6 +40,7 @@ fn run_again(alloc: Global, setup: &Setup, site: &mut SimSite) -> Result<Ending,
     ensures refused { OnErr result (sim_observed site.new ≡ sim_observed site.old) }
     ensures origin { (sim_observed site.new).origin ≡ (sim_observed site.old).origin }
 {
+    law_openings();
     match site.restart(alloc) {
         Ok(()) => Ok(run_ended(alloc, setup, site, u64::MAX)),
         Err(AllocError) => Err(AllocError),

@@ -2,18 +2,28 @@
 ghost use Rattle.std.specs.Prelude.{◌≡◌, ◌≤◌, ◌||◌, false, if◌then◌else◌, length, Some, None, IfOk};
 ghost use Rattle.gw_script.specs.Decode.{script_limit, split_lines};
 ghost use Rattle.gw_script.specs.site.Decode.{entry_of};
-ghost use Rattle.gw_run.specs.Served.{first_unserved, is_served, is_served_entry, is_served_given, is_served_setting, is_terminal, names_terminal};
+ghost use Rattle.gw_run.specs.Served.{first_unserved, is_served, is_served_entry, is_served_given, is_served_queue, is_served_setting, is_terminal, names_terminal};
 ghost use Rattle.sim_script.specs.Read.{read_line_value};
 ghost use Rattle.sim_script.specs.Values.{given_value, setting_value, whole_script_value};
 
 use sim_script::{Given, ReadEntry, Script, SetupLine, entry_of, first_text};
 use std::alloc::{AllocError, Global};
 
-/// Whether setup lines are served that give this: no more than a name, slots and one terminal, until requests wait.
+/// Whether no request may wait: it isn't said how many may, or none.
+fn is_served_queue(queue: Option<u8>) -> bool
+    ensures { result ≡ is_served_queue queue }
+{
+    match queue {
+        Some(count) => count == 0,
+        None => true,
+    }
+}
+
+/// Whether setup lines are served that give this: one terminal at most, for which no request may wait.
 fn is_served_given(given: &Given) -> bool
     ensures { result ≡ is_served_given (given_value given.now) }
 {
-    given.queue.is_none() && given.wait.is_none() && given.terminals.len() <= 1
+    is_served_queue(given.queue) && given.terminals.len() <= 1
 }
 
 /// Whether a script is served: its setup lines are, and each line that is played is.
@@ -28,9 +38,9 @@ fn is_served_setting(named: bool, line: &SetupLine) -> bool
     ensures { result ≡ is_served_setting named (setting_value line.now) }
 {
     match line {
-        SetupLine::Name(_) | SetupLine::Slots(_) => true,
+        SetupLine::Name(_) | SetupLine::Wait(_) | SetupLine::Slots(_) => true,
+        SetupLine::Queue(count) => *count == 0,
         SetupLine::Terminal(_) => !named,
-        SetupLine::Queue(_) | SetupLine::Wait(_) => false,
     }
 }
 

@@ -1,6 +1,7 @@
 -- Proof of the contract of `law_kept_files`.
 use Rattle.gw_rules.proofs.KeptExampleLemmas.{flight-is-kept, unsynced-keeps-none}
-use Rattle.gw_rules.proofs.KeptLawLemmas.{each-image-has-kept, each-keeps-file, each-keeps-journal-files, each-lawful-has-kept, each-lawful-keeps-journal, each-round-has-journal, each-start-opens-journal, full-only-with-fewer-slots, long-only-with-fewer-slots, never-bad, never-truncated, none-kept-is-lost}
+use Rattle.gw_rules.proofs.KeptLawLemmas.{each-image-has-kept, each-keeps-file, each-keeps-journal-files, each-round-has-journal, each-start-opens-journal, full-only-with-fewer-slots, long-only-with-fewer-slots, never-bad, never-truncated, none-kept-is-lost}
+use Rattle.gw_rules.proofs.RecordOrderLemmas.{each-lawful-has-kept, each-lawful-keeps-journal}
 use Rattle.gw_rules.proofs.law_kept_files.Goals as goal
 
 pub returns-clause-file : goal.returns-clause-file
@@ -25,10 +26,10 @@ pub returns-clause-left : goal.returns-clause-left
 returns-clause-left c = each-keeps-journal-files
 
 pub returns-clause-lawful : goal.returns-clause-lawful
-returns-clause-lawful c = each-lawful-keeps-journal
+returns-clause-lawful c = each-lawful-keeps-journal (record { new = c.law_records.ensures.new; rows = c.law_records.ensures.rows; cuts = c.law_records.ensures.cuts; links = c.law_records.ensures.links; items = c.law_records.ensures.items })
 
 pub returns-clause-lawful_kept : goal.returns-clause-lawful_kept
-returns-clause-lawful_kept c = each-lawful-has-kept
+returns-clause-lawful_kept c = each-lawful-has-kept (record { new = c.law_records.ensures.new; rows = c.law_records.ensures.rows; cuts = c.law_records.ensures.cuts; links = c.law_records.ensures.links; items = c.law_records.ensures.items })
 
 pub returns-clause-example : goal.returns-clause-example
 returns-clause-example c = flight-is-kept

@@ -1,5 +1,6 @@
 -- Proof of the contract of `law_openings`.
-use Rattle.gw_rules.proofs.LedgerRuleLemmas.{each-file-folds, each-image-folds, lawful-refused-only-with-fewer-slots, refused-at-limits, refused-only-with-fewer-slots}
+use Rattle.gw_rules.proofs.LedgerRuleLemmas.{each-file-folds, each-image-folds, refused-at-limits, refused-only-with-fewer-slots}
+use Rattle.gw_rules.proofs.RecordOrderLemmas.{lawful-refused-only-with-fewer-slots}
 use Rattle.gw_rules.proofs.law_openings.Goals as goal
 
 pub returns-clause-folds : goal.returns-clause-folds
@@ -12,7 +13,7 @@ pub returns-clause-refused : goal.returns-clause-refused
 returns-clause-refused c = refused-only-with-fewer-slots
 
 pub returns-clause-lawful : goal.returns-clause-lawful
-returns-clause-lawful c = lawful-refused-only-with-fewer-slots
+returns-clause-lawful c = lawful-refused-only-with-fewer-slots (record { new = c.law_records.ensures.new; rows = c.law_records.ensures.rows; cuts = c.law_records.ensures.cuts; links = c.law_records.ensures.links; items = c.law_records.ensures.items })
 
 pub returns-clause-example : goal.returns-clause-example
 returns-clause-example c = refused-at-limits

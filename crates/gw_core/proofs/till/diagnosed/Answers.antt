@@ -16,4 +16,4 @@ pub returns-in-Some : goal.returns-in-Some
 returns-in-Some c =
     let one = one-named (named_terminal c.args.core.now c.args.header.now.poi) c.in-Some.pt c.in-Some.ensures in
     let status = status-at c.args.core.now c.in-Some.pt one.0 c.status.result (named-there c.args.core.now c.args.header.now.poi c.in-Some.pt one.0 one.1) c.status.ensures in
-    rw (one.1, c.reply_header.ensures, status) (refl, λ never. never)
+    rw (one.1, c.reply_header.ensures, status) (refl, λ never. absurd never)

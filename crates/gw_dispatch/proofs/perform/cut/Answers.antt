@@ -6,14 +6,15 @@ use Rattle.gw_owes.specs.Core.{Core}
 use Rattle.gw_owes.specs.Links.{LinkIsLost, link_row}
 use Rattle.gw_owes.specs.TerminalLaws.{ChangesTerminalAlone}
 use Rattle.gw_dispatch.specs.MidRound.{is_linked_in}
+use Rattle.gw_dispatch.proofs.GrowthLemmas.{pt-was-cut}
 use Rattle.gw_dispatch.proofs.LinkLemmas.{lost-is-unlinked}
-use Rattle.gw_dispatch.proofs.PerformLemmas.{IsRowOf, of-row, cut-performs, link-has, link-alone}
+use Rattle.gw_dispatch.proofs.PerformLemmas.{IsRowOf, of-row, cut-performs, link-has, link-alone, link-orders}
 use Rattle.gw_dispatch.proofs.perform.cut.Goals as goal
 
 pub returns-clause-triple : goal.returns-clause-triple
 returns-clause-triple g c =
     let is : IsRowOf c.args.core.now (moment_of c.args.now) (λ known. link_row known c.args.pt LinkIsLost) c.on_link.new.self c.on_link.result = simp (to_z-of_z, c.ranges.now) at c.on_link.ensures.row in
-    λ setup tills polls heard items. cut-performs _ _ c.args.core.now c.on_link.new.self c.args.now c.args.pt c.on_link.result c.requires.unserved is c.cut_pt.ensures.turns c.cut_pt.ensures.step setup tills polls heard items
+    λ setup kept tills polls heard items. cut-performs _ _ c.args.core.now c.on_link.new.self c.args.now c.args.pt c.on_link.result c.requires.unserved is c.cut_pt.ensures.turns c.cut_pt.ensures.step setup kept tills polls heard items
 
 pub returns-clause-unlinked : goal.returns-clause-unlinked
 returns-clause-unlinked g c =
@@ -31,3 +32,11 @@ returns-clause-count g c =
     let is : IsRowOf c.args.core.now (moment_of c.args.now) (λ known. link_row known c.args.pt LinkIsLost) c.on_link.new.self c.on_link.result = simp (to_z-of_z, c.ranges.now) at c.on_link.ensures.row in
     let alone : ChangesTerminalAlone c.args.pt c.args.core.now c.on_link.new.self = link-alone c.args.core.now c.on_link.new.self (moment_of c.args.now) c.args.pt LinkIsLost c.on_link.result is in
     alone.count
+
+pub returns-clause-order : goal.returns-clause-order
+returns-clause-order g c =
+    let is : IsRowOf c.args.core.now (moment_of c.args.now) (λ known. link_row known c.args.pt LinkIsLost) c.on_link.new.self c.on_link.result = simp (to_z-of_z, c.ranges.now) at c.on_link.ensures.row in
+    link-orders c.args.core.now c.on_link.new.self (moment_of c.args.now) c.args.pt LinkIsLost c.on_link.result is
+
+pub returns-clause-goes_on : goal.returns-clause-goes_on
+returns-clause-goes_on g c = pt-was-cut _ _ c.args.pt c.cut_pt.ensures.turns c.cut_pt.ensures.cause

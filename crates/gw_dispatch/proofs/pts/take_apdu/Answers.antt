@@ -1,6 +1,6 @@
 -- Proof of the contract of `take_apdu`.
-use Rattle.std.proofs.Common.{◌≡◌, ℕ, sym, ◌∙◌, ap, subst}
-use Rattle.std.specs.Prelude.{Ok, Err, Some, None}
+use Rattle.std.proofs.Common.{◌≡◌, ◌++◌, ℕ, [], sym, ◌∙◌, ap, subst}
+use Rattle.std.specs.Prelude.{Ok, Err, Some, None, false, slice_get}
 use Rattle.std.proofs.lemmas.Int.{to_z-of_z}
 use Rattle.zvt_apdu.specs.declared.fault.ApduFault.{ApduFault}
 use Rattle.zvt_apdu.specs.declared.fault.ApduFault.TheVariants.{TooLong}
@@ -8,31 +8,23 @@ use Rattle.zvt_apdu.specs.Decode.{DecodedApdu, decode_apdu}
 use Rattle.zvt_apdu.specs.Grammar.{value_of}
 use Rattle.zvt_apdu.specs.Results.{LeavesBytes, ReturnsApdu}
 use Rattle.zvt_apdu.proofs.DecodeLemmas.{begins_whole}
+use Rattle.gw_dispatch.specs.Apdus.{items_held}
+use Rattle.gw_dispatch.specs.MidRound.{AreHeard, HeldRound, is_linked_in}
 use Rattle.gw_dispatch.proofs.ApduLemmas.{less-apdu, rest-waiting}
-use Rattle.gw_dispatch.proofs.PtsLemmas.{apdu-handled, apdu-cut, apdu-waits, oversized-cut}
+use Rattle.gw_dispatch.proofs.HandleLemmas.{disk-done, disk-failed}
+use Rattle.gw_dispatch.proofs.RunStateLemmas.{well-core}
+use Rattle.gw_dispatch.proofs.PtsLemmas.{apdu-first, apdu-handled, apdu-cut, apdu-waits, oversized-cut}
 use Rattle.gw_dispatch.proofs.pts.take_apdu.Goals as goal
+use Rattle.gw_dispatch.proofs.pts.take_apdu.Goals.{in-Ok-Some+in-Ok-false, in-Err}
 
 -- the only fault is a length above the limit
 too-long : (fault : ApduFault) (decoded : DecodedApdu) → ReturnsApdu (Err fault) decoded → (n : ℕ) × (decoded ≡ DecodedApdu.TooLong n)
 too-long (TooLong n) decoded e = (n, e)
 
-pub returns-then-on_apdu-clause-triple : goal.returns-then-on_apdu-clause-triple
-returns-then-on_apdu-clause-triple g c =
-    let leaves : LeavesBytes c.args.reader.now (Ok (Some c.in-Ok-Some.apdu)) c.next.follows.lender-at-none =
-    subst (λ r. LeavesBytes c.args.reader.now r c.next.follows.lender-at-none) (c.in-Ok-Some.is ∙ ap Ok c.in-Ok-Some.field-0-is) c.next.follows.holds-at-none in
-    apdu-handled _ _ _ _ c.args.now c.args.pt c.args.reader.now c.next.follows.lender-at-none (value_of c.in-Ok-Some.apdu) (begins_whole _ _ _ leaves)
-    (λ setup tills polls heard items. simp (to_z-of_z, c.ranges.now) at (c.on_apdu.ensures.triple setup tills polls heard items))
-
-pub returns-then-on_apdu-clause-reader : goal.returns-then-on_apdu-clause-reader
-returns-then-on_apdu-clause-reader g c =
-    let leaves : LeavesBytes c.args.reader.now (Ok (Some c.in-Ok-Some.apdu)) c.next.follows.lender-at-none =
-    subst (λ r. LeavesBytes c.args.reader.now r c.next.follows.lender-at-none) (c.in-Ok-Some.is ∙ ap Ok c.in-Ok-Some.field-0-is) c.next.follows.holds-at-none in
-    less-apdu c.args.reader.now (value_of c.in-Ok-Some.apdu) c.next.follows.lender-at-none (begins_whole _ _ _ leaves)
-
 pub returns-in-Ok-None-clause-triple : goal.returns-in-Ok-None-clause-triple
 returns-in-Ok-None-clause-triple g c =
     let none : decode_apdu c.args.reader.now ≡ DecodedApdu.Incomplete = subst (λ r. ReturnsApdu r (decode_apdu c.args.reader.now)) (c.in-Ok-None.is ∙ ap Ok c.in-Ok-None.field-0-is) c.next.ensures.computes in
-    apdu-waits _ c.args.core.now c.args.now c.args.pt c.args.reader.now none
+    apdu-waits _ c.args.state.now c.args.tills.now.list.items c.args.now c.args.pt c.args.reader.now none
 
 pub returns-in-Ok-None-clause-reader : goal.returns-in-Ok-None-clause-reader
 returns-in-Ok-None-clause-reader g c =
@@ -41,15 +33,50 @@ returns-in-Ok-None-clause-reader g c =
     subst (λ r. LeavesBytes c.args.reader.now r c.next.follows.lender-at-none) (c.in-Ok-None.is ∙ ap Ok c.in-Ok-None.field-0-is) c.next.follows.holds-at-none in
     record { waits = ap decode_apdu leaves.1 ∙ none; rest = λ linked. leaves.1 ∙ sym (rest-waiting c.args.reader.now none) }
 
-pub returns-else-on_apdu-clause-triple : goal.returns-else-on_apdu-clause-triple
-returns-else-on_apdu-clause-triple g c =
+pub returns-in-Ok-true-clause-triple : goal.returns-in-Ok-true-clause-triple
+returns-in-Ok-true-clause-triple g c =
     let leaves : LeavesBytes c.args.reader.now (Ok (Some c.in-Ok-Some.apdu)) c.next.follows.lender-at-none =
     subst (λ r. LeavesBytes c.args.reader.now r c.next.follows.lender-at-none) (c.in-Ok-Some.is ∙ ap Ok c.in-Ok-Some.field-0-is) c.next.follows.holds-at-none in
-    apdu-cut _ _ _ _ c.args.now c.args.pt c.args.reader.now c.next.follows.lender-at-none (value_of c.in-Ok-Some.apdu) (begins_whole _ _ _ leaves) (sym c.on_apdu.ensures.linked ∙ c.if-on_apdu.false)
-    (λ setup tills polls heard items. simp (to_z-of_z, c.ranges.now) at (c.on_apdu.ensures.triple setup tills polls heard items))
+    apdu-handled _ _ c.args.state.now c.on_apdu.new.state c.args.tills.now.list.items c.on_apdu.new.tills.list.items c.args.now c.args.pt c.args.reader.now c.next.follows.lender-at-none (value_of c.in-Ok-Some.apdu) (begins_whole _ _ _ leaves)
+    (λ setup polls heard items. disk-done _ _ c.on_apdu.result _ _ (λ linked. HeldRound setup c.on_apdu.new.state c.on_apdu.new.tills.list.items polls c.args.now (AreHeard heard) [] items) c.in-Ok-true.is (simp (to_z-of_z, c.ranges.now) at (c.on_apdu.ensures.triple setup polls heard items)))
 
-pub returns-in-Err-clause-triple : goal.returns-in-Err-clause-triple
-returns-in-Err-clause-triple g c =
-    let fault : ReturnsApdu (Err c.in-Err.field-0) (decode_apdu c.args.reader.now) = subst (λ r. ReturnsApdu r (decode_apdu c.args.reader.now)) c.in-Err.is c.next.ensures.computes in
-    let long = too-long c.in-Err.field-0 (decode_apdu c.args.reader.now) fault in
-    oversized-cut _ _ _ _ c.args.now c.args.pt c.args.reader.now long.0 long.1 (λ setup tills polls heard items. simp (to_z-of_z, c.ranges.now) at (c.on_oversized.ensures.triple setup tills polls heard items))
+pub returns-in-Ok-true-clause-reader : goal.returns-in-Ok-true-clause-reader
+returns-in-Ok-true-clause-reader g c =
+    let leaves : LeavesBytes c.args.reader.now (Ok (Some c.in-Ok-Some.apdu)) c.next.follows.lender-at-none =
+    subst (λ r. LeavesBytes c.args.reader.now r c.next.follows.lender-at-none) (c.in-Ok-Some.is ∙ ap Ok c.in-Ok-Some.field-0-is) c.next.follows.holds-at-none in
+    less-apdu c.args.reader.now (value_of c.in-Ok-Some.apdu) c.next.follows.lender-at-none (begins_whole _ _ _ leaves)
+
+pub returns-in-Err-on_apdu-clause-triple : goal.returns-in-Err-on_apdu-clause-triple
+returns-in-Err-on_apdu-clause-triple g c = λ setup polls heard items.
+    let leaves : LeavesBytes c.args.reader.now (Ok (Some c.in-Ok-Some.apdu)) c.next.follows.lender-at-none =
+    subst (λ r. LeavesBytes c.args.reader.now r c.next.follows.lender-at-none) (c.in-Ok-Some.is ∙ ap Ok c.in-Ok-Some.field-0-is) c.next.follows.holds-at-none in
+    apdu-first _ _ c.args.state.now c.args.tills.now.list.items c.args.now c.args.pt c.args.reader.now c.next.follows.lender-at-none (value_of c.in-Ok-Some.apdu) (begins_whole _ _ _ leaves) setup polls heard items _
+    (disk-failed _ _ c.on_apdu.result _ _ (λ linked. HeldRound setup c.on_apdu.new.state c.on_apdu.new.tills.list.items polls c.args.now (AreHeard heard) [] (items_held c.args.pt c.next.follows.lender-at-none ++ items)) c.in-Err-on_apdu.is
+    (simp (to_z-of_z, c.ranges.now) at (c.on_apdu.ensures.triple setup polls heard (items_held c.args.pt c.next.follows.lender-at-none ++ items))))
+
+pub returns-clause-triple : goal.returns-clause-triple
+returns-clause-triple g c = λ setup polls heard items.
+    elim c.match-next.branch [
+      | in-Ok-Some+in-Ok-false w ↦
+          rw (w.state-is, w.tills-is, w.site-is) (
+          let leaves : LeavesBytes c.args.reader.now (Ok (Some w.in-Ok-Some.apdu)) c.next.follows.lender-at-none =
+          subst (λ r. LeavesBytes c.args.reader.now r c.next.follows.lender-at-none) (w.in-Ok-Some.is ∙ ap Ok w.in-Ok-Some.field-0-is) c.next.follows.holds-at-none in
+          let unlinked : is_linked_in (slice_get w.on_apdu.new.state.core.terminals c.args.pt) ≡ false = sym w.in-Ok-false.ensures.linked ∙ w.in-Ok-false.field-0-test in
+          apdu-cut _ _ c.args.state.now w.on_apdu.new.state c.args.tills.now.list.items w.on_apdu.new.tills.list.items c.args.now c.args.pt c.args.reader.now c.next.follows.lender-at-none (value_of w.in-Ok-Some.apdu) (begins_whole _ _ _ leaves) unlinked
+          (λ setup polls heard items. disk-done _ _ w.on_apdu.result _ _ (λ linked. HeldRound setup w.on_apdu.new.state w.on_apdu.new.tills.list.items polls c.args.now (AreHeard heard) [] items) w.in-Ok-false.is (simp (to_z-of_z, c.ranges.now) at (w.on_apdu.ensures.triple setup polls heard items)))
+          setup polls heard items)
+      | in-Err w ↦
+          rw (w.state-is, w.tills-is, w.site-is) (
+          let fault : ReturnsApdu (Err w.in-Err.field-0) (decode_apdu c.args.reader.now) = subst (λ r. ReturnsApdu r (decode_apdu c.args.reader.now)) w.in-Err.is c.next.ensures.computes in
+          let long = too-long w.in-Err.field-0 (decode_apdu c.args.reader.now) fault in
+          oversized-cut _ _ c.args.state.now (record c.args.state.now { core = w.on_oversized.new.core }) c.args.tills.now.list.items c.args.tills.now.list.items c.args.now c.args.pt c.args.reader.now long.0 long.1
+          (λ setup polls heard items. simp (to_z-of_z, c.ranges.now) at (w.on_oversized.ensures.triple setup c.args.state.now.records.ledger.records c.args.tills.now.list.items polls heard items))
+          setup polls heard items)
+    ]
+
+pub returns-clause-well : goal.returns-clause-well
+returns-clause-well g c =
+    elim c.match-next.branch [
+      | in-Ok-Some+in-Ok-false w ↦ rw (w.state-is, w.site-is) w.in-Ok-false.ensures.well
+      | in-Err w ↦ rw (w.state-is, w.site-is) (well-core c.args.state.now w.on_oversized.new.core _ _ c.requires.well w.on_oversized.ensures.order w.on_oversized.ensures.dialogues w.on_oversized.ensures.goes_on)
+    ]

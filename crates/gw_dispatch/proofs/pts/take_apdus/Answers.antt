@@ -1,24 +1,36 @@
 -- Proof of the contract of `take_apdus`.
-use Rattle.std.proofs.Common.{refl, ◌∙◌, arith}
+use Rattle.std.proofs.Common.{◌++◌, [], ap, subst, ◌∙◌}
+use Rattle.std.specs.Prelude.{Ok, true, false}
 use Rattle.std.proofs.lemmas.Int.{to_z-of_z}
-use Rattle.gw_rules.proofs.TripleLemmas.{triple-refl, triple-then}
-use Rattle.gw_dispatch.specs.Apdus.{IsLess}
+use Rattle.gw_rules.proofs.TripleLemmas.{triple-then}
+use Rattle.gw_dispatch.specs.Apdus.{IsLess, LeavesApdus, items_left}
+use Rattle.gw_dispatch.specs.MidRound.{AreHeard, HeldRound}
+use Rattle.gw_dispatch.proofs.GrowthLemmas.{goes-then}
+use Rattle.gw_dispatch.proofs.HandleLemmas.{disk-done, disk-failed}
 use Rattle.gw_dispatch.proofs.pts.take_apdus.Goals as goal
 
-pub loop-pt-init : goal.loop-pt-init
-loop-pt-init g c = record { kept = λ setup tills polls heard items. triple-refl _ _; rest = refl; dialogues = c.requires.dialogues; count = refl; later = omega arith }
-
-pub loop-pt-preserved : goal.loop-pt-preserved
-loop-pt-preserved g c =
-    let less : IsLess c.loop-pt.reader c.take_apdu.new.reader = c.if-not-take_apdu.ensures.reader in
+pub loop-preserved : goal.loop-preserved
+loop-preserved g c =
+    let less : IsLess c.loop.reader c.take_apdu.new.reader = subst (λ more. LeavesApdus more c.take_apdu.new.state.core c.args.pt c.loop.reader c.take_apdu.new.reader) c.in-Ok-true.field-0-test c.in-Ok-true.ensures.reader in
     record {
-      kept = λ setup tills polls heard items. triple-then _ _ _ _ _ _ (c.loop-pt.invariant.kept setup tills polls heard items) (c.if-not-take_apdu.ensures.triple setup tills polls heard items);
-      rest = less.rest ∙ c.loop-pt.invariant.rest;
-      dialogues = c.take_apdu.ensures.dialogues;
-      count = c.take_apdu.ensures.count ∙ c.loop-pt.invariant.count;
-      later = omega (arith, c.loop-pt.invariant.later, c.take_apdu.ensures.later);
+      kept = λ setup polls heard items. triple-then _ _ _ _ _ _ (c.loop.invariant.kept setup polls heard items)
+          (disk-done _ _ c.take_apdu.result true _ (λ more. HeldRound setup c.take_apdu.new.state c.take_apdu.new.tills.list.items polls _ (AreHeard heard) [] (items_left more c.args.pt c.take_apdu.new.reader ++ items)) (c.in-Ok-true.is ∙ ap Ok c.in-Ok-true.field-0-test)
+          (c.take_apdu.ensures.triple setup polls heard items));
+      rest = less.rest ∙ c.loop.invariant.rest;
+      well = c.in-Ok-true.ensures.well;
+      gateway = c.take_apdu.ensures.gateway ∙ c.loop.invariant.gateway;
+      count = c.take_apdu.ensures.count ∙ c.loop.invariant.count;
+      goes_on = goes-then _ _ _ c.loop.invariant.goes_on c.take_apdu.ensures.goes_on;
     }
 
-pub returns-then-not-take_apdu-clause-triple : goal.returns-then-not-take_apdu-clause-triple
-returns-then-not-take_apdu-clause-triple g c = λ setup tills polls heard items.
-    triple-then _ _ _ _ _ _ (simp (to_z-of_z, c.ranges.now) at (c.loop-pt.invariant.kept setup tills polls heard items)) (simp (to_z-of_z, c.ranges.now) at (c.if-not-take_apdu.ensures.triple setup tills polls heard items))
+pub returns-in-Ok-false-clause-triple : goal.returns-in-Ok-false-clause-triple
+returns-in-Ok-false-clause-triple g c = λ setup polls heard items.
+    triple-then _ _ _ _ _ _ (simp (to_z-of_z, c.ranges.now) at (c.loop.invariant.kept setup polls heard items))
+    (disk-done _ _ c.take_apdu.result false _ (λ more. HeldRound setup c.take_apdu.new.state c.take_apdu.new.tills.list.items polls c.args.now (AreHeard heard) [] (items_left more c.args.pt c.take_apdu.new.reader ++ items)) (c.in-Ok-false.is ∙ ap Ok c.in-Ok-false.field-0-test)
+    (simp (to_z-of_z, c.ranges.now) at (c.take_apdu.ensures.triple setup polls heard items)))
+
+pub returns-in-Err-clause-triple : goal.returns-in-Err-clause-triple
+returns-in-Err-clause-triple g c = λ setup polls heard items.
+    triple-then _ _ _ _ _ _ (simp (to_z-of_z, c.ranges.now) at (c.loop.invariant.kept setup polls heard items))
+    (disk-failed _ _ c.take_apdu.result _ _ (λ more. HeldRound setup c.take_apdu.new.state c.take_apdu.new.tills.list.items polls c.args.now (AreHeard heard) [] (items_left more c.args.pt c.take_apdu.new.reader ++ items)) c.in-Err.is
+    (simp (to_z-of_z, c.ranges.now) at (c.take_apdu.ensures.triple setup polls heard items)))

@@ -13,5 +13,4 @@ pub returns-clause-registered : goal.returns-clause-registered
 returns-clause-registered c = registered-is-enquired
 
 pub returns-clause-enquired : goal.returns-clause-enquired
-returns-clause-enquired c = λ known number apdu terminal message reported approved result_code found standing is means none_open least.
-    enquired-is-ready known number apdu terminal message reported approved result_code found standing is means
+returns-clause-enquired c = enquired-is-ready

@@ -16,3 +16,7 @@ returns-clause-served c = record { script = _; script_is = refl; served = refl; 
 pub returns-clause-second : goal.returns-clause-second
 unfolding is_utf8 chars encode decode_pairs
 returns-clause-second c = record { script = _; script_is = refl; unserved = refl; second = refl }
+
+pub returns-clause-waiting : goal.returns-clause-waiting
+unfolding is_utf8 chars encode decode_pairs
+returns-clause-waiting c = record { script = _; script_is = refl; unserved = refl; second = refl }

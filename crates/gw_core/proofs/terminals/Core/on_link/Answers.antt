@@ -20,7 +20,7 @@ returns-then-up-clause-row c = λ setup kept.
     let taken : moment_of (to_z w64 (of_z w64 c.to_moment-now.result)) ≡ moment_of c.args.now =
     moment-stays c.args.now _ (to_z-of_z w64 c.to_moment-now.result (assumption (c.to_moment-now.type_inv)) ∙ simp (to_z-of_z, c.ranges.now) at c.to_moment-now.ensures.value) in
     rw (← c.self.view_is, c.from.ensures, c.if-up.true)
-    (made-row (known_with setup kept core (moment_of c.args.now)) c.args.pt terminal c.ask.new.terminal c.registration-command.result c.ask.result found c.registration-command.ensures
+    (made-row (known_with setup kept core (moment_of c.args.now)) kept c.args.pt terminal c.ask.new.terminal c.registration-command.result c.ask.result found c.registration-command.ensures
     (subst (λ (moment : ℕ). c.ask.new.terminal ≡ after_command (record terminal { awaited = 0 }) c.registration-command.result Registering moment) taken c.ask.ensures.asked) c.ask.ensures.act)
 
 pub returns-then-up-clause-wanted : goal.returns-then-up-clause-wanted
@@ -52,4 +52,4 @@ returns-clause-row c = λ setup kept.
     let found : slice_get core.terminals c.args.pt ≡ Some terminal = found-at core.terminals c.args.self.now c.args.pt c.from.result terminal held c.requires.there c.from.ensures c.index_mut-terminal.ensures.value in
     let due : c.unsigned_abs.result ≡ moment_of c.args.now = search (rules, tests) in
     rw (← c.self.view_is, c.from.ensures, c.if-up.false, due)
-    (lost-row (known_with setup kept core (moment_of c.args.now)) c.args.pt terminal found (serves-at core.terminals c.args.self.now c.args.pt terminal held found c.requires.unserved))
+    (lost-row (known_with setup kept core (moment_of c.args.now)) kept c.args.pt terminal found (serves-at core.terminals c.args.self.now c.args.pt terminal held found c.requires.others))

@@ -9,9 +9,9 @@ use Rattle.gw_owes.specs.Row.{owing_where}
 use Rattle.gw_owes.specs.Core.{Core as CoreValue}
 use Rattle.gw_owes.specs.Handling.{handle_message}
 use Rattle.gw_owes.specs.Links.{is_linked}
-use Rattle.gw_owes.specs.Terminals.{terminal_becomes}
+use Rattle.gw_owes.specs.Terminals.{with_terminal}
 use Rattle.gw_owes.specs.declared.terminal.Terminal.{Terminal}
-use Rattle.gw_core.specs.IsRow.{calls_wanted, known_with}
+use Rattle.gw_core.specs.IsRow.{IsRow, known_with}
 use Rattle.gw_core.proofs.CoreLemmas.{moment-stays, found-at, settings-stay, new-serves}
 use Rattle.gw_core.proofs.HandlingLemmas.{pt-row}
 use Rattle.gw_core.proofs.terminals.Core.on_pt.Goals as goal
@@ -23,8 +23,16 @@ handle-requires-clause-settings c =
     c.self.invariant.1 c.args.pt terminal
     (found-at items c.args.self.now c.args.pt c.from.result terminal (sym (ap (λ (held : CoreValue). held.terminals) c.self.view_is)) c.requires.there c.from.ensures c.index_mut-terminal.ensures.value)
 
+pub handle-requires-clause-order : goal.handle-requires-clause-order
+handle-requires-clause-order c =
+    let items = c.self.inside.terminals.items in
+    let terminal : Terminal = c.index_mut-terminal.result.now in
+    let found : slice_get items c.args.pt ≡ Some terminal = found-at items c.args.self.now c.args.pt c.from.result terminal (sym (ap (λ (held : CoreValue). held.terminals) c.self.view_is)) c.requires.there c.from.ensures c.index_mut-terminal.ensures.value in
+    c.requires.order c.args.pt terminal (subst (λ (held : CoreValue). slice_get held.terminals c.args.pt ≡ Some terminal) c.self.view_is found)
+
 pub returns-clause-row : goal.returns-clause-row
-returns-clause-row c = λ setup kept.
+returns-clause-row c = λ setup.
+    let kept = c.args.ledger.now.records in
     let core : CoreValue = record { terminals = c.self.inside.terminals.items; waits = []; logged_out = []; device_requests = 0 } in
     let inside : c.args.pt < length core.terminals = subst (λ (held : CoreValue). c.args.pt < length held.terminals) (sym c.self.view_is) c.requires.there in
     let is : c.index_mut-terminal.result.now ≡ get_or core.terminals c.args.pt c.index_mut-terminal.result.now =
@@ -33,14 +41,14 @@ returns-clause-row c = λ setup kept.
     moment-stays c.args.now _ (to_z-of_z w64 c.to_moment-now.result (assumption (c.to_moment-now.type_inv)) ∙ simp (to_z-of_z, c.ranges.now) at c.to_moment-now.ensures.value) in
     rw (← c.self.view_is, c.from.ensures)
     (pt-row (known_with setup kept core (moment_of c.args.now)) c.args.pt c.index_mut-terminal.result.now c.handle.new.terminal (value_of c.args.message.now) c.handle.result inside is
-    (λ found. subst (λ (moment : ℕ). owing_where (is_linked c.index_mut-terminal.result.now.standing) (known_with setup kept core moment)
-    (handle_message (known_with setup kept core moment) c.args.pt c.index_mut-terminal.result.now (value_of c.args.message.now))
-    ≡ terminal_becomes (known_with setup kept core moment) c.args.pt c.handle.new.terminal (calls_wanted c.handle.result)) taken (c.handle.ensures.row setup kept core found)))
+    (λ found. subst (λ (moment : ℕ). IsRow kept (owing_where (is_linked c.index_mut-terminal.result.now.standing) (known_with setup kept core moment)
+    (handle_message (known_with setup kept core moment) c.args.pt c.index_mut-terminal.result.now (value_of c.args.message.now)))
+    (with_terminal core c.args.pt c.handle.new.terminal) c.handle.result) taken (c.handle.ensures.row setup core found)))
 
-pub returns-clause-unserved : goal.returns-clause-unserved
-returns-clause-unserved c =
+pub returns-clause-others : goal.returns-clause-others
+returns-clause-others c =
     let items = c.self.inside.terminals.items in
-    rw c.from.ensures (new-serves items c.args.pt c.handle.new.terminal c.handle.ensures.unserved)
+    rw c.from.ensures (new-serves items c.args.pt c.handle.new.terminal c.handle.ensures.others)
 
 pub invariant_of-self : goal.invariant_of-self
 invariant_of-self c =

@@ -1,9 +1,11 @@
 -- Proof of the contract of `Dispatch::on_event`.
-use Rattle.std.proofs.Common.{◌+◌}
+use Rattle.std.proofs.Common.{◌+◌, ap}
 use Rattle.std.proofs.lemmas.Int.{to_z-of_z}
 use Rattle.gw_rules.proofs.TripleLemmas.{triple-then}
 use Rattle.gw_site.specs.declared.site.What.TheVariants.{TillOpened, TillBytes, PtBytes, PtClosed, Nothing, Stopped}
-use Rattle.gw_dispatch.proofs.RoundLemmas.{at-what, rest-nothing, rest-pt-bytes, rest-pt-closed, rest-closed, rest-stopped, rest-opened, rest-heard}
+use Rattle.gw_dispatch.proofs.GrowthLemmas.{still-stands}
+use Rattle.gw_dispatch.proofs.RunStateLemmas.{ready-without}
+use Rattle.gw_dispatch.proofs.RoundLemmas.{at-what, rest-nothing, rest-pt-bytes, rest-pt-closed, rest-forgotten, rest-stopped, rest-opened, rest-heard}
 use Rattle.gw_dispatch.proofs.engine.Dispatch.on_event.Goals as goal
 
 pub returns-in-Stopped-clause-triple : goal.returns-in-Stopped-clause-triple
@@ -20,7 +22,10 @@ returns-in-TillBytes-clause-triple g c = λ setup polls named. triple-then _ _ _
     (simp (to_z-of_z, c.ranges.now) at (c.on_bytes.ensures.triple setup (polls + 1) named))
 
 pub returns-in-TillClosed-clause-triple : goal.returns-in-TillClosed-clause-triple
-returns-in-TillClosed-clause-triple g c = λ setup polls named. rest-closed _ c.in-TillClosed.number c.args.buf.now setup c.args.self.now _ c.forget.new.self.core c.forget.new.self.readers.items polls c.args.now c.args.what c.in-TillClosed.is c.drop_till.ensures c.forget.ensures.core c.forget.ensures.readers
+returns-in-TillClosed-clause-triple g c = λ setup polls named. rest-forgotten _ c.in-TillClosed.number c.args.buf.now setup c.args.self.now c.forget.new.self polls c.args.now c.args.what c.in-TillClosed.is c.forget.ensures.list c.forget.ensures.state (ap (λ readers. readers.items) c.forget.ensures.readers)
+
+pub returns-in-TillClosed-clause-ready : goal.returns-in-TillClosed-clause-ready
+returns-in-TillClosed-clause-ready g c = ready-without c.args.self.now c.in-TillClosed.number c.forget.new.self _ _ c.forget.ensures.state c.forget.ensures.readers c.requires.ready (still-stands _)
 
 pub returns-in-PtBytes-clause-triple : goal.returns-in-PtBytes-clause-triple
 returns-in-PtBytes-clause-triple g c = λ setup polls named. triple-then _ _ _ _ _ _

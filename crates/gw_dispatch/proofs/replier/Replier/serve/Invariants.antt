@@ -1,22 +1,27 @@
 -- What the loop of `Replier::serve` keeps, and why it ends.
-use Rattle.std.proofs.Common.{◌≡◌, ◌≤◌, ℕ, List, length}
-use Rattle.gw_base.specs.Moment.{moment_of}
-use Rattle.gw_site.specs.Outside.{Outside}
+use Rattle.std.proofs.Common.{◌≡◌, ◌++◌, ℕ, List, [], length}
+use Rattle.gw_base.specs.declared.setup.Setup.{Setup}
 use Rattle.sale_frame.specs.Decode.{decode_frames}
-use Rattle.gw_core.specs.ReplyOf.{IsKnownAt}
+use Rattle.gw_owes.specs.Events.{decoded_items}
 use Rattle.gw_owes.specs.Items.{RoundItem}
-use Rattle.gw_owes.specs.Row.{Known}
 use Rattle.gw_rules.specs.Triple.{Triple}
-use Rattle.gw_dispatch.specs.Round.{BeforeTill}
+use Rattle.gw_dispatch.specs.Growth.{HasGoneOn}
+use Rattle.gw_dispatch.specs.RunState.{IsWell, gateway_of}
+use Rattle.gw_dispatch.specs.MidRound.{AreHeard, HeldRound}
+use Rattle.gw_dispatch.specs.Tills.{IsThere}
+use Rattle.gw_dispatch.specs.declared.tills.Till.{Till}
 use Rattle.gw_dispatch.proofs.replier.Replier.serve.Given as goal
 
 abbrev pub invariant-loop : goal.invariant-loop
 invariant-loop g l = record {
-  kept : (known : Known) (polls : ℕ) (o : Outside) (items : List RoundItem) → IsKnownAt l.fn.self.name l.fn.core (moment_of l.fn.now) known → Triple (g.S.Site.observed l.fn.site) (g.S.Site.observed l.site)
-      (BeforeTill known polls o l.fn.till l.fn.reader items) (BeforeTill known polls o l.fn.till l.reader items);
-  name : l.self.name ≡ l.fn.self.name;
+  kept : (setup : Setup) (tills : List Till) (polls : ℕ) (heard : ℕ → List ℕ) (items : List RoundItem) → gateway_of setup ≡ l.fn.state.gateway → IsThere l.fn.till tills → Triple (g.S.Site.observed l.fn.site) (g.S.Site.observed l.site)
+      (HeldRound setup l.fn.state tills polls l.fn.now (AreHeard heard) [] (decoded_items l.fn.till (decode_frames l.fn.reader) ++ items))
+      (HeldRound setup l.state tills polls l.fn.now (AreHeard heard) [] (decoded_items l.fn.till (decode_frames l.reader) ++ items));
+  well : IsWell l.state (g.S.Site.observed l.site);
+  gateway : l.state.gateway ≡ l.fn.state.gateway;
+  count : length l.state.core.terminals ≡ length l.fn.state.core.terminals;
   rest : (decode_frames l.reader).rest ≡ (decode_frames l.fn.reader).rest;
-  later : (g.S.Site.observed l.fn.site).faults ≤ (g.S.Site.observed l.site).faults;
+  goes_on : HasGoneOn (g.S.Site.observed l.fn.site) (g.S.Site.observed l.site);
 }
 
 abbrev pub decreases-loop : goal.decreases-loop

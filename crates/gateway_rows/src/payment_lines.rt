@@ -1,0 +1,225 @@
+//! Lines of payments, in the tables of rows: what a till asks, which records are kept, and what the till gets.
+//!
+//! The payments are those of till S1 at terminal T1, in euros, at 2025-03-07T10:11:04Z. A ServiceID and a slot are one digit.
+//! - `pay TILL SERVICE AMOUNT` is a payment, and `status TILL SERVICE REFERENCE` asks what became of it;
+//! - `> intent SLOT SERVICE AMOUNT BEFORE` keeps its Intent: the amount is in minor units, and BEFORE is the trace number before;
+//! - `> approved SLOT OF TRACE RECEIPT AMOUNT` and `> declined SLOT OF REASON` keep its Outcome, where OF is the slot of the Intent;
+//! - `> first ..` before the words of such a line is the first write for it alone;
+//! - `> result TILL SERVICE RESULT TRANSACTION AMOUNT` is the reply once it has ended: RESULT is `Success`, `Partial` or the condition
+//!   of a failure, which has no amount;
+//! - `> repeats TILL SERVICE REFERENCE RESULT TRANSACTION AMOUNT` is the reply to `status` that repeats it;
+//! - `> fails CATEGORY TILL SERVICE CONDITION` is any other failure.
+use crate::tables::{halves, push_form};
+use std::alloc::{AllocError, Global};
+use std::test::Fail;
+
+/// A payment: its ServiceID and its amount.
+const PAYMENT: &str =
+    "{\"SaleToPOIRequest\":{\"MessageHeader\":{\"ProtocolVersion\":\"3.0\",\"MessageClass\":\"Service\",\"MessageCategory\":\"Payment\",\
+    \"MessageType\":\"Request\",\"ServiceID\":\"%\",\"SaleID\":\"S1\",\"POIID\":\"T1\"},\"PaymentRequest\":{\"SaleData\":\
+    {\"SaleTransactionID\":{\"TransactionID\":\"27908\",\"TimeStamp\":\"2025-03-07T10:11:04+00:00\"}},\"PaymentTransaction\":\
+    {\"AmountsReq\":{\"Currency\":\"EUR\",\"RequestedAmount\":%}}}}}\n";
+
+/// The question what became of a payment: its ServiceID, and the payment's.
+const STATUS: &str =
+    "{\"SaleToPOIRequest\":{\"MessageHeader\":{\"ProtocolVersion\":\"3.0\",\"MessageClass\":\"Service\",\
+    \"MessageCategory\":\"TransactionStatus\",\"MessageType\":\"Request\",\"ServiceID\":\"%\",\"SaleID\":\"S1\",\"POIID\":\"T1\"},\
+    \"TransactionStatusRequest\":{\"MessageReference\":{\"ServiceID\":\"%\"}}}}\n";
+
+/// The header of a reply: its category and its ServiceID.
+const HEADER: &str =
+    "{\"MessageHeader\":{\"ProtocolVersion\":\"3.0\",\"MessageClass\":\"Service\",\"MessageCategory\":\"%\",\"MessageType\":\"Response\",\
+    \"ServiceID\":\"%\",\"SaleID\":\"S1\",\"POIID\":\"T1\"}";
+
+/// A payment that is approved: its result, its transaction and its amount.
+const APPROVED: &str =
+    "{\"Response\":{\"Result\":\"%\"},\"SaleData\":{\"SaleTransactionID\":{\"TransactionID\":\"27908\",\
+    \"TimeStamp\":\"2025-03-07T10:11:04+00:00\"}},\"POIData\":{\"POITransactionID\":{\"TransactionID\":\"%\",\
+    \"TimeStamp\":\"2025-03-07T10:11:04Z\"}},\"PaymentResult\":{\"AmountsResp\":{\"Currency\":\"EUR\",\"AuthorizedAmount\":%}}}";
+
+/// A payment that is declined: its condition and its transaction.
+const DECLINED: &str =
+    "{\"Response\":{\"Result\":\"Failure\",\"ErrorCondition\":\"%\"},\"SaleData\":{\"SaleTransactionID\":{\"TransactionID\":\"27908\",\
+    \"TimeStamp\":\"2025-03-07T10:11:04+00:00\"}},\"POIData\":{\"POITransactionID\":{\"TransactionID\":\"%\",\
+    \"TimeStamp\":\"2025-03-07T10:11:04Z\"}}}";
+
+/// The fields of an Intent and the gate after it, in hexadecimal and with their sizes: the digit of its ServiceID, its amount, and
+/// the trace number before. Zeros come after a field, and before one that begins with `<`.
+const INTENT: &str =
+    "0101 2;025331 41;025431 41;013% 11;053237393038 81;19323032352d30332d30375431303a31313a30342b30303a3030 36;<% 6;0978 2;<% 3;\
+    ffffffff 4;0000000067cac638 8; 21";
+
+/// The same of an Outcome that approves: the slot of its Intent, the trace number, the receipt number and the amount.
+const APPROVAL: &str = "0201 2;<% 4;<% 3;<% 2;<% 6; 1;0000000067cac638 8; 230";
+
+/// The same of one that declines: the slot of its Intent, and the reason.
+const DECLINE: &str = "0202 2;<% 4; 11;<% 1;0000000067cac638 8; 230";
+
+/// Appends a form, in which these words take the places of its `%`.
+fn push_words(text: &mut String, form: &str, words: &str) -> Result<(), AllocError> {
+    let mut words = words.split(' ');
+    for (number, part) in form.split('%').enumerate() {
+        if number > 0 {
+            if let Some(word) = words.next() {
+                text.push_str(word)?;
+            }
+        }
+        text.push_str(part)?;
+    }
+    Ok(())
+}
+
+/// Appends so many zeros.
+fn push_zeros(text: &mut String, count: usize) -> Result<(), AllocError> {
+    for _ in 0..count {
+        text.push('0')?;
+    }
+    Ok(())
+}
+
+/// Appends a field: its digits, and zeros up to its size in bytes.
+fn push_field(text: &mut String, field: &str) -> Result<(), Fail> {
+    let (digits, size) = halves(field);
+    let count = size.parse::<usize>()?.saturating_mul(2);
+    match digits.strip_prefix("<") {
+        Some(last) => {
+            push_zeros(text, count.saturating_sub(last.len()))?;
+            text.push_str(last)?;
+        }
+        None => {
+            text.push_str(digits)?;
+            push_zeros(text, count.saturating_sub(digits.len()))?;
+        }
+    }
+    Ok(())
+}
+
+/// The places of a slot's gate and body.
+fn places(slot: &str) -> (&'static str, &'static str) {
+    match slot {
+        "0" => ("0", "1"),
+        "1" => ("256", "257"),
+        "2" => ("512", "513"),
+        "3" => ("768", "769"),
+        _ => ("1024", "1025"),
+    }
+}
+
+/// Appends the line of the write of a record to this place: its form, and its words.
+fn push_body(
+    alloc: Global,
+    log: &mut String,
+    place: &str,
+    form: &str,
+    words: &str,
+) -> Result<(), Fail> {
+    let mut fields = String::new(alloc);
+    push_words(&mut fields, form, words)?;
+    push_form(log, "wrote % ", &[place])?;
+    for field in fields.split(';') {
+        push_field(log, field)?;
+    }
+    log.push('\n')?;
+    Ok(())
+}
+
+/// Appends the line of the first write for a record: its word, and its slot with its words.
+fn push_first(alloc: Global, log: &mut String, word: &str, record: &str) -> Result<(), Fail> {
+    let (slot, words) = halves(record);
+    let (_, body) = places(slot);
+    match word {
+        "intent" => push_body(alloc, log, body, INTENT, words),
+        "approved" => push_body(alloc, log, body, APPROVAL, words),
+        _ => push_body(alloc, log, body, DECLINE, words),
+    }
+}
+
+/// Appends the lines that keep a record.
+fn push_kept(alloc: Global, log: &mut String, word: &str, record: &str) -> Result<(), Fail> {
+    let (slot, _) = halves(record);
+    let (gate, _) = places(slot);
+    push_first(alloc, log, word, record)?;
+    push_form(log, "synced\nwrote % a5\nsynced\n", &[gate])?;
+    Ok(())
+}
+
+/// Appends the beginning of a reply of this category to a till, whose ServiceID is given.
+fn push_header(
+    log: &mut String,
+    category: &str,
+    till: &str,
+    service: &str,
+) -> Result<(), AllocError> {
+    push_form(log, "till % out '{\"SaleToPOIResponse\":", &[till])?;
+    push_form(log, HEADER, &[category, service])?;
+    push_form(log, ",\"%Response\":", &[category])
+}
+
+/// Appends the body of the reply to a payment that has ended.
+fn push_end(log: &mut String, end: &str) -> Result<(), AllocError> {
+    let (word, _) = halves(end);
+    match word {
+        "Success" | "Partial" => push_words(log, APPROVED, end),
+        _ => push_words(log, DECLINED, end),
+    }
+}
+
+/// Appends the reply to a payment that has ended.
+fn push_ended(log: &mut String, reply: &str) -> Result<(), AllocError> {
+    let (till, rest) = halves(reply);
+    let (service, end) = halves(rest);
+    push_header(log, "Payment", till, service)?;
+    push_end(log, end)?;
+    log.push_str("}}\n")
+}
+
+/// Appends the reply that repeats it.
+fn push_repeated(log: &mut String, reply: &str) -> Result<(), AllocError> {
+    let (till, rest) = halves(reply);
+    let (service, repeated) = halves(rest);
+    let (reference, end) = halves(repeated);
+    push_header(log, "TransactionStatus", till, service)?;
+    log.push_str("{\"Response\":{\"Result\":\"Success\"},\"RepeatedMessageResponse\":")?;
+    push_form(log, HEADER, &["Payment", reference])?;
+    log.push_str(",\"RepeatedResponseMessageBody\":{\"PaymentResponse\":")?;
+    push_end(log, end)?;
+    log.push_str("}}}}}\n")
+}
+
+/// Appends a failure.
+fn push_failure(log: &mut String, reply: &str) -> Result<(), AllocError> {
+    let (category, rest) = halves(reply);
+    let (till, failure) = halves(rest);
+    let (service, condition) = halves(failure);
+    push_header(log, category, till, service)?;
+    push_form(
+        log,
+        "{\"Response\":{\"Result\":\"Failure\",\"ErrorCondition\":\"%\"}}}}\n",
+        &[condition],
+    )
+}
+
+/// Appends the message of a line that asks for a payment or for what became of it, without the line's till.
+pub(crate) fn push_asked(text: &mut String, word: &str, words: &str) -> Result<(), AllocError> {
+    match word {
+        "pay" => push_words(text, PAYMENT, words),
+        _ => push_words(text, STATUS, words),
+    }
+}
+
+/// Appends a line of the log that isn't of payments alone as it is, and another as its word says.
+pub(crate) fn push_paid(alloc: Global, log: &mut String, line: &str) -> Result<(), Fail> {
+    let (word, rest) = halves(line);
+    match word {
+        "first" => {
+            let (record_word, record) = halves(rest);
+            push_first(alloc, log, record_word, record)?;
+        }
+        "intent" | "approved" | "declined" => push_kept(alloc, log, word, rest)?,
+        "result" => push_ended(log, rest)?,
+        "repeats" => push_repeated(log, rest)?,
+        "fails" => push_failure(log, rest)?,
+        _ => push_form(log, "%\n", &[line])?,
+    }
+    Ok(())
+}

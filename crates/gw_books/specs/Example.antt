@@ -1,0 +1,280 @@
+-- Closed examples: payments that are approved, declined and cut off, with the books that are honest for them and agree.
+use Rattle.std.specs.Prelude.{◌≡◌, ℕ, pos, true, false, List, [], ◌∷◌, ◌++◌, Some, None, codes}
+use Rattle.gw_base.specs.declared.condition.Condition.TheVariants.{Cancel, InProgress}
+use Rattle.gw_base.specs.declared.currency.Currency.TheVariants.{Eur}
+use Rattle.gw_base.specs.declared.key.Key.{Key}
+use Rattle.gw_site.specs.declared.turn.Turn.TheVariants.{Polled, Opened, HeardTill, HeardPt, Lost, SentPt, SentTill, Synced}
+use Rattle.sale_frame.specs.Grammar.{frame}
+use Rattle.sale_values.specs.declared.header.Header.{Header}
+use Rattle.sale_values.specs.declared.names.Class.TheVariants as classes
+use Rattle.sale_values.specs.declared.names.Kind.TheVariants as kinds
+use Rattle.sale_values.specs.declared.request.PaymentAsk.{PaymentAsk}
+use Rattle.sale_values.specs.declared.request.SaleRequest.TheVariants as requests
+use Rattle.sale_reply.specs.declared.reply.PoiMark.{PoiMark}
+use Rattle.sale_reply.specs.declared.reply.Told.{Told as ResultBody}
+use Rattle.sale_reply.specs.declared.reply.Told.TheVariants.{PaymentApproved, PaymentDeclined}
+use Rattle.zvt_msg.specs.Message.{Abort, Completion}
+use Rattle.jrn_log.specs.JournalTurns.{body_write, gate_write}
+use Rattle.jrn_record.specs.declared.records.Deal.TheVariants.{Payment}
+use Rattle.jrn_record.specs.declared.records.Intent.{Intent as TheIntent}
+use Rattle.jrn_record.specs.declared.records.Outcome.{Outcome as TheOutcome}
+use Rattle.jrn_record.specs.declared.records.Record.{Record}
+use Rattle.jrn_record.specs.declared.records.Record.TheVariants.{Intent, Outcome}
+use Rattle.jrn_record.specs.Grammar.{record_body}
+use Rattle.gw_owes.specs.ReadAs.{ReadAs, Request}
+use Rattle.gw_owes.specs.Reply.{ReplyValue, Finished, reply_value_bytes}
+use Rattle.gw_owes.specs.Replies.{header_of_reply, failure_reply}
+use Rattle.gw_owes.specs.TerminalExample.{ack, completion, abort, approved_status}
+use Rattle.gw_rules.specs.Lawful.{turns_of}
+use Rattle.gw_rules.specs.TerminalLogExample.{items_begin, enquired_course}
+use Rattle.gw_rules.specs.View.{Move, Begin, Read, Make}
+use Rattle.gw_books.specs.Past.{Occasion, OfRequest, OfMessage, OfNothing, Approved, Declined, Reported, SentCommand, MadeLink, SentReply, MadePoll, Past, past_of}
+use Rattle.gw_books.specs.Books.{BookedEntry, Honest}
+use Rattle.gw_books.specs.Agrees.{Agrees}
+use Rattle.gw_books.specs.Headline.{HasPast}
+
+-- ---- what is asked
+
+-- a till asks to pay 10.99 with ServiceID 7
+unfoldable pub payment_text : List ℕ
+payment_text = codes "{\"SaleToPOIRequest\":{\"MessageHeader\":{\"ProtocolVersion\":\"3.0\",\"MessageClass\":\"Service\",\"MessageCategory\":\"Payment\",\"MessageType\":\"Request\",\"ServiceID\":\"7\",\"SaleID\":\"S1\",\"POIID\":\"T1\"},\"PaymentRequest\":{\"SaleData\":{\"SaleTransactionID\":{\"TransactionID\":\"X1\",\"TimeStamp\":\"2026-11-27T12:00:00Z\"}},\"PaymentTransaction\":{\"AmountsReq\":{\"Currency\":\"EUR\",\"RequestedAmount\":10.99}}}}}"
+
+-- its header
+abbrev pub paying_header : Header
+paying_header = record { class = classes.Service; category = codes "Payment"; kind = kinds.Request; service = Some (codes "7"); device = None; sale = codes "S1"; poi = codes "T1" }
+
+-- what it asks
+abbrev pub payment_ask : PaymentAsk
+payment_ask = record { transaction = codes "X1"; stamp = codes "2026-11-27T12:00:00Z"; currency = codes "EUR"; amount = 1099; kind = None }
+
+-- what it is read as
+abbrev pub payment_read : ReadAs
+payment_read = Request paying_header (requests.Payment payment_ask)
+
+-- its key
+abbrev pub payment_key : Key
+payment_key = record { sale = codes "S1"; poi = codes "T1"; service = codes "7" }
+
+-- its Intent
+abbrev pub paying_intent : TheIntent
+paying_intent = record {
+  what = Payment;
+  sale = codes "S1";
+  poi = codes "T1";
+  service = codes "7";
+  transaction = Some (codes "X1");
+  stamp = Some (codes "2026-11-27T12:00:00Z");
+  amount = 1099;
+  currency = Eur;
+  before = 0;
+  original = None;
+  moment = pos 4;
+}
+
+-- the command that asks for it
+abbrev pub authorise : List ℕ
+authorise = 0x06 ∷ 0x01 ∷ 0x0A ∷ 0x04 ∷ 0x00 ∷ 0x00 ∷ 0x00 ∷ 0x00 ∷ 0x10 ∷ 0x99 ∷ 0x49 ∷ 0x09 ∷ 0x78 ∷ []
+
+-- ---- courses
+
+-- a record is kept in this slot
+abbrev pub keeping_moves : ℕ → Record → List Move
+keeping_moves slot the_record = Make (body_write slot (record_body the_record)) ∷ Make Synced ∷ Make (gate_write slot) ∷ Make Synced ∷ []
+
+-- the terminal is linked and registers; its enquiry reports that there is no last transaction
+abbrev pub ready_moves : List Move
+ready_moves = enquired_course ++ Make (Polled (pos 2)) ∷ Make (HeardPt 0 (ack ++ abort 0x64)) ∷ (items_begin 4 ++ Make (SentPt 0 ack true) ∷ items_begin 4)
+
+-- a till opens
+abbrev pub opened_moves : List Move
+opened_moves = ready_moves ++ Make (Polled (pos 3)) ∷ Make (Opened 1) ∷ items_begin 2
+
+-- it asks for the payment: the Intent is kept, and the command sent
+abbrev pub asked_moves : List Move
+asked_moves = Make (Polled (pos 4)) ∷ Make (HeardTill 1 (frame payment_text)) ∷ Read payment_read ∷ (items_begin 2 ++ keeping_moves 0 (Intent paying_intent) ++ Make (SentPt 0 authorise true) ∷ items_begin 2)
+
+-- until then
+abbrev pub asked_course : List Move
+asked_course = opened_moves ++ asked_moves
+
+-- the book is honest for what has happened, and agrees with it
+pub record IsHonestAndAgrees (past : Past) (book : List BookedEntry) : Type 0 where
+  pub honest : Honest past book
+  pub agrees : Agrees past book
+
+-- ---- a payment begins
+
+-- the link, at place 5
+abbrev pub first_link : MadeLink
+first_link = record { place = 5; poi = codes "T1"; records = 0 }
+
+-- the command, at place 22
+abbrev pub payment_command : SentCommand
+payment_command = record { place = 22; poi = codes "T1"; reversal = false; whole = true; key = Some payment_key }
+
+-- the till's request, for which the calls are made
+abbrev pub payment_occasion : Occasion
+payment_occasion = OfRequest paying_header (requests.Payment payment_ask)
+
+-- the site is polled while the terminal is linked, with these records kept
+abbrev pub polled_linked : ℕ → List Record → MadePoll
+polled_linked place kept = record { place = place; links = first_link ∷ []; kept = kept }
+
+-- what has happened until the command is sent: the enquiry has reported no transaction; the Intent was written, and its gate, and the command is sent
+abbrev pub asked_past : Past
+asked_past = record {
+  place = 23;
+  occasion = OfNothing;
+  heard = 12;
+  commands = payment_command ∷ [];
+  links = first_link ∷ [];
+  lasting = first_link ∷ [];
+  ends = record { place = 12; poi = codes "T1"; ending = Reported 0 None } ∷ [];
+  replies = [];
+  polls = polled_linked 16 [] ∷ polled_linked 14 [] ∷ polled_linked 11 [] ∷ polled_linked 7 [] ∷ record { place = 4; links = []; kept = [] } ∷ [];
+  deeds = payment_occasion ∷ payment_occasion ∷ payment_occasion ∷ [];
+}
+
+-- so it is along the course
+abbrev pub AskedHasPast : Type 0
+AskedHasPast = past_of asked_course ≡ asked_past
+
+-- ---- an approved payment
+
+-- the numbers of its reply
+abbrev pub approved_mark : PoiMark
+approved_mark = record { number = 123; receipt = 17; slot = 0; moment = pos 5 }
+
+-- its result body
+abbrev pub paid_result_body : ResultBody
+paid_result_body = PaymentApproved (codes "X1") (codes "2026-11-27T12:00:00Z") approved_mark 1099 (record { minor = 1099; currency = Eur })
+
+-- its reply
+abbrev pub success_reply : ReplyValue
+success_reply = Finished (header_of_reply paying_header) paid_result_body
+
+-- its Outcome
+abbrev pub kept_approval : TheOutcome
+kept_approval = record { approved = true; slot = 0; number = 123; receipt = 17; amount = 1099; condition = None; moment = pos 5 }
+
+-- the terminal approves, the Outcome is kept, and the till gets its reply
+abbrev pub paid_moves : List Move
+paid_moves = Make (Polled (pos 5)) ∷ Make (HeardPt 0 (ack ++ approved_status ++ completion)) ∷ (items_begin 4 ++ Make (SentPt 0 ack true) ∷ (items_begin 3 ++ Make (SentPt 0 ack true) ∷ Begin
+    ∷ (keeping_moves 1 (Outcome kept_approval) ++ Make (SentTill 1 (reply_value_bytes success_reply) true) ∷ items_begin 3)))
+
+-- the whole course, with one poll more
+abbrev pub paid_course : List Move
+paid_course = asked_course ++ paid_moves ++ Make (Polled (pos 6)) ∷ []
+
+-- the reply, at place 31
+abbrev pub sent_success : SentReply
+sent_success = record { place = 31; bytes = reply_value_bytes success_reply; occasion = OfMessage 0 Completion; kept = Intent paying_intent ∷ Outcome kept_approval ∷ []; waiting = [] }
+
+-- what has happened along it: the approval was heard at place 24, the Outcome was written, and its gate, and the till has its reply
+abbrev pub paid_past : Past
+paid_past = record asked_past {
+  place = 33;
+  heard = 24;
+  ends = record { place = 24; poi = codes "T1"; ending = Approved 22 (record { number = 123; receipt = 17; amount = 1099 }) } ∷ asked_past.ends;
+  replies = sent_success ∷ [];
+  polls = polled_linked 32 (Intent paying_intent ∷ Outcome kept_approval ∷ []) ∷ polled_linked 23 (Intent paying_intent ∷ []) ∷ asked_past.polls;
+  deeds = OfMessage 0 Completion ∷ OfMessage 0 Completion ∷ asked_past.deeds;
+}
+
+-- the log is lawful, and this has happened along it
+abbrev pub PaidHasPast : Type 0
+PaidHasPast = HasPast (turns_of paid_course) paid_past
+
+-- its entry, which is in the book before the approval is heard
+abbrev pub paid_entry : BookedEntry
+paid_entry = record { poi = codes "T1"; place = 24; cause = Some 22; reversal = false; number = 123; receipt = 17; amount = 1099; approved = true }
+
+-- the book with this entry is honest and agrees
+abbrev pub PaidAgrees : Type 0
+PaidAgrees = IsHonestAndAgrees paid_past (paid_entry ∷ [])
+
+-- ---- a declined payment
+
+-- its result body
+abbrev pub refused_result : ResultBody
+refused_result = PaymentDeclined (codes "X1") (codes "2026-11-27T12:00:00Z") (record { number = 0; receipt = 0; slot = 0; moment = pos 5 }) Cancel
+
+-- its reply
+abbrev pub refusal_reply : ReplyValue
+refusal_reply = Finished (header_of_reply paying_header) refused_result
+
+-- its Outcome
+abbrev pub kept_decline : TheOutcome
+kept_decline = record { approved = false; slot = 0; number = 0; receipt = 0; amount = 0; condition = Some Cancel; moment = pos 5 }
+
+-- the terminal declines, the Outcome is kept, and the till gets its reply
+abbrev pub refused_moves : List Move
+refused_moves = Make (Polled (pos 5)) ∷ Make (HeardPt 0 (ack ++ abort 0x6C)) ∷ (items_begin 4 ++ Make (SentPt 0 ack true) ∷ Begin
+    ∷ (keeping_moves 1 (Outcome kept_decline) ++ Make (SentTill 1 (reply_value_bytes refusal_reply) true) ∷ items_begin 3))
+
+-- the whole course, with one poll more
+abbrev pub refused_course : List Move
+refused_course = asked_course ++ refused_moves ++ Make (Polled (pos 6)) ∷ []
+
+-- the reply, at place 30
+abbrev pub sent_refusal : SentReply
+sent_refusal = record { place = 30; bytes = reply_value_bytes refusal_reply; occasion = OfMessage 0 (Abort (Some 0x6C)); kept = Intent paying_intent ∷ Outcome kept_decline ∷ []; waiting = [] }
+
+-- what has happened along it
+abbrev pub refused_past : Past
+refused_past = record asked_past {
+  place = 32;
+  heard = 24;
+  ends = record { place = 24; poi = codes "T1"; ending = Declined 22 None } ∷ asked_past.ends;
+  replies = sent_refusal ∷ [];
+  polls = polled_linked 31 (Intent paying_intent ∷ Outcome kept_decline ∷ []) ∷ polled_linked 23 (Intent paying_intent ∷ []) ∷ asked_past.polls;
+  deeds = OfMessage 0 (Abort (Some 0x6C)) ∷ OfMessage 0 (Abort (Some 0x6C)) ∷ asked_past.deeds;
+}
+
+-- the log is lawful, and this has happened along it
+abbrev pub RefusedHasPast : Type 0
+RefusedHasPast = HasPast (turns_of refused_course) refused_past
+
+-- the book without an entry is honest and agrees
+abbrev pub RefusedAgrees : Type 0
+RefusedAgrees = IsHonestAndAgrees refused_past []
+
+-- ---- a payment that is cut off
+
+-- the reply to a key that is open
+abbrev pub progress_reply : ReplyValue
+progress_reply = failure_reply paying_header InProgress
+
+-- the link is lost before the payment's end; the till asks again, and its key is open
+abbrev pub lost_moves : List Move
+lost_moves = Make (Polled (pos 5)) ∷ Make (Lost 0) ∷ (items_begin 3 ++ Make (Polled (pos 6)) ∷ Make (HeardTill 1 (frame payment_text)) ∷ Read payment_read ∷ Begin ∷ Make (SentTill 1 (reply_value_bytes progress_reply) true) ∷ items_begin 2)
+
+-- the whole course, with one poll more
+abbrev pub lost_course : List Move
+lost_course = asked_course ++ lost_moves ++ Make (Polled (pos 7)) ∷ []
+
+-- the reply, at place 27
+abbrev pub sent_progress : SentReply
+sent_progress = record { place = 27; bytes = reply_value_bytes progress_reply; occasion = payment_occasion; kept = Intent paying_intent ∷ []; waiting = [] }
+
+-- what has happened along it: no link lasts, and the payment has no end
+abbrev pub lost_past : Past
+lost_past = record asked_past {
+  place = 29;
+  lasting = [];
+  replies = sent_progress ∷ [];
+  polls = record { place = 28; links = []; kept = Intent paying_intent ∷ [] } ∷ record { place = 25; links = []; kept = Intent paying_intent ∷ [] } ∷ polled_linked 23 (Intent paying_intent ∷ []) ∷ asked_past.polls;
+}
+
+-- the log is lawful, and this has happened along it
+abbrev pub LostHasPast : Type 0
+LostHasPast = HasPast (turns_of lost_course) lost_past
+
+-- an entry that comes after the log's end
+abbrev pub later_entry : BookedEntry
+later_entry = record paid_entry { place = 100 }
+
+-- the payment may still be booked or not: either book is honest and agrees
+pub record LostAgrees : Type 0 where
+  pub unbooked : IsHonestAndAgrees lost_past []
+  pub booked : IsHonestAndAgrees lost_past (later_entry ∷ [])

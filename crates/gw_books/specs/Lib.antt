@@ -1,0 +1,10 @@
+-- The headline: the books of the terminals, and what was done and said along a lawful log.
+pub mod Agrees
+pub mod Books
+pub mod DisagreeExample
+pub mod Example
+pub mod Headline
+pub mod Past
+pub mod PastLaws
+pub mod Said
+pub mod SaidLaws

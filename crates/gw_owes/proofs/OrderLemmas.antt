@@ -1,0 +1,227 @@
+-- Each item, and each event of a link, keeps what is known in order.
+use Rattle.std.proofs.Common.{◌≡◌, ◌≢◌, ◌∙◌, ℕ, zero, suc, Bool, true, false, List, [], ◌∷◌, refl, sym, ap, subst}
+use Rattle.std.specs.Prelude.{All, map, slice_get, Option, Some, None, pos, Result, Ok, Err, unwrap_or}
+use Rattle.std.proofs.lemmas.List.Elements.{All-nil}
+use Rattle.std.proofs.lemmas.Option.{same_Some}
+use Rattle.gw_base.specs.declared.setup.Pt.{Pt}
+use Rattle.gw_base.specs.declared.setup.Setup.{Setup}
+use Rattle.gw_site.specs.Outside.{is_connected}
+use Rattle.zvt_apdu.specs.Grammar.{ApduValue}
+use Rattle.zvt_msg.specs.declared.fault.PtFault.{PtFault}
+use Rattle.zvt_msg.specs.Message.{MessageValue, Ack, Nack, Intermediate, Line, Block, Status, Completion, Abort, Other}
+use Rattle.zvt_msg.specs.MessageDecode.{decode_pt_message}
+use Rattle.zvt_msg.specs.Numbers.{NumbersFitFields}
+use Rattle.zvt_talk.specs.Came.{is_taken}
+use Rattle.gw_owes.specs.declared.terminal.Terminal.{Terminal}
+use Rattle.gw_owes.specs.Calls.{CutTill, LinkPt, records_kept}
+use Rattle.gw_owes.specs.Core.{new_terminal}
+use Rattle.gw_owes.specs.Deadlines.{due_row, is_due, is_late, late_row}
+use Rattle.gw_owes.specs.Greeting.{greet_decoded, greeting, outside_row, sending_calls}
+use Rattle.gw_owes.specs.Handling.{consequence, handle_decoded, handle_message, meaning_at, taken_as, taking}
+use Rattle.gw_owes.specs.Items.{RoundItem, Crowded, Message, Asked, Unframed, Gone, Greet, Handle, Serve, NextWaiting, Oversized, LinkLost, Late, Overdue, Due}
+use Rattle.gw_owes.specs.Links.{cutting, is_linked, LinkIsMade, LinkHasFailed, LinkIsLost, of_linked}
+use Rattle.gw_owes.specs.Payments.{serve_row}
+use Rattle.gw_owes.specs.RecordLaws.{AreTerminalsInOrder, AreOthersInOrder, EachCutKeepsInOrder, EachLinkKeepsInOrder, EachRowBringsReadItems, EachRowKeepsInOrder, IsInOrder, IsReadItem, IsTerminalInOrder, NewCoreIsInOrder}
+use Rattle.gw_owes.specs.Row.{Known, Row, owing, owing_where}
+use Rattle.gw_owes.specs.Rows.{asked_row}
+use Rattle.gw_owes.specs.TerminalLaws.{owes_cut}
+use Rattle.gw_owes.specs.TerminalRows.{terminal_of, terminal_row}
+use Rattle.gw_owes.specs.Terminals.{link_lost, link_made, of_terminal, registers, reply_to_lost, terminal_at, unlinked_terminal, unlinks}
+use Rattle.gw_owes.proofs.BeginLemmas.{begun-read, serve-keeps, serve-never-cuts}
+use Rattle.gw_owes.proofs.HeardLemmas.{meant-fits, taken-read}
+use Rattle.gw_owes.proofs.KeepingLemmas.{KeepNothing, RowKeeps, cutting-keeps, in-order-keeps, no-calls, nothing-keeps, others-with, replies-keep-nothing}
+use Rattle.gw_owes.proofs.RecordLemmas.{LedgerLaws}
+use Rattle.gw_owes.proofs.ServingLemmas.{consequence-keeps}
+
+-- what is known of the messages of terminals: a message that was read has numbers that fit their fields
+abbrev pub MessagesFit : Type 0
+MessagesFit = (apdu : ApduValue) (message : MessageValue) → decode_pt_message apdu ≡ Ok message → NumbersFitFields message
+
+-- ---- links
+
+missing : (known : Known) (number other : ℕ) (terminal : Terminal) → terminal_at known number ≡ None → terminal_at known other ≡ Some terminal → other ≢ number
+missing known number other terminal none found = λ e. let k : Some terminal ≡ None = sym found ∙ ap (terminal_at known) e ∙ none in cc
+
+lost-in-order : (known : Known) (number : ℕ) → AreOthersInOrder number known.kept known.core → AreTerminalsInOrder known.kept (link_lost known number).core
+lost-in-order known number others = by-found (terminal_at known number) refl
+  where
+    by-found : (found : Option Terminal) → terminal_at known number ≡ found → AreTerminalsInOrder known.kept (of_terminal known (unlinks known number) found).core
+    by-found None none = λ other terminal found. others other terminal (missing known number other terminal none found) found
+    by-found (Some terminal) is = others-with known.kept known.core number (unlinked_terminal terminal known.moment) others (record { records = tt; read = tt })
+
+made-in-order : (known : Known) (number : ℕ) → AreOthersInOrder number known.kept known.core → AreTerminalsInOrder known.kept (link_made known number).core
+made-in-order known number others = by-found (terminal_at known number) refl
+  where
+    by-found : (found : Option Terminal) → terminal_at known number ≡ found → AreTerminalsInOrder known.kept (of_terminal known (registers known number) found).core
+    by-found None none = λ other terminal found. others other terminal (missing known number other terminal none found) found
+    by-found (Some terminal) is = others-with known.kept known.core number _ others (record { records = tt; read = tt })
+
+-- each event of a link
+pub links-in-order : EachLinkKeepsInOrder
+links-in-order known number LinkIsMade others = made-in-order known number others
+links-in-order known number LinkHasFailed others = lost-in-order known number others
+links-in-order known number LinkIsLost others = lost-in-order known number others
+
+-- ---- the rows of a terminal
+
+module _ (known : Known) (order : IsInOrder known) (number : ℕ) where
+  where-keeps : (row : Row) (holds : Bool) → RowKeeps known number row → RowKeeps known number (owing_where holds known row)
+  where-keeps row true keeps = keeps
+  where-keeps row false keeps = nothing-keeps known order number
+
+  terminal-keeps : (row : Terminal → Row) → ((terminal : Terminal) → terminal_at known number ≡ Some terminal → RowKeeps known number (row terminal)) → RowKeeps known number (of_terminal known row (terminal_at known number))
+  terminal-keeps row each = by-found (terminal_at known number) refl
+    where
+      by-found : (found : Option Terminal) → terminal_at known number ≡ found → RowKeeps known number (of_terminal known row found)
+      by-found None none = nothing-keeps known order number
+      by-found (Some terminal) is = each terminal is
+
+  linked-keeps : (row : Terminal → Row) → ((terminal : Terminal) → terminal_at known number ≡ Some terminal → RowKeeps known number (row terminal)) → RowKeeps known number (of_linked known number row)
+  linked-keeps row each = terminal-keeps (λ terminal. owing_where (is_linked terminal.standing) known (row terminal)) (λ terminal found. where-keeps (row terminal) (is_linked terminal.standing) (each terminal found))
+
+  greeting-keeps-nothing : (message : MessageValue) → KeepNothing (sending_calls number (greeting message))
+  greeting-keeps-nothing Ack = no-calls
+  greeting-keeps-nothing (Nack error_code) = no-calls
+  greeting-keeps-nothing (Intermediate intermediate_status) = record { no_records = refl; no_cut = refl }
+  greeting-keeps-nothing (Line text) = record { no_records = refl; no_cut = refl }
+  greeting-keeps-nothing (Block objects) = record { no_records = refl; no_cut = refl }
+  greeting-keeps-nothing (Status fields) = record { no_records = refl; no_cut = refl }
+  greeting-keeps-nothing Completion = record { no_records = refl; no_cut = refl }
+  greeting-keeps-nothing (Abort result_code) = record { no_records = refl; no_cut = refl }
+  greeting-keeps-nothing Other = record { no_records = refl; no_cut = refl }
+
+  outside-keeps : RowKeeps known number (outside_row known number)
+  outside-keeps = linked-keeps (λ terminal. cutting known number) (λ terminal found. cutting-keeps known order number)
+
+  greet-keeps : (decoded : Result MessageValue PtFault) → RowKeeps known number (greet_decoded known number decoded)
+  greet-keeps (Ok message) =
+      linked-keeps (λ terminal. owing known (sending_calls number (greeting message))) (λ terminal found. in-order-keeps known order number (owing known (sending_calls number (greeting message))) (greeting-keeps-nothing message) order.terminals refl)
+  greet-keeps (Err fault) = outside-keeps
+
+  late-keeps : RowKeeps known number (late_row known number)
+  late-keeps = terminal-keeps (λ terminal. owing_where (is_late known.moment terminal.talk) known (cutting known number))
+      (λ terminal found. where-keeps (cutting known number) (is_late known.moment terminal.talk) (cutting-keeps known order number))
+
+  due-keeps : RowKeeps known number (due_row known number)
+  due-keeps = terminal-keeps (λ terminal. owing_where (is_due known.moment terminal.standing) known (owing known (LinkPt number ∷ [])))
+      (λ terminal found. where-keeps (owing known (LinkPt number ∷ [])) (is_due known.moment terminal.standing)
+      (in-order-keeps known order number (owing known (LinkPt number ∷ [])) (record { no_records = refl; no_cut = refl }) order.terminals refl))
+
+  lost-keeps : RowKeeps known number (link_lost known number)
+  lost-keeps = in-order-keeps known order number (link_lost known number) nothing (lost-in-order known number (λ other terminal apart found. order.terminals other terminal found)) no_items
+    where
+      nothing : KeepNothing (link_lost known number).calls
+      nothing = by-found (terminal_at known number)
+        where
+          by-found : (found : Option Terminal) → KeepNothing (of_terminal known (unlinks known number) found).calls
+          by-found None = no-calls
+          by-found (Some terminal) = replies-keep-nothing terminal.asker (reply_to_lost terminal.standing)
+
+      no_items : (link_lost known number).items ≡ []
+      no_items = by-found (terminal_at known number)
+        where
+          by-found : (found : Option Terminal) → (of_terminal known (unlinks known number) found).items ≡ []
+          by-found None = refl
+          by-found (Some terminal) = refl
+
+  handle-keeps : LedgerLaws → (decoded : Result MessageValue PtFault) → ((message : MessageValue) → decoded ≡ Ok message → NumbersFitFields message) → RowKeeps known number (handle_decoded known number decoded)
+  handle-keeps laws (Err fault) fits = nothing-keeps known order number
+  handle-keeps laws (Ok message) fits = linked-keeps (λ terminal. handle_message known number terminal message) message-keeps
+    where
+      message-keeps : (terminal : Terminal) → terminal_at known number ≡ Some terminal → RowKeeps known number (handle_message known number terminal message)
+      message-keeps terminal found =
+          let was = order.terminals number terminal found in
+          let numbers : NumbersFitFields message = fits message refl in
+          where-keeps (consequence known number (taking terminal message known.moment) (meaning_at terminal message) terminal.standing) (is_taken message)
+          (consequence-keeps laws known order number terminal (taking terminal message known.moment) found refl (taken-read terminal.talk terminal.awaited message (pos known.moment) was.read numbers)
+          (meaning_at terminal message) terminal.standing refl was.records (meant-fits terminal.talk (taken_as terminal.awaited message) was.read))
+
+-- the number of an item's terminal; 0 where it is about none
+abbrev number_in : RoundItem → ℕ
+number_in item = unwrap_or (terminal_of item) 0
+
+-- the row of each item
+row-keeps : (laws : LedgerLaws) (messages : MessagesFit) (known : Known) (order : IsInOrder known) (item : RoundItem) → IsReadItem known.setup item → RowKeeps known (number_in item) (terminal_row known item)
+row-keeps laws messages known order (Crowded till) read = nothing-keeps known order 0
+row-keeps laws messages known order (Message till bytes) read = nothing-keeps known order 0
+row-keeps laws messages known order (Asked till as_read) read = nothing-keeps known order 0
+row-keeps laws messages known order (Unframed till) read = nothing-keeps known order 0
+row-keeps laws messages known order (Gone till) read = nothing-keeps known order 0
+row-keeps laws messages known order (Greet number apdu) read = greet-keeps known order number (decode_pt_message apdu)
+row-keeps laws messages known order (Handle number apdu) read = handle-keeps known order number laws (decode_pt_message apdu) (messages apdu)
+row-keeps laws messages known order (Serve number till header request) read = serve-keeps laws known order number till header request read
+row-keeps laws messages known order (NextWaiting number) read = nothing-keeps known order number
+row-keeps laws messages known order (Oversized number) read = outside-keeps known order number
+row-keeps laws messages known order (LinkLost number) read = lost-keeps known order number
+row-keeps laws messages known order (Late number) read = late-keeps known order number
+row-keeps laws messages known order (Overdue key) read = nothing-keeps known order 0
+row-keeps laws messages known order (Due number) read = due-keeps known order number
+
+pub rows-in-order : LedgerLaws → MessagesFit → EachRowKeepsInOrder
+rows-in-order laws messages known item order read uncut = (row-keeps laws messages known order item read).uncut uncut
+
+-- ---- cuts
+
+-- what a row leaves that cuts the connection of the terminal of this number
+abbrev LeavesOthers : Known → Option ℕ → Row → Type 0
+LeavesOthers known None row = Unit {0}
+LeavesOthers known (Some number) row = (records_kept row.calls ≡ []) × AreOthersInOrder number known.kept row.core
+
+cut-leaves : (laws : LedgerLaws) (messages : MessagesFit) (known : Known) (order : IsInOrder known) (item : RoundItem) → owes_cut (terminal_row known item).calls ≡ true → LeavesOthers known (terminal_of item) (terminal_row known item)
+cut-leaves laws messages known order (Crowded till) cut = tt
+cut-leaves laws messages known order (Message till bytes) cut = tt
+cut-leaves laws messages known order (Asked till as_read) cut = tt
+cut-leaves laws messages known order (Unframed till) cut = tt
+cut-leaves laws messages known order (Gone till) cut = tt
+cut-leaves laws messages known order (Greet number apdu) cut = (greet-keeps known order number (decode_pt_message apdu)).cut cut
+cut-leaves laws messages known order (Handle number apdu) cut = (handle-keeps known order number laws (decode_pt_message apdu) (messages apdu)).cut cut
+cut-leaves laws messages known order (Serve number till header request) cut = let never : owes_cut (serve_row known number till header request).calls ≡ false = serve-never-cuts known number till header request in absurd cc
+cut-leaves laws messages known order (NextWaiting number) cut = absurd cc
+cut-leaves laws messages known order (Oversized number) cut = (outside-keeps known order number).cut cut
+cut-leaves laws messages known order (LinkLost number) cut = (lost-keeps known order number).cut cut
+cut-leaves laws messages known order (Late number) cut = (late-keeps known order number).cut cut
+cut-leaves laws messages known order (Overdue key) cut = tt
+cut-leaves laws messages known order (Due number) cut = (due-keeps known order number).cut cut
+
+pub cuts-in-order : LedgerLaws → MessagesFit → EachCutKeepsInOrder
+cuts-in-order laws messages known item number is order cut = subst (λ (n : Option ℕ). LeavesOthers known n (terminal_row known item)) is (cut-leaves laws messages known order item cut)
+
+-- ---- items
+
+-- no items were read, all of them
+no-items-read : (setup : Setup) (items : List RoundItem) → items ≡ [] → All (IsReadItem setup) items
+no-items-read setup items none = subst (λ (all : List RoundItem). All (IsReadItem setup) all) (sym none) (All-nil (IsReadItem setup))
+
+pub items-read : LedgerLaws → MessagesFit → EachRowBringsReadItems
+items-read laws messages tills known (Crowded till) order read = All-nil (IsReadItem known.setup)
+items-read laws messages tills known (Message till bytes) order read = All-nil (IsReadItem known.setup)
+items-read laws messages tills known (Asked till as_read) order read = by-there (is_connected tills till)
+  where
+    by-there : (there : Bool) → All (IsReadItem known.setup) (owing_where there known (asked_row known till as_read)).items
+    by-there true = begun-read known till as_read order.of_setup read
+    by-there false = All-nil (IsReadItem known.setup)
+items-read laws messages tills known (Unframed till) order read = by-there (is_connected tills till)
+  where
+    by-there : (there : Bool) → All (IsReadItem known.setup) (owing_where there known (owing known (CutTill till ∷ []))).items
+    by-there true = All-nil (IsReadItem known.setup)
+    by-there false = All-nil (IsReadItem known.setup)
+items-read laws messages tills known (Gone till) order read = All-nil (IsReadItem known.setup)
+items-read laws messages tills known (Greet number apdu) order read = no-items-read known.setup _ (row-keeps laws messages known order (Greet number apdu) read).no_items
+items-read laws messages tills known (Handle number apdu) order read = no-items-read known.setup _ (row-keeps laws messages known order (Handle number apdu) read).no_items
+items-read laws messages tills known (Serve number till header request) order read = no-items-read known.setup _ (row-keeps laws messages known order (Serve number till header request) read).no_items
+items-read laws messages tills known (NextWaiting number) order read = All-nil (IsReadItem known.setup)
+items-read laws messages tills known (Oversized number) order read = no-items-read known.setup _ (row-keeps laws messages known order (Oversized number) read).no_items
+items-read laws messages tills known (LinkLost number) order read = no-items-read known.setup _ (row-keeps laws messages known order (LinkLost number) read).no_items
+items-read laws messages tills known (Late number) order read = no-items-read known.setup _ (row-keeps laws messages known order (Late number) read).no_items
+items-read laws messages tills known (Overdue key) order read = All-nil (IsReadItem known.setup)
+items-read laws messages tills known (Due number) order read = no-items-read known.setup _ (row-keeps laws messages known order (Due number) read).no_items
+
+-- ---- as a run begins
+
+pub new-in-order : NewCoreIsInOrder
+new-in-order setup kept number terminal found = in-list setup.terminals number found
+  where
+    in-list : (pts : List Pt) (number : ℕ) → slice_get (map new_terminal pts) number ≡ Some terminal → IsTerminalInOrder kept terminal
+    in-list [] number f = absurd cc
+    in-list (pt ∷ pts) zero f = subst (IsTerminalInOrder kept) (same_Some (new_terminal pt) terminal f) (record { records = tt; read = tt })
+    in-list (pt ∷ pts) (suc number) f = in-list pts number f

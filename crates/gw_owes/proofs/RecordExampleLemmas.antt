@@ -1,0 +1,186 @@
+-- The examples of the records beside what is remembered are computed, and their premises hold.
+use Rattle.std.proofs.Common.{◌≡◌, ◌≢◌, ◌+◌, ◌≤◌, ℕ, zero, suc, true, false, List, [], ◌∷◌, length, refl, sym, ap, subst, arith, Some, lit≤}
+use Rattle.std.specs.Prelude.{All, codes, pos, slice_get}
+use Rattle.std.proofs.lemmas.Int.{ints}
+use Rattle.std.proofs.lemmas.List.Elements.{All-from_recursion, All-nil, All-cons}
+use Rattle.std.proofs.lemmas.Option.{same_Some}
+use Rattle.gw_base.specs.Bcd.{IsBcd, IsBcdByte}
+use Rattle.gw_base.specs.Moment.{IsMoment}
+use Rattle.gw_base.specs.Setup.{IsPt, IsSetup}
+use Rattle.gw_base.specs.declared.setup.Pt.{Pt}
+use Rattle.jrn_record.specs.declared.records.Record.{Record}
+use Rattle.jrn_record.specs.declared.records.Record.TheVariants.{Intent, Outcome}
+use Rattle.zvt_msg.specs.MessageDecode.{decode_pt_message}
+use Rattle.gw_ledger.specs.Accounts.{last_number_of}
+use Rattle.gw_ledger.specs.Example.{day}
+use Rattle.gw_ledger.specs.History.{history}
+use Rattle.gw_ledger.specs.Sums.{open_count_of}
+use Rattle.gw_ledger.specs.Premises.{ExampleOutcome, ExamplePayment, day_opened, fourth, fourth_approval}
+use Rattle.gw_owes.specs.declared.terminal.Standing.TheVariants.{Ready}
+use Rattle.gw_owes.specs.declared.terminal.Terminal.{Terminal}
+use Rattle.gw_owes.specs.Calls.{records_kept}
+use Rattle.gw_owes.specs.Core.{new_terminal}
+use Rattle.gw_owes.specs.Items.{RoundItem, Asked}
+use Rattle.gw_owes.specs.Links.{LinkIsLost}
+use Rattle.gw_owes.specs.RecordExample.{ExampleIntentKept, ExampleKeyStaysOpen, ExampleOutcomeKept, ExampleRequestBegins, fourth_asked, fourth_begins, paying_terminal, ready_known, sends, serving_known}
+use Rattle.gw_owes.specs.RecordLaws.{EachCutKeepsInOrder, EachLinkKeepsInOrder, EachRowBringsReadItems, EachRowKeepsInOrder, IsInOrder, IsReadItem, IsTerminalInOrder, KeepsInOrder, IsReadFromTill}
+use Rattle.gw_owes.specs.Rows.{row_of}
+use Rattle.gw_owes.specs.StepExample.{day_pt}
+use Rattle.gw_owes.specs.TerminalExample.{setup_with}
+use Rattle.gw_owes.specs.TerminalLaws.{owes_cut}
+use Rattle.gw_owes.specs.TerminalRows.{terminal_row}
+use Rattle.gw_owes.proofs.AskedTextLemmas.{ident-tested}
+
+-- the laws, and what the ledger's own examples say of the day
+pub record RecordFacts : Type 0 where
+  pub rows : EachRowKeepsInOrder
+  pub cuts : EachCutKeepsInOrder
+  pub links : EachLinkKeepsInOrder
+  pub items : EachRowBringsReadItems
+  pub ready : ExamplePayment
+  pub opened : ExampleOutcome
+  pub read : IsReadFromTill fourth_asked
+
+-- ---- what is known is in order
+
+bcd-bytes : IsBcd (0x12 ∷ 0x34 ∷ 0x56 ∷ [])
+bcd-bytes = All-from_recursion IsBcdByte (0x12 ∷ 0x34 ∷ 0x56 ∷ []) ((omega arith, omega arith), ((omega arith, omega arith), ((omega arith, omega arith), tt)))
+
+pt-within : IsPt day_pt
+pt-within = record {
+  poi = ident-tested 40 (codes "A") refl;
+  password = (refl, bcd-bytes);
+  config = omega arith;
+  none = omega arith;
+  answer = (omega arith, omega arith);
+  command = (omega arith, omega arith);
+}
+
+setup-within : IsSetup (setup_with (day_pt ∷ []))
+setup-within = record {
+  name = ident-tested 40 (codes "GATEWAY") refl;
+  line = omega arith;
+  wait = (omega arith, omega arith);
+  slots = (omega arith, omega arith);
+  count = omega arith;
+  each = All-cons IsPt day_pt [] pt-within (All-nil IsPt);
+  distinct = (All-nil (λ (other : Pt). day_pt.poi ≢ other.poi), tt);
+}
+
+first-moment : IsMoment (pos 0)
+first-moment = (omega (arith, ints), omega (arith, ints))
+
+-- what holds of the one terminal holds of each
+one-terminal : (P : Terminal → Type 0) (one : Terminal) → P one → (number : ℕ) (terminal : Terminal) → slice_get (one ∷ []) number ≡ Some terminal → P terminal
+one-terminal P one holds zero terminal found = subst P (same_Some one terminal found) holds
+one-terminal P one holds (suc number) terminal found = absurd cc
+
+day-room : length day + open_count_of day ≤ 1000000
+unfolding history
+day-room = lit≤ tt
+
+opened-room : length day_opened + open_count_of day_opened ≤ 1000000
+unfolding history
+opened-room = lit≤ tt
+
+opened-number : last_number_of day_opened (codes "A") ≤ 125
+unfolding history
+opened-number = lit≤ tt
+
+module _ (facts : RecordFacts) where
+  ready-in-order : IsInOrder ready_known
+  ready-in-order = record {
+    folded = facts.ready.folded;
+    room = day-room;
+    of_setup = record { within = setup-within; settings = refl };
+    moment = first-moment;
+    terminals = one-terminal (IsTerminalInOrder day) (record (new_terminal day_pt) { standing = Ready 125 })
+        (record { records = record { none_open = facts.ready.none_open; not_below = facts.ready.not_below; within = omega arith }; read = tt });
+  }
+
+  paying-in-order : IsTerminalInOrder day_opened paying_terminal
+  paying-in-order = record {
+    records = record { intent = fourth; is_open = facts.opened.entry; before = refl; what = refl; not_below = opened-number };
+    read = record { amount = omega arith; trace = omega arith; receipt = omega arith };
+  }
+
+  serving-in-order : IsInOrder serving_known
+  serving-in-order = record {
+    folded = facts.opened.folded;
+    room = opened-room;
+    of_setup = record { within = setup-within; settings = refl };
+    moment = first-moment;
+    terminals = one-terminal (IsTerminalInOrder day_opened) paying_terminal paying-in-order;
+  }
+
+  -- the request names the terminal
+  begins-read : IsReadItem ready_known.setup fourth_begins
+  begins-read = record { read = facts.read; names = one-pt }
+    where
+      one-pt : (pt : Pt) → slice_get (day_pt ∷ []) 0 ≡ Some pt → pt.poi ≡ codes "A"
+      one-pt pt found = ap (λ (p : Pt). p.poi) (sym (same_Some day_pt pt found))
+
+-- ---- what is kept
+
+begun-items : (row_of (record { number = 3; heard = [] } ∷ []) ready_known (Asked 3 fourth_asked)).items ≡ fourth_begins ∷ []
+unfolding history
+begun-items = refl
+
+intent-kept : records_kept (terminal_row ready_known fourth_begins).calls ≡ Intent fourth ∷ []
+unfolding history
+intent-kept = refl
+
+intent-uncut : owes_cut (terminal_row ready_known fourth_begins).calls ≡ false
+unfolding history
+intent-uncut = refl
+
+outcome-kept : records_kept (terminal_row serving_known (sends 0x06 0x0F)).calls ≡ Outcome fourth_approval ∷ []
+unfolding history decode_pt_message
+outcome-kept = refl
+
+outcome-uncut : owes_cut (terminal_row serving_known (sends 0x06 0x0F)).calls ≡ false
+unfolding history decode_pt_message
+outcome-uncut = refl
+
+unclear-cut : owes_cut (terminal_row serving_known (sends 0x06 0x1E)).calls ≡ true
+unfolding history decode_pt_message
+unclear-cut = refl
+
+-- ---- the examples
+
+pub request-begins : RecordFacts → ExampleRequestBegins
+request-begins facts = record {
+  in_order = ready-in-order facts;
+  read = facts.read;
+  items = begun-items;
+  items_read = subst (λ (items : List RoundItem). All (IsReadItem ready_known.setup) items) begun-items (facts.items (record { number = 3; heard = [] } ∷ []) ready_known (Asked 3 fourth_asked) (ready-in-order facts) facts.read);
+}
+
+pub intent-is-kept : RecordFacts → ExampleIntentKept
+intent-is-kept facts = record {
+  in_order = ready-in-order facts;
+  read = begins-read facts;
+  uncut = intent-uncut;
+  kept = intent-kept;
+  keeps = subst (λ (kept : List Record). KeepsInOrder ready_known kept (terminal_row ready_known fourth_begins).core) intent-kept (facts.rows ready_known fourth_begins (ready-in-order facts) (begins-read facts) intent-uncut);
+}
+
+pub outcome-is-kept : RecordFacts → ExampleOutcomeKept
+outcome-is-kept facts = record {
+  in_order = serving-in-order facts;
+  uncut = outcome-uncut;
+  kept = outcome-kept;
+  keeps = subst (λ (kept : List Record). KeepsInOrder serving_known kept (terminal_row serving_known (sends 0x06 0x0F)).core) outcome-kept
+      (facts.rows serving_known (sends 0x06 0x0F) (serving-in-order facts) tt outcome-uncut);
+}
+
+pub key-stays-open : RecordFacts → ExampleKeyStaysOpen
+key-stays-open facts =
+    let left = facts.cuts serving_known (sends 0x06 0x1E) 0 refl (serving-in-order facts) unclear-cut in
+    record {
+      in_order = serving-in-order facts;
+      cut = unclear-cut;
+      none_kept = left.0;
+      others = left.1;
+      lost = facts.links (record serving_known { core = (terminal_row serving_known (sends 0x06 0x1E)).core }) 0 LinkIsLost left.1;
+    }

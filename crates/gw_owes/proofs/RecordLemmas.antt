@@ -1,0 +1,297 @@
+-- What one more record says of a terminal, and leaves of the others.
+use Rattle.std.proofs.Common.{◌≡◌, ◌≢◌, ◌∙◌, ℕ, zero, suc, ◌<◌, ◌≤◌, eqb, max, Bool, true, false, ◌&&◌, not, List, [], ◌∷◌, ◌++◌, length, Option, Some, None, is_some, IsTrue, slice_get, refl, sym, ap, subst, arith, append_assoc}
+use Rattle.std.specs.Prelude.{if◌then◌else◌, option_and_then, option_map}
+use Rattle.std.specs.Ordering.{is_eq, nat_cmp}
+use Rattle.std.specs.Cmp.Lexicographic.{slice_cmp}
+use Rattle.std.specs.declared.cmp.Ordering.{Ordering}
+use Rattle.std.specs.declared.cmp.Ordering.TheVariants.{Less, Equal, Greater}
+use Rattle.std.proofs.lemmas.Bool.{eqb-true, eqb-false}
+use Rattle.std.proofs.lemmas.Bool.Decides.{nat_tests}
+use Rattle.std.proofs.lemmas.Cmp.{tied_itself, nat_list_cmp_total}
+use Rattle.std.proofs.lemmas.List.{append-nil}
+use Rattle.std.proofs.lemmas.List.Elements.{All-push}
+use Rattle.std.proofs.lemmas.Map.Lookups.{exact_bytes}
+use Rattle.std.proofs.lemmas.Option.{same_Some}
+use Rattle.jrn_record.specs.Limits.{IsRecord}
+use Rattle.jrn_record.specs.declared.records.Intent.{Intent as TheIntent}
+use Rattle.jrn_record.specs.declared.records.Outcome.{Outcome as TheOutcome}
+use Rattle.jrn_record.specs.declared.records.Record.{Record}
+use Rattle.jrn_record.specs.declared.records.Record.TheVariants.{Intent, Outcome, Settled}
+use Rattle.gw_ledger.specs.declared.account.Account.{Account}
+use Rattle.gw_ledger.specs.declared.entry.Entry.{Entry as TheEntry}
+use Rattle.gw_ledger.specs.Accounts.{account_in, account_of, account_with, is_poi, last_number_of, open_slot, poi_of}
+use Rattle.gw_ledger.specs.Fold.{AreFolded, FitBy, fits, open_entry}
+use Rattle.gw_ledger.specs.History.{same_text}
+use Rattle.gw_ledger.specs.Laws.{NewestIsFirst, OpenSlotIsOpen, CountIsOfOpenSlots, EntriesAreWithin, PaymentFits, OutcomeFits, count_below, poi_at}
+use Rattle.gw_ledger.specs.Slots.{as_intent, ended_at, ended_in, entry_at, entry_with, intent_at, is_open, is_outcome_of}
+use Rattle.gw_ledger.specs.Sums.{one_if, open_count_of, open_in, open_with}
+
+-- ---- what is known of the ledger
+
+-- the ledger's laws
+pub record LedgerLaws : Type 0 where
+  pub newest : NewestIsFirst
+  pub open_slots : OpenSlotIsOpen
+  pub count : CountIsOfOpenSlots
+  pub within : EntriesAreWithin
+  pub payment : PaymentFits
+  pub outcome : OutcomeFits
+
+-- ---- texts
+
+equal-ordering : (o : Ordering) → is_eq o ≡ true → o ≡ Equal
+equal-ordering Less e = absurd cc
+equal-ordering Equal e = refl
+equal-ordering Greater e = absurd cc
+
+-- texts that are the same
+pub same-text-is : (a b : List ℕ) → same_text a b ≡ true → a ≡ b
+same-text-is a b same = exact_bytes a b (equal-ordering (slice_cmp nat_cmp a b) same)
+
+pub same-text-itself : (a : List ℕ) → same_text a a ≡ true
+same-text-itself a = ap is_eq (tied_itself nat_list_cmp_total a)
+
+-- texts that aren't
+pub apart-texts : (a b : List ℕ) → a ≢ b → same_text a b ≡ false
+apart-texts a b apart = by-test (same_text a b) refl
+  where
+    by-test : (test : Bool) → same_text a b ≡ test → same_text a b ≡ false
+    by-test true is = absurd (apart (same-text-is a b is))
+    by-test false is = is
+
+-- ---- lists
+
+-- the last of a list
+pub last-there : {A : Type 0} (all : List A) (last : A) → slice_get (all ++ last ∷ []) (length all) ≡ Some last
+last-there [] last = refl
+last-there (first ∷ all) last = last-there all last
+
+-- what is there stays with more after it
+pub still-there : {A : Type 0} (all more : List A) (at : ℕ) (one : A) → slice_get all at ≡ Some one → slice_get (all ++ more) at ≡ Some one
+still-there [] more at one found = absurd cc
+still-there (first ∷ all) more zero one found = found
+still-there (first ∷ all) more (suc at) one found = still-there all more at one found
+
+-- what is there is within
+pub there-within : {A : Type 0} (all : List A) (at : ℕ) (one : A) → slice_get all at ≡ Some one → at < length all
+there-within [] at one found = absurd cc
+there-within (first ∷ all) zero one found = omega arith
+there-within (first ∷ all) (suc at) one found = omega (arith, there-within all at one found)
+
+-- ---- records that are folded
+
+fit-more : (before rest : List Record) (next : Record) → FitBy fits before rest → IsTrue (fits (before ++ rest) next) → FitBy fits before (rest ++ next ∷ [])
+fit-more before [] next fit fitting = (subst (λ records. IsTrue (fits records next)) (append-nil before) fitting, tt)
+fit-more before (first ∷ rest) next fit fitting =
+    (fit.0, fit-more (before ++ first ∷ []) rest next fit.1 (subst (λ records. IsTrue (fits records next)) (sym (append_assoc before (first ∷ []) rest)) fitting))
+
+-- one more record that may come next
+pub folded-more : (kept : List Record) (next : Record) → AreFolded kept → IsRecord next → IsTrue (fits kept next) → AreFolded (kept ++ next ∷ [])
+folded-more kept next folded within fitting = record {
+  within = All-push IsRecord kept next folded.within within;
+  fit = fit-more [] kept next folded.fit fitting;
+}
+
+-- ---- a slot
+
+intent-stays : (kept more : List Record) (slot : ℕ) (intent : TheIntent) → intent_at kept slot ≡ Some intent → intent_at (kept ++ more) slot ≡ Some intent
+intent-stays kept more slot intent found = by-record (slice_get kept slot) refl found
+  where
+    by-record : (one : Option Record) → slice_get kept slot ≡ one → option_and_then as_intent one ≡ Some intent → intent_at (kept ++ more) slot ≡ Some intent
+    by-record None is there = absurd cc
+    by-record (Some one) is there = ap (option_and_then as_intent) (still-there kept more slot one is) ∙ there
+
+intent-within : (kept : List Record) (slot : ℕ) (intent : TheIntent) → intent_at kept slot ≡ Some intent → slot < length kept
+intent-within kept slot intent found = by-record (slice_get kept slot) refl found
+  where
+    by-record : (one : Option Record) → slice_get kept slot ≡ one → option_and_then as_intent one ≡ Some intent → slot < length kept
+    by-record None is there = absurd cc
+    by-record (Some one) is there = there-within kept slot one is
+
+-- the entry of an Intent without an Outcome
+abbrev pub open_entry_of : ℕ → TheIntent → TheEntry
+open_entry_of slot intent = record { slot = slot; intent = intent; result = None }
+
+-- the slot is the terminal's open one, and has this Intent
+pub record IsOpenWith (kept : List Record) (poi : List ℕ) (slot : ℕ) (intent : TheIntent) : Type 0 where
+  pub slot_is : open_slot kept poi ≡ Some slot
+  pub intent_is : intent_at kept slot ≡ Some intent
+  pub unended : ended_at kept slot ≡ None
+
+-- its entry
+pub entry-of-open : (kept : List Record) (poi : List ℕ) (slot : ℕ) (intent : TheIntent) → IsOpenWith kept poi slot intent → open_entry kept poi ≡ Some (open_entry_of slot intent)
+entry-of-open kept poi slot intent opened =
+    ap (option_and_then (entry_at kept)) opened.slot_is
+    ∙ ap (λ (ended : Option ℕ). option_map (entry_with kept slot ended) (intent_at kept slot)) opened.unended
+    ∙ ap (option_map (entry_with kept slot None)) opened.intent_is
+
+-- the slot and the Intent of an entry
+entry-parts : (kept : List Record) (slot : ℕ) (entry : TheEntry) → entry_at kept slot ≡ Some entry → (entry.slot ≡ slot) × (intent_at kept slot ≡ Some entry.intent)
+entry-parts kept slot entry found = by-intent (intent_at kept slot) refl found
+  where
+    by-intent : (asked : Option TheIntent) → intent_at kept slot ≡ asked → option_map (entry_with kept slot (ended_at kept slot)) asked ≡ Some entry → (entry.slot ≡ slot) × (intent_at kept slot ≡ Some entry.intent)
+    by-intent None is same = absurd cc
+    by-intent (Some intent) is same =
+        let one : entry_with kept slot (ended_at kept slot) intent ≡ entry = same_Some (entry_with kept slot (ended_at kept slot) intent) entry same in
+        (sym (ap (λ (e : TheEntry). e.slot) one), is ∙ ap (λ (e : TheEntry). Some e.intent) one)
+
+-- the two parts of a slot that is open
+pub record IsUnended (kept : List Record) (slot : ℕ) : Type 0 where
+  pub intent : TheIntent
+  pub intent_is : intent_at kept slot ≡ Some intent
+  pub unended : ended_at kept slot ≡ None
+
+unended-parts : (kept : List Record) (slot : ℕ) → is_open kept slot ≡ true → IsUnended kept slot
+unended-parts kept slot opened = by-parts (intent_at kept slot) (ended_at kept slot) refl refl opened
+  where
+    by-parts : (asked : Option TheIntent) (ended : Option ℕ) → intent_at kept slot ≡ asked → ended_at kept slot ≡ ended → (is_some asked && not (is_some ended)) ≡ true → IsUnended kept slot
+    by-parts None ended is was both = absurd cc
+    by-parts (Some intent) None is was both = record { intent = intent; intent_is = is; unended = was }
+    by-parts (Some intent) (Some end) is was both = absurd cc
+
+-- a number that passes a test is counted
+passes-counted : (test : ℕ → Bool) (n at : ℕ) → at < n → test at ≡ true → 1 ≤ count_below test n
+passes-counted test zero at lt passes = absurd (omega arith)
+passes-counted test (suc n) at lt passes = by-last (eqb at n) refl (λ below. passes-counted test n at below passes)
+  where
+    by-last : (b : Bool) → eqb at n ≡ b → (at < n → 1 ≤ count_below test n) → 1 ≤ count_below test (suc n)
+    by-last true same before =
+        let one : one_if (test n) ≡ 1 = ap (λ (k : ℕ). one_if (test k)) (sym (eqb-true at n same)) ∙ ap one_if passes in
+        omega (arith, one)
+    by-last false apart before =
+        let ne : at ≢ n = eqb-false at n apart in
+        let counted : 1 ≤ count_below test n = before (omega (arith, ne)) in
+        omega (arith, counted)
+
+module _ (laws : LedgerLaws) (kept : List Record) (folded : AreFolded kept) where
+  -- the open slot of a terminal is that of an Intent without an Outcome
+  open-unended : (poi : List ℕ) (slot : ℕ) → open_slot kept poi ≡ Some slot → IsUnended kept slot
+  open-unended poi slot is = unended-parts kept slot ((laws.open_slots kept folded poi slot).0 is).0
+
+  -- the slot of a terminal's open entry
+  pub open-parts : (poi : List ℕ) (slot : ℕ) (intent : TheIntent) → open_entry kept poi ≡ Some (open_entry_of slot intent) → IsOpenWith kept poi slot intent
+  open-parts poi slot intent entry = by-slot (open_slot kept poi) refl entry
+    where
+      by-slot : (found : Option ℕ) → open_slot kept poi ≡ found → option_and_then (entry_at kept) found ≡ Some (open_entry_of slot intent) → IsOpenWith kept poi slot intent
+      by-slot None is there = absurd cc
+      by-slot (Some at) is there =
+          let parts = entry-parts kept at (open_entry_of slot intent) there in
+          let here : at ≡ slot = sym parts.0 in
+          record {
+            slot_is = is ∙ ap Some here;
+            intent_is = ap (intent_at kept) (sym here) ∙ parts.1;
+            unended = ap (ended_at kept) (sym here) ∙ (open-unended poi at is).unended;
+          }
+
+  -- without an open entry a terminal has no open slot
+  pub none-open : (poi : List ℕ) → open_entry kept poi ≡ None → open_slot kept poi ≡ None
+  none-open poi none = by-slot (open_slot kept poi) refl none
+    where
+      by-slot : (found : Option ℕ) → open_slot kept poi ≡ found → option_and_then (entry_at kept) found ≡ None → open_slot kept poi ≡ None
+      by-slot None is lacks = is
+      by-slot (Some slot) is lacks =
+          let parts = open-unended poi slot is in
+          let there : entry_at kept slot ≡ Some (entry_with kept slot (ended_at kept slot) parts.intent) = ap (option_map (entry_with kept slot (ended_at kept slot))) parts.intent_is in
+          absurd cc
+
+  -- the terminal of an open slot is that of its Intent
+  pub open-poi : (poi : List ℕ) (slot : ℕ) (intent : TheIntent) → IsOpenWith kept poi slot intent → poi ≡ intent.poi
+  open-poi poi slot intent opened =
+      let mine : is_poi poi (poi_at kept slot) ≡ true = ((laws.open_slots kept folded poi slot).0 opened.slot_is).1 in
+      same-text-is poi intent.poi (sym (ap (λ (asked : Option TheIntent). is_poi poi (option_map (λ (i : TheIntent). i.poi) asked)) opened.intent_is) ∙ mine)
+
+  -- one is counted at least
+  pub open-counted : (poi : List ℕ) (slot : ℕ) (intent : TheIntent) → IsOpenWith kept poi slot intent → 1 ≤ open_count_of kept
+  open-counted poi slot intent opened =
+      let here : is_open kept slot ≡ true = ((laws.open_slots kept folded poi slot).0 opened.slot_is).0 in
+      let within : slot < length kept = intent-within kept slot intent opened.intent_is in
+      subst (λ (n : ℕ). 1 ≤ n) (sym (laws.count kept folded)) (passes-counted (is_open kept) (length kept) slot within here)
+
+  -- the slot is within
+  pub open-within : (poi : List ℕ) (slot : ℕ) (intent : TheIntent) → IsOpenWith kept poi slot intent → slot < length kept
+  open-within poi slot intent opened = intent-within kept slot intent opened.intent_is
+
+-- ---- one more record
+
+module _ (laws : LedgerLaws) (kept : List Record) (next : Record) where
+  account-more : (poi : List ℕ) → account_of (kept ++ next ∷ []) poi ≡ (if is_poi poi (poi_of kept next) then account_with (length kept) next (account_of kept poi) else account_of kept poi)
+  account-more poi = ap (account_in poi) (laws.newest kept next)
+
+  own-account : (poi : List ℕ) → is_poi poi (poi_of kept next) ≡ true → account_of (kept ++ next ∷ []) poi ≡ account_with (length kept) next (account_of kept poi)
+  own-account poi own = account-more poi ∙ ap (λ (b : Bool). if b then account_with (length kept) next (account_of kept poi) else account_of kept poi) own
+
+  other-account : (poi : List ℕ) → is_poi poi (poi_of kept next) ≡ false → account_of (kept ++ next ∷ []) poi ≡ account_of kept poi
+  other-account poi apart = account-more poi ∙ ap (λ (b : Bool). if b then account_with (length kept) next (account_of kept poi) else account_of kept poi) apart
+
+  -- another terminal's open slot and last number stay
+  pub other-slot : (poi : List ℕ) → is_poi poi (poi_of kept next) ≡ false → open_slot (kept ++ next ∷ []) poi ≡ open_slot kept poi
+  other-slot poi apart = ap (λ (a : Account). a.unresolved) (other-account poi apart)
+
+  pub other-number : (poi : List ℕ) → is_poi poi (poi_of kept next) ≡ false → last_number_of (kept ++ next ∷ []) poi ≡ last_number_of kept poi
+  other-number poi apart = ap (λ (a : Account). a.trace) (other-account poi apart)
+
+  -- the open slots are one more or one less
+  pub count-more : open_count_of (kept ++ next ∷ []) ≡ open_with next (open_count_of kept)
+  count-more = ap open_in (laws.newest kept next)
+
+  -- a slot without an Outcome stays so, where this isn't its Outcome
+  unended-stays : (slot : ℕ) → is_outcome_of slot next ≡ false → ended_at kept slot ≡ None → ended_at (kept ++ next ∷ []) slot ≡ None
+  unended-stays slot apart unended =
+      ap (ended_in slot) (laws.newest kept next)
+      ∙ ap (λ (b : Bool). if eqb (length kept) slot then None else (if b then Some (length kept) else ended_at kept slot)) apart
+      ∙ ap (λ (ended : Option ℕ). if eqb (length kept) slot then None else ended) unended
+      ∙ by-test (eqb (length kept) slot)
+    where
+      by-test : (b : Bool) → ◌≡◌ {A = Option ℕ} (if b then None else None) None
+      by-test true = refl
+      by-test false = refl
+
+  -- another terminal's open slot stays with its Intent
+  pub other-open : AreFolded kept → (poi : List ℕ) (slot : ℕ) (intent : TheIntent) → is_poi poi (poi_of kept next) ≡ false → IsOpenWith kept poi slot intent → IsOpenWith (kept ++ next ∷ []) poi slot intent
+  other-open folded poi slot intent apart opened = record {
+    slot_is = other-slot poi apart ∙ opened.slot_is;
+    intent_is = intent-stays kept (next ∷ []) slot intent opened.intent_is;
+    unended = unended-stays slot (by-record next apart) opened.unended;
+  }
+    where
+      by-record : (one : Record) → is_poi poi (poi_of kept one) ≡ false → is_outcome_of slot one ≡ false
+      by-record (Intent intent) lacks = refl
+      by-record (Outcome outcome) lacks = by-slot (eqb outcome.slot slot) refl
+        where
+          by-slot : (b : Bool) → eqb outcome.slot slot ≡ b → eqb outcome.slot slot ≡ false
+          by-slot false is = is
+          by-slot true is =
+              let here : poi_of kept (Outcome outcome) ≡ Some intent.poi =
+              ap (λ (at : ℕ). option_map (λ (i : TheIntent). i.poi) (intent_at kept at)) (eqb-true outcome.slot slot is) ∙ ap (option_map (λ (i : TheIntent). i.poi)) opened.intent_is in
+              let mine : is_poi poi (poi_of kept (Outcome outcome)) ≡ true =
+              ap (is_poi poi) here ∙ ap (same_text poi) (sym (open-poi laws kept folded poi slot intent opened)) ∙ same-text-itself poi in
+              absurd cc
+      by-record (Settled settled) lacks = refl
+
+-- the next record is an Intent of the terminal: it is its open entry
+pub intent-opens : (laws : LedgerLaws) (kept : List Record) (intent : TheIntent) → IsOpenWith (kept ++ Intent intent ∷ []) intent.poi (length kept) intent
+intent-opens laws kept intent = record {
+  slot_is = ap (λ (a : Account). a.unresolved) (own-account laws kept (Intent intent) intent.poi (same-text-itself intent.poi));
+  intent_is = ap (option_and_then as_intent) (last-there kept (Intent intent));
+  unended = ap (ended_in (length kept)) (laws.newest kept (Intent intent)) ∙ by-length (length kept) (ended_at kept (length kept));
+}
+  where
+    by-length : (n : ℕ) (ended : Option ℕ) → (if eqb n n then None else ended) ≡ None
+    by-length n ended = let same : eqb n n ≡ true = grind (arith, nat_tests) in rw same refl
+
+pub intent-number : (laws : LedgerLaws) (kept : List Record) (intent : TheIntent) → last_number_of (kept ++ Intent intent ∷ []) intent.poi ≡ max (last_number_of kept intent.poi) intent.before
+intent-number laws kept intent = ap (λ (a : Account). a.trace) (own-account laws kept (Intent intent) intent.poi (same-text-itself intent.poi))
+
+-- the next record is the Outcome of the terminal's open entry: it has none any more
+module _ (laws : LedgerLaws) (kept : List Record) (folded : AreFolded kept) (poi : List ℕ) (intent : TheIntent) (outcome : TheOutcome) (opened : IsOpenWith kept poi outcome.slot intent) where
+  pub outcome-poi : poi_of kept (Outcome outcome) ≡ Some poi
+  outcome-poi = ap (option_map (λ (i : TheIntent). i.poi)) opened.intent_is ∙ ap Some (sym (open-poi laws kept folded poi outcome.slot intent opened))
+
+  own : is_poi poi (poi_of kept (Outcome outcome)) ≡ true
+  own = ap (is_poi poi) outcome-poi ∙ same-text-itself poi
+
+  pub outcome-closes : open_slot (kept ++ Outcome outcome ∷ []) poi ≡ None
+  outcome-closes = ap (λ (a : Account). a.unresolved) (own-account laws kept (Outcome outcome) poi own)
+
+  pub outcome-number : last_number_of (kept ++ Outcome outcome ∷ []) poi ≡ max (last_number_of kept poi) outcome.number
+  outcome-number = ap (λ (a : Account). a.trace) (own-account laws kept (Outcome outcome) poi own)

@@ -1,0 +1,145 @@
+-- The examples of the steps of a request are computed.
+use Rattle.std.proofs.Common.{refl}
+use Rattle.std.specs.Fmt.{digits}
+use Rattle.gw_base.specs.Transaction.{transaction_text}
+use Rattle.gw_ledger.specs.History.{history}
+use Rattle.gw_owes.specs.StepExample.{ExamplePaymentAgain, ExampleOtherContent, ExampleOpenAgain, ExampleDeclinedAgain, ExampleReversalAgain, ExampleReconciliationAgain, ExampleStatus, ExampleLastStatus, ExampleAbort, ExampleNewKey, ExampleUsedUp, ExampleRoom, ExampleUnavailable, ExampleBeginning}
+
+pub payment-again : ExamplePaymentAgain
+unfolding history
+payment-again = record {
+  same = refl;
+  normal = refl;
+  later = refl;
+  unlinked = refl;
+  used_up = refl;
+  without_room = refl;
+  not_configured = refl;
+}
+
+pub other-content : ExampleOtherContent
+unfolding history transaction_text digits
+other-content = record {
+  amount = refl;
+  currency = refl;
+  payment_type = refl;
+  as_reversal = refl;
+  as_reconciliation = refl;
+}
+
+pub open-again : ExampleOpenAgain
+unfolding history
+open-again = record {
+  same = refl;
+  unlinked = refl;
+  other_amount = refl;
+}
+
+pub declined-again : ExampleDeclinedAgain
+unfolding history
+declined-again = record {
+  same = refl;
+  other_amount = refl;
+}
+
+pub reversal-again : ExampleReversalAgain
+unfolding history transaction_text digits
+reversal-again = record {
+  same = refl;
+  no_amount = refl;
+  other_amount = refl;
+  other_original = refl;
+  as_payment = refl;
+}
+
+pub reconciliation-again : ExampleReconciliationAgain
+unfolding history
+reconciliation-again = record {
+  same = refl;
+  other_type = refl;
+  as_payment = refl;
+}
+
+pub status : ExampleStatus
+unfolding history
+status = record {
+  finished = refl;
+  unlinked = refl;
+  by_reference = refl;
+  open_key = refl;
+  unknown = refl;
+  other_poi = refl;
+  other_till = refl;
+}
+
+pub last-status : ExampleLastStatus
+unfolding history
+last-status = record {
+  finished = refl;
+  open_key = refl;
+  after_reconciliation = refl;
+  other_till = refl;
+  other_poi = refl;
+}
+
+pub abort : ExampleAbort
+unfolding history
+abort = record {
+  open_key = refl;
+  finished = refl;
+  unknown = refl;
+}
+
+pub new-key : ExampleNewKey
+unfolding history
+new-key = record {
+  not_configured = refl;
+  not_configured_first = refl;
+  payment_type = refl;
+  payment_type_first = refl;
+  currency = refl;
+  currency_first = refl;
+  other_till = refl;
+}
+
+pub used-up : ExampleUsedUp
+unfolding history
+used-up = record {
+  on_record = refl;
+  one_below = refl;
+  of_another = refl;
+  ready = refl;
+  serving = refl;
+}
+
+pub room : ExampleRoom
+unfolding history
+room = record {
+  one_free = refl;
+  two_free = refl;
+  two_free_one_open = refl;
+  three_free_one_open = refl;
+}
+
+pub unavailable : ExampleUnavailable
+unfolding history
+unavailable = record {
+  new = refl;
+  unlinked = refl;
+  registering = refl;
+  enquiring = refl;
+  aside = refl;
+}
+
+pub begins : ExampleBeginning
+unfolding history
+begins = record {
+  no_reply = refl;
+  begun = refl;
+  after_decline = refl;
+  serving = refl;
+  serving_begins_none = refl;
+  unlinked_begins_none = refl;
+  open_begins_none = refl;
+  finished_begins_none = refl;
+}

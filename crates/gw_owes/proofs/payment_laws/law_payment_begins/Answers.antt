@@ -1,0 +1,15 @@
+-- Proof of the contract of `law_payment_begins`.
+use Rattle.gw_owes.proofs.PaymentLawLemmas.{each-accepted-begins, each-begun-served, each-kept-first, each-intent-asked}
+use Rattle.gw_owes.proofs.payment_laws.law_payment_begins.Goals as goal
+
+pub returns-clause-kept_first : goal.returns-clause-kept_first
+returns-clause-kept_first c = each-kept-first
+
+pub returns-clause-asked : goal.returns-clause-asked
+returns-clause-asked c = each-intent-asked
+
+pub returns-clause-begins : goal.returns-clause-begins
+returns-clause-begins c = each-accepted-begins
+
+pub returns-clause-served : goal.returns-clause-served
+returns-clause-served c = each-begun-served

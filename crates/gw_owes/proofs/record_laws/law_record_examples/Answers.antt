@@ -1,0 +1,27 @@
+-- Proof of the contract of `law_record_examples`.
+use Rattle.gw_owes.proofs.AskedTextLemmas.{fourth-read}
+use Rattle.gw_owes.proofs.RecordExampleLemmas.{RecordFacts, intent-is-kept, key-stays-open, outcome-is-kept, request-begins}
+use Rattle.gw_owes.proofs.record_laws.law_record_examples.Goals as goal
+
+facts : (c : goal.After-law_examples) → RecordFacts
+facts c = record {
+  rows = c.law_records.ensures.rows;
+  cuts = c.law_records.ensures.cuts;
+  links = c.law_records.ensures.links;
+  items = c.law_records.ensures.items;
+  ready = c.law_examples.ensures.payment;
+  opened = c.law_examples.ensures.outcome;
+  read = fourth-read;
+}
+
+pub returns-clause-begins : goal.returns-clause-begins
+returns-clause-begins c = request-begins (facts c)
+
+pub returns-clause-intent : goal.returns-clause-intent
+returns-clause-intent c = intent-is-kept (facts c)
+
+pub returns-clause-outcome : goal.returns-clause-outcome
+returns-clause-outcome c = outcome-is-kept (facts c)
+
+pub returns-clause-open_key : goal.returns-clause-open_key
+returns-clause-open_key c = key-stays-open (facts c)

@@ -1,0 +1,16 @@
+-- Proof of the contract of `law_set_aside`.
+use Rattle.gw_owes.proofs.AsideLemmas.{each-aside-has-cause, no-link-event-sets-aside, enquired-is-set-aside}
+use Rattle.gw_owes.proofs.PaymentExampleLemmas.{report-below}
+use Rattle.gw_owes.proofs.terminal_laws.law_set_aside.Goals as goal
+
+pub returns-clause-items : goal.returns-clause-items
+returns-clause-items c = each-aside-has-cause
+
+pub returns-clause-links : goal.returns-clause-links
+returns-clause-links c = no-link-event-sets-aside
+
+pub returns-clause-enquired : goal.returns-clause-enquired
+returns-clause-enquired c = enquired-is-set-aside
+
+pub returns-clause-example : goal.returns-clause-example
+returns-clause-example c = report-below

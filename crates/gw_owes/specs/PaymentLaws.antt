@@ -1,0 +1,300 @@
+-- Laws of payments: each begins with its Intent kept, each ends with its Outcome kept before its till gets the reply, and a repeated request asks no terminal.
+use Rattle.std.specs.Prelude.{◌≡◌, ◌⊎◌, ◌<◌, ◌≤◌, ℕ, pos, Bool, true, false, ◌||◌, bytes_eq, List, [], ◌∷◌, ◌++◌, length, slice_get, Option, Some, None, Ok}
+use Rattle.std.specs.Option.{option_map}
+use Rattle.gw_base.specs.Currency.{currency_letters, currency_number}
+use Rattle.gw_base.specs.declared.figures.Figures.{Figures}
+use Rattle.gw_base.specs.declared.key.Key.{Key}
+use Rattle.gw_site.specs.Outside.{Connection, is_connected}
+use Rattle.sale_values.specs.declared.header.Header.{Header}
+use Rattle.sale_values.specs.declared.request.PaymentAsk.{PaymentAsk}
+use Rattle.sale_values.specs.declared.request.SaleRequest.{SaleRequest}
+use Rattle.sale_values.specs.declared.request.SaleRequest.TheVariants as requests
+use Rattle.zvt_apdu.specs.Grammar.{ApduValue}
+use Rattle.zvt_msg.specs.declared.command.Command.{Command}
+use Rattle.zvt_msg.specs.declared.command.Command.TheVariants as commands
+use Rattle.zvt_msg.specs.Message.{MessageValue}
+use Rattle.zvt_msg.specs.MessageDecode.{decode_pt_message}
+use Rattle.zvt_talk.specs.declared.meaning.Heard.{Heard}
+use Rattle.zvt_talk.specs.declared.meaning.Heard.TheVariants as heard
+use Rattle.jrn_record.specs.declared.records.Deal.TheVariants as deals
+use Rattle.jrn_record.specs.declared.records.Intent.{Intent as TheIntent}
+use Rattle.jrn_record.specs.declared.records.Outcome.{Outcome as TheOutcome}
+use Rattle.jrn_record.specs.declared.records.Record.{Record}
+use Rattle.jrn_record.specs.declared.records.Record.TheVariants.{Intent, Outcome}
+use Rattle.gw_ledger.specs.declared.entry.Found.{Found}
+use Rattle.gw_ledger.specs.Keys.{intent_key}
+use Rattle.gw_ledger.specs.Sums.{is_intent}
+use Rattle.xlate.specs.Codes.{condition_of_code}
+use Rattle.gw_owes.specs.declared.terminal.Service.TheVariants.{Transaction}
+use Rattle.gw_owes.specs.declared.terminal.Standing.TheVariants.{Ready, Serving, Aside}
+use Rattle.gw_owes.specs.declared.terminal.Terminal.{Terminal}
+use Rattle.gw_owes.specs.Calls.{Sending, Ask, Acknowledge, Refuse, OwedCall, SendTill, SendPt, CutTill, CutPt, LinkPt, WriteBody, WriteGate, WriteFirstGate, Sync, keep_calls, records_kept}
+use Rattle.gw_owes.specs.Diagnosis.{NamedTerminal, named_terminal}
+use Rattle.gw_owes.specs.Handling.{meaning_at, handle_row}
+use Rattle.gw_owes.specs.Items.{RoundItem, Crowded, Message, Asked, Unframed, Gone, Greet, Handle, Serve, NextWaiting, Oversized, LinkLost, Late, Overdue, Due}
+use Rattle.gw_owes.specs.KeptReplies.{own_key, found_for}
+use Rattle.gw_owes.specs.ReadAs.{ReadAs, Request}
+use Rattle.gw_owes.specs.Row.{Known, Row}
+use Rattle.gw_owes.specs.Rows.{row_of}
+use Rattle.gw_owes.specs.Serving.{was_stopped, reply_to_outcome, last_after_decline}
+use Rattle.gw_owes.specs.Steps.{Begins, step_result}
+use Rattle.gw_owes.specs.TerminalLaws.{GoesOnTo}
+use Rattle.gw_owes.specs.Terminals.{terminal_at, reply_calls_to}
+
+-- ---- calls
+
+-- the command asks for a payment
+abbrev pub is_payment_command : Command → Bool
+is_payment_command (commands.Register password config currency) = false
+is_payment_command (commands.Authorise amount currency) = true
+is_payment_command (commands.Enquire password) = false
+is_payment_command (commands.Reverse password receipt) = false
+is_payment_command (commands.EndOfDay password) = false
+is_payment_command commands.Stop = false
+is_payment_command (commands.Show lines) = false
+
+-- what is sent asks for a payment
+abbrev pub is_payment_asked : Sending → Bool
+is_payment_asked (Ask command) = is_payment_command command
+is_payment_asked Acknowledge = false
+is_payment_asked Refuse = false
+
+-- a terminal is asked for a payment by one of these calls
+abbrev pub asks_for_payment : List OwedCall → Bool
+asks_for_payment [] = false
+asks_for_payment (SendTill till reply ∷ calls) = asks_for_payment calls
+asks_for_payment (SendPt number sending ∷ calls) = is_payment_asked sending || asks_for_payment calls
+asks_for_payment (CutTill till ∷ calls) = asks_for_payment calls
+asks_for_payment (CutPt number ∷ calls) = asks_for_payment calls
+asks_for_payment (LinkPt number ∷ calls) = asks_for_payment calls
+asks_for_payment (WriteBody slot the_record ∷ calls) = asks_for_payment calls
+asks_for_payment (WriteGate slot the_record ∷ calls) = asks_for_payment calls
+asks_for_payment (WriteFirstGate ∷ calls) = asks_for_payment calls
+asks_for_payment (Sync ∷ calls) = asks_for_payment calls
+
+-- a terminal is sent something by one of these calls
+abbrev pub sends_terminal : List OwedCall → Bool
+sends_terminal [] = false
+sends_terminal (SendTill till reply ∷ calls) = sends_terminal calls
+sends_terminal (SendPt number sending ∷ calls) = true
+sends_terminal (CutTill till ∷ calls) = sends_terminal calls
+sends_terminal (CutPt number ∷ calls) = sends_terminal calls
+sends_terminal (LinkPt number ∷ calls) = sends_terminal calls
+sends_terminal (WriteBody slot the_record ∷ calls) = sends_terminal calls
+sends_terminal (WriteGate slot the_record ∷ calls) = sends_terminal calls
+sends_terminal (WriteFirstGate ∷ calls) = sends_terminal calls
+sends_terminal (Sync ∷ calls) = sends_terminal calls
+
+-- a till is sent something by one of these calls
+abbrev pub sends_till : List OwedCall → Bool
+sends_till [] = false
+sends_till (SendTill till reply ∷ calls) = true
+sends_till (SendPt number sending ∷ calls) = sends_till calls
+sends_till (CutTill till ∷ calls) = sends_till calls
+sends_till (CutPt number ∷ calls) = sends_till calls
+sends_till (LinkPt number ∷ calls) = sends_till calls
+sends_till (WriteBody slot the_record ∷ calls) = sends_till calls
+sends_till (WriteGate slot the_record ∷ calls) = sends_till calls
+sends_till (WriteFirstGate ∷ calls) = sends_till calls
+sends_till (Sync ∷ calls) = sends_till calls
+
+-- ---- a payment begins
+
+-- the Intent says what a till asks at this moment of a terminal that is ready with this last trace number: the amount, the till's transaction and time stamp, the terminal's currency, the key of the request, and that number as the one before; it reverses no other
+pub record SaysWhatIsAsked (moment : ℕ) (header : Header) (payment : PaymentAsk) (terminal : Terminal) (last : ℕ) (intent : TheIntent) : Type 0 where
+  pub what : intent.what ≡ deals.Payment
+  pub amount : intent.amount ≡ payment.amount
+  pub currency : intent.currency ≡ terminal.pt.currency
+  pub key : (key : Key) → own_key header ≡ Some key → intent_key intent ≡ key
+  pub transaction : intent.transaction ≡ Some payment.transaction
+  pub stamp : intent.stamp ≡ Some payment.stamp
+  pub before : intent.before ≡ last
+  pub original : intent.original ≡ None
+  pub moment_is : intent.moment ≡ pos moment
+
+-- An item begins a payment: a till asks it of a terminal that is ready, under a key that is not on record, and in the terminal's currency. The Intent is kept in the next slot; then the terminal is asked, for the same amount, and nothing else is owed.
+pub record BeginsPayment (known : Known) (item : RoundItem) (calls : List OwedCall) : Type 0 where
+  pub number : ℕ
+  pub till : ℕ
+  pub header : Header
+  pub payment : PaymentAsk
+  pub item_is : item ≡ Serve number till header (requests.Payment payment)
+  pub terminal : Terminal
+  pub found : terminal_at known number ≡ Some terminal
+  pub last : ℕ
+  pub ready : terminal.standing ≡ Ready last
+  pub unknown : found_for known.kept header ≡ None
+  pub currency : bytes_eq payment.currency (currency_letters terminal.pt.currency) ≡ true
+  pub intent : TheIntent
+  pub says : SaysWhatIsAsked known.moment header payment terminal last intent
+  pub calls_are : calls ≡ keep_calls (length known.kept) (Intent intent) ++ SendPt number (Ask (commands.Authorise payment.amount (currency_number terminal.pt.currency))) ∷ []
+
+-- where a terminal is asked for a payment, its Intent is kept first
+abbrev pub EachPaymentIsKeptFirst : Type 0
+EachPaymentIsKeptFirst = (tills : List Connection) (known : Known) (item : RoundItem) → asks_for_payment (row_of tills known item).calls ≡ true → BeginsPayment known item (row_of tills known item).calls
+
+-- where an Intent is kept, its terminal is asked next
+abbrev pub EachIntentIsAsked : Type 0
+EachIntentIsAsked =
+    (tills : List Connection) (known : Known) (item : RoundItem) (the_record : Record) (more : List Record) → records_kept (row_of tills known item).calls ≡ the_record ∷ more → is_intent the_record ≡ true
+    → BeginsPayment known item (row_of tills known item).calls
+
+-- a payment that is read begins at the terminal of this number, and nothing else is owed
+pub record BeginsThere (till : ℕ) (header : Header) (payment : PaymentAsk) (number : ℕ) (row : Row) : Type 0 where
+  pub items_are : row.items ≡ Serve number till header (requests.Payment payment) ∷ []
+  pub no_reply : row.calls ≡ []
+
+-- a payment of a till that is there, whose steps come to the last one at the terminal that its POIID names, begins at this one
+abbrev pub EachAcceptedBegins : Type 0
+EachAcceptedBegins =
+    (tills : List Connection) (known : Known) (till : ℕ) (header : Header) (payment : PaymentAsk) (named : NamedTerminal) → is_connected tills till ≡ true → named_terminal known.core header.poi ≡ Some named
+    → step_result known header (requests.Payment payment) (Some named) ≡ Begins
+    → BeginsThere till header payment named.number (row_of tills known (Asked till (Request header (requests.Payment payment))))
+
+-- the terminal of this number serves a payment for this till: its Intent is kept in the next slot, then it is asked for the amount, and nothing else is owed
+pub record BeginsToServe (known : Known) (till : ℕ) (header : Header) (payment : PaymentAsk) (number : ℕ) (terminal : Terminal) (last : ℕ) (row : Row) : Type 0 where
+  pub intent : TheIntent
+  pub says : SaysWhatIsAsked known.moment header payment terminal last intent
+  pub goes_on :
+      GoesOnTo number (Serving (Transaction (length known.kept)) last)
+      (keep_calls (length known.kept) (Intent intent) ++ SendPt number (Ask (commands.Authorise payment.amount (currency_number terminal.pt.currency))) ∷ []) row
+  pub for_till : option_map (λ (serving : Terminal). serving.asker) (slice_get row.core.terminals number) ≡ Some (Some till)
+  pub none_more : row.items ≡ []
+
+-- where a payment begins at a terminal that is ready, whose steps come to the last one there, this is so
+abbrev pub EachBegunIsServed : Type 0
+EachBegunIsServed =
+    (tills : List Connection) (known : Known) (till : ℕ) (header : Header) (payment : PaymentAsk) (number : ℕ) (terminal : Terminal) (last : ℕ) → terminal_at known number ≡ Some terminal → terminal.standing ≡ Ready last
+    → step_result known header (requests.Payment payment) (Some (record { number = number; terminal = terminal })) ≡ Begins
+    → BeginsToServe known till header payment number terminal last (row_of tills known (Serve number till header (requests.Payment payment)))
+
+-- ---- a payment ends
+
+-- a terminal that serves the payment or the reversal of this slot, with this trace number before it, sends a message that means this
+pub record MeansAt (known : Known) (number : ℕ) (apdu : ApduValue) (terminal : Terminal) (slot last : ℕ) (meant : Heard) : Type 0 where
+  pub found : terminal_at known number ≡ Some terminal
+  pub standing_is : terminal.standing ≡ Serving (Transaction slot) last
+  pub message : MessageValue
+  pub decoded : decode_pt_message apdu ≡ Ok message
+  pub means : meaning_at terminal message ≡ meant
+
+-- the calls that keep an Outcome in the next slot, and then send its reply to the till that asked, where it is there
+abbrev pub outcome_calls : Known → Terminal → TheOutcome → List OwedCall
+outcome_calls known terminal outcome = keep_calls (length known.kept) (Outcome outcome) ++ reply_calls_to terminal.asker (reply_to_outcome known.kept outcome.slot outcome)
+
+-- an approval with a trace number above the one before keeps the figures that the terminal reported, and the terminal is ready with that number
+abbrev pub ApprovalIsKept : Type 0
+ApprovalIsKept =
+    (known : Known) (number : ℕ) (apdu : ApduValue) (terminal : Terminal) (slot last : ℕ) (figures : Figures) → MeansAt known number apdu terminal slot last (heard.Approved figures) → last < figures.number
+    → GoesOnTo number (Ready figures.number)
+    (outcome_calls known terminal (record { approved = true; slot = slot; number = figures.number; receipt = figures.receipt; amount = figures.amount; condition = None; moment = pos known.moment }))
+    (handle_row known number apdu)
+
+-- one with a number that is not above the one before is not believed: nothing is kept, no till gets a reply, and the terminal is set aside
+abbrev pub NotAboveIsSetAside : Type 0
+NotAboveIsSetAside =
+    (known : Known) (number : ℕ) (apdu : ApduValue) (terminal : Terminal) (slot last : ℕ) (figures : Figures) → MeansAt known number apdu terminal slot last (heard.Approved figures) → figures.number ≤ last
+    → GoesOnTo number (Aside last figures.number) [] (handle_row known number apdu)
+
+-- a decline keeps the condition of its code, which is `Aborted` where the terminal was stopped, and the terminal is ready again
+abbrev pub DeclineIsKept : Type 0
+DeclineIsKept =
+    (known : Known) (number : ℕ) (apdu : ApduValue) (terminal : Terminal) (slot last result_code : ℕ) (reported : Option ℕ) → MeansAt known number apdu terminal slot last (heard.Declined result_code reported)
+    → GoesOnTo number (Ready (last_after_decline last reported))
+    (outcome_calls known terminal (record { approved = false; slot = slot; number = 0; receipt = 0; amount = 0; condition = Some (condition_of_code result_code (was_stopped terminal.talk)); moment = pos known.moment }))
+    (handle_row known number apdu)
+
+-- an unclear end keeps nothing, and no till gets a reply: the connection is cut, and the key stays open
+abbrev pub UnclearKeepsNothing : Type 0
+UnclearKeepsNothing =
+    (known : Known) (number : ℕ) (apdu : ApduValue) (terminal : Terminal) (slot last : ℕ) → MeansAt known number apdu terminal slot last heard.Unclear
+    → GoesOnTo number (Serving (Transaction slot) last) (CutPt number ∷ []) (handle_row known number apdu)
+
+-- the Outcome is that of an end: approved with a number above the one before, or declined
+abbrev pub IsOutcomeOf : Heard → ℕ → TheOutcome → Type 0
+IsOutcomeOf (heard.Begun stop) last outcome = ⊥
+IsOutcomeOf (heard.Note intermediate_status) last outcome = ⊥
+IsOutcomeOf heard.Line last outcome = ⊥
+IsOutcomeOf heard.Block last outcome = ⊥
+IsOutcomeOf heard.Seen last outcome = ⊥
+IsOutcomeOf (heard.Approved figures) last outcome = (outcome.approved ≡ true) × (last < figures.number)
+IsOutcomeOf heard.Done last outcome = ⊥
+IsOutcomeOf (heard.Told reported approved result_code) last outcome = ⊥
+IsOutcomeOf (heard.Declined result_code reported) last outcome = outcome.approved ≡ false
+IsOutcomeOf heard.Unclear last outcome = ⊥
+IsOutcomeOf heard.Stray last outcome = ⊥
+
+-- a message of a terminal ends what it serves, and the Outcome is kept before the reply is sent
+pub record EndsServed (known : Known) (number : ℕ) (apdu : ApduValue) (calls : List OwedCall) : Type 0 where
+  pub terminal : Terminal
+  pub slot : ℕ
+  pub last : ℕ
+  pub meant : Heard
+  pub means : MeansAt known number apdu terminal slot last meant
+  pub outcome : TheOutcome
+  pub slot_is : outcome.slot ≡ slot
+  pub end_is : IsOutcomeOf meant last outcome
+  pub calls_are : calls ≡ outcome_calls known terminal outcome
+
+-- where a message of a terminal sends a till anything, an Outcome is kept first, and that is the reply to it
+abbrev pub EachTillHasItsOutcomeKept : Type 0
+EachTillHasItsOutcomeKept = (known : Known) (number : ℕ) (apdu : ApduValue) → sends_till (handle_row known number apdu).calls ≡ true → EndsServed known number apdu (handle_row known number apdu).calls
+
+-- a message of a terminal keeps no record but the Outcome of what it ends
+abbrev pub EachRecordIsOfAnEnd : Type 0
+EachRecordIsOfAnEnd =
+    (known : Known) (number : ℕ) (apdu : ApduValue) (the_record : Record) (more : List Record) → records_kept (handle_row known number apdu).calls ≡ the_record ∷ more
+    → EndsServed known number apdu (handle_row known number apdu).calls
+
+-- ---- repeats
+
+-- a request on a key that is on record begins nothing
+abbrev pub RepeatBeginsNothing : Type 0
+RepeatBeginsNothing =
+    (tills : List Connection) (known : Known) (till : ℕ) (header : Header) (request : SaleRequest) (found : Found) → found_for known.kept header ≡ Some found → (row_of tills known (Asked till (Request header request))).items ≡ []
+
+-- what a till asks sends no terminal anything, and keeps no record
+pub record AsksNoTerminal (calls : List OwedCall) : Type 0 where
+  pub sends_none : sends_terminal calls ≡ false
+  pub keeps_none : records_kept calls ≡ []
+
+-- so it is of each message of a till
+abbrev pub EachAskedSendsNoTerminal : Type 0
+EachAskedSendsNoTerminal = (tills : List Connection) (known : Known) (till : ℕ) (as_read : ReadAs) → AsksNoTerminal (row_of tills known (Asked till as_read)).calls
+
+-- a till's Payment, on a key that is not on record, begins at the terminal that its POIID names, and there is no reply yet
+pub record BeginsAtNamed (known : Known) (till : ℕ) (as_read : ReadAs) (row : Row) : Type 0 where
+  pub header : Header
+  pub payment : PaymentAsk
+  pub request_is : as_read ≡ Request header (requests.Payment payment)
+  pub unknown : found_for known.kept header ≡ None
+  pub named : NamedTerminal
+  pub named_is : named_terminal known.core header.poi ≡ Some named
+  pub items_are : row.items ≡ Serve named.number till header (requests.Payment payment) ∷ []
+  pub no_reply : row.calls ≡ []
+
+-- a message of a till begins nothing, or a payment
+abbrev pub EachAskedBeginsPayment : Type 0
+EachAskedBeginsPayment =
+    (tills : List Connection) (known : Known) (till : ℕ) (as_read : ReadAs) → ((row_of tills known (Asked till as_read)).items ≡ []) ⊎ BeginsAtNamed known till as_read (row_of tills known (Asked till as_read))
+
+-- the item is what a till asks
+abbrev pub is_asked_item : RoundItem → Bool
+is_asked_item (Crowded till) = false
+is_asked_item (Message till bytes) = false
+is_asked_item (Asked till as_read) = true
+is_asked_item (Unframed till) = false
+is_asked_item (Gone till) = false
+is_asked_item (Greet number apdu) = false
+is_asked_item (Handle number apdu) = false
+is_asked_item (Serve number till header request) = false
+is_asked_item (NextWaiting number) = false
+is_asked_item (Oversized number) = false
+is_asked_item (LinkLost number) = false
+is_asked_item (Late number) = false
+is_asked_item (Overdue key) = false
+is_asked_item (Due number) = false
+
+-- no other item begins anything
+abbrev pub OnlyAskedBegins : Type 0
+OnlyAskedBegins = (tills : List Connection) (known : Known) (item : RoundItem) → is_asked_item item ≡ false → (row_of tills known item).items ≡ []

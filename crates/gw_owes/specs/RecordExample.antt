@@ -1,0 +1,92 @@
+-- Closed examples of the records beside what is remembered, in which the whole premise of each law holds: a payment that begins, its end, and one whose end is unclear.
+use Rattle.std.specs.Prelude.{◌≡◌, ℕ, pos, true, false, [], ◌∷◌, All, Some, None, codes}
+use Rattle.jrn_record.specs.declared.records.Record.TheVariants.{Intent, Outcome}
+use Rattle.zvt_talk.specs.declared.dialogue_kind.DialogueKind.TheVariants.{Payment}
+use Rattle.zvt_talk.specs.declared.phase.Phase.TheVariants.{Begun}
+use Rattle.zvt_talk.specs.Talk.{TalkFacts}
+use Rattle.gw_ledger.specs.Example.{day}
+use Rattle.gw_ledger.specs.Premises.{day_opened, fourth, fourth_approval}
+use Rattle.gw_owes.specs.declared.terminal.Service.TheVariants.{Transaction}
+use Rattle.gw_owes.specs.declared.terminal.Standing.TheVariants.{Ready, Serving}
+use Rattle.gw_owes.specs.declared.terminal.Terminal.{Terminal}
+use Rattle.gw_owes.specs.Calls.{records_kept}
+use Rattle.gw_owes.specs.Core.{no_core, new_terminal}
+use Rattle.gw_owes.specs.Items.{RoundItem, Asked, Handle, Serve}
+use Rattle.gw_owes.specs.Links.{LinkIsLost, link_row}
+use Rattle.gw_owes.specs.ReadAs.{ReadAs, Request}
+use Rattle.gw_owes.specs.RecordLaws.{AreTerminalsInOrder, AreOthersInOrder, IsInOrder, IsReadItem, KeepsInOrder}
+use Rattle.gw_owes.specs.Row.{Known}
+use Rattle.gw_owes.specs.Rows.{row_of}
+use Rattle.gw_owes.specs.StepExample.{day_known, day_pt, euros, payment_header}
+use Rattle.gw_owes.specs.TerminalLaws.{owes_cut}
+use Rattle.gw_owes.specs.TerminalRows.{terminal_row}
+
+-- ---- what is known
+
+-- the day of the records' own examples, whose terminal is ready with its last trace number
+abbrev pub ready_known : Known
+ready_known = record (day_known day (Ready 125)) { moment = 0 }
+
+-- the dialogue of a payment of 1.00, which was acknowledged, and whose last status approves it
+abbrev pub approving_talk : TalkFacts
+approving_talk = record {
+  dialogue_kind = Payment;
+  none = 0x83;
+  command_time = 180;
+  deadline = pos 180;
+  phase = Begun false (record { last = Some (record { result = Some 0; amount = Some 100; trace = Some 126; receipt = Some 17; currency = None; tail = 0 }); approved = true });
+}
+
+-- the terminal that serves it
+abbrev pub paying_terminal : Terminal
+paying_terminal = record (new_terminal day_pt) { standing = Serving (Transaction 6) 125; talk = Some approving_talk; asker = Some 3 }
+
+-- the day with the payment that is open
+abbrev pub serving_known : Known
+serving_known = record (day_known day_opened (Ready 125)) { core = record no_core { terminals = paying_terminal ∷ [] }; moment = 0 }
+
+-- ---- items
+
+-- what till 3 asks is read as
+abbrev pub fourth_asked : ReadAs
+fourth_asked = Request (payment_header (codes "4")) (euros 100)
+
+-- the terminal begins to serve it
+abbrev pub fourth_begins : RoundItem
+fourth_begins = Serve 0 3 (payment_header (codes "4")) (euros 100)
+
+-- the terminal sends a message without data
+abbrev pub sends : ℕ → ℕ → RoundItem
+sends class instruction = Handle 0 (record { class = class; instr = instruction; body = [] })
+
+-- ---- the examples
+
+-- what a till's message begins was read, and is at the terminal that it names
+pub record ExampleRequestBegins : Type 0 where
+  pub in_order : IsInOrder ready_known
+  pub read : IsReadItem ready_known.setup (Asked 3 fourth_asked)
+  pub items : (row_of (record { number = 3; heard = [] } ∷ []) ready_known (Asked 3 fourth_asked)).items ≡ fourth_begins ∷ []
+  pub items_read : All (IsReadItem ready_known.setup) (fourth_begins ∷ [])
+
+-- a terminal that is ready begins a payment: its Intent is kept
+pub record ExampleIntentKept : Type 0 where
+  pub in_order : IsInOrder ready_known
+  pub read : IsReadItem ready_known.setup fourth_begins
+  pub uncut : owes_cut (terminal_row ready_known fourth_begins).calls ≡ false
+  pub kept : records_kept (terminal_row ready_known fourth_begins).calls ≡ Intent fourth ∷ []
+  pub keeps : KeepsInOrder ready_known (Intent fourth ∷ []) (terminal_row ready_known fourth_begins).core
+
+-- the payment is completed: its Outcome is kept
+pub record ExampleOutcomeKept : Type 0 where
+  pub in_order : IsInOrder serving_known
+  pub uncut : owes_cut (terminal_row serving_known (sends 0x06 0x0F)).calls ≡ false
+  pub kept : records_kept (terminal_row serving_known (sends 0x06 0x0F)).calls ≡ Outcome fourth_approval ∷ []
+  pub keeps : KeepsInOrder serving_known (Outcome fourth_approval ∷ []) (terminal_row serving_known (sends 0x06 0x0F)).core
+
+-- its end is unclear: nothing is kept, and its connection is cut, with which its link is lost
+pub record ExampleKeyStaysOpen : Type 0 where
+  pub in_order : IsInOrder serving_known
+  pub cut : owes_cut (terminal_row serving_known (sends 0x06 0x1E)).calls ≡ true
+  pub none_kept : records_kept (terminal_row serving_known (sends 0x06 0x1E)).calls ≡ []
+  pub others : AreOthersInOrder 0 day_opened (terminal_row serving_known (sends 0x06 0x1E)).core
+  pub lost : AreTerminalsInOrder day_opened (link_row (record serving_known { core = (terminal_row serving_known (sends 0x06 0x1E)).core }) 0 LinkIsLost).core

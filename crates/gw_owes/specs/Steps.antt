@@ -1,0 +1,185 @@
+-- The steps of a Payment, a Reversal and a Reconciliation: one table, in its order. The first that applies replies.
+use Rattle.std.specs.Prelude.{ℕ, ◌+◌, ◌==◌, nat_lt, bytes_eq, is_some, not, Bool, true, false, ◌&&◌, ◌||◌, if◌then◌else◌, List, [], ◌∷◌, length, Option, Some, None, option_and_then}
+use Rattle.gw_base.specs.Currency.{currency_letters}
+use Rattle.gw_base.specs.declared.condition.Condition.{Condition}
+use Rattle.gw_base.specs.declared.condition.Condition.TheVariants.{Busy, InProgress, NotAllowed, UnavailableDevice, UnavailableService}
+use Rattle.sale_values.specs.declared.header.Header.{Header}
+use Rattle.sale_values.specs.declared.request.SaleRequest.{SaleRequest}
+use Rattle.sale_values.specs.declared.request.SaleRequest.TheVariants as requests
+use Rattle.jrn_record.specs.declared.records.Record.{Record}
+use Rattle.gw_ledger.specs.declared.entry.Found.{Found}
+use Rattle.gw_ledger.specs.Accounts.{last_number_of}
+use Rattle.gw_ledger.specs.Sums.{open_count_of}
+use Rattle.gw_owes.specs.declared.terminal.Standing.{Standing}
+use Rattle.gw_owes.specs.declared.terminal.Standing.TheVariants.{Unlinked, Registering, Enquiring, Ready, Serving, Aside}
+use Rattle.gw_owes.specs.Content.{is_normal, has_same_content}
+use Rattle.gw_owes.specs.Diagnosis.{NamedTerminal}
+use Rattle.gw_owes.specs.Items.{RoundItem, Serve}
+use Rattle.gw_owes.specs.KeptReplies.{found_for, is_finished, kept_reply}
+use Rattle.gw_owes.specs.Reply.{ReplyValue}
+use Rattle.gw_owes.specs.Replies.{failure_reply}
+use Rattle.gw_owes.specs.Row.{Known}
+
+-- what a step gives
+pub data StepResult : Type 0 where
+  -- the kept reply again
+  KeptReply : StepResult
+  -- a Failure
+  Fails : Condition → StepResult
+  -- the terminal begins to serve the request: there is no reply yet
+  Begins : StepResult
+
+-- one step
+pub record RequestStep : Type 0 where
+  pub applies : Bool
+  pub result : StepResult
+
+-- ---- what the steps ask
+
+-- the key is on record, with the same content
+abbrev pub is_repeated : List Record → SaleRequest → Option Found → Bool
+is_repeated kept request None = false
+is_repeated kept request (Some found) = has_same_content kept request found
+
+-- it is finished there
+abbrev pub has_reply : Option Found → Bool
+has_reply None = false
+has_reply (Some found) = is_finished found
+
+-- the service isn't there: a payment whose type isn't `Normal`, and as yet each reversal and reconciliation
+abbrev pub is_unserved : SaleRequest → Bool
+is_unserved requests.Login = true
+is_unserved requests.Logout = true
+is_unserved (requests.Payment ask) = not (is_normal ask.kind)
+is_unserved (requests.Reversal ask) = true
+is_unserved (requests.Abort reference) = true
+is_unserved (requests.Status reference) = true
+is_unserved (requests.Reconciliation period) = true
+is_unserved (requests.Display outputs) = true
+is_unserved (requests.Print qualifier) = true
+is_unserved requests.Diagnosis = true
+
+-- the currency isn't that of the terminal
+abbrev pub is_other_currency : List ℕ → Option NamedTerminal → Bool
+is_other_currency currency None = false
+is_other_currency currency (Some named) = not (bytes_eq currency (currency_letters named.terminal.pt.currency))
+
+-- a payment's currency isn't that of the terminal
+abbrev pub asks_other_currency : SaleRequest → Option NamedTerminal → Bool
+asks_other_currency requests.Login named = false
+asks_other_currency requests.Logout named = false
+asks_other_currency (requests.Payment ask) named = is_other_currency ask.currency named
+asks_other_currency (requests.Reversal ask) named = false
+asks_other_currency (requests.Abort reference) named = false
+asks_other_currency (requests.Status reference) named = false
+asks_other_currency (requests.Reconciliation period) named = false
+asks_other_currency (requests.Display outputs) named = false
+asks_other_currency (requests.Print qualifier) named = false
+asks_other_currency requests.Diagnosis named = false
+
+-- the greatest trace number that there is
+abbrev pub greatest_number : ℕ
+greatest_number = 999999
+
+-- the last trace number with which a terminal of this standing was ready, where it has one
+abbrev pub is_last_of : ℕ → Standing → Bool
+is_last_of number (Unlinked due) = false
+is_last_of number Registering = false
+is_last_of number Enquiring = false
+is_last_of number (Ready last) = last == number
+is_last_of number (Serving service last) = last == number
+is_last_of number (Aside before reported) = false
+
+-- the terminal was last ready with this number
+abbrev pub has_last : ℕ → Option NamedTerminal → Bool
+has_last number None = false
+has_last number (Some named) = is_last_of number named.terminal.standing
+
+-- the greatest trace number is the last one of the records or of the terminal, so that none can come after it
+abbrev pub is_used_up : List Record → List ℕ → Option NamedTerminal → Bool
+is_used_up kept poi named = (last_number_of kept poi == greatest_number) || has_last greatest_number named
+
+-- fewer slots are free than two for the Intent and its Outcome, and one for each key that is open
+abbrev pub lacks_room : ℕ → List Record → Bool
+lacks_room slots kept = nat_lt slots (length kept + (open_count_of kept + 2))
+
+-- a terminal of this standing takes no request: it isn't linked, not yet ready, or set aside
+abbrev pub is_out_of_service : Standing → Bool
+is_out_of_service (Unlinked due) = true
+is_out_of_service Registering = true
+is_out_of_service Enquiring = true
+is_out_of_service (Ready last) = false
+is_out_of_service (Serving service last) = false
+is_out_of_service (Aside before reported) = true
+
+-- the terminal takes no request
+abbrev pub is_unavailable : Option NamedTerminal → Bool
+is_unavailable None = false
+is_unavailable (Some named) = is_out_of_service named.terminal.standing
+
+-- a terminal of this standing is ready
+abbrev pub is_ready_standing : Standing → Bool
+is_ready_standing (Unlinked due) = false
+is_ready_standing Registering = false
+is_ready_standing Enquiring = false
+is_ready_standing (Ready last) = true
+is_ready_standing (Serving service last) = false
+is_ready_standing (Aside before reported) = false
+
+-- the terminal is ready
+abbrev pub is_ready : Option NamedTerminal → Bool
+is_ready None = false
+is_ready (Some named) = is_ready_standing named.terminal.standing
+
+-- ---- the table
+
+-- the steps of a request, by what the records have under its key and the terminal that its POIID names
+abbrev pub steps : Known → Header → SaleRequest → Option Found → Option NamedTerminal → List RequestStep
+steps known header request found named =
+    record { applies = is_repeated known.kept request found && has_reply found; result = KeptReply }
+    ∷ record { applies = is_repeated known.kept request found; result = Fails InProgress }
+    ∷ record { applies = is_some found; result = Fails NotAllowed }
+    ∷ record { applies = not (is_some named); result = Fails UnavailableDevice }
+    ∷ record { applies = is_unserved request; result = Fails UnavailableService }
+    ∷ record { applies = asks_other_currency request named; result = Fails NotAllowed }
+    ∷ record { applies = is_used_up known.kept header.poi named; result = Fails UnavailableService }
+    ∷ record { applies = lacks_room known.setup.slots known.kept; result = Fails UnavailableService }
+    ∷ record { applies = is_unavailable named; result = Fails UnavailableDevice }
+    ∷ record { applies = is_ready named; result = Begins }
+    ∷ []
+
+-- the result of the first step that applies, or else this one
+abbrev pub first_result : StepResult → List RequestStep → StepResult
+first_result otherwise [] = otherwise
+first_result otherwise (step ∷ steps) = if step.applies then step.result else first_result otherwise steps
+
+-- the result of the steps of a request; no request waits, so that one for a terminal that serves another finds it busy
+abbrev pub step_result : Known → Header → SaleRequest → Option NamedTerminal → StepResult
+step_result known header request named = first_result (Fails Busy) (steps known header request (found_for known.kept header) named)
+
+-- the reply that a result is; none where a service begins
+abbrev pub reply_of_result : List Record → Header → StepResult → Option ReplyValue
+reply_of_result kept header KeptReply = option_and_then kept_reply (found_for kept header)
+reply_of_result kept header (Fails condition) = Some (failure_reply header condition)
+reply_of_result kept header Begins = None
+
+-- the reply to a Payment, a Reversal or a Reconciliation
+abbrev pub service_reply : Known → Header → SaleRequest → Option NamedTerminal → Option ReplyValue
+service_reply known header request named = reply_of_result known.kept header (step_result known header request named)
+
+-- ---- what begins
+
+-- the item of what begins at a terminal
+abbrev pub item_of_result : ℕ → Header → SaleRequest → ℕ → StepResult → List RoundItem
+item_of_result till header request number KeptReply = []
+item_of_result till header request number (Fails condition) = []
+item_of_result till header request number Begins = Serve number till header request ∷ []
+
+-- the same at the terminal that is named, where there is one
+abbrev pub items_of_result : ℕ → Header → SaleRequest → Option NamedTerminal → StepResult → List RoundItem
+items_of_result till header request None result = []
+items_of_result till header request (Some named) result = item_of_result till header request named.number result
+
+-- what a Payment, a Reversal or a Reconciliation of a till begins
+abbrev pub service_items : Known → ℕ → Header → SaleRequest → Option NamedTerminal → List RoundItem
+service_items known till header request named = items_of_result till header request named (step_result known header request named)

@@ -1,0 +1,39 @@
+//! Laws of the records beside what is remembered. Each function does nothing: its contract is the law.
+ghost use Rattle.gw_owes.specs.HeardLaws.{EachMeaningFits};
+ghost use Rattle.gw_owes.specs.RecordExample.{ExampleIntentKept, ExampleKeyStaysOpen, ExampleOutcomeKept, ExampleRequestBegins};
+ghost use Rattle.gw_owes.specs.RecordLaws.{EachCutKeepsInOrder, EachLinkKeepsInOrder, EachRowBringsReadItems, EachRowKeepsInOrder, NewCoreIsInOrder};
+
+/// While a terminal is ready none of its keys is open on record, and its last trace number is none below that of its records; while
+/// it serves a payment, that is its one open key, and the number before is the one with which it was ready. So it is as a run
+/// begins, whatever the records; each item leaves it so, and each event of a link. A row keeps one record at most; it may come
+/// after those before it, and a slot is left for the Outcome of each open key.
+pub fn law_records()
+    ensures new { NewCoreIsInOrder }
+    ensures rows { EachRowKeepsInOrder }
+    ensures cuts { EachCutKeepsInOrder }
+    ensures links { EachLinkKeepsInOrder }
+    ensures items { EachRowBringsReadItems }
+{
+    gw_ledger::law_next();
+    gw_ledger::law_open();
+    gw_ledger::law_within();
+    gw_ledger::law_fits();
+    zvt_msg::law_read_fits();
+}
+
+/// What a message means for a dialogue whose last status was read can be kept in a record.
+pub fn law_meanings()
+    ensures { EachMeaningFits }
+{}
+
+/// Examples of these laws, which are computed: their premises hold of a terminal that is ready and begins a payment, and of one that
+/// serves it and ends it, clearly or not.
+pub fn law_record_examples()
+    ensures begins { ExampleRequestBegins }
+    ensures intent { ExampleIntentKept }
+    ensures outcome { ExampleOutcomeKept }
+    ensures open_key { ExampleKeyStaysOpen }
+{
+    law_records();
+    gw_ledger::law_examples();
+}

@@ -1,0 +1,171 @@
+-- The few forms that a row takes: what a message of a terminal means, and what a till's message begins.
+use Rattle.std.proofs.Common.{◌≡◌, ℕ, Bool, true, false, List, [], ◌∷◌, refl}
+use Rattle.std.specs.Prelude.{nat_lt, nat_le, if◌then◌else◌, Option, Some, None, Ok}
+use Rattle.gw_base.specs.declared.figures.Figures.{Figures}
+use Rattle.zvt_apdu.specs.Grammar.{ApduValue}
+use Rattle.zvt_msg.specs.Message.{MessageValue}
+use Rattle.zvt_msg.specs.MessageDecode.{decode_pt_message}
+use Rattle.zvt_talk.specs.Came.{is_taken}
+use Rattle.zvt_talk.specs.declared.meaning.Heard.{Heard}
+use Rattle.zvt_talk.specs.declared.meaning.Heard.TheVariants as heard
+use Rattle.jrn_record.specs.declared.records.Outcome.{Outcome as TheOutcome}
+use Rattle.sale_values.specs.declared.header.Header.{Header}
+use Rattle.sale_values.specs.declared.request.SaleRequest.{SaleRequest}
+use Rattle.sale_values.specs.declared.request.SaleRequest.TheVariants as requests
+use Rattle.gw_owes.specs.Diagnosis.{NamedTerminal, named_terminal}
+use Rattle.gw_owes.specs.Handling.{taking, meaning_at, enquires, registering, enquiring, serving_other, serving, consequence, handle_row}
+use Rattle.gw_owes.specs.Items.{RoundItem, Serve}
+use Rattle.gw_owes.specs.Links.{is_linked}
+use Rattle.gw_owes.specs.ReadAs.{ReadAs, Request, Silent, NoMessage, NoJson}
+use Rattle.gw_owes.specs.Reports.{at_rest, on_record, standing_reported, report_against}
+use Rattle.gw_owes.specs.Requests.{begun_at, begun_by}
+use Rattle.gw_owes.specs.Row.{Known, Row, owing_nothing}
+use Rattle.gw_owes.specs.Serving.{staying, breaking, stops, resolves, approved_outcome, approved_row, serving_transaction}
+use Rattle.gw_owes.specs.Steps.{StepResult, KeptReply, Fails, Begins, step_result, item_of_result, items_of_result}
+use Rattle.gw_owes.specs.Terminals.{terminal_at, terminal_becomes}
+use Rattle.gw_owes.specs.declared.terminal.Service.{Service}
+use Rattle.gw_owes.specs.declared.terminal.Service.TheVariants.{Transaction, EndOfDay, Display}
+use Rattle.gw_owes.specs.declared.terminal.Standing.{Standing}
+use Rattle.gw_owes.specs.declared.terminal.Standing.TheVariants.{Unlinked, Registering, Enquiring, Ready, Serving, Aside}
+use Rattle.gw_owes.specs.declared.terminal.Terminal.{Terminal}
+use Rattle.gw_owes.proofs.HandlingLemmas.{each-handled}
+
+-- ---- what a message means
+
+-- something holds of each form that the consequence of a message may have
+pub record EachForm (P : Row → Type 0) (known : Known) (number : ℕ) (terminal : Terminal) : Type 0 where
+  pub nothing : P (owing_nothing known)
+  pub stays : P (staying known number terminal)
+  pub cuts : P (breaking known number terminal)
+  pub stops : P (stops known number terminal)
+  pub enquires : P (enquires known number terminal)
+  -- its dialogue is over, and nothing is kept
+  pub rests : (standing : Standing) → is_linked standing ≡ true → P (terminal_becomes known number (at_rest terminal standing) [])
+  -- what it serves has its end
+  pub resolves : (standing : Standing) (outcome : TheOutcome) → is_linked standing ≡ true → P (resolves known number terminal standing outcome)
+
+module _ (P : Row → Type 0) (known : Known) (number : ℕ) (terminal : Terminal) (each : EachForm P known number terminal) where
+  form-registering : (meant : Heard) → P (registering known number terminal meant)
+  form-registering (heard.Begun stop) = each.stays
+  form-registering (heard.Note intermediate_status) = each.stays
+  form-registering heard.Line = each.stays
+  form-registering heard.Block = each.stays
+  form-registering heard.Seen = each.stays
+  form-registering (heard.Approved figures) = each.stays
+  form-registering heard.Done = each.enquires
+  form-registering (heard.Told reported approved result_code) = each.stays
+  form-registering (heard.Declined result_code reported) = each.cuts
+  form-registering heard.Unclear = each.cuts
+  form-registering heard.Stray = each.stays
+
+  form-report : (last reported : ℕ) (open_before : Option ℕ) → P (report_against open_before last known number terminal reported)
+  form-report last reported None = each.rests (standing_reported last reported) (by_test (nat_le last reported))
+    where
+      by_test : (test : Bool) → is_linked (if test then Ready reported else Aside last reported) ≡ true
+      by_test true = refl
+      by_test false = refl
+  form-report last reported (Some before) = each.cuts
+
+  form-enquiring : (meant : Heard) → P (enquiring known number terminal meant)
+  form-enquiring (heard.Begun stop) = each.stays
+  form-enquiring (heard.Note intermediate_status) = each.stays
+  form-enquiring heard.Line = each.stays
+  form-enquiring heard.Block = each.stays
+  form-enquiring heard.Seen = each.stays
+  form-enquiring (heard.Approved figures) = each.stays
+  form-enquiring heard.Done = each.stays
+  form-enquiring (heard.Told reported approved result_code) =
+      form-report (on_record known.kept terminal.pt.poi).last reported (on_record known.kept terminal.pt.poi).open_before
+  form-enquiring (heard.Declined result_code reported) = each.cuts
+  form-enquiring heard.Unclear = each.cuts
+  form-enquiring heard.Stray = each.stays
+
+  form-approved : (slot last : ℕ) (figures : Figures) → P (approved_row known number terminal slot last figures)
+  form-approved slot last figures = by_test (nat_lt last figures.number)
+    where
+      by_test : (test : Bool)
+          → P (if test then resolves known number terminal (Ready figures.number) (approved_outcome slot figures known.moment) else terminal_becomes known number (at_rest terminal (Aside last figures.number)) [])
+      by_test true = each.resolves (Ready figures.number) (approved_outcome slot figures known.moment) refl
+      by_test false = each.rests (Aside last figures.number) refl
+
+  form-transaction : (slot last : ℕ) (meant : Heard) → P (serving_transaction known number terminal slot last meant)
+  form-transaction slot last (heard.Begun true) = each.stops
+  form-transaction slot last (heard.Begun false) = each.stays
+  form-transaction slot last (heard.Note intermediate_status) = each.stays
+  form-transaction slot last heard.Line = each.stays
+  form-transaction slot last heard.Block = each.stays
+  form-transaction slot last heard.Seen = each.stays
+  form-transaction slot last (heard.Approved figures) = form-approved slot last figures
+  form-transaction slot last heard.Done = each.stays
+  form-transaction slot last (heard.Told reported approved result_code) = each.stays
+  form-transaction slot last (heard.Declined result_code reported) = each.resolves _ _ refl
+  form-transaction slot last heard.Unclear = each.cuts
+  form-transaction slot last heard.Stray = each.stays
+
+  form-other : (meant : Heard) → P (serving_other known number terminal meant)
+  form-other (heard.Begun true) = each.stops
+  form-other (heard.Begun false) = each.stays
+  form-other (heard.Note intermediate_status) = each.stays
+  form-other heard.Line = each.stays
+  form-other heard.Block = each.stays
+  form-other heard.Seen = each.stays
+  form-other (heard.Approved figures) = each.stays
+  form-other heard.Done = each.stays
+  form-other (heard.Told reported approved result_code) = each.stays
+  form-other (heard.Declined result_code reported) = each.stays
+  form-other heard.Unclear = each.cuts
+  form-other heard.Stray = each.stays
+
+  form-serving : (service : Service) (last : ℕ) (meant : Heard) → P (serving known number terminal service last meant)
+  form-serving (Transaction slot) last meant = form-transaction slot last meant
+  form-serving (EndOfDay header period) last meant = form-other meant
+  form-serving (Display header outputs) last meant = form-other meant
+
+  pub form-consequence : (meant : Heard) (standing : Standing) → P (consequence known number terminal meant standing)
+  form-consequence meant (Unlinked due) = each.nothing
+  form-consequence meant Registering = form-registering meant
+  form-consequence meant Enquiring = form-enquiring meant
+  form-consequence meant (Ready last) = each.stays
+  form-consequence meant (Serving service last) = form-serving service last meant
+  form-consequence meant (Aside before reported) = each.stays
+
+-- what holds of nothing owed, and of each form for each terminal that is linked and has taken the message, holds of what the message leaves and owes
+pub form-handled : (P : Row → Type 0) (known : Known) (number : ℕ) (apdu : ApduValue) → P (owing_nothing known)
+    → ((terminal : Terminal) (message : MessageValue) → terminal_at known number ≡ Some terminal → is_linked terminal.standing ≡ true → decode_pt_message apdu ≡ Ok message → is_taken message ≡ true
+    → EachForm P known number (taking terminal message known.moment))
+    → P (handle_row known number apdu)
+form-handled P known number apdu none each =
+    each-handled P known number apdu none
+    (λ terminal message found linked is taken.
+    form-consequence P known number (taking terminal message known.moment) (each terminal message found linked is taken) (meaning_at terminal message) terminal.standing)
+
+-- ---- what a till's message begins
+
+-- what holds of no item, and of the one with which a terminal begins to serve the request, holds of what a message begins
+module _ (P : List RoundItem → Type 0) (known : Known) (till : ℕ) (none : P []) where
+  form-result : (header : Header) (request : SaleRequest) (number : ℕ) (given : StepResult) → P (Serve number till header request ∷ []) → P (item_of_result till header request number given)
+  form-result header request number KeptReply some = none
+  form-result header request number (Fails condition) some = none
+  form-result header request number Begins some = some
+
+  form-results : (header : Header) (request : SaleRequest) (named : Option NamedTerminal) (given : StepResult) → ((number : ℕ) → P (Serve number till header request ∷ [])) → P (items_of_result till header request named given)
+  form-results header request None given some = none
+  form-results header request (Some named) given some = form-result header request named.number given (some named.number)
+
+  form-begun-at : (named : Option NamedTerminal) (header : Header) (request : SaleRequest) → ((number : ℕ) → P (Serve number till header request ∷ [])) → P (begun_at named known till header request)
+  form-begun-at named header requests.Login some = none
+  form-begun-at named header requests.Logout some = none
+  form-begun-at named header (requests.Payment ask) some = form-results header (requests.Payment ask) named (step_result known header (requests.Payment ask) named) some
+  form-begun-at named header (requests.Reversal ask) some = form-results header (requests.Reversal ask) named (step_result known header (requests.Reversal ask) named) some
+  form-begun-at named header (requests.Abort reference) some = none
+  form-begun-at named header (requests.Status reference) some = none
+  form-begun-at named header (requests.Reconciliation period) some = form-results header (requests.Reconciliation period) named (step_result known header (requests.Reconciliation period) named) some
+  form-begun-at named header (requests.Display outputs) some = none
+  form-begun-at named header (requests.Print qualifier) some = none
+  form-begun-at named header requests.Diagnosis some = none
+
+  pub form-begun : (as_read : ReadAs) → ((number : ℕ) (header : Header) (request : SaleRequest) → as_read ≡ Request header request → P (Serve number till header request ∷ [])) → P (begun_by known till as_read)
+  form-begun (Request header request) some = form-begun-at (named_terminal known.core header.poi) header request (λ number. some number header request refl)
+  form-begun Silent some = none
+  form-begun (NoMessage fault) some = none
+  form-begun (NoJson fault) some = none
