@@ -11,7 +11,7 @@ ghost use Rattle.gw_books.specs.SaidLaws.{EachReplyIsFramed, EachReplySays, OneM
 /// out; and the book with the approved entry, the empty book, and either of them, is honest for it and agrees. What agrees with no
 /// book: a command that is sent twice; a key that has its Outcome said to be in progress, not accepted, or not allowed with the
 /// content that was accepted; a payment that was accepted said not to be found; a write for bytes outside the grammars; a key that is
-/// open at the next poll after an enquiry has reported. What doesn't agree with a book: a success without its entry, or with one that
+/// open since before its link at the next poll after an enquiry has reported, while the link lasts. What doesn't agree with a book: a success without its entry, or with one that
 /// comes later, is declined, or has another amount or receipt number, also where it is repeated; a refusal whose command is approved
 /// later. What isn't honest: an entry without its command, or after its link was replaced; numbers and places that fall, and two
 /// entries of one command; an end of a dialogue that isn't true of the book.
