@@ -72,15 +72,15 @@ opening-lawful : IsCourse (view_from at_first ready_moves) (Make (Polled (pos 3)
 unfolding decode_apdus decode_apdus_within decode_pt_message history
 opening-lawful = (record { running = refl; calls = refl; items = refl }, ((refl, leb-true 0 1 refl), (record { idle = record { round = refl; calls = refl }; first = refl }, (record { idle = record { round = refl; calls = refl }; first = refl }, tt))))
 
-asking-lawful : IsCourse (view_from at_first opened_moves) asked_moves
+pub asking-lawful : IsCourse (view_from at_first opened_moves) asked_moves
 unfolding decode_apdus decode_apdus_within decode_pt_message history payment_text
 asking-lawful = (record { running = refl; calls = refl; items = refl }, ((record { polled = refl; connected_is = refl }, payment-chunk), (record { idle = record { round = refl; calls = refl }; waits = refl; bytes = payment_text; message = refl; reads = payment-reads }, (record { idle = record { round = refl; calls = refl }; first = refl }, (record { idle = record { round = refl; calls = refl }; first = refl }, ((WriteBody 0 (Intent paying_intent), refl, refl), (refl, ((WriteGate 0 (Intent paying_intent), refl, refl), (refl, ((Ask (commands.Authorise 1099 978), refl, refl), (record { idle = record { round = refl; calls = refl }; first = refl }, (record { idle = record { round = refl; calls = refl }; first = refl }, tt))))))))))))
 
-paying-lawful : IsCourse (view_from at_first asked_course) (paid_moves ++ Make (Polled (pos 6)) ∷ [])
+pub paying-lawful : IsCourse (view_from at_first asked_course) (paid_moves ++ Make (Polled (pos 6)) ∷ [])
 unfolding decode_apdus decode_apdus_within decode_pt_message decode_status decode_status_within decode_status_field decode_field_value history payment_text
 paying-lawful = (record { running = refl; calls = refl; items = refl }, ((record { polled = refl; connected_is = refl }, approving-chunk), (record { idle = record { round = refl; calls = refl }; first = refl }, (record { idle = record { round = refl; calls = refl }; first = refl }, (record { idle = record { round = refl; calls = refl }; first = refl }, (record { idle = record { round = refl; calls = refl }; first = refl }, ((Acknowledge, refl, refl), (record { idle = record { round = refl; calls = refl }; first = refl }, (record { idle = record { round = refl; calls = refl }; first = refl }, (record { idle = record { round = refl; calls = refl }; first = refl }, ((Acknowledge, refl, refl), (record { idle = record { round = refl; calls = refl }; first = refl }, ((WriteBody 1 (Outcome kept_approval), refl, refl), (refl, ((WriteGate 1 (Outcome kept_approval), refl, refl), (refl, ((success_reply, refl, refl), (record { idle = record { round = refl; calls = refl }; first = refl }, (record { idle = record { round = refl; calls = refl }; first = refl }, (record { idle = record { round = refl; calls = refl }; first = refl }, (record { running = refl; calls = refl; items = refl }, tt)))))))))))))))))))))
 
-declining-lawful : IsCourse (view_from at_first asked_course) (refused_moves ++ Make (Polled (pos 6)) ∷ [])
+pub declining-lawful : IsCourse (view_from at_first asked_course) (refused_moves ++ Make (Polled (pos 6)) ∷ [])
 unfolding decode_apdus decode_apdus_within decode_pt_message history payment_text
 declining-lawful = (record { running = refl; calls = refl; items = refl }, ((record { polled = refl; connected_is = refl }, declining-chunk), (record { idle = record { round = refl; calls = refl }; first = refl }, (record { idle = record { round = refl; calls = refl }; first = refl }, (record { idle = record { round = refl; calls = refl }; first = refl }, (record { idle = record { round = refl; calls = refl }; first = refl }, ((Acknowledge, refl, refl), (record { idle = record { round = refl; calls = refl }; first = refl }, ((WriteBody 1 (Outcome kept_decline), refl, refl), (refl, ((WriteGate 1 (Outcome kept_decline), refl, refl), (refl, ((refusal_reply, refl, refl), (record { idle = record { round = refl; calls = refl }; first = refl }, (record { idle = record { round = refl; calls = refl }; first = refl }, (record { idle = record { round = refl; calls = refl }; first = refl }, (record { running = refl; calls = refl; items = refl }, tt)))))))))))))))))
 
@@ -88,7 +88,7 @@ losing-lawful : IsCourse (view_from at_first asked_course) (lost_moves ++ Make (
 unfolding decode_apdus decode_apdus_within decode_pt_message history payment_text
 losing-lawful = (record { running = refl; calls = refl; items = refl }, (record { polled = refl; connected_is = refl }, (record { idle = record { round = refl; calls = refl }; first = refl }, (record { idle = record { round = refl; calls = refl }; first = refl }, (record { idle = record { round = refl; calls = refl }; first = refl }, (record { running = refl; calls = refl; items = refl }, ((record { polled = refl; connected_is = refl }, payment-chunk), (record { idle = record { round = refl; calls = refl }; waits = refl; bytes = payment_text; message = refl; reads = payment-reads }, (record { idle = record { round = refl; calls = refl }; first = refl }, ((progress_reply, refl, refl), (record { idle = record { round = refl; calls = refl }; first = refl }, (record { idle = record { round = refl; calls = refl }; first = refl }, (record { running = refl; calls = refl; items = refl }, tt)))))))))))))
 
-asked-lawful : IsCourse at_first asked_course
+pub asked-lawful : IsCourse at_first asked_course
 asked-lawful = course-append at_first opened_moves asked_moves (course-append at_first ready_moves (Make (Polled (pos 3)) ∷ Make (Opened 1) ∷ items_begin 2) ready-lawful opening-lawful) asking-lawful
 
 -- a course that goes on from there

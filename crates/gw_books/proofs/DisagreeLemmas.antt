@@ -1,5 +1,5 @@
 -- What doesn't agree, and the books that aren't honest.
-use Rattle.std.proofs.Common.{◌≡◌, Bool, true, false, List, [], ◌∷◌, ◌++◌, refl, sym, subst, ◌∙◌, arith}
+use Rattle.std.proofs.Common.{◌≡◌, Bool, true, false, List, [], ◌∷◌, ◌++◌, refl, sym, ap, subst, ◌∙◌, arith}
 use Rattle.std.specs.Prelude.{take, All, Some, None, codes, map}
 use Rattle.std.specs.Fmt.{digits}
 use Rattle.std.specs.List.{list_all}
@@ -30,13 +30,14 @@ use Rattle.gw_ledger.specs.History.{history}
 use Rattle.gw_owes.specs.Reply.{ReplyValue, Repeated, reply_value_tree, reply_value_bytes}
 use Rattle.gw_owes.specs.Replies.{header_of_reply, failure, failure_reply}
 use Rattle.gw_rules.proofs.TextLemmas.{ident-tested}
-use Rattle.gw_rules.specs.View.{Begin, Read, Make}
-use Rattle.gw_books.specs.Past.{OfRequest, SentCommand, SentReply, MadePoll, Past, past_of}
-use Rattle.gw_books.specs.Books.{BookedEntry, is_caused, is_of_its_link}
+use Rattle.gw_rules.specs.View.{Move, Begin, Read, Make}
+use Rattle.gw_books.specs.Past.{OfRequest, OfNothing, SentReply, MadePoll, Past, past_of}
+use Rattle.gw_books.specs.Books.{BookedEntry, Honest, is_caused, is_of_its_link}
 use Rattle.gw_books.specs.Said.{all_said, IsFramed}
-use Rattle.gw_books.specs.Agrees.{are_distinct_keys, success_agrees, refusal_agrees, unaccepted_agrees, not_found_agrees, in_progress_agrees, report_resolves, is_inside, EachSaid, Agrees}
-use Rattle.gw_books.specs.Example.{opened_moves, payment_text, paying_header, payment_ask, paying_intent, kept_approval, approved_mark, paid_result_body, success_reply, sent_success, authorise, asked_course, paid_course, paid_past, payment_command, paid_entry, refusal_reply, sent_refusal, refused_past, later_entry}
-use Rattle.gw_books.specs.DisagreeExample.{status_asking_header, course_replied, unresolved_course, TwiceDisagrees, UnbookedDisagrees, LaterEntryDisagrees, ProgressDisagrees, UnacceptedDisagrees, SameContentDisagrees, OtherContentAgrees, NotFoundDisagrees, RepeatAgrees, OtherRepeatDisagrees, OutsideDisagrees, UnresolvedDisagrees, WaitingIsInProgress, UnreportedIsResolved, LinksEnd, UncausedBooks, DisorderedBooks, UntrueBooks, ReportedBooks}
+use Rattle.gw_books.specs.Agrees.{are_distinct_keys, entry_key, success_agrees, refusal_agrees, unaccepted_agrees, not_found_agrees, in_progress_agrees, report_resolves, is_inside, EachSaid, Agrees}
+use Rattle.gw_books.specs.Headline.{HonestAgrees}
+use Rattle.gw_books.specs.Example.{polled_linked, asked_past, opened_moves, payment_text, paying_header, payment_ask, paying_intent, kept_approval, approved_mark, paid_result_body, success_reply, sent_success, authorise, asked_course, paid_course, payment_command, paid_entry, refusal_reply, later_entry}
+use Rattle.gw_books.specs.DisagreeExample.{BreaksAgreement, NotLawful, twice_course, twice_booked, course_sent, entry_in_time, status_asking_header, course_replied, unresolved_course, TwiceDisagrees, EntriesOfOneKey, KeylessDisagrees, UnbookedDisagrees, LaterEntryDisagrees, ProgressDisagrees, UnacceptedDisagrees, SameContentDisagrees, OtherContentAgrees, NotFoundDisagrees, RepeatAgrees, OtherRepeatDisagrees, OutsideDisagrees, UnresolvedDisagrees, WaitingIsInProgress, UnreportedMayBeOpen, LinksEnd, UncausedBooks, DisorderedBooks, UntrueBooks, ReportedBooks}
 use Rattle.gw_books.proofs.MessageLemmas.{reply-framed}
 use Rattle.gw_books.proofs.ExampleLemmas.{Agreement, each-agrees, header-within, approved-within, success-framed, refusal-framed}
 
@@ -49,12 +50,49 @@ not-true test f e = no-false (sym f ∙ e)
 
 -- ---- commands
 
-sent-twice : are_distinct_keys (map (λ (command : SentCommand). command.key) (past_of (asked_course ++ Make (SentPt 0 authorise true) ∷ [])).commands) ≡ false
+-- along a course with this past, an honest book that doesn't agree breaks it
+breaks-by : (course : List Move) (past : Past) (book : List BookedEntry) → past_of course ≡ past → Honest past book → ¬ Agrees past book → BreaksAgreement course book
+breaks-by course past book e honest disagrees = record { honest = subst (λ (one : Past). Honest one book) (sym e) honest; disagrees = λ agrees. disagrees (subst (λ (one : Past). Agrees one book) e agrees) }
+
+-- what an honest book breaks is the lean course of no log
+pub not-lawful : HonestAgrees → NotLawful
+not-lawful headline log course book lean breaks = breaks.disagrees (headline log (past_of course) book (record { moves = course; lean = lean; past_is = refl }) breaks.honest)
+
+-- what has happened where the command is sent twice
+abbrev twice_past : Past
+twice_past = record asked_past { place = 24; commands = record payment_command { place = 23 } ∷ asked_past.commands; deeds = OfNothing ∷ asked_past.deeds }
+
+twice-past : past_of twice_course ≡ twice_past
 unfolding decode_apdus decode_apdus_within decode_pt_message history payment_text
-sent-twice = refl
+twice-past = refl
+
+sent-twice : (book : List BookedEntry) → ¬ Agrees twice_past book
+sent-twice book agrees = no-false agrees.sent_once
 
 pub twice-disagrees : TwiceDisagrees
-twice-disagrees book agrees = not-true _ sent-twice agrees.sent_once
+twice-disagrees = breaks-by twice_course twice_past [] twice-past (record { caused = refl; linked = refl; ordered = refl; numbered = refl; true_ends = refl }) (sent-twice [])
+
+pub entries-of-one-key : EntriesOfOneKey
+entries-of-one-key = record {
+  breaks = breaks-by twice_course twice_past twice_booked twice-past (record { caused = refl; linked = refl; ordered = refl; numbered = refl; true_ends = refl }) (sent-twice twice_booked);
+  one_key = ap (λ past. are_distinct_keys (map (entry_key past) twice_booked)) twice-past;
+}
+
+-- what has happened where a command has no key
+abbrev keyless_past : Past
+keyless_past = record asked_past {
+  place = 17;
+  commands = record payment_command { place = 16; key = None } ∷ [];
+  polls = polled_linked 14 [] ∷ polled_linked 11 [] ∷ polled_linked 7 [] ∷ record { place = 4; links = []; kept = [] } ∷ [];
+  deeds = OfNothing ∷ [];
+}
+
+keyless-past : past_of (opened_moves ++ Make (SentPt 0 authorise true) ∷ []) ≡ keyless_past
+unfolding decode_apdus decode_apdus_within decode_pt_message history
+keyless-past = refl
+
+pub keyless-disagrees : KeylessDisagrees
+keyless-disagrees = breaks-by (opened_moves ++ Make (SentPt 0 authorise true) ∷ []) keyless_past [] keyless-past (record { caused = refl; linked = refl; ordered = refl; numbered = refl; true_ends = refl }) (λ agrees. no-false agrees.keyed)
 
 -- ---- replies
 
@@ -65,49 +103,66 @@ last-refused agrees past book sent rest message e framed f each =
     not-true (list_all (agrees past book sent) (all_said message)) f
     ((subst (All (λ (one : SentReply). (m : Tree) → IsFramed one.bytes m → list_all (agrees past book one) (all_said m) ≡ true)) e each) 0 sent (omega arith) message framed)
 
-unbooked : (book : List BookedEntry) → list_all (success_agrees paid_past book sent_success) (all_said (reply_value_tree success_reply)) ≡ false → Agrees paid_past book → ⊥
-unbooked book f agrees = last-refused success_agrees paid_past book sent_success [] (reply_value_tree success_reply) refl success-framed f agrees.success
+-- the reply after the command
+abbrev early_sent : ReplyValue → SentReply
+early_sent reply = record { place = 23; bytes = reply_value_bytes reply; occasion = OfNothing; kept = Intent paying_intent ∷ []; waiting = [] }
 
-none-booked : list_all (success_agrees paid_past [] sent_success) (all_said (reply_value_tree success_reply)) ≡ false
+-- what has happened until then
+abbrev early_past : ReplyValue → Past
+early_past reply = record asked_past { place = 24; replies = early_sent reply ∷ [] }
+
+early-past : (reply : ReplyValue) → past_of (course_sent reply) ≡ early_past reply
+unfolding decode_apdus decode_apdus_within decode_pt_message history payment_text
+early-past reply = refl
+
+unbooked : (book : List BookedEntry) → Honest (early_past success_reply) book → list_all (success_agrees (early_past success_reply) book (early_sent success_reply)) (all_said (reply_value_tree success_reply)) ≡ false
+    → BreaksAgreement (course_sent success_reply) book
+unbooked book honest f =
+    breaks-by (course_sent success_reply) (early_past success_reply) book (early-past success_reply) honest
+    (λ agrees. last-refused success_agrees (early_past success_reply) book (early_sent success_reply) [] (reply_value_tree success_reply) refl success-framed f agrees.success)
+
+none-booked : list_all (success_agrees (early_past success_reply) [] (early_sent success_reply)) (all_said (reply_value_tree success_reply)) ≡ false
 unfolding history message_tree header_tree result_tree sale_data poi_data payment_result approved_body result_body transaction_text money_text digits tree_at
 none-booked = refl
 
-other-amount : list_all (success_agrees paid_past (record paid_entry { amount = 1000 } ∷ []) sent_success) (all_said (reply_value_tree success_reply)) ≡ false
+older-booked : list_all (success_agrees (early_past success_reply) (record paid_entry { poi = codes "T2"; place = 0; cause = None } ∷ []) (early_sent success_reply)) (all_said (reply_value_tree success_reply)) ≡ false
 unfolding history message_tree header_tree result_tree sale_data poi_data payment_result approved_body result_body transaction_text money_text digits tree_at
-other-amount = refl
+older-booked = refl
 
-other-receipt : list_all (success_agrees paid_past (record paid_entry { receipt = 18 } ∷ []) sent_success) (all_said (reply_value_tree success_reply)) ≡ false
-unfolding history message_tree header_tree result_tree sale_data poi_data payment_result approved_body result_body transaction_text money_text digits tree_at
-other-receipt = refl
-
-other-booked : list_all (success_agrees paid_past (record paid_entry { place = 0; cause = None } ∷ []) sent_success) (all_said (reply_value_tree success_reply)) ≡ false
-unfolding history message_tree header_tree result_tree sale_data poi_data payment_result approved_body result_body transaction_text money_text digits tree_at
-other-booked = refl
-
-later-booked : list_all (success_agrees paid_past (record paid_entry { place = 32 } ∷ []) sent_success) (all_said (reply_value_tree success_reply)) ≡ false
+later-booked : list_all (success_agrees (early_past success_reply) (paid_entry ∷ []) (early_sent success_reply)) (all_said (reply_value_tree success_reply)) ≡ false
 unfolding history message_tree header_tree result_tree sale_data poi_data payment_result approved_body result_body transaction_text money_text digits tree_at
 later-booked = refl
 
-declined-booked : list_all (success_agrees paid_past (record paid_entry { approved = false } ∷ []) sent_success) (all_said (reply_value_tree success_reply)) ≡ false
+declined-booked : list_all (success_agrees (early_past success_reply) (record entry_in_time { approved = false } ∷ []) (early_sent success_reply)) (all_said (reply_value_tree success_reply)) ≡ false
 unfolding history message_tree header_tree result_tree sale_data poi_data payment_result approved_body result_body transaction_text money_text digits tree_at
 declined-booked = refl
 
+other-amount : list_all (success_agrees (early_past success_reply) (record entry_in_time { amount = 1000 } ∷ []) (early_sent success_reply)) (all_said (reply_value_tree success_reply)) ≡ false
+unfolding history message_tree header_tree result_tree sale_data poi_data payment_result approved_body result_body transaction_text money_text digits tree_at
+other-amount = refl
+
+other-receipt : list_all (success_agrees (early_past success_reply) (record entry_in_time { receipt = 18 } ∷ []) (early_sent success_reply)) (all_said (reply_value_tree success_reply)) ≡ false
+unfolding history message_tree header_tree result_tree sale_data poi_data payment_result approved_body result_body transaction_text money_text digits tree_at
+other-receipt = refl
+
 pub unbooked-disagrees : UnbookedDisagrees
 unbooked-disagrees = record {
-  none = unbooked [] none-booked;
-  other = unbooked (record paid_entry { place = 0; cause = None } ∷ []) other-booked;
-  later = unbooked (record paid_entry { place = 32 } ∷ []) later-booked;
-  declined = unbooked (record paid_entry { approved = false } ∷ []) declined-booked;
-  amount = unbooked (record paid_entry { amount = 1000 } ∷ []) other-amount;
-  receipt = unbooked (record paid_entry { receipt = 18 } ∷ []) other-receipt;
+  none = unbooked [] (record { caused = refl; linked = refl; ordered = refl; numbered = refl; true_ends = refl }) none-booked;
+  older = unbooked (record paid_entry { poi = codes "T2"; place = 0; cause = None } ∷ []) (record { caused = refl; linked = refl; ordered = refl; numbered = refl; true_ends = refl }) older-booked;
+  later = unbooked (paid_entry ∷ []) (record { caused = refl; linked = refl; ordered = refl; numbered = refl; true_ends = refl }) later-booked;
+  declined = unbooked (record entry_in_time { approved = false } ∷ []) (record { caused = refl; linked = refl; ordered = refl; numbered = refl; true_ends = refl }) declined-booked;
+  amount = unbooked (record entry_in_time { amount = 1000 } ∷ []) (record { caused = refl; linked = refl; ordered = refl; numbered = refl; true_ends = refl }) other-amount;
+  receipt = unbooked (record entry_in_time { receipt = 18 } ∷ []) (record { caused = refl; linked = refl; ordered = refl; numbered = refl; true_ends = refl }) other-receipt;
 }
 
-approved-later : list_all (refusal_agrees refused_past (later_entry ∷ []) sent_refusal) (all_said (reply_value_tree refusal_reply)) ≡ false
+approved-later : list_all (refusal_agrees (early_past refusal_reply) (later_entry ∷ []) (early_sent refusal_reply)) (all_said (reply_value_tree refusal_reply)) ≡ false
 unfolding history message_tree header_tree result_tree sale_data poi_data result_body transaction_text digits tree_at
 approved-later = refl
 
 pub later-entry-disagrees : LaterEntryDisagrees
-later-entry-disagrees agrees = last-refused refusal_agrees refused_past (later_entry ∷ []) sent_refusal [] (reply_value_tree refusal_reply) refl refusal-framed approved-later agrees.refusal
+later-entry-disagrees =
+    breaks-by (course_sent refusal_reply) (early_past refusal_reply) (later_entry ∷ []) (early-past refusal_reply) (record { caused = refl; linked = refl; ordered = refl; numbered = refl; true_ends = refl })
+    (λ agrees. last-refused refusal_agrees (early_past refusal_reply) (later_entry ∷ []) (early_sent refusal_reply) [] (reply_value_tree refusal_reply) refl refusal-framed approved-later agrees.refusal)
 
 -- ---- what is replied after the payment
 
@@ -121,6 +176,11 @@ replied_sent header request reply = record { place = 34; bytes = reply_value_byt
 replied-are : (header : Header) (request : SaleRequest) (reply : ReplyValue) → (replied_past header request reply).replies ≡ replied_sent header request reply ∷ sent_success ∷ []
 unfolding decode_apdus decode_apdus_within decode_pt_message decode_status decode_status_within decode_status_field decode_field_value history payment_text replied_sent
 replied-are header request reply = refl
+
+-- the book with the entry of the payment is honest
+replied-honest : (header : Header) (request : SaleRequest) (reply : ReplyValue) → Honest (replied_past header request reply) (paid_entry ∷ [])
+unfolding decode_apdus decode_apdus_within decode_pt_message decode_status decode_status_within decode_status_field decode_field_value history payment_text
+replied-honest header request reply = record { caused = refl; linked = refl; ordered = refl; numbered = refl; true_ends = refl }
 
 -- a failure with this header is framed
 failure-framed : (header : Header) (condition : Condition) → IsHeaderWithinLimits (header_of_reply header) → IsFramed (reply_value_bytes (failure_reply header condition)) (reply_value_tree (failure_reply header condition))
@@ -156,21 +216,30 @@ unfolding history message_tree header_tree result_tree tree_at replied_sent
 progress-false past book = refl
 
 pub progress-disagrees : ProgressDisagrees
-progress-disagrees book agrees = refused-after in_progress_agrees paying_header same_ask InProgress book header-within progress-false agrees.in_progress
+progress-disagrees = record {
+  honest = replied-honest paying_header same_ask (failure_reply paying_header InProgress);
+  disagrees = λ agrees. refused-after in_progress_agrees paying_header same_ask InProgress (paid_entry ∷ []) header-within progress-false agrees.in_progress;
+}
 
 device-false : SaysAfter unaccepted_agrees paying_header same_ask (failure_reply paying_header UnavailableDevice) false
 unfolding history message_tree header_tree result_tree tree_at replied_sent
 device-false past book = refl
 
 pub unaccepted-disagrees : UnacceptedDisagrees
-unaccepted-disagrees book agrees = refused-after unaccepted_agrees paying_header same_ask UnavailableDevice book header-within device-false agrees.unaccepted
+unaccepted-disagrees = record {
+  honest = replied-honest paying_header same_ask (failure_reply paying_header UnavailableDevice);
+  disagrees = λ agrees. refused-after unaccepted_agrees paying_header same_ask UnavailableDevice (paid_entry ∷ []) header-within device-false agrees.unaccepted;
+}
 
 same-false : SaysAfter unaccepted_agrees paying_header same_ask (failure_reply paying_header NotAllowed) false
 unfolding history message_tree header_tree result_tree tree_at replied_sent
 same-false past book = refl
 
 pub same-content-disagrees : SameContentDisagrees
-same-content-disagrees book agrees = refused-after unaccepted_agrees paying_header same_ask NotAllowed book header-within same-false agrees.unaccepted
+same-content-disagrees = record {
+  honest = replied-honest paying_header same_ask (failure_reply paying_header NotAllowed);
+  disagrees = λ agrees. refused-after unaccepted_agrees paying_header same_ask NotAllowed (paid_entry ∷ []) header-within same-false agrees.unaccepted;
+}
 
 abbrev other_ask : SaleRequest
 other_ask = requests.Payment (record payment_ask { amount = 500 })
@@ -207,8 +276,14 @@ last-false past book = refl
 
 pub not-found-disagrees : NotFoundDisagrees
 not-found-disagrees = record {
-  named = λ book agrees. refused-after not_found_agrees status_asking_header named_ask NotFound book asking-within named-false agrees.not_found;
-  last = λ book agrees. refused-after not_found_agrees status_asking_header (requests.Status None) NotFound book asking-within last-false agrees.not_found;
+  named = record {
+    honest = replied-honest status_asking_header named_ask (failure_reply status_asking_header NotFound);
+    disagrees = λ agrees. refused-after not_found_agrees status_asking_header named_ask NotFound (paid_entry ∷ []) asking-within named-false agrees.not_found;
+  };
+  last = record {
+    honest = replied-honest status_asking_header (requests.Status None) (failure_reply status_asking_header NotFound);
+    disagrees = λ agrees. refused-after not_found_agrees status_asking_header (requests.Status None) NotFound (paid_entry ∷ []) asking-within last-false agrees.not_found;
+  };
 }
 
 -- the reply that repeats this
@@ -248,32 +323,46 @@ other-says : (past : Past) → past.commands ≡ payment_command ∷ [] → list
 unfolding history message_tree header_tree result_tree sale_data poi_data payment_result approved_body result_body status_body repeated_message transaction_text money_text digits tree_at replied_sent
 other-says past e = subst (λ commands. list_all (success_agrees (record past { commands = commands }) (paid_entry ∷ []) (replied_sent status_asking_header (requests.Status None) (repeats other_result))) (all_said (reply_value_tree (repeats other_result))) ≡ false) (sym e) refl
 
-pub other-repeat-disagrees : OtherRepeatDisagrees
+not-repeated : ¬ Agrees (replied_past status_asking_header (requests.Status None) (repeats other_result)) (paid_entry ∷ [])
 unfolding replied_sent
-other-repeat-disagrees agrees =
+not-repeated agrees =
     let past = replied_past status_asking_header (requests.Status None) (repeats other_result) in
     last-refused success_agrees past (paid_entry ∷ []) (replied_sent status_asking_header (requests.Status None) (repeats other_result)) (sent_success ∷ []) (reply_value_tree (repeats other_result))
     (replied-are status_asking_header (requests.Status None) (repeats other_result)) (repeat-framed other_result other-within) (other-says past (commands-are status_asking_header (requests.Status None) (repeats other_result))) agrees.success
 
+pub other-repeat-disagrees : OtherRepeatDisagrees
+other-repeat-disagrees = record { honest = replied-honest status_asking_header (requests.Status None) (repeats other_result); disagrees = not-repeated }
+
 -- ---- outside input, and enquiries
 
-outside-deeds : list_all is_inside (past_of (paid_course ++ Make (HeardTill 1 (frame (0 ∷ []))) ∷ Read (NoJson (record { at = 0; kind = NotJson })) ∷ Begin ∷ Make (Wrote 513 (0 ∷ [])) ∷ [])).deeds ≡ false
+abbrev outside_past : Past
+outside_past = past_of (paid_course ++ Make (HeardTill 1 (frame (0 ∷ []))) ∷ Read (NoJson (record { at = 0; kind = NotJson })) ∷ Begin ∷ Make (Wrote 513 (0 ∷ [])) ∷ [])
+
+outside-honest : Honest outside_past (paid_entry ∷ [])
+unfolding decode_apdus decode_apdus_within decode_pt_message decode_status decode_status_within decode_status_field decode_field_value history payment_text
+outside-honest = record { caused = refl; linked = refl; ordered = refl; numbered = refl; true_ends = refl }
+
+outside-deeds : list_all is_inside outside_past.deeds ≡ false
 unfolding decode_apdus decode_apdus_within decode_pt_message decode_status decode_status_within decode_status_field decode_field_value history payment_text
 outside-deeds = refl
 
 pub outside-disagrees : OutsideDisagrees
-outside-disagrees book agrees = not-true _ outside-deeds agrees.inside
+outside-disagrees = record { honest = outside-honest; disagrees = λ agrees. not-true _ outside-deeds agrees.inside }
 
 unresolved-poll : list_all (λ (poll : MadePoll). list_all (report_resolves (past_of unresolved_course) poll) poll.links) (past_of unresolved_course).polls ≡ false
 unfolding decode_apdus decode_apdus_within decode_pt_message history payment_text
 unresolved-poll = refl
 
-pub unresolved-disagrees : UnresolvedDisagrees
-unresolved-disagrees book agrees = not-true _ unresolved-poll agrees.resolved
-
-pub unreported-is-resolved : UnreportedIsResolved
+unresolved-honest : Honest (past_of unresolved_course) []
 unfolding decode_apdus decode_apdus_within decode_pt_message history payment_text
-unreported-is-resolved = refl
+unresolved-honest = record { caused = refl; linked = refl; ordered = refl; numbered = refl; true_ends = refl }
+
+pub unresolved-disagrees : UnresolvedDisagrees
+unresolved-disagrees = record { honest = unresolved-honest; disagrees = λ agrees. not-true _ unresolved-poll agrees.resolved }
+
+pub unreported-may-be-open : UnreportedMayBeOpen
+unfolding decode_apdus decode_apdus_within decode_pt_message history payment_text
+unreported-may-be-open = refl
 
 pub links-end : LinksEnd
 unfolding decode_apdus decode_apdus_within decode_pt_message history payment_text

@@ -22,8 +22,16 @@ use Rattle.sale_seen.specs.Expected.{expected_amount, expected_transaction}
 use Rattle.sale_seen.proofs.BodyLemmas.{body_outcome, status_repeats}
 use Rattle.sale_seen.proofs.HeaderLemmas.{bodied}
 use Rattle.gw_owes.specs.Reply.{Plain, Finished, Repeated, Diagnosis, Display, Print, DisplayRequest, PrintRequest, Reject}
-use Rattle.gw_books.specs.Said.{Said, text_in, said_under, said_of, repeated_header, repeated_body, all_said}
+use Rattle.gw_books.specs.Said.{Said, text_in, said_under, said_of, all_said}
 use Rattle.gw_books.specs.SaidLaws.{header_key, plain_said, finished_said, display_said, EachReplySays}
+
+-- the header of the reply that is repeated in a body
+abbrev repeated_header : OutcomeValue → Option Tree
+repeated_header outcome = tree_at (codes "RepeatedMessageResponse.MessageHeader") outcome.body
+
+-- the body that is repeated in one
+abbrev repeated_body : OutcomeValue → Option OutcomeValue
+repeated_body outcome = repeated_in outcome.body
 
 -- what a body says under a header, and then what it repeats
 parts : Header → Option OutcomeValue → List Said

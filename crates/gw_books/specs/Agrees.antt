@@ -74,9 +74,9 @@ is_entry_said past reply said entry =
 abbrev pub success_agrees : Past → List BookedEntry → SentReply → Said → Bool
 success_agrees past book reply said = not (is_transaction said && is_success said) || list_any (is_entry_said past reply said) book
 
--- a refusal of one that was accepted has no approved entry in the whole book, and so never
+-- what has `POIData` and is no success is a refusal of one that was accepted: it has no approved entry in the whole book, and so never
 abbrev pub refusal_agrees : Past → List BookedEntry → SentReply → Said → Bool
-refusal_agrees past book reply said = not (is_transaction said && (is_failure said && said.has_poi_data)) || not (list_any (is_approved_entry past said.key) book)
+refusal_agrees past book reply said = not (is_transaction said && (not (is_success said) && said.has_poi_data)) || not (list_any (is_approved_entry past said.key) book)
 
 -- ---- what was not accepted
 
@@ -90,10 +90,10 @@ has_other_content kept key (OfRequest header request) = list_any (λ found. not 
 has_other_content kept key (OfMessage number message) = false
 has_other_content kept key OfNothing = false
 
--- any other failure of a payment or a reversal, but `InProgress`, `MessageFormat`, and `NotAllowed` to other content, is of a key that was not accepted
+-- anything else of a payment or a reversal that is no success, but `InProgress`, `MessageFormat`, and `NotAllowed` to other content, is of a key that was not accepted
 abbrev pub unaccepted_agrees : Past → List BookedEntry → SentReply → Said → Bool
 unaccepted_agrees past book reply said =
-    not (is_transaction said && (is_failure said && not said.has_poi_data)) || (fails_with (codes "InProgress") said || (fails_with (codes "MessageFormat") said
+    not (is_transaction said && (not (is_success said) && not said.has_poi_data)) || (fails_with (codes "InProgress") said || (fails_with (codes "MessageFormat") said
     || (not (is_accepted reply.kept said.key) || (fails_with (codes "NotAllowed") said && has_other_content reply.kept said.key reply.occasion))))
 
 -- ---- what isn't found, or is in progress
@@ -139,7 +139,7 @@ in_progress_agrees past book reply said = not (fails_with (codes "InProgress") s
 abbrev pub EachSaid : (Past → List BookedEntry → SentReply → Said → Bool) → Past → List BookedEntry → Type 0
 EachSaid agrees past book = All (λ (reply : SentReply). (message : Tree) → IsFramed reply.bytes message → list_all (agrees past book reply) (all_said message) ≡ true) past.replies
 
--- ---- an enquiry resolves
+-- ---- what was open before a link whose enquiry has reported
 
 -- an enquiry has reported
 abbrev pub is_report : Ending → Bool
@@ -155,7 +155,7 @@ is_report_on poll link end = is_report end.ending && (bytes_eq end.poi link.poi 
 abbrev pub is_resolved_on : MadePoll → MadeLink → Bool
 is_resolved_on poll link = list_all (λ slot. nat_le link.records slot) (option_to_list (open_slot poll.kept link.poi))
 
--- after the report of an enquiry on a link that lasts, what was open as the link was made is resolved
+-- where an enquiry has reported on the link, which lasts at the poll, nothing is open that was open as it was made; until reports resolve keys, such a link is cut
 abbrev pub report_resolves : Past → MadePoll → MadeLink → Bool
 report_resolves past poll link = not (list_any (is_report_on poll link) past.ends) || is_resolved_on poll link
 
@@ -171,7 +171,7 @@ is_inside OfNothing = false
 
 -- what was done and said agrees with the book
 pub record Agrees (past : Past) (book : List BookedEntry) : Type 0 where
-  -- each command that may charge a card has a key, no two have the same one, and no two entries have
+  -- each command that may charge a card has a key, no two have the same one, and no two entries are of one key
   pub keyed : list_all (λ (command : SentCommand). is_some command.key) past.commands ≡ true
   pub sent_once : are_distinct_keys (map (λ (command : SentCommand). command.key) past.commands) ≡ true
   pub booked_once : are_distinct_keys (map (entry_key past) book) ≡ true
@@ -179,13 +179,13 @@ pub record Agrees (past : Past) (book : List BookedEntry) : Type 0 where
   pub success : EachSaid success_agrees past book
   -- a refusal is not booked
   pub refusal : EachSaid refusal_agrees past book
-  -- what was not accepted has no Intent
+  -- what is said not to be accepted has no Intent, but for `MessageFormat` and for `NotAllowed` to other content
   pub unaccepted : EachSaid unaccepted_agrees past book
   -- what is not found has no Intent
   pub not_found : EachSaid not_found_agrees past book
   -- what is in progress is unresolved
   pub in_progress : EachSaid in_progress_agrees past book
-  -- an enquiry that has reported resolves
+  -- at a poll, where a link lasts whose enquiry has reported, nothing is open that was open as the link was made
   pub resolved : list_all (λ (poll : MadePoll). list_all (report_resolves past poll) poll.links) past.polls ≡ true
   -- outside input changes no book
   pub inside : list_all is_inside past.deeds ≡ true

@@ -60,10 +60,6 @@ abbrev pub is_ordered : List BookedEntry → Bool
 is_ordered [] = true
 is_ordered (entry ∷ book) = list_all (comes_before entry) book && is_ordered book
 
--- trace numbers are from 1 to 999,999, and receipt numbers have at most four digits
-abbrev pub is_numbered : BookedEntry → Bool
-is_numbered entry = nat_le 1 entry.number && (nat_le entry.number 999999 && nat_le entry.receipt 9999)
-
 -- ---- ends are true
 
 -- the entry was in the terminal's book at the hearing
@@ -105,6 +101,7 @@ pub record Honest (past : Past) (book : List BookedEntry) : Type 0 where
   pub linked : list_all (is_of_its_link past) book ≡ true
   -- places and trace numbers rise, and a command has one entry at most
   pub ordered : is_ordered book ≡ true
-  pub numbered : list_all is_numbered book ≡ true
+  -- trace numbers are from 1 to 999,999, and receipt numbers have at most four digits
+  pub numbered : list_all (λ (entry : BookedEntry). nat_le 1 entry.number && (nat_le entry.number 999999 && nat_le entry.receipt 9999)) book ≡ true
   -- each end of a dialogue is true
   pub true_ends : list_all (λ (end : HeardEnd). is_true book end end.ending) past.ends ≡ true

@@ -1,10 +1,11 @@
--- Closed examples of what doesn't agree with any book, or with a book, and of books that aren't honest.
+-- Closed examples of what doesn't agree with an honest book, and of books that aren't honest.
 use Rattle.std.specs.List.{list_all}
-use Rattle.std.specs.Prelude.{◌≡◌, ℕ, pos, true, false, take, List, [], ◌∷◌, ◌++◌, Some, None, codes}
+use Rattle.std.specs.Prelude.{◌≡◌, ℕ, pos, true, false, take, List, [], ◌∷◌, ◌++◌, map, Some, None, codes}
 use Rattle.gw_base.specs.declared.figures.Figures.{Figures}
 use Rattle.gw_base.specs.declared.key.Key.{Key}
 use Rattle.gw_base.specs.declared.condition.Condition.TheVariants.{InProgress, NotAllowed, NotFound, UnavailableDevice}
 use Rattle.gw_base.specs.declared.currency.Currency.TheVariants.{Eur}
+use Rattle.gw_site.specs.declared.turn.Turn.{Turn}
 use Rattle.gw_site.specs.declared.turn.Turn.TheVariants.{Start, Polled, HeardTill, HeardPt, Lost, Linked, SentPt, SentTill, CutPt, Wrote, Crash}
 use Rattle.json_text.specs.declared.fault.FaultKind.TheVariants.{NotJson}
 use Rattle.sale_frame.specs.Grammar.{frame}
@@ -16,37 +17,68 @@ use Rattle.gw_owes.specs.ReadAs.{Request, NoJson}
 use Rattle.gw_owes.specs.Reply.{ReplyValue, Repeated, reply_value_bytes}
 use Rattle.gw_owes.specs.Replies.{header_of_reply, failure_reply}
 use Rattle.gw_owes.specs.TerminalExample.{ack, abort, completion, enquiry_sent}
+use Rattle.gw_rules.specs.Laws.{IsLeanCourse}
 use Rattle.gw_rules.specs.RowExample.{register_bytes, terminal_setup}
 use Rattle.gw_rules.specs.TerminalLogExample.{items_begin}
 use Rattle.gw_rules.specs.View.{Move, Begin, Read, Make}
 use Rattle.gw_books.specs.Past.{Ending, Declined, Reported, SentReply, MadePoll, Past, past_of}
 use Rattle.gw_books.specs.Books.{BookedEntry, Honest}
-use Rattle.gw_books.specs.Agrees.{EachSaid, success_agrees, unaccepted_agrees, in_progress_agrees, report_resolves, Agrees}
+use Rattle.gw_books.specs.Agrees.{are_distinct_keys, entry_key, EachSaid, success_agrees, unaccepted_agrees, in_progress_agrees, report_resolves, Agrees}
 use Rattle.gw_books.specs.SaidLaws.{said_by_reply}
-use Rattle.gw_books.specs.Example.{opened_moves, payment_key, payment_occasion, progress_reply, refused_past, asked_past, paying_header, payment_ask, authorise, asked_course, approved_mark, paid_result_body, paid_course, paid_past, paid_entry, later_entry}
+use Rattle.gw_books.specs.Example.{opened_moves, payment_key, payment_occasion, progress_reply, refused_past, asked_past, paying_header, payment_ask, authorise, asked_course, approved_mark, paid_result_body, paid_course, success_reply, refusal_reply, paid_past, paid_entry, later_entry}
 
--- with no book does what has happened along the course agree
-abbrev pub AgreesWithNone : List Move → Type 0
-AgreesWithNone course = (book : List BookedEntry) → ¬ Agrees (past_of course) book
+-- the book is honest for what has happened along the course, and doesn't agree with it
+pub record BreaksAgreement (course : List Move) (book : List BookedEntry) : Type 0 where
+  pub honest : Honest (past_of course) book
+  pub disagrees : ¬ Agrees (past_of course) book
+
+-- a course that an honest book breaks is the lean course of no log
+abbrev pub NotLawful : Type 0
+NotLawful = (log : List Turn) (course : List Move) (book : List BookedEntry) → IsLeanCourse log course → BreaksAgreement course book → ⊥
 
 -- ---- commands and entries
 
 -- the command is sent twice
-abbrev pub TwiceDisagrees : Type 0
-TwiceDisagrees = AgreesWithNone (asked_course ++ Make (SentPt 0 authorise true) ∷ [])
+abbrev pub twice_course : List Move
+twice_course = asked_course ++ Make (SentPt 0 authorise true) ∷ []
 
--- a success has no entry, one of another command, one that comes after the reply, one that is declined, one of another amount, or one with another receipt number
+-- that breaks agreement before anything is booked
+abbrev pub TwiceDisagrees : Type 0
+TwiceDisagrees = BreaksAgreement twice_course []
+
+-- the entries of both commands
+abbrev pub twice_booked : List BookedEntry
+twice_booked = paid_entry ∷ record paid_entry { place = 25; cause = Some 23; number = 124 } ∷ []
+
+-- they have one key
+pub record EntriesOfOneKey : Type 0 where
+  pub breaks : BreaksAgreement twice_course twice_booked
+  pub one_key : are_distinct_keys (map (entry_key (past_of twice_course)) twice_booked) ≡ false
+
+-- a command is sent while no Intent of its POIID is open
+abbrev pub KeylessDisagrees : Type 0
+KeylessDisagrees = BreaksAgreement (opened_moves ++ Make (SentPt 0 authorise true) ∷ []) []
+
+-- after the command the till is sent this reply, at place 23
+abbrev pub course_sent : ReplyValue → List Move
+course_sent reply = asked_course ++ Make (SentTill 1 (reply_value_bytes reply) true) ∷ []
+
+-- its entry, just before that
+abbrev pub entry_in_time : BookedEntry
+entry_in_time = record paid_entry { place = 23 }
+
+-- a success has no entry, one of another terminal that is older than the log, one that comes after the reply, one that is declined, one of another amount, or one with another receipt number
 pub record UnbookedDisagrees : Type 0 where
-  pub none : ¬ Agrees paid_past []
-  pub other : ¬ Agrees paid_past (record paid_entry { place = 0; cause = None } ∷ [])
-  pub later : ¬ Agrees paid_past (record paid_entry { place = 32 } ∷ [])
-  pub declined : ¬ Agrees paid_past (record paid_entry { approved = false } ∷ [])
-  pub amount : ¬ Agrees paid_past (record paid_entry { amount = 1000 } ∷ [])
-  pub receipt : ¬ Agrees paid_past (record paid_entry { receipt = 18 } ∷ [])
+  pub none : BreaksAgreement (course_sent success_reply) []
+  pub older : BreaksAgreement (course_sent success_reply) (record paid_entry { poi = codes "T2"; place = 0; cause = None } ∷ [])
+  pub later : BreaksAgreement (course_sent success_reply) (paid_entry ∷ [])
+  pub declined : BreaksAgreement (course_sent success_reply) (record entry_in_time { approved = false } ∷ [])
+  pub amount : BreaksAgreement (course_sent success_reply) (record entry_in_time { amount = 1000 } ∷ [])
+  pub receipt : BreaksAgreement (course_sent success_reply) (record entry_in_time { receipt = 18 } ∷ [])
 
 -- the command of a refusal is approved after the log's end
 abbrev pub LaterEntryDisagrees : Type 0
-LaterEntryDisagrees = ¬ Agrees refused_past (later_entry ∷ [])
+LaterEntryDisagrees = BreaksAgreement (course_sent refusal_reply) (later_entry ∷ [])
 
 -- ---- replies
 
@@ -56,15 +88,15 @@ course_replied header request reply = paid_course ++ Make (HeardTill 1 (frame (0
 
 -- a key that has its Outcome is in progress
 abbrev pub ProgressDisagrees : Type 0
-ProgressDisagrees = AgreesWithNone (course_replied paying_header (requests.Payment payment_ask) (failure_reply paying_header InProgress))
+ProgressDisagrees = BreaksAgreement (course_replied paying_header (requests.Payment payment_ask) (failure_reply paying_header InProgress)) (paid_entry ∷ [])
 
 -- a key that was accepted is not accepted
 abbrev pub UnacceptedDisagrees : Type 0
-UnacceptedDisagrees = AgreesWithNone (course_replied paying_header (requests.Payment payment_ask) (failure_reply paying_header UnavailableDevice))
+UnacceptedDisagrees = BreaksAgreement (course_replied paying_header (requests.Payment payment_ask) (failure_reply paying_header UnavailableDevice)) (paid_entry ∷ [])
 
 -- it isn't allowed with the content that was accepted
 abbrev pub SameContentDisagrees : Type 0
-SameContentDisagrees = AgreesWithNone (course_replied paying_header (requests.Payment payment_ask) (failure_reply paying_header NotAllowed))
+SameContentDisagrees = BreaksAgreement (course_replied paying_header (requests.Payment payment_ask) (failure_reply paying_header NotAllowed)) (paid_entry ∷ [])
 
 -- with another amount it may be
 abbrev pub OtherContentAgrees : Type 0
@@ -76,8 +108,8 @@ status_asking_header = record paying_header { category = codes "TransactionStatu
 
 -- a payment that was accepted is not found, where it is named, and where the last one is asked for
 pub record NotFoundDisagrees : Type 0 where
-  pub named : AgreesWithNone (course_replied status_asking_header (requests.Status (Some (record { service = codes "7"; sale = None; poi = None }))) (failure_reply status_asking_header NotFound))
-  pub last : AgreesWithNone (course_replied status_asking_header (requests.Status None) (failure_reply status_asking_header NotFound))
+  pub named : BreaksAgreement (course_replied status_asking_header (requests.Status (Some (record { service = codes "7"; sale = None; poi = None }))) (failure_reply status_asking_header NotFound)) (paid_entry ∷ [])
+  pub last : BreaksAgreement (course_replied status_asking_header (requests.Status None) (failure_reply status_asking_header NotFound)) (paid_entry ∷ [])
 
 -- a status repeats the reply of the payment
 abbrev pub RepeatAgrees : Type 0
@@ -85,7 +117,7 @@ RepeatAgrees = EachSaid success_agrees (past_of (course_replied status_asking_he
 
 -- it repeats one with another receipt number
 abbrev pub OtherRepeatDisagrees : Type 0
-OtherRepeatDisagrees = ¬ Agrees (past_of (course_replied status_asking_header (requests.Status None) (Repeated (header_of_reply status_asking_header) (header_of_reply paying_header) (PaymentApproved (codes "X1") (codes "2026-11-27T12:00:00Z") (record approved_mark { receipt = 18 }) 1099 (record { minor = 1099; currency = Eur }))))) (paid_entry ∷ [])
+OtherRepeatDisagrees = BreaksAgreement (course_replied status_asking_header (requests.Status None) (Repeated (header_of_reply status_asking_header) (header_of_reply paying_header) (PaymentApproved (codes "X1") (codes "2026-11-27T12:00:00Z") (record approved_mark { receipt = 18 }) 1099 (record { minor = 1099; currency = Eur })))) (paid_entry ∷ [])
 
 -- a reply that says of the key of the payment, with nothing kept, that it is in progress
 abbrev pub waiting_reply : List Key → SentReply
@@ -100,7 +132,7 @@ pub record WaitingIsInProgress : Type 0 where
 
 -- the file is written for bytes that are no JSON
 abbrev pub OutsideDisagrees : Type 0
-OutsideDisagrees = AgreesWithNone (paid_course ++ Make (HeardTill 1 (frame (0 ∷ []))) ∷ Read (NoJson (record { at = 0; kind = NotJson })) ∷ Begin ∷ Make (Wrote 513 (0 ∷ [])) ∷ [])
+OutsideDisagrees = BreaksAgreement (paid_course ++ Make (HeardTill 1 (frame (0 ∷ []))) ∷ Read (NoJson (record { at = 0; kind = NotJson })) ∷ Begin ∷ Make (Wrote 513 (0 ∷ [])) ∷ []) (paid_entry ∷ [])
 
 -- the link is lost and made again
 abbrev pub relinked_moves : List Move
@@ -113,15 +145,15 @@ unresolved_course = asked_course ++ relinked_moves ++ Make (Polled (pos 11)) ∷
 
 -- that doesn't agree
 abbrev pub UnresolvedDisagrees : Type 0
-UnresolvedDisagrees = AgreesWithNone unresolved_course
+UnresolvedDisagrees = BreaksAgreement unresolved_course []
 
 -- at each poll along the course, what was open before a link with a report is resolved
 abbrev pub AllResolved : List Move → Type 0
 AllResolved course = list_all (λ (poll : MadePoll). list_all (report_resolves (past_of course) poll) poll.links) (past_of course).polls ≡ true
 
 -- before the enquiry of the new link has reported, the key may be open, whatever was reported on the link before
-abbrev pub UnreportedIsResolved : Type 0
-UnreportedIsResolved = AllResolved (asked_course ++ relinked_moves ++ Make (Polled (pos 11)) ∷ [])
+abbrev pub UnreportedMayBeOpen : Type 0
+UnreportedMayBeOpen = AllResolved (asked_course ++ relinked_moves ++ Make (Polled (pos 11)) ∷ [])
 
 -- no link lasts after a cut, a start or a power failure
 pub record LinksEnd : Type 0 where

@@ -1,8 +1,9 @@
 -- Closed examples: payments that are approved, declined and cut off, with the books that are honest for them and agree.
-use Rattle.std.specs.Prelude.{◌≡◌, ℕ, pos, true, false, List, [], ◌∷◌, ◌++◌, Some, None, codes}
+use Rattle.std.specs.Prelude.{◌≡◌, ◌<◌, ℕ, pos, true, false, List, [], ◌∷◌, ◌++◌, Some, None, codes}
 use Rattle.gw_base.specs.declared.condition.Condition.TheVariants.{Cancel, InProgress}
 use Rattle.gw_base.specs.declared.currency.Currency.TheVariants.{Eur}
 use Rattle.gw_base.specs.declared.key.Key.{Key}
+use Rattle.gw_site.specs.Outside.{is_connected}
 use Rattle.gw_site.specs.declared.turn.Turn.TheVariants.{Polled, Opened, HeardTill, HeardPt, Lost, SentPt, SentTill, Synced}
 use Rattle.sale_frame.specs.Grammar.{frame}
 use Rattle.sale_values.specs.declared.header.Header.{Header}
@@ -14,6 +15,7 @@ use Rattle.sale_reply.specs.declared.reply.PoiMark.{PoiMark}
 use Rattle.sale_reply.specs.declared.reply.Told.{Told as ResultBody}
 use Rattle.sale_reply.specs.declared.reply.Told.TheVariants.{PaymentApproved, PaymentDeclined}
 use Rattle.zvt_msg.specs.Message.{Abort, Completion}
+use Rattle.zvt_talk.specs.declared.meaning.Heard.TheVariants as heard
 use Rattle.jrn_log.specs.JournalTurns.{body_write, gate_write}
 use Rattle.jrn_record.specs.declared.records.Deal.TheVariants.{Payment}
 use Rattle.jrn_record.specs.declared.records.Intent.{Intent as TheIntent}
@@ -21,17 +23,27 @@ use Rattle.jrn_record.specs.declared.records.Outcome.{Outcome as TheOutcome}
 use Rattle.jrn_record.specs.declared.records.Record.{Record}
 use Rattle.jrn_record.specs.declared.records.Record.TheVariants.{Intent, Outcome}
 use Rattle.jrn_record.specs.Grammar.{record_body}
-use Rattle.gw_owes.specs.ReadAs.{ReadAs, Request}
+use Rattle.gw_owes.specs.declared.terminal.Standing.TheVariants.{Ready}
+use Rattle.gw_owes.specs.declared.terminal.Terminal.{Terminal}
+use Rattle.gw_owes.specs.Diagnosis.{NamedTerminal, named_terminal}
+use Rattle.gw_owes.specs.Items.{Message, Handle}
+use Rattle.gw_owes.specs.PaymentLaws.{MeansAt}
+use Rattle.gw_owes.specs.ReadAs.{ReadAs, IsReadAs, Request}
 use Rattle.gw_owes.specs.Reply.{ReplyValue, Finished, reply_value_bytes}
 use Rattle.gw_owes.specs.Replies.{header_of_reply, failure_reply}
+use Rattle.gw_owes.specs.Steps.{Begins, step_result}
 use Rattle.gw_owes.specs.TerminalExample.{ack, completion, abort, approved_status}
+use Rattle.gw_rules.specs.CutCauseExample.{completion_apdu}
 use Rattle.gw_rules.specs.Lawful.{turns_of}
+use Rattle.gw_rules.specs.RowExample.{terminal_setup}
+use Rattle.gw_rules.specs.Scene.{known_in}
 use Rattle.gw_rules.specs.TerminalLogExample.{items_begin, enquired_course}
-use Rattle.gw_rules.specs.View.{Move, Begin, Read, Make}
+use Rattle.gw_rules.specs.View.{Move, Begin, Read, Make, view_from, at_first}
 use Rattle.gw_books.specs.Past.{Occasion, OfRequest, OfMessage, OfNothing, Approved, Declined, Reported, SentCommand, MadeLink, SentReply, MadePoll, Past, past_of}
 use Rattle.gw_books.specs.Books.{BookedEntry, Honest}
 use Rattle.gw_books.specs.Agrees.{Agrees}
 use Rattle.gw_books.specs.Headline.{HasPast}
+use Rattle.gw_books.specs.RoundLaws.{ComesNext, EndsRound}
 
 -- ---- what is asked
 
@@ -278,3 +290,67 @@ later_entry = record paid_entry { place = 100 }
 pub record LostAgrees : Type 0 where
   pub unbooked : IsHonestAndAgrees lost_past []
   pub booked : IsHonestAndAgrees lost_past (later_entry ∷ [])
+
+-- ---- rounds
+
+-- the till's bytes are heard
+abbrev pub heard_moves : List Move
+heard_moves = Make (Polled (pos 4)) ∷ Make (HeardTill 1 (frame payment_text)) ∷ []
+
+-- until then
+abbrev pub heard_course : List Move
+heard_course = opened_moves ++ heard_moves
+
+-- the payment is read and begins, its Intent is kept, and the terminal asked; then the next poll may come
+abbrev pub beginning_moves : List Move
+beginning_moves = Read payment_read ∷ (items_begin 2 ++ keeping_moves 0 (Intent paying_intent) ++ Make (SentPt 0 authorise true) ∷ items_begin 2)
+
+-- what is asked comes next there, at a terminal that is ready, and is due to begin
+pub record PaidRoundIsAsked : Type 0 where
+  pub ends : EndsRound (turns_of heard_course) (view_from at_first heard_course) beginning_moves
+  pub next : ComesNext (view_from at_first heard_course) terminal_setup (Message 1 payment_text)
+  pub there : is_connected (view_from at_first heard_course).scene.outside.tills 1 ≡ true
+  pub reads : IsReadAs payment_text payment_read
+  pub named : NamedTerminal
+  pub named_is : named_terminal (view_from at_first heard_course).scene.core paying_header.poi ≡ Some named
+  pub ready : named.terminal.standing ≡ Ready 0
+  pub begins : step_result (known_in (view_from at_first heard_course).scene terminal_setup) paying_header (requests.Payment payment_ask) (Some named) ≡ Begins
+
+-- the terminal's messages are heard, and acknowledged
+abbrev pub completing_moves : List Move
+completing_moves = Make (Polled (pos 5)) ∷ Make (HeardPt 0 (ack ++ approved_status ++ completion)) ∷ (items_begin 4 ++ Make (SentPt 0 ack true) ∷ (items_begin 3 ++ Make (SentPt 0 ack true) ∷ []))
+
+-- until then
+abbrev pub completed_course : List Move
+completed_course = asked_course ++ completing_moves
+
+-- the Completion is handled: the Outcome is kept, and the till gets its reply; then the next poll may come
+abbrev pub replying_moves : List Move
+replying_moves = Begin ∷ (keeping_moves 1 (Outcome kept_approval) ++ Make (SentTill 1 (reply_value_bytes success_reply) true) ∷ items_begin 3)
+
+-- the Completion comes next there, and means that the payment of slot 0 is approved, with a trace number above the one before
+pub record PaidRoundIsSaid : Type 0 where
+  pub ends : EndsRound (turns_of completed_course) (view_from at_first completed_course) replying_moves
+  pub next : ComesNext (view_from at_first completed_course) terminal_setup (Handle 0 completion_apdu)
+  pub terminal : Terminal
+  pub means : MeansAt (known_in (view_from at_first completed_course).scene terminal_setup) 0 completion_apdu terminal 0 0 (heard.Approved (record { number = 123; receipt = 17; amount = 1099 }))
+  pub above : 0 < 123
+
+-- the terminal's Abort is heard, and acknowledged
+abbrev pub aborting_moves : List Move
+aborting_moves = Make (Polled (pos 5)) ∷ Make (HeardPt 0 (ack ++ abort 0x6C)) ∷ (items_begin 4 ++ Make (SentPt 0 ack true) ∷ [])
+
+-- until then
+abbrev pub abort_heard_course : List Move
+abort_heard_course = asked_course ++ aborting_moves
+
+-- it is handled: the Outcome is kept, and the till gets its reply; then the next poll may come
+abbrev pub refusing_moves : List Move
+refusing_moves = Begin ∷ (keeping_moves 1 (Outcome kept_decline) ++ Make (SentTill 1 (reply_value_bytes refusal_reply) true) ∷ items_begin 3)
+
+-- the Abort comes next there, and means that the payment of slot 0 is declined
+pub record RefusedRoundIsSaid : Type 0 where
+  pub ends : EndsRound (turns_of abort_heard_course) (view_from at_first abort_heard_course) refusing_moves
+  pub next : ComesNext (view_from at_first abort_heard_course) terminal_setup (Handle 0 (record { class = 0x06; instr = 0x1E; body = 0x6C ∷ [] }))
+  pub terminal : Terminal
+  pub means : MeansAt (known_in (view_from at_first abort_heard_course).scene terminal_setup) 0 (record { class = 0x06; instr = 0x1E; body = 0x6C ∷ [] }) terminal 0 0 (heard.Declined 0x6C None)

@@ -6,5 +6,8 @@ pub mod Example
 pub mod Headline
 pub mod Past
 pub mod PastLaws
+pub mod RepeatLaws
+pub mod RoundLaws
 pub mod Said
 pub mod SaidLaws
+pub mod TillLaws

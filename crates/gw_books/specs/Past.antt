@@ -43,7 +43,7 @@ pub data Occasion : Type 0 where
   -- nothing that was said within the grammars
   OfNothing : Occasion
 
--- a command that may charge a card was sent, or the beginning of one: `06 01` or `06 30`
+-- a command that may charge a card, or reverse a charge, was sent, or the beginning of one: `06 01` or `06 30`
 pub record SentCommand : Type 0 where
   pub place : ℕ
   pub poi : List ℕ
@@ -227,7 +227,7 @@ is_of_instruction instruction bytes = bytes_eq (take 2 bytes) (0x06 ∷ instruct
 abbrev pub with_write : Scene → Past → Past
 with_write scene past = if is_round scene.stage then record past { deeds = past.occasion ∷ past.deeds } else past
 
--- the bytes begin as a command that may charge a card
+-- the bytes begin as a command that may charge a card; a reversal counts too, since it may book an entry
 abbrev pub may_charge : List ℕ → Bool
 may_charge bytes = is_of_instruction 0x01 bytes || is_of_instruction 0x30 bytes
 

@@ -6,7 +6,7 @@ use Rattle.gw_rules.specs.Lawful.{IsLawful}
 use Rattle.gw_books.specs.Past.{Past}
 use Rattle.gw_books.specs.Books.{BookedEntry, Honest}
 use Rattle.gw_books.specs.Agrees.{Agrees}
-use Rattle.gw_books.specs.Headline.{HasPast, HonestAgrees}
+use Rattle.gw_books.specs.Headline.{HasPast}
 
 -- the log has this past, and no other
 pub record HasOnePast (log : List Turn) : Type 0 where
@@ -22,6 +22,14 @@ EachHasOnePast = (log : List Turn) → IsLawful log → HasOnePast log
 abbrev pub AgreesAlong : List Turn → Type 0
 AgreesAlong log = (past : Past) × HasPast log past × ((book : List BookedEntry) → Honest past book → Agrees past book)
 
--- what the headline says of a lawful log it says of each of its prefixes, each with a past of its own
-abbrev pub HeadlineOfPrefixes : Type 0
-HeadlineOfPrefixes = HonestAgrees → (prefix log : List Turn) → IsPrefix prefix log → IsLawful log → AgreesAlong prefix
+-- so it is of each of its prefixes, each with a past of its own
+abbrev pub AgreesThroughout : List Turn → Type 0
+AgreesThroughout log = (prefix : List Turn) → IsPrefix prefix log → AgreesAlong prefix
+
+-- so it is of each lawful log
+abbrev pub EachLogAgrees : Type 0
+EachLogAgrees = (log : List Turn) → IsLawful log → AgreesThroughout log
+
+-- a book that is honest for what has happened along a log is honest for what had happened along each of its prefixes
+abbrev pub HonestForPrefix : Type 0
+HonestForPrefix = (prefix log : List Turn) (earlier past : Past) (book : List BookedEntry) → IsPrefix prefix log → HasPast prefix earlier → HasPast log past → Honest past book → Honest earlier book

@@ -18,7 +18,7 @@ pub record Said : Type 0 where
   pub result : List ℕ
   -- the `ErrorCondition`
   pub condition : List ℕ
-  -- there is `POIData`, as in each reply to a payment or a reversal that was accepted
+  -- there is `POIData`, as in the reply to a finished payment or reversal
   pub has_poi_data : Bool
   -- its `TransactionID`
   pub transaction : List ℕ
@@ -49,19 +49,12 @@ said_of header outcome = flat_map (λ header. map (said_under header) (option_to
 abbrev pub body_in : Tree → Option OutcomeValue
 body_in reply = let category = text_in (codes "MessageHeader.MessageCategory") reply in option_map (outcome_of category) (response_of category reply)
 
--- the header of the reply that is repeated in a body
-abbrev pub repeated_header : OutcomeValue → Option Tree
-repeated_header outcome = tree_at (codes "RepeatedMessageResponse.MessageHeader") outcome.body
-
--- the body that is repeated in one
-abbrev pub repeated_body : OutcomeValue → Option OutcomeValue
-repeated_body outcome = repeated_in outcome.body
-
--- what a reply says, and then what the reply says that it repeats
+-- what a reply says, and then what the reply says that is repeated in its body
 abbrev pub said_in : Tree → List Said
 said_in reply =
     let body = body_in reply in
-    said_of (tree_at (codes "MessageHeader") reply) body ++ said_of (option_and_then repeated_header body) (option_and_then repeated_body body)
+    said_of (tree_at (codes "MessageHeader") reply) body
+    ++ said_of (option_and_then (λ (outcome : OutcomeValue). tree_at (codes "RepeatedMessageResponse.MessageHeader") outcome.body) body) (option_and_then (λ (outcome : OutcomeValue). repeated_in outcome.body) body)
 
 -- all that a message says; one that is no reply says nothing
 abbrev pub all_said : Tree → List Said

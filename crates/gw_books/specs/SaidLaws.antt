@@ -1,9 +1,11 @@
 -- What each message to a till says, by the reply that it is.
-use Rattle.std.specs.Prelude.{◌≡◌, ℕ, Bool, true, false, List, [], ◌∷◌, Option, None, unwrap_or}
+use Rattle.std.specs.Prelude.{◌≡◌, ℕ, Bool, true, false, List, [], ◌∷◌, ◌++◌, Option, None, unwrap_or}
 use Rattle.std.specs.Option.{option_map}
 use Rattle.gw_base.specs.Condition.{name_of}
 use Rattle.gw_base.specs.declared.condition.Condition.{Condition}
 use Rattle.gw_base.specs.declared.key.Key.{Key}
+use Rattle.gw_site.specs.declared.turn.Turn.{Turn}
+use Rattle.gw_site.specs.declared.turn.Turn.TheVariants.{SentTill}
 use Rattle.json_text.specs.Tree.{Tree}
 use Rattle.sale_values.specs.Money.{money_text}
 use Rattle.sale_values.specs.declared.header.Header.{Header}
@@ -15,6 +17,7 @@ use Rattle.sale_reply.specs.declared.reply.Told.{Told as ResultBody}
 use Rattle.sale_reply.specs.declared.reply.Told.TheVariants.{PaymentApproved, PaymentDeclined, ReversalApproved, ReversalDeclined, Reconciled}
 use Rattle.sale_seen.specs.Expected.{expected_amount, expected_condition, expected_result, expected_transaction}
 use Rattle.gw_owes.specs.Reply.{ReplyValue, Plain, Finished, Repeated, Diagnosis, Display, Print, DisplayRequest, PrintRequest, Reject, reply_value_bytes, reply_value_tree}
+use Rattle.gw_rules.specs.Lawful.{IsLawful}
 use Rattle.gw_books.specs.Said.{Said, all_said, IsFramed}
 
 -- ---- what each reply says
@@ -80,6 +83,10 @@ EachReplySays = (reply : ReplyValue) → all_said (reply_value_tree reply) ≡ s
 -- the bytes of a reply within its limits are the frame of its message
 abbrev pub EachReplyIsFramed : Type 0
 EachReplyIsFramed = (reply : ReplyValue) (value : SaleReply) → reply_value_tree reply ≡ tree_of value → IsWithinLimits value → IsFramed (reply_value_bytes reply) (reply_value_tree reply)
+
+-- in a lawful log all bytes that are sent to a till, whole, are the frame of the message of a reply
+abbrev pub EachSentIsFramed : Type 0
+EachSentIsFramed = (before rest : List Turn) (till : ℕ) (bytes : List ℕ) → IsLawful (before ++ SentTill till bytes true ∷ rest) → (reply : ReplyValue) × IsFramed bytes (reply_value_tree reply)
 
 -- bytes are the frame of one message at most
 abbrev pub OneMessageIsFramed : Type 0

@@ -1,20 +1,25 @@
 //! The headline: along a lawful log, where the books of the terminals are honest, what was done and what tills were sent agrees with them.
 #![tactic(auto)]
 
-ghost use Rattle.gw_books.specs.Example.{AskedHasPast, LostAgrees, LostHasPast, PaidAgrees, PaidHasPast, RefusedAgrees, RefusedHasPast};
-ghost use Rattle.gw_books.specs.DisagreeExample.{DisorderedBooks, LaterEntryDisagrees, LinksEnd, NotFoundDisagrees, OtherContentAgrees, OtherRepeatDisagrees, OutsideDisagrees, ProgressDisagrees, RepeatAgrees, ReportedBooks, SameContentDisagrees, TwiceDisagrees, UnacceptedDisagrees, UnbookedDisagrees, UncausedBooks, UnreportedIsResolved, UnresolvedDisagrees, UntrueBooks, WaitingIsInProgress};
-ghost use Rattle.gw_books.specs.PastLaws.{EachHasOnePast, HeadlineOfPrefixes};
-ghost use Rattle.gw_books.specs.SaidLaws.{EachReplyIsFramed, EachReplySays, OneMessageIsFramed};
+ghost use Rattle.gw_books.specs.Example.{AskedHasPast, LostAgrees, LostHasPast, PaidAgrees, PaidHasPast, PaidRoundIsAsked, PaidRoundIsSaid, RefusedAgrees, RefusedHasPast, RefusedRoundIsSaid};
+ghost use Rattle.gw_books.specs.DisagreeExample.{DisorderedBooks, EntriesOfOneKey, KeylessDisagrees, LaterEntryDisagrees, LinksEnd, NotLawful, NotFoundDisagrees, OtherContentAgrees, OtherRepeatDisagrees, OutsideDisagrees, ProgressDisagrees, RepeatAgrees, ReportedBooks, SameContentDisagrees, TwiceDisagrees, UnacceptedDisagrees, UnbookedDisagrees, UncausedBooks, UnreportedMayBeOpen, UnresolvedDisagrees, UntrueBooks, WaitingIsInProgress};
+ghost use Rattle.gw_books.specs.Headline.{HonestAgrees};
+ghost use Rattle.gw_books.specs.PastLaws.{EachHasOnePast, EachLogAgrees, HonestForPrefix};
+ghost use Rattle.gw_books.specs.RepeatLaws.{FinishedStays, FirstReplyIsKept, PaidStays};
+ghost use Rattle.gw_books.specs.RoundLaws.{ApprovalIsSaid, DeclineIsSaid, OwedIsDone, PaymentIsAsked};
+ghost use Rattle.gw_books.specs.SaidLaws.{EachReplyIsFramed, EachReplySays, EachSentIsFramed, OneMessageIsFramed};
+ghost use Rattle.gw_books.specs.TillLaws.{PaidIsSaid, RefusedIsNeverCharged, RefusedIsSaid, SuccessIsBooked};
 
 /// Examples of what the headline says, each along a course of a gateway with one terminal. The logs of a payment that is approved, of
 /// one that is declined, and of one whose link is lost before its end are lawful; what has happened along each is as it is written
-/// out; and the book with the approved entry, the empty book, and either of them, is honest for it and agrees. What agrees with no
-/// book: a command that is sent twice; a key that has its Outcome said to be in progress, not accepted, or not allowed with the
-/// content that was accepted; a payment that was accepted said not to be found; a write for bytes outside the grammars; a key that is
-/// open since before its link at the next poll after an enquiry has reported, while the link lasts. What doesn't agree with a book: a success without its entry, or with one that
-/// comes later, is declined, or has another amount or receipt number, also where it is repeated; a refusal whose command is approved
-/// later. What isn't honest: an entry without its command, or after its link was replaced; numbers and places that fall, and two
-/// entries of one command; an end of a dialogue that isn't true of the book.
+/// out; and the book with the approved entry, the empty book, and either of them, is honest for it and agrees. What doesn't agree with
+/// a book that is honest for it: a command that is sent twice, also with an entry for each, and one without a key; a success without
+/// its entry, or with one that comes later, is declined, or has another amount or receipt number, also where it is repeated; a refusal
+/// whose command is approved later; a key that has its Outcome said to be in progress, not accepted, or not allowed with the content
+/// that was accepted; a payment that was accepted said not to be found; a write for bytes outside the grammars; a key that is open
+/// since before its link at a poll after an enquiry has reported, while the link lasts. What isn't honest: an entry without its command,
+/// or after its link was replaced; numbers and places that fall, and two entries of one command; an end of a dialogue that isn't true of
+/// the book.
 pub fn law_examples()
     ensures asked { AskedHasPast }
     ensures paid { PaidHasPast }
@@ -24,6 +29,8 @@ pub fn law_examples()
     ensures lost { LostHasPast }
     ensures lost_agrees { LostAgrees }
     ensures twice { TwiceDisagrees }
+    ensures one_key { EntriesOfOneKey }
+    ensures keyless { KeylessDisagrees }
     ensures unbooked { UnbookedDisagrees }
     ensures later { LaterEntryDisagrees }
     ensures progress { ProgressDisagrees }
@@ -36,7 +43,7 @@ pub fn law_examples()
     ensures outside { OutsideDisagrees }
     ensures unresolved { UnresolvedDisagrees }
     ensures waiting { WaitingIsInProgress }
-    ensures unreported { UnreportedIsResolved }
+    ensures unreported { UnreportedMayBeOpen }
     ensures links_end { LinksEnd }
     ensures uncaused_books { UncausedBooks }
     ensures disordered_books { DisorderedBooks }
@@ -53,9 +60,84 @@ pub fn law_said()
     ensures one { OneMessageIsFramed }
 {}
 
-/// What has happened along a lawful log is one past. Where the headline holds, each prefix of a lawful log has a past of its own, and each
-/// book that is honest for that agrees with it.
+/// All bytes that a till is sent, whole, are the frame of the message of a reply, in each lawful log and whatever the books say.
+pub fn law_sent()
+    ensures framed { EachSentIsFramed }
+{
+    gw_owes::law_records();
+    gw_ledger::law_next();
+    gw_ledger::law_open();
+    gw_ledger::law_within();
+    gw_ledger::law_fits();
+}
+
+/// A key that is finished keeps its reply: whatever records come later, what the records have under it stays. Each key has a reply as its
+/// Outcome is kept, and the kept reply is that one, which its till is sent.
+pub fn law_kept_replies()
+    ensures stays { FinishedStays }
+    ensures first { FirstReplyIsKept }
+    ensures example { PaidStays }
+{
+    gw_ledger::law_next();
+    gw_ledger::law_open();
+    gw_ledger::law_within();
+    gw_ledger::law_fits();
+}
+
+/// What a round has done of a payment before the next poll may come. Whatever is owed is done by then, in its order and before anything
+/// else: a send that fails counts as made, also one of no byte. So a payment that comes to the last of its steps at a terminal that is
+/// ready is kept and asked, and the approval or the decline of one is kept, and said to the till that asked, where it is there: each
+/// after its record is synced. What these ask holds along the courses of the examples: where the till's request is heard, where the
+/// Completion is acknowledged, and where the Abort is.
+pub fn law_rounds()
+    ensures done { OwedIsDone }
+    ensures asked { PaymentIsAsked }
+    ensures approved { ApprovalIsSaid }
+    ensures declined { DeclineIsSaid }
+    ensures example { PaidRoundIsAsked }
+    ensures approved_example { PaidRoundIsSaid }
+    ensures declined_example { RefusedRoundIsSaid }
+{
+    gw_owes::law_records();
+    gw_owes::law_payment_begins();
+    gw_owes::law_payment_ends();
+}
+
+/// What has happened along a lawful log is one past. A book that is honest for it is honest for that of each prefix of the log.
 pub fn law_past()
     ensures one { EachHasOnePast }
-    ensures prefixes { HeadlineOfPrefixes }
+    ensures prefix { HonestForPrefix }
 {}
+
+/// What a till may rely on to which the end of a payment or a reversal was said, wherever the books of the terminals are honest: a success
+/// is an approved entry of its key, with its amount, its number and its receipt, which was booked before it was said; a failure with the
+/// mark of a transaction has no approved entry of its key in the whole book, and so never will. In the examples the one is said, and the
+/// other where a declined entry of its key is booked.
+pub fn law_tills()
+    ensures success { SuccessIsBooked }
+    ensures refused { RefusedIsNeverCharged }
+    ensures paid { PaidIsSaid }
+    ensures declined { RefusedIsSaid }
+{
+    law_headline();
+}
+
+/// The headline. Along each lawful log, with power failures, records in flight, enquiries and all terminals, each book that is honest
+/// agrees with what was done and what tills were sent: each command that may charge a card was sent for a key of its own, and no two
+/// entries are of one key; a success is an approved entry of its key, with its numbers and its amount, which was booked before it was
+/// said; of the key of a refusal no entry is approved, and none ever will be; what is said not to be accepted, but with `MessageFormat`
+/// or with `NotAllowed` to other content, has no Intent, and neither has what is said not to be found; what is said to be in progress is
+/// unresolved; at a poll, where a terminal's link lasts whose enquiry has reported, no key is open that was open as the link was made
+/// (until reports resolve keys, such a link is cut); and what is outside the grammars changes no book. So it is of each prefix of the
+/// log. A course with an honest book that doesn't agree is that of no log.
+pub fn law_headline()
+    ensures headline { HonestAgrees }
+    ensures throughout { EachLogAgrees }
+    ensures broken { NotLawful }
+{
+    gw_owes::law_records();
+    gw_ledger::law_next();
+    gw_ledger::law_open();
+    gw_ledger::law_within();
+    gw_ledger::law_fits();
+}

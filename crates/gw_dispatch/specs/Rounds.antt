@@ -4,6 +4,7 @@ use Rattle.gw_base.specs.declared.setup.Setup.{Setup}
 use Rattle.gw_site.specs.Observed.{Observed}
 use Rattle.gw_site.specs.Outside.{Outside, outside_after, is_connected, heard_on}
 use Rattle.gw_site.specs.declared.site.What.{What}
+use Rattle.gw_site.specs.declared.site.What.TheVariants.{TillOpened, TillBytes, TillClosed, PtBytes, PtClosed, Nothing, Stopped as StopPolled}
 use Rattle.gw_site.specs.declared.turn.Turn.TheVariants.{Opened, HeardTill}
 use Rattle.gw_owes.specs.Core.{new_core}
 use Rattle.gw_owes.specs.Events.{till_bytes_items, till_opened_items}
@@ -114,6 +115,16 @@ IsHandling setup dispatch polls now items v = MidRound setup dispatch.state.core
 -- Inner: what the event has brought was handled, and what may be due comes
 abbrev pub IsHandled : Setup → Dispatch → ℕ → ℤ → View → Type 0
 IsHandled setup dispatch polls now v = IsHandling setup dispatch polls now (due_in dispatch) v
+
+-- Inner: a till has opened, or bytes of one have come
+abbrev pub IsOfTill : What → Type 0
+IsOfTill StopPolled = ⊥
+IsOfTill (TillOpened till) = Unit {0}
+IsOfTill (TillBytes till count) = Unit {0}
+IsOfTill (TillClosed till) = ⊥
+IsOfTill (PtBytes pt count) = ⊥
+IsOfTill (PtClosed pt) = ⊥
+IsOfTill Nothing = ⊥
 
 -- Inner: after what an event has brought
 abbrev pub AfterEvent : Result RoundEnd TurnFault → Setup → Dispatch → ℕ → ℤ → View → Type 0

@@ -1,5 +1,5 @@
 //! One run over a site: it is opened and polled, what each event brings is handled, and then what may be due.
-ghost use Rattle.std.specs.Prelude.{◌≡◌, ◌≢◌, ◌≤◌, ◌+◌, ℕ, ℤ, length, Err, IfOk, Ok, OnOk};
+ghost use Rattle.std.specs.Prelude.{◌≡◌, ◌≢◌, ◌≤◌, ◌+◌, ℕ, ℤ, length, Err, IfOk, Ok, OnErr, OnOk};
 ghost use Rattle.gw_bytes.specs.Bytes.{AreBytes};
 ghost use Rattle.gw_base.specs.Setup.{IsSetup};
 ghost use Rattle.gw_base.specs.declared.setup.Setup.{Setup as TheSetup};
@@ -11,8 +11,8 @@ ghost use Rattle.gw_site.specs.Outside.{outside_of};
 ghost use Rattle.gw_rules.specs.Acts.{Unmeasured};
 ghost use Rattle.gw_rules.specs.Triple.{Triple, TripleBy, RunTriple, IsRun, JustBegun};
 ghost use Rattle.gw_rules.specs.View.{View};
-ghost use Rattle.gw_dispatch.specs.Rounds.{IsReady, BeforeChunk, BeforeOpen, BeforePtBytes, BeforePtEnd, IsBetweenRounds, IsPolled, IsHandled, AfterEvent, AfterRound};
-ghost use Rattle.gw_dispatch.specs.RunState.{LeavesRoom, gateway_of};
+ghost use Rattle.gw_dispatch.specs.Rounds.{IsReady, BeforeChunk, BeforeOpen, BeforePtBytes, BeforePtEnd, IsBetweenRounds, IsPolled, IsHandled, IsOfTill, AfterEvent, AfterRound};
+ghost use Rattle.gw_dispatch.specs.RunState.{LeavesRoom, UnlessBroken, gateway_of};
 ghost use Rattle.gw_dispatch.specs.Growth.{EndsInFailure, HasGoneOn, GoesOnFrom, HasBroken};
 ghost use Rattle.gw_dispatch.specs.Serving.{held_without};
 ghost use Rattle.gw_dispatch.specs.Tills.{others};
@@ -181,30 +181,30 @@ impl Dispatch {
         }
     }
 
-    /// Handles the bytes that a terminal's connection has brought. Those of a link that isn't held have no effect.
+    /// Handles the bytes that a terminal's connection has brought. Those of a link that isn't held have no effect. It takes no memory: only
+    /// a call on the disk can fail.
     fn on_pt_bytes<S: Site>(
         &mut self,
         site: &mut S,
         now: i64,
         pt: u16,
         bytes: &[u8],
-    ) -> Result<RoundEnd, TurnFault>
+    ) -> Result<(), Failed>
         requires chunk { length bytes.now ≤ 4096 }
         requires ready { IsReady self.old (S.observed site.old) }
         ensures triple { (setup : TheSetup) (polls : ℕ) → Triple (S.observed site.old) (S.observed site.new)
             (BeforePtBytes setup self.old polls now pt bytes.now)
-            (AfterEvent result setup self.new polls now) }
-        ensures went { result ≢ Ok RoundEnd.Stopped }
-        ensures failed { result ≡ Err TheFault.Disk → HasBroken (S.observed site.old) (S.observed site.new) }
+            (UnlessBroken result (λ done. IsHandled setup self.new polls now)) }
+        ensures failed { OnErr result (HasBroken (S.observed site.old) (S.observed site.new)) }
         ensures ready { OnOk result (IsReady self.new (S.observed site.new)) }
         ensures gateway { self.new.state.gateway ≡ self.old.state.gateway }
         ensures goes_on { HasGoneOn (S.observed site.old) (S.observed site.new) }
     {
         if pt >= self.state.core.count() {
-            return Ok(RoundEnd::Went);
+            return Ok(());
         }
         if !self.state.core.is_linked(pt) {
-            return Ok(RoundEnd::Went);
+            return Ok(());
         }
         match on_bytes(
             &mut self.state,
@@ -215,8 +215,8 @@ impl Dispatch {
             bytes,
             now,
         ) {
-            Ok(()) => Ok(RoundEnd::Went),
-            Err(Failed) => Err(TurnFault::Disk),
+            Ok(()) => Ok(()),
+            Err(Failed) => Err(Failed),
         }
     }
 
@@ -239,7 +239,7 @@ impl Dispatch {
         on_closed(&mut self.state.core, &self.readers, site, pt, now);
     }
 
-    /// Handles what a poll has brought.
+    /// Handles what a poll has brought. Memory is refused at most where that is a till, or bytes of one.
     fn on_event<S: Site>(
         &mut self,
         site: &mut S,
@@ -253,6 +253,7 @@ impl Dispatch {
             (IsPolled setup self.old polls now what buf.now)
             (AfterEvent result setup self.new (polls + 1) now) }
         ensures bytes { AreBytes buf.now }
+        ensures memory { result ≡ Err TheFault.Memory → IsOfTill what }
         ensures failed { result ≡ Err TheFault.Disk → HasBroken (S.observed site.old) (S.observed site.new) }
         ensures ready { OnOk result (IsReady self.new (S.observed site.new)) }
         ensures gateway { self.new.state.gateway ≡ self.old.state.gateway }
@@ -266,7 +267,10 @@ impl Dispatch {
                 self.forget(number);
                 Ok(RoundEnd::Went)
             }
-            What::PtBytes(pt, count) => self.on_pt_bytes(site, now, pt, &buf[..count]),
+            What::PtBytes(pt, count) => match self.on_pt_bytes(site, now, pt, &buf[..count]) {
+                Ok(()) => Ok(RoundEnd::Went),
+                Err(Failed) => Err(TurnFault::Disk),
+            },
             What::PtClosed(pt) => {
                 self.on_pt_closed(site, now, pt);
                 Ok(RoundEnd::Went)

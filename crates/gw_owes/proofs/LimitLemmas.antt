@@ -33,7 +33,7 @@ use Rattle.gw_owes.proofs.HeardLemmas.{of-both}
 -- ---- texts and amounts of a tree
 
 -- the tree has a text, which is an identifier
-abbrev HasIdent : ℕ → Tree → Type 0
+abbrev pub HasIdent : ℕ → Tree → Type 0
 HasIdent most tree = MatchOption (string_of tree) ⊥ (IsIdent most)
 
 text-is : (most : ℕ) (found : Option (List ℕ)) (text : List ℕ) → MatchOption found ⊥ (IsIdent most) → found ≡ Some text → IsIdent most text
@@ -49,16 +49,16 @@ form-weaker None absent P Q weaker met = met
 form-weaker (Some tree) absent P Q weaker met = weaker tree met
 
 -- the text of a member that is an identifier by its row, where that is met
-ident-at : (row : MemberRow) (most : ℕ) (body : Tree) (text : List ℕ) → ((tree : Tree) → HasForm row.form tree → HasIdent most tree) → IsMet row body → text_at row.within body ≡ Some text → IsIdent most text
+pub ident-at : (row : MemberRow) (most : ℕ) (body : Tree) (text : List ℕ) → ((tree : Tree) → HasForm row.form tree → HasIdent most tree) → IsMet row body → text_at row.within body ≡ Some text → IsIdent most text
 unfolding IsMet
 ident-at row most body text form met is =
     tree-is most (MayBeAbsent row.presence body) (tree_at row.within body) text (form-weaker (tree_at row.within body) (MayBeAbsent row.presence body) (HasForm row.form) (HasIdent most) form met) is
 
 -- a text that is an identifier
-record IsTextThere (most : ℕ) (found : Option (List ℕ)) : Type 0 where
-  text : List ℕ
-  is : found ≡ Some text
-  ident : IsIdent most text
+pub record IsTextThere (most : ℕ) (found : Option (List ℕ)) : Type 0 where
+  pub text : List ℕ
+  pub is : found ≡ Some text
+  pub ident : IsIdent most text
 
 text-there : (most : ℕ) (found : Option (List ℕ)) → MatchOption found ⊥ (IsIdent most) → IsTextThere most found
 text-there most None met = absurd met
@@ -69,7 +69,7 @@ tree-there most None met = absurd met
 tree-there most (Some tree) met = text-there most (string_of tree) met
 
 -- the ServiceID is there
-service-there : (body : Tree) → IsMet service_row body → IsTextThere 10 (text_at (codes "MessageHeader.ServiceID") body)
+pub service-there : (body : Tree) → IsMet service_row body → IsTextThere 10 (text_at (codes "MessageHeader.ServiceID") body)
 unfolding IsMet
 service-there body met = tree-there 10 (tree_at (codes "MessageHeader.ServiceID") body) met
 

@@ -94,14 +94,14 @@ folded-more kept next folded within fitting = record {
 
 -- ---- a slot
 
-intent-stays : (kept more : List Record) (slot : ℕ) (intent : TheIntent) → intent_at kept slot ≡ Some intent → intent_at (kept ++ more) slot ≡ Some intent
+pub intent-stays : (kept more : List Record) (slot : ℕ) (intent : TheIntent) → intent_at kept slot ≡ Some intent → intent_at (kept ++ more) slot ≡ Some intent
 intent-stays kept more slot intent found = by-record (slice_get kept slot) refl found
   where
     by-record : (one : Option Record) → slice_get kept slot ≡ one → option_and_then as_intent one ≡ Some intent → intent_at (kept ++ more) slot ≡ Some intent
     by-record None is there = absurd cc
     by-record (Some one) is there = ap (option_and_then as_intent) (still-there kept more slot one is) ∙ there
 
-intent-within : (kept : List Record) (slot : ℕ) (intent : TheIntent) → intent_at kept slot ≡ Some intent → slot < length kept
+pub intent-within : (kept : List Record) (slot : ℕ) (intent : TheIntent) → intent_at kept slot ≡ Some intent → slot < length kept
 intent-within kept slot intent found = by-record (slice_get kept slot) refl found
   where
     by-record : (one : Option Record) → slice_get kept slot ≡ one → option_and_then as_intent one ≡ Some intent → slot < length kept
@@ -126,7 +126,7 @@ entry-of-open kept poi slot intent opened =
     ∙ ap (option_map (entry_with kept slot None)) opened.intent_is
 
 -- the slot and the Intent of an entry
-entry-parts : (kept : List Record) (slot : ℕ) (entry : TheEntry) → entry_at kept slot ≡ Some entry → (entry.slot ≡ slot) × (intent_at kept slot ≡ Some entry.intent)
+pub entry-parts : (kept : List Record) (slot : ℕ) (entry : TheEntry) → entry_at kept slot ≡ Some entry → (entry.slot ≡ slot) × (intent_at kept slot ≡ Some entry.intent)
 entry-parts kept slot entry found = by-intent (intent_at kept slot) refl found
   where
     by-intent : (asked : Option TheIntent) → intent_at kept slot ≡ asked → option_map (entry_with kept slot (ended_at kept slot)) asked ≡ Some entry → (entry.slot ≡ slot) × (intent_at kept slot ≡ Some entry.intent)
@@ -141,7 +141,7 @@ pub record IsUnended (kept : List Record) (slot : ℕ) : Type 0 where
   pub intent_is : intent_at kept slot ≡ Some intent
   pub unended : ended_at kept slot ≡ None
 
-unended-parts : (kept : List Record) (slot : ℕ) → is_open kept slot ≡ true → IsUnended kept slot
+pub unended-parts : (kept : List Record) (slot : ℕ) → is_open kept slot ≡ true → IsUnended kept slot
 unended-parts kept slot opened = by-parts (intent_at kept slot) (ended_at kept slot) refl refl opened
   where
     by-parts : (asked : Option TheIntent) (ended : Option ℕ) → intent_at kept slot ≡ asked → ended_at kept slot ≡ ended → (is_some asked && not (is_some ended)) ≡ true → IsUnended kept slot
@@ -165,7 +165,7 @@ passes-counted test (suc n) at lt passes = by-last (eqb at n) refl (λ below. pa
 
 module _ (laws : LedgerLaws) (kept : List Record) (folded : AreFolded kept) where
   -- the open slot of a terminal is that of an Intent without an Outcome
-  open-unended : (poi : List ℕ) (slot : ℕ) → open_slot kept poi ≡ Some slot → IsUnended kept slot
+  pub open-unended : (poi : List ℕ) (slot : ℕ) → open_slot kept poi ≡ Some slot → IsUnended kept slot
   open-unended poi slot is = unended-parts kept slot ((laws.open_slots kept folded poi slot).0 is).0
 
   -- the slot of a terminal's open entry
@@ -214,13 +214,13 @@ module _ (laws : LedgerLaws) (kept : List Record) (folded : AreFolded kept) wher
 -- ---- one more record
 
 module _ (laws : LedgerLaws) (kept : List Record) (next : Record) where
-  account-more : (poi : List ℕ) → account_of (kept ++ next ∷ []) poi ≡ (if is_poi poi (poi_of kept next) then account_with (length kept) next (account_of kept poi) else account_of kept poi)
+  pub account-more : (poi : List ℕ) → account_of (kept ++ next ∷ []) poi ≡ (if is_poi poi (poi_of kept next) then account_with (length kept) next (account_of kept poi) else account_of kept poi)
   account-more poi = ap (account_in poi) (laws.newest kept next)
 
-  own-account : (poi : List ℕ) → is_poi poi (poi_of kept next) ≡ true → account_of (kept ++ next ∷ []) poi ≡ account_with (length kept) next (account_of kept poi)
+  pub own-account : (poi : List ℕ) → is_poi poi (poi_of kept next) ≡ true → account_of (kept ++ next ∷ []) poi ≡ account_with (length kept) next (account_of kept poi)
   own-account poi own = account-more poi ∙ ap (λ (b : Bool). if b then account_with (length kept) next (account_of kept poi) else account_of kept poi) own
 
-  other-account : (poi : List ℕ) → is_poi poi (poi_of kept next) ≡ false → account_of (kept ++ next ∷ []) poi ≡ account_of kept poi
+  pub other-account : (poi : List ℕ) → is_poi poi (poi_of kept next) ≡ false → account_of (kept ++ next ∷ []) poi ≡ account_of kept poi
   other-account poi apart = account-more poi ∙ ap (λ (b : Bool). if b then account_with (length kept) next (account_of kept poi) else account_of kept poi) apart
 
   -- another terminal's open slot and last number stay
@@ -235,7 +235,7 @@ module _ (laws : LedgerLaws) (kept : List Record) (next : Record) where
   count-more = ap open_in (laws.newest kept next)
 
   -- a slot without an Outcome stays so, where this isn't its Outcome
-  unended-stays : (slot : ℕ) → is_outcome_of slot next ≡ false → ended_at kept slot ≡ None → ended_at (kept ++ next ∷ []) slot ≡ None
+  pub unended-stays : (slot : ℕ) → is_outcome_of slot next ≡ false → ended_at kept slot ≡ None → ended_at (kept ++ next ∷ []) slot ≡ None
   unended-stays slot apart unended =
       ap (ended_in slot) (laws.newest kept next)
       ∙ ap (λ (b : Bool). if eqb (length kept) slot then None else (if b then Some (length kept) else ended_at kept slot)) apart

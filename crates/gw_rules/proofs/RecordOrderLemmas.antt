@@ -61,28 +61,28 @@ use Rattle.gw_rules.proofs.TranscriptLogLemmas.{lost-at, made-at, not-number}
 -- ---- what holds along a course
 
 -- what the items that come have of tills was read, for the run's setup
-abbrev AreRead : View → Type 0
+abbrev pub AreRead : View → Type 0
 AreRead v = (setup : Setup) → v.scene.setup ≡ Some setup → All (IsReadItem setup) v.items
 
 -- while the run goes on a slot is left for the Outcome of each key that will be open
-abbrev LeavesSlots : View → Type 0
+abbrev pub LeavesSlots : View → Type 0
 LeavesSlots v = (setup : Setup) → v.scene.setup ≡ Some setup → is_running v.scene.stage ≡ true → length (records_coming v) + open_count_of (records_coming v) ≤ setup.slots
 
 -- until a call on the disk fails the records that come have what each terminal's standing says, but of one whose cut is owed
-abbrev ComesInOrder : View → Type 0
+abbrev pub ComesInOrder : View → Type 0
 ComesInOrder v =
     is_broken v.scene.stage ≡ false → (pt : ℕ) (terminal : Terminal) → slice_get v.scene.core.terminals pt ≡ Some terminal → cut_owed pt v.calls ≡ false → IsTerminalInOrder (records_coming v) terminal
 
-record Ordered (log : List Turn) (v : View) : Type 0 where
-  agrees : Agrees v
-  keeps : KeepsJournal ledger_rules log v
-  owed : List OwedCall
-  owing : IsOwing owed v
-  read : AreRead v
+pub record Ordered (log : List Turn) (v : View) : Type 0 where
+  pub agrees : Agrees v
+  pub keeps : KeepsJournal ledger_rules log v
+  pub owed : List OwedCall
+  pub owing : IsOwing owed v
+  pub read : AreRead v
   -- while a run opens its journal no record is kept
-  quiet : is_opening v.scene.stage ≡ true → records_kept v.calls ≡ []
-  room : LeavesSlots v
-  terminals : ComesInOrder v
+  pub quiet : is_opening v.scene.stage ≡ true → records_kept v.calls ≡ []
+  pub room : LeavesSlots v
+  pub terminals : ComesInOrder v
 
 moment-after : (o : Outside) (turn : Turn) → o.moment ≤ last_moment → (outside_after o turn).moment ≤ last_moment
 moment-after o (Start setup) h = omega arith
@@ -112,7 +112,7 @@ moment-from o (turn ∷ turns) h = moment-from (outside_after o turn) turns (mom
 moment-is : (moment : ℕ) → moment ≤ last_moment → IsMoment (pos moment)
 moment-is moment h = (omega (arith, ints), omega (arith, ints))
 
-configured : (v : View) (setup : Setup) → Agrees v → v.scene.setup ≡ Some setup → settings_of v.scene.core ≡ setup.terminals
+pub configured : (v : View) (setup : Setup) → Agrees v → v.scene.setup ≡ Some setup → settings_of v.scene.core ≡ setup.terminals
 configured v setup a is = subst (λ o. AreConfigured o v.scene.core) is (by_links a.links)
   where
     by_links : Settled v ⊎ Losing v → AreConfigured v.scene.setup v.scene.core
@@ -120,7 +120,7 @@ configured v setup a is = subst (λ o. AreConfigured o v.scene.core) is (by_link
     by_links (inr l) = l.settings
 
 -- between items what is known is in order
-between-items : (log : List Turn) (v : View) → Ordered log v → (k : HasSetup v.scene) → is_running v.scene.stage ≡ true → v.calls ≡ [] → IsInOrder (known_in v.scene k.setup)
+pub between-items : (log : List Turn) (v : View) → Ordered log v → (k : HasSetup v.scene) → is_running v.scene.stage ≡ true → v.calls ≡ [] → IsInOrder (known_in v.scene k.setup)
 between-items log v o k running calls =
     let h : Holds (owned ledger_rules) log v = holds ledger_rules log v o.keeps in
     let coming : records_coming v ≡ v.scene.kept = coming-kept v (ap spare_disk calls) (idle-rests (owned ledger_rules) log v h running calls).is_open.no_flight in
@@ -135,10 +135,10 @@ between-items log v o k running calls =
 -- ---- items that begin
 
 -- what the first item has of a till was read
-first-was-read : (log : List Turn) (v : View) (item : RoundItem) (rest : List RoundItem) → Ordered log v → (k : HasSetup v.scene) → v.items ≡ item ∷ rest → IsReadItem k.setup item
+pub first-was-read : (log : List Turn) (v : View) (item : RoundItem) (rest : List RoundItem) → Ordered log v → (k : HasSetup v.scene) → v.items ≡ item ∷ rest → IsReadItem k.setup item
 first-was-read log v item rest o k e = All-head (IsReadItem k.setup) item rest (subst (λ l. All (IsReadItem k.setup) l) e (o.read k.setup k.setup_is))
 
-row-is : (scene : Scene) (k : HasSetup scene) (item : RoundItem) → row_at scene item ≡ row_of scene.outside.tills (known_in scene k.setup) item
+pub row-is : (scene : Scene) (k : HasSetup scene) (item : RoundItem) → row_at scene item ≡ row_of scene.outside.tills (known_in scene k.setup) item
 row-is scene k item = ap (λ (s : Option Setup). row_in scene (λ known. row_of scene.outside.tills known item) s) k.setup_is
 
 -- and what it brings
@@ -170,7 +170,7 @@ keeps-at-most-one scene k row l (inr n) =
       room = record { setup = k.setup; setup_is = k.setup_is; room = subst (λ r. length (scene.kept ++ r) + open_count_of (scene.kept ++ r) ≤ k.setup.slots) keeps l.room };
     })
 
-begin-ordered : OrderLaws → (log : List Turn) (v : View) → Ordered log v → Begins v → Ordered log (after v Begin)
+pub begin-ordered : OrderLaws → (log : List Turn) (v : View) → Ordered log v → Begins v → Ordered log (after v Begin)
 begin-ordered laws log v o b = by_items v.items refl
   where
     by_items : (items : List RoundItem) → v.items ≡ items → Ordered log (after v Begin)
@@ -206,7 +206,7 @@ begin-ordered laws log v o b = by_items v.items refl
 
 -- ---- messages that are read
 
-read-ordered : (log : List Turn) (v : View) (as_read : ReadAs) → Ordered log v → IsRead v as_read → Ordered log (after v (Read as_read))
+pub read-ordered : (log : List Turn) (v : View) (as_read : ReadAs) → Ordered log v → IsRead v as_read → Ordered log (after v (Read as_read))
 read-ordered log v as_read o r =
     let coming : records_coming (after v (Read as_read)) ≡ records_coming v = ap (λ calls. records_of v.scene ++ records_kept calls) (sym r.idle.calls) in
     record {
@@ -252,7 +252,7 @@ event-leaves log v w o running before none kept flight core setup reads =
       terminals = same-terminals v w o.terminals coming core (λ w_clear. clear-where v.scene.stage is_running refl running) (λ pt no_cut. ap (cut_owed pt) before);
     }
 
-busy-running : (stage : Stage) → is_running (busy stage) ≡ true → is_running stage ≡ true
+pub busy-running : (stage : Stage) → is_running (busy stage) ≡ true → is_running stage ≡ true
 busy-running Resting e = e
 busy-running (Opening refused) e = e
 busy-running (Looking refused) e = e
@@ -276,20 +276,20 @@ call-leaves log v w call o next off spares stage kept flight setup items termina
     }
 
 -- a call that isn't on the disk is the last of those that spare it
-call-spares : (log : List Turn) (v : View) (call : OwedCall) → Ordered log v → first_call v.calls ≡ Some call → is_on_disk call ≡ false → spare_disk (later v.calls) ≡ true
+pub call-spares : (log : List Turn) (v : View) (call : OwedCall) → Ordered log v → first_call v.calls ≡ Some call → is_on_disk call ≡ false → spare_disk (later v.calls) ≡ true
 call-spares log v call o next off =
     let h : Holds (owned ledger_rules) log v = holds ledger_rules log v o.keeps in
     spares-later v.calls (rests-owing (owned ledger_rules) log v.scene.kept v.scene.flight v.calls v.scene.stage call h.phase next off).spares
 
 -- where the first call cuts no terminal, the later ones cut those that all do
-later-cuts : (pt : ℕ) (calls : List OwedCall) (call : OwedCall) → first_call calls ≡ Some call → cuts_terminal pt call ≡ false → cut_owed pt (later calls) ≡ false → cut_owed pt calls ≡ false
+pub later-cuts : (pt : ℕ) (calls : List OwedCall) (call : OwedCall) → first_call calls ≡ Some call → cuts_terminal pt call ≡ false → cut_owed pt (later calls) ≡ false → cut_owed pt calls ≡ false
 later-cuts pt calls call next none no_cut = ap (cut_owed pt) (first-later calls call next) ∙ ap (λ b. b || cut_owed pt (later calls)) none ∙ no_cut
 
 -- the last call cuts no terminal
-last-cuts : (pt : ℕ) (calls : List OwedCall) (call : OwedCall) → first_call calls ≡ Some call → later calls ≡ [] → cuts_terminal pt call ≡ false → cut_owed pt calls ≡ false
+pub last-cuts : (pt : ℕ) (calls : List OwedCall) (call : OwedCall) → first_call calls ≡ Some call → later calls ≡ [] → cuts_terminal pt call ≡ false → cut_owed pt calls ≡ false
 last-cuts pt calls call next last none = later-cuts pt calls call next none (ap (cut_owed pt) last)
 
-stage-clear : (v w : View) → w.scene.stage ≡ busy v.scene.stage → is_broken w.scene.stage ≡ false → is_broken v.scene.stage ≡ false
+pub stage-clear : (v w : View) → w.scene.stage ≡ busy v.scene.stage → is_broken w.scene.stage ≡ false → is_broken v.scene.stage ≡ false
 stage-clear v w stage clear = sym (busy-broken v.scene.stage) ∙ sym (ap is_broken stage) ∙ clear
 
 -- an event of a link, which the last call has brought
@@ -317,7 +317,7 @@ link-leaves laws log v w number event call k o next off last other spares stage 
 -- ---- turns on the disk
 
 -- where a gate is to be opened, no record is in flight
-gate-flies-none : (log : List Turn) (v : View) (slot : ℕ) (the_record : Record) → Phase (owned ledger_rules) log v.scene.kept v.scene.flight v.calls v.scene.stage → first_call v.calls ≡ Some (WriteGate slot the_record) → v.scene.flight ≡ None
+pub gate-flies-none : (log : List Turn) (v : View) (slot : ℕ) (the_record : Record) → Phase (owned ledger_rules) log v.scene.kept v.scene.flight v.calls v.scene.stage → first_call v.calls ≡ Some (WriteGate slot the_record) → v.scene.flight ≡ None
 gate-flies-none log v slot the_record (inl c) f = no-call v.calls _ c.calls_are f
 gate-flies-none log v slot the_record (inr (inl r)) f = r.is_open.no_flight
 gate-flies-none log v slot the_record (inr (inr m)) f = by_step m.0
@@ -332,10 +332,10 @@ gate-flies-none log v slot the_record (inr (inr m)) f = by_step m.0
     by_step (LastSync a) = absurd (let n : WriteGate slot the_record ≡ Sync = first-is v.calls _ Sync (WriteGate slot the_record) a.calls_are f in cc)
 
 -- the records once a write was made
-abbrev after_write : View → List Record
+abbrev pub after_write : View → List Record
 after_write v = (v.scene.kept ++ option_to_list (flight_after v.calls v.scene.flight)) ++ records_kept (later v.calls)
 
-written-coming : (log : List Turn) (v : View) (call : OwedCall) (turn : Turn) → Holds (owned ledger_rules) log v → first_call v.calls ≡ Some call → write_turn call ≡ Some turn → after_write v ≡ records_coming v
+pub written-coming : (log : List Turn) (v : View) (call : OwedCall) (turn : Turn) → Holds (owned ledger_rules) log v → first_call v.calls ≡ Some call → write_turn call ≡ Some turn → after_write v ≡ records_coming v
 written-coming log v call turn h next writes = by_call call next writes
   where
     flying : (first : OwedCall) → first_call v.calls ≡ Some first → flight_after v.calls v.scene.flight ≡ flight_after (first ∷ later v.calls) v.scene.flight
@@ -367,7 +367,7 @@ map-none [] e = refl
 map-none (the_record ∷ records) e = absurd (let n : record_body the_record ∷ map record_body records ≡ [] = e in cc)
 
 -- a write leaves the run going on as it was, but that of the first gate
-wrote-running : (stage : Stage) → is_running (stage_wrote stage) ≡ true → (is_running stage ≡ true) ⊎ (is_opening stage ≡ true)
+pub wrote-running : (stage : Stage) → is_running (stage_wrote stage) ≡ true → (is_running stage ≡ true) ⊎ (is_opening stage ≡ true)
 wrote-running Resting e = inl e
 wrote-running (Opening refused) e = inl e
 wrote-running (Looking refused) e = inr refl
@@ -377,7 +377,7 @@ wrote-running Over e = inl e
 wrote-running Broken e = inl e
 
 -- while a run opens its journal only the first gate is written, to a file without a record
-opening-writes : (log : List Turn) (v : View) (call : OwedCall) (turn : Turn) → Ordered log v → first_call v.calls ≡ Some call → write_turn call ≡ Some turn → is_opening v.scene.stage ≡ true → records_coming v ≡ []
+pub opening-writes : (log : List Turn) (v : View) (call : OwedCall) (turn : Turn) → Ordered log v → first_call v.calls ≡ Some call → write_turn call ≡ Some turn → is_opening v.scene.stage ≡ true → records_coming v ≡ []
 opening-writes log v call turn o next writes opening = by_phase h.phase
   where
     h : Holds (owned ledger_rules) log v
@@ -562,7 +562,7 @@ turn-leaves laws log v DiskFailed o ok = record {
 }
 turn-leaves laws log v (Crash file) o ok = nobody-leaves (after_turn v (Crash file)) refl refl refl refl
 
-turn-ordered : OrderLaws → (log : List Turn) (v : View) (turn : Turn) → Ordered log v → AllowedTurn v turn → Ordered (log ++ turn ∷ []) (after_turn v turn)
+pub turn-ordered : OrderLaws → (log : List Turn) (v : View) (turn : Turn) → Ordered log v → AllowedTurn v turn → Ordered (log ++ turn ∷ []) (after_turn v turn)
 turn-ordered laws log v turn o ok =
     let l = turn-leaves laws log v turn o ok in
     record {
@@ -585,12 +585,12 @@ course-ordered laws log v (Read as_read ∷ moves) o c = course-ordered laws log
 course-ordered laws log v (Make turn ∷ moves) o c =
     subst (λ l. Ordered l (view_from (after_turn v turn) moves)) (append_assoc log (turn ∷ []) (turns_of moves)) (course-ordered laws (log ++ turn ∷ []) (after_turn v turn) moves (turn-ordered laws log v turn o c.0) c.1)
 
-first-ordered : Ordered [] at_first
+pub first-ordered : Ordered [] at_first
 first-ordered =
     let l = nobody-leaves at_first refl refl refl refl in
     record { agrees = first-agrees; keeps = KeepsOn.NoMoves; owed = []; owing = first-owing; read = l.read; quiet = l.quiet; room = l.room; terminals = l.terminals }
 
-log-ordered : OrderLaws → (log : List Turn) (v : View) → Stands log v → Ordered log v
+pub log-ordered : OrderLaws → (log : List Turn) (v : View) → Stands log v → Ordered log v
 log-ordered laws log v s = subst (λ w. Ordered log w) s.view_is (subst (λ l. Ordered l (view_from at_first s.course)) s.log_is (course-ordered laws [] at_first s.course first-ordered s.lawful))
 
 -- ---- the laws

@@ -9,6 +9,10 @@ use Rattle.gw_script.specs.LogText.{log_text}
 use Rattle.gw_script.specs.site.Playing.{PlaysLines}
 use Rattle.gw_script.specs.site.ScriptLine.{PlayedLine, setup_of}
 use Rattle.gw_rules.proofs.PrefixLemmas.{prefix-lawful}
+use Rattle.gw_rules.specs.Acts.{moves_of}
+use Rattle.gw_rules.specs.Lawful.{IsLawful}
+use Rattle.gw_rules.specs.View.{at_first, view_from}
+use Rattle.gw_books.specs.PastLaws.{EachLogAgrees}
 use Rattle.gw_run.specs.Replay.{HasEnd, HasNumber, IsPlayOf, IsReportedEnd, IsWrittenEnd, PlayPrinted, WritesTail}
 use Rattle.gw_run.specs.ScriptLog.{AreOpenings, IsLogOf}
 use Rattle.gw_run.specs.Top.{ShowsEnd, IsInput, Prints, Printed, tail_of}
@@ -36,28 +40,32 @@ part-prefix text ending prefix log f p = record {
 -- ---- what is printed
 
 -- what is printed of a log that was played in part
-part-text : (text : List ℕ) (input : Option (List ℕ)) (ending : Ending) (log : List Turn) → IsInput input text → IsPlayOf text ending log → Prints Memory input (log_text log ++ tail_of Memory)
-part-text text input ending log i p = inr (record { script_text = text; script = p.script; log = log; input_is = i; script_is = p.script_is; lawful = p.lawful; openings = p.openings; plays = p.plays; is = refl })
+part-text : EachLogAgrees → (text : List ℕ) (input : Option (List ℕ)) (ending : Ending) (log : List Turn) → IsInput input text → IsPlayOf text ending log → Prints Memory input (log_text log ++ tail_of Memory)
+part-text headline text input ending log i p = inr (record { script_text = text; script = p.script; log = log; input_is = i; script_is = p.script_is; lawful = p.lawful; openings = p.openings; plays = p.plays; agrees = headline log p.lawful; is = refl })
+
+-- the log of a script is lawful
+lawful-log : (text : List ℕ) (log : List Turn) → IsLogOf text log → IsLawful log
+lawful-log text log is = (view_from at_first (moves_of is.acts), record { course = moves_of is.acts; log_is = is.done.log_is; lawful = is.done.lawful; view_is = refl })
 
 -- what is printed of a log that was played whole
-whole-text : (text : List ℕ) (input : Option (List ℕ)) (ending : Ending) (log : List Turn) → IsInput input text → IsLogOf text log → ShowsEnd ending log → Prints ending input (log_text log ++ tail_of ending)
-whole-text text input Played log i is end = record { script = text; log = log; input_is = i; log_is = is; end = end; is = refl }
-whole-text text input NotOpened log i is end = record { script = text; log = log; input_is = i; log_is = is; end = end; is = refl }
-whole-text text input Disk log i is end = record { script = text; log = log; input_is = i; log_is = is; end = end; is = refl }
-whole-text text input Words log i is end = absurd end
-whole-text text input Long log i is end = absurd end
-whole-text text input (AtLine line) log i is end = absurd end
-whole-text text input Input log i is end = absurd end
-whole-text text input Memory log i is end = absurd end
-whole-text text input OutputFailed log i is end = absurd end
-whole-text text input (LongJournal size) log i is end = absurd end
-whole-text text input (CutJournal slot) log i is end = absurd end
-whole-text text input (BadSlot slot) log i is end = absurd end
+whole-text : EachLogAgrees → (text : List ℕ) (input : Option (List ℕ)) (ending : Ending) (log : List Turn) → IsInput input text → IsLogOf text log → ShowsEnd ending log → Prints ending input (log_text log ++ tail_of ending)
+whole-text headline text input Played log i is end = record { script = text; log = log; input_is = i; log_is = is; end = end; agrees = headline log (lawful-log text log is); is = refl }
+whole-text headline text input NotOpened log i is end = record { script = text; log = log; input_is = i; log_is = is; end = end; agrees = headline log (lawful-log text log is); is = refl }
+whole-text headline text input Disk log i is end = record { script = text; log = log; input_is = i; log_is = is; end = end; agrees = headline log (lawful-log text log is); is = refl }
+whole-text headline text input Words log i is end = absurd end
+whole-text headline text input Long log i is end = absurd end
+whole-text headline text input (AtLine line) log i is end = absurd end
+whole-text headline text input Input log i is end = absurd end
+whole-text headline text input Memory log i is end = absurd end
+whole-text headline text input OutputFailed log i is end = absurd end
+whole-text headline text input (LongJournal size) log i is end = absurd end
+whole-text headline text input (CutJournal slot) log i is end = absurd end
+whole-text headline text input (BadSlot slot) log i is end = absurd end
 
-play-text : (text : List ℕ) (input : Option (List ℕ)) (ending : Ending) (log : List Turn) → IsInput input text → IsPlayOf text ending log → Prints ending input (log_text log ++ tail_of ending)
-play-text text input ending log i p = elim p.whole [
-  | inl e ↦ subst (λ one. Prints one input (log_text log ++ tail_of one)) (sym e) (part-text text input ending log i p)
-  | inr w ↦ whole-text text input ending log i w.0 w.1
+play-text : EachLogAgrees → (text : List ℕ) (input : Option (List ℕ)) (ending : Ending) (log : List Turn) → IsInput input text → IsPlayOf text ending log → Prints ending input (log_text log ++ tail_of ending)
+play-text headline text input ending log i p = elim p.whole [
+  | inl e ↦ subst (λ one. Prints one input (log_text log ++ tail_of one)) (sym e) (part-text headline text input ending log i p)
+  | inr w ↦ whole-text headline text input ending log i w.0 w.1
 ]
 
 end-of-play : (text : List ℕ) (ending : Ending) (log : List Turn) → IsPlayOf text ending log → HasEnd text ending
@@ -102,20 +110,20 @@ printed-after script ending result input text added never end w (inr (inr (faile
 printed-after script ending result input text added never end w (inr (inr (failed, (observed, inr other, prefix)))) = absurd (never other.1)
 
 -- the log was written, and the lines after it
-pub log-printed : (script : List ℕ) (ending result : Ending) (log : List Turn) (first added : List ℕ) → IsPlayOf script ending log → first ≡ log_text log → WritesTail ending result added → PlayPrinted script result (first ++ added)
-log-printed script ending result log first added p f t = λ input i.
+pub log-printed : EachLogAgrees → (script : List ℕ) (ending result : Ending) (log : List Turn) (first added : List ℕ) → IsPlayOf script ending log → first ≡ log_text log → WritesTail ending result added → PlayPrinted script result (first ++ added)
+log-printed headline script ending result log first added p f t = λ input i.
     subst (λ l. Printed (HasEnd script) input result (l ++ added)) (sym f)
-    (printed-after script ending result input (log_text log) added (no-number script ending log p) (end-of-play script ending log p) (play-text script input ending log i p) t)
+    (printed-after script ending result input (log_text log) added (no-number script ending log p) (end-of-play script ending log p) (play-text headline script input ending log i p) t)
 
 -- a prefix of the log's text was written, and then no more
-pub log-unprinted : (script : List ℕ) (ending : Ending) (log : List Turn) (added : List ℕ) → IsPlayOf script ending log → IsPrefix added (log_text log) → PlayPrinted script OutputFailed added
-log-unprinted script ending log added p (rest, e) = λ input i. inr (
+pub log-unprinted : EachLogAgrees → (script : List ℕ) (ending : Ending) (log : List Turn) (added : List ℕ) → IsPlayOf script ending log → IsPrefix added (log_text log) → PlayPrinted script OutputFailed added
+log-unprinted headline script ending log added p (rest, e) = λ input i. inr (
   refl,
   record {
     ending = Memory;
     whole = log_text log ++ tail_of Memory;
     could = inl refl;
-    prints = part-text script input ending log i p;
+    prints = part-text headline script input ending log i p;
     prefix = (rest ++ tail_of Memory, ap (λ t. t ++ tail_of Memory) e ∙ append_assoc added rest (tail_of Memory));
   },
 )

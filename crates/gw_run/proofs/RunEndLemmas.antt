@@ -1,10 +1,13 @@
 -- How the top call ends after one run.
-use Rattle.std.proofs.Common.{◌≡◌, ℕ, List, ◌∙◌, ap}
+use Rattle.std.proofs.Common.{◌≡◌, ℕ, List, ◌++◌, Some, ◌∙◌, ap, subst, sym}
 use Rattle.gw_base.specs.declared.setup.Setup.{Setup}
-use Rattle.gw_site.specs.Observed.{Observed}
+use Rattle.gw_site.specs.Observed.{IfObserved, Observed}
 use Rattle.gw_site.specs.declared.turn.Turn.{Turn}
+use Rattle.gw_rules.specs.Lawful.{IsClear, Stands, turns_of}
 use Rattle.gw_rules.specs.Triple.{IsRun, RunTriple}
-use Rattle.gw_rules.specs.View.{View}
+use Rattle.gw_rules.specs.View.{View, view_from}
+use Rattle.gw_rules.proofs.CourseLemmas.{stands-more}
+use Rattle.gw_books.specs.PastLaws.{AgreesThroughout, EachLogAgrees}
 use Rattle.gw_dispatch.specs.RunEnd.{EndedBy}
 use Rattle.gw_dispatch.specs.declared.engine.Ended.{Ended}
 use Rattle.gw_run.specs.RunEnds.{EndsRun, EndsWithStatus, GivesEnd, GivesStatus, ending_of}
@@ -32,3 +35,14 @@ gives-status ending status IsSo s r = (r.0, s ∙ ap status_of r.1, r.2)
 -- and so does that of a run
 pub run-status : (own : Setup) (old new : Observed) (ending : Ending) (status most : ℕ) → status ≡ status_of ending → RunTriple own old new (IsRun own) (EndsRun ending most) → RunTriple own old new (IsRun own) (EndsWithStatus status most)
 run-status own old new ending status most s runs = run-weaker own old new (IsRun own) (EndsRun ending most) (EndsWithStatus status most) (λ v r. gives-status ending status (λ ended. EndedBy ended most v) s r) runs
+
+some-turns : (a b : List Turn) → Some a ≡ Some b → a ≡ b
+some-turns a b e = cc
+
+-- what a run leaves of a lawful log is one, so that the headline holds of it
+pub run-agrees : EachLogAgrees → (own : Setup) (old new : Observed) (Shape : List Turn → Type 0) (Q : View → Type 0) → RunTriple own old new Shape Q →
+    IfObserved old (λ before. (v : View) → Stands before v → IsClear v → IfObserved new AgreesThroughout)
+run-agrees headline own old new Shape Q runs before e v stands clear after is =
+    let r = runs.observed before v e stands clear in
+    let after_is : before ++ turns_of r.moves ≡ after = some-turns _ _ (sym r.log_is ∙ is) in
+    headline after (view_from v r.moves, subst (λ log. Stands log (view_from v r.moves)) after_is (stands-more before v r.moves stands r.lawful))

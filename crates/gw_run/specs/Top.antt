@@ -9,6 +9,7 @@ use Rattle.gw_script.specs.site.ScriptLine.{Script, setup_of}
 use Rattle.gw_site.specs.declared.turn.Turn.TheVariants.{OpenFailed, Stopped, DiskFailed}
 use Rattle.gw_script.specs.site.Playing.{PlaysLines}
 use Rattle.gw_rules.specs.Lawful.{IsLawful}
+use Rattle.gw_books.specs.PastLaws.{AgreesThroughout}
 use Rattle.gw_run.specs.ScriptLog.{AreOpenings, HasLastTurn, IsLogOf}
 use Rattle.gw_run.specs.Served.{served_script}
 use Rattle.gw_script.specs.LogText.{log_text}
@@ -148,6 +149,8 @@ pub record IsPlayedWhole (ending : Ending) (input : Option (List ℕ)) (text : L
   pub input_is : IsInput input script
   pub log_is : IsLogOf script log
   pub end : ShowsEnd ending log
+  -- the headline, of each prefix of the log
+  pub agrees : AgreesThroughout log
   pub is : text ≡ log_text log ++ tail_of ending
 
 -- the text of a lawful log that plays a prefix of the script that was read, before memory was refused; each of its runs is opened with the script's setup
@@ -160,6 +163,8 @@ pub record IsPlayedInPart (input : Option (List ℕ)) (text : List ℕ) : Type 0
   pub lawful : IsLawful log
   pub openings : AreOpenings (setup_of script.given) true log
   pub plays : ∥ PlaysLines script.lines log ∥₁
+  -- the headline, of each prefix of the log
+  pub agrees : AgreesThroughout log
   pub is : text ≡ log_text log ++ tail_of Memory
 
 -- the table of what is printed: what a call that ends so prints, if no write fails

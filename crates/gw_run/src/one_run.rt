@@ -3,13 +3,17 @@ ghost use Rattle.std.specs.Prelude.{◌≡◌, ◌≤◌};
 ghost use Rattle.gw_base.specs.Setup.{IsSetup};
 ghost use Rattle.gw_site.specs.Failures.{Rose};
 ghost use Rattle.gw_site.specs.Observed.{IfObserved};
+ghost use Rattle.gw_books.specs.PastLaws.{AgreesThroughout};
+ghost use Rattle.gw_rules.specs.Lawful.{IsClear, Stands};
 ghost use Rattle.gw_rules.specs.Triple.{IsRun, RunTriple};
+ghost use Rattle.gw_rules.specs.View.{View};
 ghost use Rattle.gw_dispatch.specs.Growth.{EndsInFailure};
 ghost use Rattle.gw_dispatch.specs.RunEnd.{EndsByFound, NoneBegan};
 ghost use Rattle.gw_run.specs.RunEnds.{EndsRun, EndsWithStatus, GivesEnd, GivesStatus, ending_of};
 
 use crate::ending::Ending;
 use gw_base::Setup;
+use gw_books::law_headline;
 use gw_dispatch::{Ended, run as run_gateway};
 use gw_site::Site;
 use std::alloc::Global;
@@ -56,6 +60,9 @@ pub(crate) fn run_ended<S: Site>(alloc: Global, setup: &Setup, site: &mut S, mos
 /// Whatever has written the file, 76 says of the one that the run has found that it is such, that it is cut in a slot, or that a slot
 /// has no record that may follow those before it.
 ///
+/// From such a log the headline holds of what the log then is, and of each of its prefixes, also where the site is dark: each book that is
+/// honest agrees with what was done and what tills were sent.
+///
 /// `top` runs the script's site so, once more after each power failure.
 pub fn run<S: Site>(alloc: Global, setup: &Setup, site: &mut S, most: u64) -> u8
     requires { IsSetup setup.now }
@@ -65,7 +72,9 @@ pub fn run<S: Site>(alloc: Global, setup: &Setup, site: &mut S, most: u64) -> u8
     ensures none { result ≡ 69 → IfObserved (S.observed site.old) (λ before. NoneBegan before (S.observed site.new)) }
     ensures disk { result ≡ 74 → Rose (S.observed site.old).faults (S.observed site.new).faults }
     ensures failed { result ≡ 74 → IfObserved (S.observed site.old) (λ before. EndsInFailure (S.observed site.new)) }
+    ensures agrees { IfObserved (S.observed site.old) (λ before. (v : View) → Stands before v → IsClear v → IfObserved (S.observed site.new) AgreesThroughout) }
     ensures later { (S.observed site.old).faults ≤ (S.observed site.new).faults }
 {
+    law_headline();
     run_ended(alloc, setup, site, most).status()
 }

@@ -162,6 +162,9 @@ fn replay<I: Source, O: Sink>(alloc: Global, input: &mut I, out: &mut O) -> Endi
 ///
 /// A journal that is refused has status 76 (`journal long N`, `journal cut N` or `journal slot N`); that of a script never is, as all its
 /// runs have the same slots. The site that is handed in gets no call.
+///
+/// Of each log whose text it writes the headline holds, and of each prefix of that log: each book of the terminals that is honest agrees with
+/// what was done and what tills were sent.
 pub fn top<S: Site, I: Source, O: Sink>(
     alloc: Global,
     words: &[Text],

@@ -14,6 +14,7 @@ use crate::last_lines::write_last_lines;
 use crate::one_run::run_ended;
 use crate::text::{Unwritten, write_log};
 use gw_base::Setup;
+use gw_books::law_headline;
 use gw_rules::law_openings;
 use gw_site::{Sink, Turn};
 use sim_site::SimSite;
@@ -95,6 +96,7 @@ fn write_play<O: Sink>(alloc: Global, log: &[Turn], ending: Ending, out: &mut O)
     ensures output_failed { result ≡ Ending.OutputFailed → Rose (O.faults out.old) (O.faults out.new) }
     ensures later { O.faults out.old ≤ O.faults out.new }
 {
+    law_headline();
     match write_log(alloc, log, out) {
         Ok(()) => write_last_lines(alloc, ending, out),
         Err(Unwritten::Memory) => write_last_lines(alloc, Ending::Memory, out),

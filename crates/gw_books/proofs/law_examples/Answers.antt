@@ -1,6 +1,6 @@
 -- The examples.
 use Rattle.gw_books.proofs.CourseLemmas.{lost-has-past, paid-has-past, refused-has-past}
-use Rattle.gw_books.proofs.DisagreeLemmas.{disordered-books, later-entry-disagrees, links-end, not-found-disagrees, other-content-agrees, other-repeat-disagrees, outside-disagrees, progress-disagrees, repeat-agrees, reported-books, same-content-disagrees, twice-disagrees, unaccepted-disagrees, unbooked-disagrees, uncaused-books, unreported-is-resolved, unresolved-disagrees, untrue-books, waiting-is-in-progress}
+use Rattle.gw_books.proofs.DisagreeLemmas.{disordered-books, entries-of-one-key, keyless-disagrees, later-entry-disagrees, links-end, not-found-disagrees, other-content-agrees, other-repeat-disagrees, outside-disagrees, progress-disagrees, repeat-agrees, reported-books, same-content-disagrees, twice-disagrees, unaccepted-disagrees, unbooked-disagrees, uncaused-books, unreported-may-be-open, unresolved-disagrees, untrue-books, waiting-is-in-progress}
 use Rattle.gw_books.proofs.ExampleLemmas.{asked-has-past, lost-agrees, paid-agrees, refused-agrees}
 use Rattle.gw_books.proofs.law_examples.Goals as goal
 
@@ -27,6 +27,12 @@ returns-clause-lost_agrees c = lost-agrees
 
 pub returns-clause-twice : goal.returns-clause-twice
 returns-clause-twice c = twice-disagrees
+
+pub returns-clause-one_key : goal.returns-clause-one_key
+returns-clause-one_key c = entries-of-one-key
+
+pub returns-clause-keyless : goal.returns-clause-keyless
+returns-clause-keyless c = keyless-disagrees
 
 pub returns-clause-unbooked : goal.returns-clause-unbooked
 returns-clause-unbooked c = unbooked-disagrees
@@ -65,7 +71,7 @@ pub returns-clause-waiting : goal.returns-clause-waiting
 returns-clause-waiting c = waiting-is-in-progress
 
 pub returns-clause-unreported : goal.returns-clause-unreported
-returns-clause-unreported c = unreported-is-resolved
+returns-clause-unreported c = unreported-may-be-open
 
 pub returns-clause-links_end : goal.returns-clause-links_end
 returns-clause-links_end c = links-end

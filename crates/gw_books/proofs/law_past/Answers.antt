@@ -1,9 +1,9 @@
--- A lawful log has one past.
-use Rattle.gw_books.proofs.PastLawLemmas.{each-has-one-past, headline-of-prefixes}
+-- A lawful log has one past, and a book that is honest for it is honest for that of each prefix.
+use Rattle.gw_books.proofs.PastLawLemmas.{each-has-one-past, honest-for-prefix}
 use Rattle.gw_books.proofs.law_past.Goals as goal
 
 pub returns-clause-one : goal.returns-clause-one
 returns-clause-one c = each-has-one-past
 
-pub returns-clause-prefixes : goal.returns-clause-prefixes
-returns-clause-prefixes c = headline-of-prefixes
+pub returns-clause-prefix : goal.returns-clause-prefix
+returns-clause-prefix c = honest-for-prefix

@@ -1,5 +1,5 @@
 -- Proof of the contract of `run`.
-use Rattle.gw_run.proofs.RunEndLemmas.{gives-status, run-status}
+use Rattle.gw_run.proofs.RunEndLemmas.{gives-status, run-agrees, run-status}
 use Rattle.gw_run.proofs.one_run.run.Goals as goal
 
 pub returns-clause-lawful : goal.returns-clause-lawful
@@ -7,3 +7,6 @@ returns-clause-lawful g c = run-status _ _ _ c.run_ended.result c.status.result 
 
 pub returns-clause-file : goal.returns-clause-file
 returns-clause-file g c = λ log e. gives-status c.run_ended.result c.status.result _ c.status.ensures (c.run_ended.ensures.file log e)
+
+pub returns-clause-agrees : goal.returns-clause-agrees
+returns-clause-agrees g c = run-agrees c.law_headline.ensures.throughout _ _ _ _ _ c.run_ended.ensures.lawful

@@ -1,0 +1,209 @@
+-- What holds at the end gives agreement.
+use Rattle.std.proofs.Common.{◌≡◌, ◌∙◌, ℕ, Bool, true, false, List, [], ◌∷◌, refl, sym, ap, subst, inl, inr, arith, le-leb, eqb-true, eq-eqb, leb-true}
+use Rattle.std.proofs.lemmas.Bool.{and_from, and_parts, false_from_ne_true, not_from_false}
+use Rattle.std.proofs.lemmas.List.Elements.{All-from_recursion}
+use Rattle.std.specs.Prelude.{◌==◌, nat_lt, nat_le, ◌&&◌, ◌||◌, not, is_some, bytes_eq, codes, All, Option, Some, None, option_to_list, option_and_then}
+use Rattle.std.specs.List.{AllByRecursion, list_any, list_all}
+use Rattle.gw_base.specs.Transaction.{transaction_text}
+use Rattle.gw_base.specs.declared.key.Key.{Key}
+use Rattle.json_text.specs.Tree.{Tree}
+use Rattle.sale_values.specs.Money.{money_text}
+use Rattle.jrn_record.specs.declared.records.Record.{Record}
+use Rattle.gw_ledger.specs.Keys.{intent_key, is_key, same_key, slot_of}
+use Rattle.gw_ledger.specs.Slots.{is_open}
+use Rattle.gw_books.specs.Past.{SentCommand, SentReply, Past}
+use Rattle.gw_books.specs.Books.{BookedEntry, is_cause, is_caused, is_caused_by, have_one_cause, comes_before, is_ordered}
+use Rattle.gw_books.specs.Said.{Said, all_said, IsFramed}
+use Rattle.gw_books.specs.Agrees.{EachSaid, entry_key, key_at_place, key_meant, is_transaction, is_success, fails_with, is_approved_entry, is_entry_said, is_unresolved, names_entry, success_agrees, refusal_agrees, unaccepted_agrees, not_found_agrees, in_progress_agrees}
+use Rattle.gw_books.proofs.Holding.{AreFalling, AreKeyed, BearsOut, HasApprovedEntry, HasNoApproval, HoldsAgrees, IsSaidTrue, IsSentTrue, SaysSuccess, sent_with}
+use Rattle.gw_books.proofs.KeyedLemmas.{AreApart, apart-distinct, caused-for, is-key-is, is-key-itself, key-sent, sent-below, sent-same}
+use Rattle.gw_books.proofs.ListLemmas.{In, all-in, all-from, any-in, any-from, none-from, bytes-are, bytes-itself}
+
+-- ---- commands
+
+sent-apart : (place : ℕ) (commands : List SentCommand) → AreFalling place commands
+    → ((one other : SentCommand) (key : Key) → In one commands → In other commands → one.key ≡ Some key → other.key ≡ Some key → one ≡ other) → AreApart (λ (command : SentCommand). command.key) commands
+sent-apart place [] falling once = tt
+sent-apart place (command ∷ commands) falling once = (
+  λ other within key e f.
+      let h = sent-below command.place commands falling.1 other within in
+      let g : command.place ≡ other.place = ap (λ (one : SentCommand). one.place) (once command other key (inl refl) (inr within) e f) in
+      omega (arith, h, g),
+  sent-apart command.place commands falling.1 (λ one other key first second. once one other key (inr first) (inr second)),
+)
+
+-- ---- entries
+
+-- an entry whose cause was sent is of the command's terminal
+caused-poi : (past : Past) (entry : BookedEntry) (command : SentCommand) → AreFalling past.place past.commands → In command past.commands → entry.cause ≡ Some command.place
+    → is_caused past entry entry.cause ≡ true → command.poi ≡ entry.poi
+caused-poi past entry command falling within e caused =
+    let f = subst (λ cause. is_caused past entry cause ≡ true) e caused in
+    by (nat_le past.place command.place) refl (and_parts (nat_lt command.place entry.place) _ f).1
+  where
+    by : (b : Bool) → nat_le past.place command.place ≡ b → (b || list_any (is_cause entry command.place) past.commands) ≡ true → command.poi ≡ entry.poi
+    by true t g =
+        let h = sent-below past.place past.commands falling command within in
+        let k = leb-true past.place command.place t in
+        absurd (omega (arith, h, k))
+    by false t g =
+        let some = any-in (is_cause entry command.place) past.commands g in
+        let p = and_parts (some.0.place == command.place) (some.0.whole && (bytes_eq some.0.poi entry.poi && _)) some.2 in
+        let q = and_parts some.0.whole (bytes_eq some.0.poi entry.poi && _) p.1 in
+        let r = and_parts (bytes_eq some.0.poi entry.poi) _ q.1 in
+        let same = sent-same past.place past.commands falling some.0 command some.1 within (eqb-true some.0.place command.place p.0) in
+        ap (λ (one : SentCommand). one.poi) (sym same) ∙ bytes-are some.0.poi entry.poi r.0
+
+-- entries of one cause have it
+one-cause : (one other : BookedEntry) (place : ℕ) → one.cause ≡ Some place → other.cause ≡ Some place → have_one_cause one other ≡ true
+one-cause one other place e f =
+    ap (λ cause. list_any (λ p. is_caused_by p other) (option_to_list cause)) e
+    ∙ (ap (λ cause. list_any (λ c. c == place) (option_to_list cause) || false) f
+    ∙ ap (λ b. (b || false) || false) (eq-eqb place place refl))
+
+-- an entry that comes before another of its terminal has another cause
+no-cause : (one other : BookedEntry) → one.poi ≡ other.poi → comes_before one other ≡ true → have_one_cause one other ≡ true → ⊥
+no-cause one other same e f =
+    let s : bytes_eq one.poi other.poi ≡ true = subst (λ poi. bytes_eq one.poi poi ≡ true) same (bytes-itself one.poi) in
+    let g = subst (λ b. (not b || (nat_le one.place other.place && (nat_lt one.number other.number && not (have_one_cause one other)))) ≡ true) s e in
+    let p = and_parts (nat_le one.place other.place) _ g in
+    let q = and_parts (nat_lt one.number other.number) _ p.1 in
+    let c : not true ≡ true = subst (λ b. not b ≡ true) f q.1 in
+    absurd (cc)
+
+-- no two entries have one key
+two-booked : (kept : List Record) (past : Past) → AreKeyed kept past.place past.commands → (one other : BookedEntry) (key : Key)
+    → is_caused past one one.cause ≡ true → is_caused past other other.cause ≡ true → comes_before one other ≡ true → entry_key past one ≡ Some key → entry_key past other ≡ Some key → ⊥
+two-booked kept past keyed one other key first second before e f =
+    let a = caused-for past one key e in
+    let b = caused-for past other key f in
+    let same : a.command ≡ b.command = keyed.once a.command b.command key a.sent b.sent a.key_is b.key_is in
+    let cause : other.cause ≡ Some a.command.place = b.cause_is ∙ ap (λ (command : SentCommand). Some command.place) (sym same) in
+    let poi = caused-poi past one a.command keyed.falling a.sent a.cause_is first in
+    let other_poi = caused-poi past other a.command keyed.falling a.sent cause second in
+    no-cause one other (sym poi ∙ other_poi) before (one-cause one other a.command.place a.cause_is cause)
+
+booked-apart : (kept : List Record) (past : Past) → AreKeyed kept past.place past.commands → (book : List BookedEntry) → list_all (λ (entry : BookedEntry). is_caused past entry entry.cause) book ≡ true
+    → is_ordered book ≡ true → AreApart (entry_key past) book
+booked-apart kept past keyed [] caused ordered = tt
+booked-apart kept past keyed (entry ∷ book) caused ordered =
+    let p = and_parts (is_caused past entry entry.cause) (list_all (λ (one : BookedEntry). is_caused past one one.cause) book) caused in
+    let q = and_parts (list_all (comes_before entry) book) (is_ordered book) ordered in (
+      λ other within key. two-booked kept past keyed entry other key p.0 (all-in (λ (one : BookedEntry). is_caused past one one.cause) book p.1 other within) (all-in (comes_before entry) book q.0 other within),
+      booked-apart kept past keyed book p.1 q.1,
+    )
+
+-- ---- replies
+
+-- what holds of each in a list holds of all
+all-of : {A : Type 0} (P : A → Type 0) (list : List A) → ((x : A) → In x list → P x) → All P list
+all-of {A} P list each = All-from_recursion P list (by-recursion list each)
+  where
+    by-recursion : (list : List A) → ((x : A) → In x list → P x) → AllByRecursion P list
+    by-recursion [] each = tt
+    by-recursion (x ∷ list) each = (each x (inl refl), by-recursion list (λ y within. each y (inr within)))
+
+each-said : (agrees : Past → List BookedEntry → SentReply → Said → Bool) (past : Past) (book : List BookedEntry)
+    → ((reply : SentReply) → IsSentTrue past.commands book reply → (said : Said) → IsSaidTrue reply.kept reply.occasion said → agrees past book reply said ≡ true)
+    → ((reply : SentReply) → In reply past.replies → IsSentTrue past.commands book reply) → EachSaid agrees past book
+each-said agrees past book each true-replies =
+    all-of (λ (reply : SentReply). (message : Tree) → IsFramed reply.bytes message → list_all (agrees past book reply) (all_said message) ≡ true) past.replies (λ reply within message framed.
+    let sent = true-replies reply within in
+    all-from (agrees past book reply) (all_said message) (λ said says. each reply sent said (sent.says message framed said says)))
+
+-- where a test implies something, it fails or that holds
+unless : (test other : Bool) → (test ≡ true → other ≡ true) → (not test || other) ≡ true
+unless true other holds = holds refl
+unless false other holds = refl
+
+-- ---- a success
+
+-- the entry that bears a success out is the one that is said
+entry-said : (past : Past) (book : List BookedEntry) (reply : SentReply) (said : Said) → AreFalling past.place past.commands → (command : SentCommand) → In command past.commands
+    → (says : SaysSuccess reply.kept said) → command.key ≡ Some (intent_key says.says.intent) → (has : HasApprovedEntry book reply.place command says.says.outcome) → is_entry_said past reply said has.entry ≡ true
+entry-said past book reply said falling command sent says key has =
+    let entry = has.entry in
+    let outcome = says.says.outcome in
+    let key_is : entry_key past entry ≡ Some said.key =
+    ap (option_and_then (key_at_place past.commands)) has.caused ∙ (key-sent past.place past.commands falling command sent ∙ (key ∙ ap Some (sym says.says.key_is))) in
+    let approved : is_approved_entry past said.key entry ≡ true = and_from entry.approved (is_key said.key (entry_key past entry)) has.approved (is-key-itself said.key (entry_key past entry) key_is) in
+    let text : said.transaction ≡ transaction_text entry.number entry.receipt outcome.slot =
+    says.transaction_is ∙ (ap (λ n. transaction_text n outcome.receipt outcome.slot) (sym has.number) ∙ ap (λ n. transaction_text entry.number n outcome.slot) (sym has.receipt)) in
+    let names : names_entry reply.kept said.key said.transaction entry ≡ true =
+    ap (λ slot. list_any (λ s. bytes_eq said.transaction (transaction_text entry.number entry.receipt s)) (option_to_list slot)) says.slot_is
+    ∙ ap (λ b. b || false) (subst (λ t. bytes_eq said.transaction t ≡ true) text (bytes-itself said.transaction)) in
+    let units : said.amount ≡ money_text entry.amount = says.amount_is ∙ ap money_text (sym has.amount) in
+    let amount : bytes_eq said.amount (money_text entry.amount) ≡ true = subst (λ t. bytes_eq said.amount t ≡ true) units (bytes-itself said.amount) in
+    and_from (is_approved_entry past said.key entry) _ approved
+    (and_from (nat_le entry.place reply.place) _ (le-leb entry.place reply.place has.placed)
+    (and_from (names_entry reply.kept said.key said.transaction entry) (bytes_eq said.amount (money_text entry.amount)) names amount))
+
+success-said : (kept : List Record) (past : Past) (book : List BookedEntry) → AreKeyed kept past.place past.commands
+    → (reply : SentReply) → IsSentTrue past.commands book reply → (said : Said) → IsSaidTrue reply.kept reply.occasion said → success_agrees past book reply said ≡ true
+success-said kept past book keyed reply sent said truth =
+    unless (is_transaction said && is_success said) (list_any (is_entry_said past reply said) book) (λ t.
+    let says = truth.success t in
+    let is = sent.outcomes says.says.at says.says.outcome says.says.intent says.says.found says.says.intent_is in
+    let has : HasApprovedEntry book reply.place is.command says.says.outcome = subst (λ b. BearsOut b book reply.place is.command says.says.outcome) says.says.approved_is is.borne_out in
+    any-from (is_entry_said past reply said) book has.entry has.within (entry-said past book reply said keyed.falling is.command is.sent says is.key_is has))
+
+-- ---- a refusal
+
+-- where no entry of a command is approved, none is for its key
+not-approved : (kept : List Record) (past : Past) (book : List BookedEntry) → AreKeyed kept past.place past.commands → (command : SentCommand) → In command past.commands → (key : Key) → command.key ≡ Some key
+    → HasNoApproval book command → (entry : BookedEntry) → In entry book → is_approved_entry past key entry ≡ true → ⊥
+not-approved kept past book keyed command sent key key_is none entry within e =
+    let p = and_parts entry.approved (is_key key (entry_key past entry)) e in
+    let a = caused-for past entry key (is-key-is key (entry_key past entry) p.1) in
+    let same : a.command ≡ command = keyed.once a.command command key a.sent sent a.key_is key_is in
+    let f : entry.approved ≡ false = none entry within (a.cause_is ∙ ap (λ (one : SentCommand). Some one.place) same) in
+    let clash : true ≡ false = sym p.0 ∙ f in
+    absurd (cc)
+
+refusal-said : (kept : List Record) (past : Past) (book : List BookedEntry) → AreKeyed kept past.place past.commands
+    → (reply : SentReply) → IsSentTrue past.commands book reply → (said : Said) → IsSaidTrue reply.kept reply.occasion said → refusal_agrees past book reply said ≡ true
+refusal-said kept past book keyed reply sent said truth =
+    unless (is_transaction said && (not (is_success said) && said.has_poi_data)) (not (list_any (is_approved_entry past said.key) book)) (λ t.
+    let says = truth.refusal t in
+    let is = sent.outcomes says.at says.outcome says.intent says.found says.intent_is in
+    let none : HasNoApproval book is.command = subst (λ b. BearsOut b book reply.place is.command says.outcome) says.approved_is is.borne_out in
+    let key : is.command.key ≡ Some said.key = is.key_is ∙ ap Some (sym says.key_is) in
+    not_from_false (list_any (is_approved_entry past said.key) book)
+    (none-from (is_approved_entry past said.key) book
+    (λ entry within. false_from_ne_true (is_approved_entry past said.key entry) (not-approved kept past book keyed is.command is.sent said.key key none entry within))))
+
+-- ---- what is in progress
+
+-- what is unresolved where none waits is so whatever waits
+unresolved-more : (reply : SentReply) (key : Option Key)
+    → list_any (is_unresolved (sent_with reply.kept reply.occasion)) (option_to_list key) ≡ true → list_any (is_unresolved reply) (option_to_list key) ≡ true
+unresolved-more reply None e = e
+unresolved-more reply (Some key) e = by (list_any (is_open reply.kept) (option_to_list (slot_of reply.kept key))) e
+  where
+    by : (b : Bool) → ((b || false) || false) ≡ true → ((b || list_any (same_key key) reply.waiting) || false) ≡ true
+    by true f = refl
+    by false f = cc
+
+progress-said : (past : Past) (book : List BookedEntry) (reply : SentReply) (said : Said) → IsSaidTrue reply.kept reply.occasion said → in_progress_agrees past book reply said ≡ true
+progress-said past book reply said truth = by (fails_with (codes "InProgress") said) truth.in_progress
+  where
+    by : (b : Bool) → (not b || list_any (is_unresolved (sent_with reply.kept reply.occasion)) (option_to_list (key_meant reply.kept said.key reply.occasion))) ≡ true
+        → (not b || list_any (is_unresolved reply) (option_to_list (key_meant reply.kept said.key reply.occasion))) ≡ true
+    by true e = unresolved-more reply (key_meant reply.kept said.key reply.occasion) e
+    by false e = refl
+
+-- ---- agreement
+
+pub holds-agrees : HoldsAgrees
+holds-agrees v past book holds honest = record {
+  keyed = all-from (λ (command : SentCommand). is_some command.key) past.commands (λ command within. ap is_some (holds.commands.accepted command within).key_is);
+  sent_once = apart-distinct (λ (command : SentCommand). command.key) past.commands (sent-apart past.place past.commands holds.commands.falling holds.commands.once);
+  booked_once = apart-distinct (entry_key past) book (booked-apart v.scene.kept past holds.commands book honest.caused honest.ordered);
+  success = each-said success_agrees past book (success-said v.scene.kept past book holds.commands) holds.replies;
+  refusal = each-said refusal_agrees past book (refusal-said v.scene.kept past book holds.commands) holds.replies;
+  unaccepted = each-said unaccepted_agrees past book (λ reply sent said truth. truth.unaccepted) holds.replies;
+  not_found = each-said not_found_agrees past book (λ reply sent said truth. truth.not_found) holds.replies;
+  in_progress = each-said in_progress_agrees past book (λ reply sent said truth. progress-said past book reply said truth) holds.replies;
+  resolved = holds.polls;
+  inside = holds.deeds;
+}

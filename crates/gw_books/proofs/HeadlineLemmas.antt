@@ -1,0 +1,98 @@
+-- Along a lawful course an honest book agrees: what holds before the first move holds after each.
+use Rattle.std.proofs.Common.{List, [], ◌∷◌, ◌++◌, sym, subst}
+use Rattle.gw_site.specs.declared.turn.Turn.{Turn}
+use Rattle.gw_site.specs.declared.turn.Turn.TheVariants.{Start, OpenFailed, Polled, Opened, HeardTill, Closed, HeardPt, Lost, Stopped, Linked, LinkFailed, SentTill, SentPt, CutTill, CutPt, Wrote, Synced, DiskFailed, Crash}
+use Rattle.gw_owes.specs.Items.{RoundItem, Crowded, Message, Asked, Unframed, Gone, Greet, Handle, Serve, NextWaiting, Oversized, LinkLost, Late, Overdue, Due}
+use Rattle.gw_owes.proofs.RecordLemmas.{LedgerLaws}
+use Rattle.gw_rules.specs.Lawful.{IsCourse}
+use Rattle.gw_rules.specs.View.{View, Move, Begin, Read, Make, after, view_from, at_first}
+use Rattle.gw_rules.proofs.PrefixLemmas.{prefix-lawful}
+use Rattle.gw_rules.proofs.RecordOrderLemmas.{Ordered, begin-ordered, read-ordered, turn-ordered, first-ordered}
+use Rattle.gw_rules.proofs.RecordRowLemmas.{OrderLaws}
+use Rattle.gw_books.specs.Past.{Past, no_past, past_after, past_from, past_of}
+use Rattle.gw_books.specs.Books.{BookedEntry, Honest}
+use Rattle.gw_books.specs.Agrees.{Agrees}
+use Rattle.gw_books.specs.Headline.{HonestAgrees}
+use Rattle.gw_books.specs.PastLaws.{EachLogAgrees}
+use Rattle.gw_books.proofs.AgreeLemmas.{holds-agrees}
+use Rattle.gw_books.proofs.BeginHoldsLemmas.{begin-holds, first-holds, read-holds}
+use Rattle.gw_books.proofs.CallHoldsLemmas.{cut-pt-holds, cut-till-holds, link-failed-holds, linked-holds, sent-pt-holds, sent-till-holds}
+use Rattle.gw_books.proofs.HandleLemmas.{handle-holds}
+use Rattle.gw_books.proofs.Holding.{Holds, RowHolds, TurnHolds}
+use Rattle.gw_books.proofs.HonestLemmas.{honest-back}
+use Rattle.gw_books.proofs.PastLawLemmas.{each-has-one-past}
+use Rattle.gw_books.proofs.QuietRowLemmas.{asked-holds, crowded-holds, due-holds, gone-holds, greet-holds, late-holds, link-lost-holds, message-holds, next-waiting-holds, overdue-holds, oversized-holds, unframed-holds}
+use Rattle.gw_books.proofs.ServeLemmas.{serve-holds}
+use Rattle.gw_books.proofs.TurnHoldsLemmas.{closed-holds, crash-holds, disk-failed-holds, heard-pt-holds, heard-till-holds, lost-holds, open-failed-holds, opened-holds, polled-holds, start-holds, stopped-holds, synced-holds, wrote-holds}
+
+-- ---- each step
+
+-- each item's row
+row-holds : LedgerLaws → (item : RoundItem) → RowHolds item
+row-holds laws (Crowded till) = crowded-holds till
+row-holds laws (Message till bytes) = message-holds till bytes
+row-holds laws (Asked till as_read) = asked-holds laws till as_read
+row-holds laws (Unframed till) = unframed-holds till
+row-holds laws (Gone till) = gone-holds till
+row-holds laws (Greet number apdu) = greet-holds number apdu
+row-holds laws (Handle number apdu) = handle-holds laws number apdu
+row-holds laws (Serve number till header request) = serve-holds laws number till header request
+row-holds laws (NextWaiting number) = next-waiting-holds number
+row-holds laws (Oversized number) = oversized-holds number
+row-holds laws (LinkLost number) = link-lost-holds number
+row-holds laws (Late number) = late-holds number
+row-holds laws (Overdue key) = overdue-holds key
+row-holds laws (Due number) = due-holds number
+
+-- each turn
+turn-holds : LedgerLaws → (turn : Turn) → TurnHolds turn
+turn-holds laws (Start setup) = start-holds setup
+turn-holds laws OpenFailed = open-failed-holds
+turn-holds laws (Polled now) = polled-holds now
+turn-holds laws (Opened till) = opened-holds till
+turn-holds laws (HeardTill till bytes) = heard-till-holds till bytes
+turn-holds laws (Closed till) = closed-holds till
+turn-holds laws (HeardPt pt bytes) = heard-pt-holds pt bytes
+turn-holds laws (Lost pt) = lost-holds pt
+turn-holds laws Stopped = stopped-holds
+turn-holds laws (Linked pt) = linked-holds pt
+turn-holds laws (LinkFailed pt) = link-failed-holds pt
+turn-holds laws (SentTill till bytes sent) = sent-till-holds till bytes sent
+turn-holds laws (SentPt pt bytes sent) = sent-pt-holds laws pt bytes sent
+turn-holds laws (CutTill till) = cut-till-holds till
+turn-holds laws (CutPt pt) = cut-pt-holds pt
+turn-holds laws (Wrote offset bytes) = wrote-holds offset bytes
+turn-holds laws Synced = synced-holds laws
+turn-holds laws DiskFailed = disk-failed-holds
+turn-holds laws (Crash file) = crash-holds laws file
+
+-- ---- along a course
+
+module _ (orders : OrderLaws) (laws : LedgerLaws) (book : List BookedEntry) where
+  -- what holds before moves of a lawful course holds after them
+  course-holds : (log : List Turn) (v : View) (past : Past) (moves : List Move) → Ordered log v → IsCourse v moves → Holds v past book → Honest (past_from v past moves) book → Holds (view_from v moves) (past_from v past moves) book
+  course-holds log v past [] o c holds honest = holds
+  course-holds log v past (Begin ∷ moves) o c holds honest =
+      let now : Honest (past_after v past Begin) book = honest-back (after v Begin) (past_after v past Begin) moves book honest in
+      course-holds log (after v Begin) (past_after v past Begin) moves (begin-ordered orders log v o c.0) c.1 (begin-holds (row-holds laws) log v past book o c.0 holds now) honest
+  course-holds log v past (Read as_read ∷ moves) o c holds honest =
+      course-holds log (after v (Read as_read)) (past_after v past (Read as_read)) moves (read-ordered log v as_read o c.0) c.1 (read-holds log v past book as_read o c.0 holds) honest
+  course-holds log v past (Make turn ∷ moves) o c holds honest =
+      course-holds (log ++ turn ∷ []) (after v (Make turn)) (past_after v past (Make turn)) moves (turn-ordered orders log v turn o c.0) c.1 (turn-holds laws turn log v past book o c.0 holds) honest
+
+-- ---- the headline
+
+pub headline : OrderLaws → LedgerLaws → HonestAgrees
+headline orders laws log past book has honest = subst (λ (p : Past). Agrees p book) (sym has.past_is) agrees
+  where
+    own : Honest (past_of has.moves) book
+    own = subst (λ (p : Past). Honest p book) has.past_is honest
+
+    agrees : Agrees (past_of has.moves) book
+    agrees = holds-agrees (view_from at_first has.moves) (past_of has.moves) book (course-holds orders laws book [] at_first no_past has.moves first-ordered has.lean.lawful (first-holds book) own) own
+
+-- so it is of each prefix of a lawful log
+pub each-log-agrees : OrderLaws → LedgerLaws → EachLogAgrees
+each-log-agrees orders laws log lawful prefix h =
+    let one = each-has-one-past prefix (prefix-lawful prefix log h lawful) in
+    (one.past, one.has, λ book honest. headline orders laws prefix one.past book one.has honest)

@@ -1,0 +1,381 @@
+-- All bytes that are sent to a till are the frame of a message: each reply that is owed can be spelled, whatever the books say.
+use Rattle.std.proofs.Common.{◌≡◌, ◌<◌, ◌^◌, ℕ, Bool, true, false, List, [], ◌∷◌, ◌++◌, length, refl, sym, ◌∙◌, subst, arith}
+use Rattle.std.specs.Prelude.{if◌then◌else◌, nat_lt, nat_le, slice_get, Option, Some, None, Result, Ok, Err}
+use Rattle.gw_base.specs.declared.figures.Figures.{Figures}
+use Rattle.gw_base.specs.declared.setup.Setup.{Setup}
+use Rattle.gw_site.specs.Outside.{Connection, is_connected}
+use Rattle.gw_site.specs.declared.turn.Turn.{Turn}
+use Rattle.gw_site.specs.declared.turn.Turn.TheVariants.{Start, OpenFailed, Polled, Opened, HeardTill, Closed, HeardPt, Lost, Stopped, Linked, LinkFailed, SentTill, SentPt, CutTill, CutPt, Wrote, Synced, DiskFailed, Crash}
+use Rattle.zvt_msg.specs.declared.fault.PtFault.{PtFault}
+use Rattle.zvt_msg.specs.Message.{MessageValue, Ack, Nack, Intermediate, Line, Block, Status, Completion, Abort, Other}
+use Rattle.zvt_msg.specs.MessageDecode.{decode_pt_message}
+use Rattle.zvt_talk.specs.Came.{is_taken}
+use Rattle.zvt_talk.specs.declared.meaning.Heard.{Heard}
+use Rattle.zvt_talk.specs.declared.meaning.Heard.TheVariants as heard
+use Rattle.jrn_record.specs.Limits.{IsOutcome}
+use Rattle.jrn_record.specs.declared.records.Outcome.{Outcome as TheOutcome}
+use Rattle.gw_ledger.specs.Fold.{AreFolded}
+use Rattle.gw_owes.specs.declared.terminal.Service.{Service}
+use Rattle.gw_owes.specs.declared.terminal.Service.TheVariants.{Transaction, EndOfDay, Display}
+use Rattle.gw_owes.specs.declared.terminal.Standing.{Standing}
+use Rattle.gw_owes.specs.declared.terminal.Standing.TheVariants.{Unlinked, Registering, Enquiring, Ready, Serving, Aside}
+use Rattle.gw_owes.specs.declared.terminal.Terminal.{Terminal}
+use Rattle.gw_owes.specs.Calls.{OwedCall, SendTill, SendPt, LinkPt, WriteBody, WriteGate, WriteFirstGate, Sync, CutTill as OwedCutTill, CutPt as OwedCutPt}
+use Rattle.gw_owes.specs.Core.{Core, new_core, new_terminal}
+use Rattle.gw_owes.specs.Deadlines.{is_late, is_due}
+use Rattle.gw_owes.specs.Greeting.{greeting, sending_calls, greet_decoded}
+use Rattle.gw_owes.specs.Handling.{consequence, enquiring, handle_decoded, handle_message, meaning_at, registering, serving, taken_as, taking}
+use Rattle.gw_owes.specs.HeardLaws.{FitsRecord}
+use Rattle.gw_owes.specs.Items.{RoundItem, Crowded, Message, Asked, Unframed, Gone, Greet, Handle, Serve, NextWaiting, Oversized, LinkLost, Late, Overdue, Due}
+use Rattle.gw_owes.specs.Links.{cutting}
+use Rattle.gw_owes.specs.RecordLaws.{AreRecordsOf, IsInOrder, IsReadItem, IsServedOpen}
+use Rattle.gw_owes.specs.Reply.{ReplyValue, reply_value_tree}
+use Rattle.gw_owes.specs.Reports.{at_rest, report_against, on_record, standing_reported}
+use Rattle.gw_owes.specs.Requests.{reply_to}
+use Rattle.gw_owes.specs.Row.{Known, Row, owing, owing_nothing, owing_where}
+use Rattle.gw_owes.specs.Rows.{asked_row, row_of}
+use Rattle.gw_owes.specs.Serving.{approved_outcome, approved_row, declined_outcome, reply_to_outcome, resolves, serving_transaction, was_stopped}
+use Rattle.gw_owes.specs.Terminals.{core_without, forgets_till, link_lost, link_made, registers, reply_calls_to, terminal_at, terminal_becomes, unlinks}
+use Rattle.gw_owes.proofs.HandlingLemmas.{by-where, each-linked, each-terminal}
+use Rattle.gw_owes.proofs.HeardLemmas.{meant-fits}
+use Rattle.gw_owes.proofs.LimitLemmas.{approval-within, decline-within}
+use Rattle.gw_owes.proofs.PaymentLemmas.{each-served}
+use Rattle.gw_owes.proofs.RecordLemmas.{LedgerLaws, open-parts, open-within}
+use Rattle.gw_owes.proofs.SetLemmas.{same-some}
+use Rattle.gw_rules.specs.Lawful.{Begins, IsCourse, first_call, turns_of}
+use Rattle.gw_rules.specs.Opening.{opening}
+use Rattle.gw_rules.specs.Scene.{Scene, known_in, records_of, row_at, row_in, link_made_at, link_lost_at}
+use Rattle.gw_rules.specs.View.{View, Move, Begin, Read, Make, after, after_turn, at_first, later}
+use Rattle.gw_rules.proofs.KeptPhaseLemmas.{round-runs}
+use Rattle.gw_rules.proofs.LinkedLemmas.{round-setup}
+use Rattle.gw_rules.proofs.RecordOrderLemmas.{Ordered, begin-ordered, between-items, first-ordered, first-was-read, read-ordered, row-is, turn-ordered}
+use Rattle.gw_rules.proofs.RecordRowLemmas.{OrderLaws}
+use Rattle.gw_rules.proofs.TranscriptLogLemmas.{image-there, there-image}
+use Rattle.gw_books.specs.Said.{IsFramed}
+use Rattle.gw_books.specs.SaidLaws.{EachSentIsFramed}
+use Rattle.gw_books.proofs.FrameRowLemmas.{transactions-stay}
+use Rattle.gw_books.proofs.Holding.{IsReplyWithin, ServesTransaction, ServeTransactions}
+use Rattle.gw_books.proofs.QuietRowLemmas.{lost-unanswered}
+use Rattle.gw_books.proofs.ReplyLimitLemmas.{asked-within, outcome-within}
+use Rattle.gw_books.proofs.SentBytesLemmas.{own-frame}
+
+-- ---- what is owed
+
+-- a reply that is owed is within its limits
+abbrev IsCallWithin : OwedCall → Type 0
+IsCallWithin (SendTill till reply) = IsReplyWithin reply
+IsCallWithin (SendPt number sending) = Unit {0}
+IsCallWithin (LinkPt number) = Unit {0}
+IsCallWithin (WriteBody slot the_record) = Unit {0}
+IsCallWithin (WriteGate slot the_record) = Unit {0}
+IsCallWithin WriteFirstGate = Unit {0}
+IsCallWithin Sync = Unit {0}
+IsCallWithin (OwedCutTill till) = Unit {0}
+IsCallWithin (OwedCutPt number) = Unit {0}
+
+-- so is each
+abbrev AreWithin : List OwedCall → Type 0
+AreWithin [] = Unit {0}
+AreWithin (call ∷ calls) = IsCallWithin call × AreWithin calls
+
+within-both : (calls more : List OwedCall) → AreWithin calls → AreWithin more → AreWithin (calls ++ more)
+within-both [] more all rest = rest
+within-both (call ∷ calls) more all rest = (all.0, within-both calls more all.1 rest)
+
+within-later : (calls : List OwedCall) → AreWithin calls → AreWithin (later calls)
+within-later [] all = tt
+within-later (call ∷ calls) all = all.1
+
+within-first : (calls : List OwedCall) (call : OwedCall) → first_call calls ≡ Some call → AreWithin calls → IsCallWithin call
+within-first [] call next all = absurd (let n : None ≡ Some call = next in cc)
+within-first (one ∷ calls) call next all = subst IsCallWithin (same-some one call next) all.0
+
+-- a reply to a till, where there is one, and the till
+reply-within : (asker : Option ℕ) (reply : Option ReplyValue) → ((own : ReplyValue) → reply ≡ Some own → IsReplyWithin own) → AreWithin (reply_calls_to asker reply)
+reply-within None reply each = tt
+reply-within (Some till) None each = tt
+reply-within (Some till) (Some reply) each = (each reply refl, tt)
+
+-- what a row leaves and owes: no more than payments are served, and each reply is within its limits
+record LeavesWithin (row : Row) : Type 0 where
+  transactions : ServeTransactions row.core
+  calls : AreWithin row.calls
+
+module _ (known : Known) (serve : ServeTransactions known.core) where
+  -- these calls
+  owing-within : (calls : List OwedCall) → AreWithin calls → LeavesWithin (owing known calls)
+  owing-within calls all = record { transactions = serve; calls = all }
+
+  nothing-within : LeavesWithin (owing_nothing known)
+  nothing-within = owing-within [] tt
+
+  cut-within : (number : ℕ) → LeavesWithin (cutting known number)
+  cut-within number = owing-within (OwedCutPt number ∷ []) (tt, tt)
+
+  -- a terminal that is so now
+  becomes-within : (number : ℕ) (new : Terminal) (calls : List OwedCall) → ServesTransaction new.standing → AreWithin calls → LeavesWithin (terminal_becomes known number new calls)
+  becomes-within number new calls serves all = record { transactions = transactions-stay known.core number new serve serves; calls = all }
+
+  -- ---- links
+
+  lost-within : (number : ℕ) → LeavesWithin (link_lost known number)
+  lost-within number = each-terminal LeavesWithin known number (unlinks known number) nothing-within (λ terminal found.
+      becomes-within number _ _ tt (subst AreWithin (sym (lost-unanswered terminal.asker terminal.standing (serve number terminal found))) tt))
+
+  made-within : (number : ℕ) → LeavesWithin (link_made known number)
+  made-within number = each-terminal LeavesWithin known number (registers known number) nothing-within (λ terminal found. becomes-within number _ _ tt (tt, tt))
+
+  -- ---- messages of terminals
+
+  greeted-within : (number : ℕ) (message : MessageValue) → AreWithin (sending_calls number (greeting message))
+  greeted-within number Ack = tt
+  greeted-within number (Nack error_code) = tt
+  greeted-within number (Intermediate intermediate_status) = (tt, tt)
+  greeted-within number (Line text) = (tt, tt)
+  greeted-within number (Block objects) = (tt, tt)
+  greeted-within number (Status fields) = (tt, tt)
+  greeted-within number Completion = (tt, tt)
+  greeted-within number (Abort result_code) = (tt, tt)
+  greeted-within number Other = (tt, tt)
+
+  greet-within : (number : ℕ) (decoded : Result MessageValue PtFault) → LeavesWithin (greet_decoded known number decoded)
+  greet-within number (Ok message) =
+      each-linked LeavesWithin known number (λ terminal. owing known (sending_calls number (greeting message))) nothing-within (λ terminal found linked. owing-within (sending_calls number (greeting message)) (greeted-within number message))
+  greet-within number (Err fault) = each-linked LeavesWithin known number (λ terminal. cutting known number) nothing-within (λ terminal found linked. cut-within number)
+
+module _ (laws : LedgerLaws) (known : Known) (order : IsInOrder known) (serve : ServeTransactions known.core) (number : ℕ) (old : Terminal) (here : terminal_at known number ≡ Some old) (message : MessageValue) where
+  -- the terminal once the message was taken
+  abbrev now : Terminal
+  now = taking old message known.moment
+
+  own-serves : ServesTransaction old.standing
+  own-serves = serve number old here
+
+  stays-within : (calls : List OwedCall) → AreWithin calls → LeavesWithin (terminal_becomes known number now calls)
+  stays-within calls all = becomes-within known serve number now calls own-serves all
+
+  registering-kept : (meant : Heard) → LeavesWithin (registering known number now meant)
+  registering-kept (heard.Begun stop) = stays-within [] tt
+  registering-kept (heard.Note intermediate_status) = stays-within [] tt
+  registering-kept heard.Line = stays-within [] tt
+  registering-kept heard.Block = stays-within [] tt
+  registering-kept heard.Seen = stays-within [] tt
+  registering-kept (heard.Approved figures) = stays-within [] tt
+  registering-kept heard.Done = becomes-within known serve number _ _ tt (tt, tt)
+  registering-kept (heard.Told reported approved result_code) = stays-within [] tt
+  registering-kept (heard.Declined result_code reported) = stays-within (OwedCutPt number ∷ []) (tt, tt)
+  registering-kept heard.Unclear = stays-within (OwedCutPt number ∷ []) (tt, tt)
+  registering-kept heard.Stray = stays-within [] tt
+
+  report-kept : (open_with : Option ℕ) (last reported : ℕ) → LeavesWithin (report_against open_with last known number now reported)
+  report-kept None last reported = becomes-within known serve number (at_rest now (standing_reported last reported)) [] (by-least (nat_le last reported)) tt
+    where
+      by-least : (b : Bool) → ServesTransaction (if b then Ready reported else Aside last reported)
+      by-least true = tt
+      by-least false = tt
+  report-kept (Some before) last reported = stays-within (OwedCutPt number ∷ []) (tt, tt)
+
+  enquiring-kept : (meant : Heard) → LeavesWithin (enquiring known number now meant)
+  enquiring-kept (heard.Begun stop) = stays-within [] tt
+  enquiring-kept (heard.Note intermediate_status) = stays-within [] tt
+  enquiring-kept heard.Line = stays-within [] tt
+  enquiring-kept heard.Block = stays-within [] tt
+  enquiring-kept heard.Seen = stays-within [] tt
+  enquiring-kept (heard.Approved figures) = stays-within [] tt
+  enquiring-kept heard.Done = stays-within [] tt
+  enquiring-kept (heard.Told reported approved result_code) = report-kept (on_record known.kept now.pt.poi).open_before (on_record known.kept now.pt.poi).last reported
+  enquiring-kept (heard.Declined result_code reported) = stays-within (OwedCutPt number ∷ []) (tt, tt)
+  enquiring-kept heard.Unclear = stays-within (OwedCutPt number ∷ []) (tt, tt)
+  enquiring-kept heard.Stray = stays-within [] tt
+
+  -- the Outcome is kept, and its reply owed
+  resolves-within : (last : ℕ) (outcome : TheOutcome) → IsOutcome outcome → LeavesWithin (resolves known number now (Ready last) outcome)
+  resolves-within last outcome is =
+      becomes-within known serve number _ _ tt
+      (tt, (tt, (tt, (tt, reply-within old.asker (reply_to_outcome known.kept outcome.slot outcome) (λ own replies. outcome-within laws known outcome.slot outcome own order is replies)))))
+
+  slot-small : (last slot : ℕ) → IsServedOpen known.kept old.pt.poi last slot → slot < 2 ^ 32
+  slot-small last slot has =
+      let folded : AreFolded known.kept = order.folded in
+      let inside : slot < length known.kept = open-within laws known.kept folded old.pt.poi slot has.intent (open-parts laws known.kept folded old.pt.poi slot has.intent has.is_open) in
+      let most = order.of_setup.within.slots.1 in
+      let room = order.room in
+      omega (arith, inside, most, room)
+
+  approved-kept : (slot last : ℕ) (figures : Figures) → IsServedOpen known.kept old.pt.poi last slot → FitsRecord (heard.Approved figures) → LeavesWithin (approved_row known number now slot last figures)
+  approved-kept slot last figures has fit = by-test (nat_lt last figures.number)
+    where
+      by-test : (b : Bool) → LeavesWithin (if b then resolves known number now (Ready figures.number) (approved_outcome slot figures known.moment) else terminal_becomes known number (at_rest now (Aside last figures.number)) [])
+      by-test true = resolves-within figures.number (approved_outcome slot figures known.moment) (approval-within slot figures known.moment (slot-small last slot has) fit order.moment)
+      by-test false = becomes-within known serve number (at_rest now (Aside last figures.number)) [] tt tt
+
+  transaction-kept : (slot last : ℕ) (meant : Heard) → IsServedOpen known.kept old.pt.poi last slot → FitsRecord meant → LeavesWithin (serving_transaction known number now slot last meant)
+  transaction-kept slot last (heard.Begun true) has fit = becomes-within known serve number _ _ own-serves (tt, tt)
+  transaction-kept slot last (heard.Begun false) has fit = stays-within [] tt
+  transaction-kept slot last (heard.Note intermediate_status) has fit = stays-within [] tt
+  transaction-kept slot last heard.Line has fit = stays-within [] tt
+  transaction-kept slot last heard.Block has fit = stays-within [] tt
+  transaction-kept slot last heard.Seen has fit = stays-within [] tt
+  transaction-kept slot last (heard.Approved figures) has fit = approved-kept slot last figures has fit
+  transaction-kept slot last heard.Done has fit = stays-within [] tt
+  transaction-kept slot last (heard.Told reported approved result_code) has fit = stays-within [] tt
+  transaction-kept slot last (heard.Declined result_code reported) has fit =
+      resolves-within _ (declined_outcome slot result_code (was_stopped now.talk) known.moment) (decline-within slot result_code (was_stopped now.talk) known.moment (slot-small last slot has) order.moment)
+  transaction-kept slot last heard.Unclear has fit = stays-within (OwedCutPt number ∷ []) (tt, tt)
+  transaction-kept slot last heard.Stray has fit = stays-within [] tt
+
+  serving-kept : (service : Service) (last : ℕ) (meant : Heard) → AreRecordsOf known.kept old.pt.poi (Serving service last) → FitsRecord meant → LeavesWithin (serving known number now service last meant)
+  serving-kept (Transaction slot) last meant has fit = transaction-kept slot last meant has fit
+  serving-kept (EndOfDay header period) last meant has fit = absurd has
+  serving-kept (Display header outputs) last meant has fit = absurd has
+
+  consequence-kept : (standing : Standing) (meant : Heard) → AreRecordsOf known.kept old.pt.poi standing → FitsRecord meant → LeavesWithin (consequence known number now meant standing)
+  consequence-kept (Unlinked due) meant has fit = nothing-within known serve
+  consequence-kept Registering meant has fit = registering-kept meant
+  consequence-kept Enquiring meant has fit = enquiring-kept meant
+  consequence-kept (Ready last) meant has fit = stays-within [] tt
+  consequence-kept (Serving service last) meant has fit = serving-kept service last meant has fit
+  consequence-kept (Aside before reported) meant has fit = stays-within [] tt
+
+  message-kept : LeavesWithin (handle_message known number old message)
+  message-kept = by-where LeavesWithin known (consequence known number now (meaning_at old message) old.standing) (is_taken message) (nothing-within known serve) (λ taken.
+      let own = order.terminals number old here in
+      consequence-kept old.standing (meaning_at old message) own.records (meant-fits old.talk (taken_as old.awaited message) own.read))
+
+handled-within : (laws : LedgerLaws) (known : Known) → IsInOrder known → ServeTransactions known.core → (number : ℕ) (decoded : Result MessageValue PtFault) → LeavesWithin (handle_decoded known number decoded)
+handled-within laws known order serve number (Ok message) =
+    each-linked LeavesWithin known number (λ terminal. handle_message known number terminal message) (nothing-within known serve) (λ terminal found linked. message-kept laws known order serve number terminal found message)
+handled-within laws known order serve number (Err fault) = nothing-within known serve
+
+-- ---- items
+
+-- no more than payments are served where a till is forgotten
+without-serve : (core : Core) (till : ℕ) → ServeTransactions core → ServeTransactions (core_without core till)
+without-serve core till serve number terminal found =
+    let was = image-there (forgets_till till) core.terminals number terminal found in
+    let same : forgets_till till was.0 ≡ terminal = same-some (forgets_till till was.0) terminal (sym (there-image (forgets_till till) core.terminals number was.0 was.1) ∙ found) in
+    subst (λ (t : Terminal). ServesTransaction t.standing) same (serve number was.0 was.1)
+
+-- each item's row
+row-within : (laws : LedgerLaws) (tills : List Connection) (known : Known) (setup : Setup) (item : RoundItem) → IsInOrder known → ServeTransactions known.core → IsReadItem setup item → LeavesWithin (row_of tills known item)
+row-within laws tills known setup (Crowded till) order serve read = owing-within known serve (OwedCutTill till ∷ []) (tt, tt)
+row-within laws tills known setup (Message till bytes) order serve read = nothing-within known serve
+row-within laws tills known setup (Asked till as_read) order serve read =
+    by-where LeavesWithin known (asked_row known till as_read) (is_connected tills till) (nothing-within known serve)
+    (λ there. record { transactions = serve; calls = reply-within (Some till) (reply_to known as_read) (λ own replies. asked-within laws known as_read own order read replies) })
+row-within laws tills known setup (Unframed till) order serve read =
+    by-where LeavesWithin known (owing known (OwedCutTill till ∷ [])) (is_connected tills till) (nothing-within known serve) (λ there. owing-within known serve (OwedCutTill till ∷ []) (tt, tt))
+row-within laws tills known setup (Gone till) order serve read = record { transactions = without-serve known.core till serve; calls = tt }
+row-within laws tills known setup (Greet number apdu) order serve read = greet-within known serve number (decode_pt_message apdu)
+row-within laws tills known setup (Handle number apdu) order serve read = handled-within laws known order serve number (decode_pt_message apdu)
+row-within laws tills known setup (Serve number till header request) order serve read =
+    each-served LeavesWithin known number till header request (nothing-within known serve) (λ payment terminal last is at. becomes-within known serve number _ _ tt (tt, (tt, (tt, (tt, (tt, tt))))))
+row-within laws tills known setup (NextWaiting number) order serve read = nothing-within known serve
+row-within laws tills known setup (Oversized number) order serve read =
+    each-linked LeavesWithin known number (λ terminal. cutting known number) (nothing-within known serve) (λ terminal found linked. cut-within known serve number)
+row-within laws tills known setup (LinkLost number) order serve read = lost-within known serve number
+row-within laws tills known setup (Late number) order serve read =
+    each-terminal LeavesWithin known number (λ terminal. owing_where (is_late known.moment terminal.talk) known (cutting known number)) (nothing-within known serve)
+    (λ terminal found. by-where LeavesWithin known (cutting known number) (is_late known.moment terminal.talk) (nothing-within known serve) (λ late. cut-within known serve number))
+row-within laws tills known setup (Overdue key) order serve read = nothing-within known serve
+row-within laws tills known setup (Due number) order serve read =
+    each-terminal LeavesWithin known number (λ terminal. owing_where (is_due known.moment terminal.standing) known (owing known (LinkPt number ∷ []))) (nothing-within known serve)
+    (λ terminal found. by-where LeavesWithin known (owing known (LinkPt number ∷ [])) (is_due known.moment terminal.standing) (nothing-within known serve) (λ due. owing-within known serve (LinkPt number ∷ []) (tt, tt)))
+
+-- ---- along a course
+
+-- what holds along a course
+record Framed (v : View) : Type 0 where
+  transactions : ServeTransactions v.scene.core
+  calls : AreWithin v.calls
+
+begin-framed : LedgerLaws → (log : List Turn) (v : View) → Ordered log v → Begins v → Framed v → Framed (after v Begin)
+begin-framed laws log v o b f = by-items v.items refl
+  where
+    by-items : (items : List RoundItem) → v.items ≡ items → Framed (after v Begin)
+    by-items [] e = subst (λ (items : List RoundItem). Framed (after (record v { items = items }) Begin)) (sym e) (record { transactions = f.transactions; calls = tt })
+    by-items (item ∷ rest) e =
+        let k = round-setup v o.agrees.run b.idle.round in
+        let known : Known = known_in v.scene k.setup in
+        let order : IsInOrder known = between-items log v o k (round-runs v.scene.stage b.idle.round) b.idle.calls in
+        let row = row-within laws v.scene.outside.tills known k.setup item order f.transactions (first-was-read log v item rest o k e) in
+        let own : LeavesWithin (row_at v.scene item) = subst LeavesWithin (sym (row-is v.scene k item)) row in
+        subst (λ (items : List RoundItem). Framed (after (record v { items = items }) Begin)) (sym e) (record { transactions = own.transactions; calls = own.calls })
+
+-- what a link's event leaves and owes
+link-within : (scene : Scene) (row : Known → Row) → ServeTransactions scene.core → ((setup : Setup) → LeavesWithin (row (known_in scene setup))) → LeavesWithin (row_in scene row scene.setup)
+link-within scene row serve each = by-setup scene.setup
+  where
+    by-setup : (setup : Option Setup) → LeavesWithin (row_in scene row setup)
+    by-setup None = record { transactions = serve; calls = tt }
+    by-setup (Some setup) = each setup
+
+-- as a run begins
+new-serve : (setup : Setup) → ServeTransactions (new_core setup)
+new-serve setup number terminal found =
+    let was = image-there new_terminal setup.terminals number terminal found in
+    subst (λ (t : Terminal). ServesTransaction t.standing) (same-some (new_terminal was.0) terminal (sym (there-image new_terminal setup.terminals number was.0 was.1) ∙ found)) tt
+
+none-serve : (number : ℕ) (terminal : Terminal) → slice_get [] number ≡ Some terminal → ServesTransaction terminal.standing
+none-serve number terminal found = absurd (let n : None ≡ Some terminal = found in cc)
+
+opening-within : (setup : Setup) (file : List ℕ) (scene : Scene) → AreWithin (opening setup file (records_of scene)).calls
+opening-within setup file scene = (tt, by-size (nat_le (length file) 1))
+  where
+    by-size : (b : Bool) → AreWithin (if b then WriteFirstGate ∷ Sync ∷ [] else [])
+    by-size true = (tt, (tt, tt))
+    by-size false = tt
+
+-- each turn
+turn-framed : (v : View) (turn : Turn) → Framed v → Framed (after_turn v turn)
+turn-framed v (Start setup) f = record { transactions = new-serve setup; calls = opening-within setup v.scene.outside.file v.scene }
+turn-framed v OpenFailed f = record { transactions = none-serve; calls = tt }
+turn-framed v (Polled moment) f = record { transactions = f.transactions; calls = tt }
+turn-framed v (Opened till) f = record { transactions = f.transactions; calls = tt }
+turn-framed v (HeardTill till bytes) f = record { transactions = f.transactions; calls = tt }
+turn-framed v (Closed till) f = record { transactions = f.transactions; calls = tt }
+turn-framed v (HeardPt pt bytes) f = record { transactions = f.transactions; calls = tt }
+turn-framed v (Lost pt) f = record { transactions = f.transactions; calls = tt }
+turn-framed v Stopped f = record { transactions = f.transactions; calls = tt }
+turn-framed v (Linked pt) f =
+    let own : LeavesWithin (link_made_at v.scene pt) = link-within v.scene (λ known. link_made known pt) f.transactions (λ setup. made-within (known_in v.scene setup) f.transactions pt) in
+    record { transactions = own.transactions; calls = within-both (link_made_at v.scene pt).calls (later v.calls) own.calls (within-later v.calls f.calls) }
+turn-framed v (LinkFailed pt) f =
+    let own : LeavesWithin (link_lost_at v.scene pt) = link-within v.scene (λ known. link_lost known pt) f.transactions (λ setup. lost-within (known_in v.scene setup) f.transactions pt) in
+    record { transactions = own.transactions; calls = within-both (link_lost_at v.scene pt).calls [] own.calls tt }
+turn-framed v (SentTill till bytes true) f = record { transactions = f.transactions; calls = within-later v.calls f.calls }
+turn-framed v (SentTill till bytes false) f = record { transactions = f.transactions; calls = (tt, tt) }
+turn-framed v (SentPt pt bytes true) f = record { transactions = f.transactions; calls = within-later v.calls f.calls }
+turn-framed v (SentPt pt bytes false) f = record { transactions = f.transactions; calls = (tt, tt) }
+turn-framed v (CutTill till) f = record { transactions = without-serve v.scene.core till f.transactions; calls = within-later v.calls f.calls }
+turn-framed v (CutPt pt) f =
+    let own : LeavesWithin (link_lost_at v.scene pt) = link-within v.scene (λ known. link_lost known pt) f.transactions (λ setup. lost-within (known_in v.scene setup) f.transactions pt) in
+    record { transactions = own.transactions; calls = within-both (link_lost_at v.scene pt).calls (later v.calls) own.calls (within-later v.calls f.calls) }
+turn-framed v (Wrote offset bytes) f = record { transactions = f.transactions; calls = within-later v.calls f.calls }
+turn-framed v Synced f = record { transactions = f.transactions; calls = within-later v.calls f.calls }
+turn-framed v DiskFailed f = record { transactions = f.transactions; calls = tt }
+turn-framed v (Crash file) f = record { transactions = none-serve; calls = tt }
+
+module _ (orders : OrderLaws) (laws : LedgerLaws) where
+  -- all bytes that are sent along the moves are framed
+  moves-frame : (log : List Turn) (v : View) (moves : List Move) (before rest : List Turn) (till : ℕ) (bytes : List ℕ) → Ordered log v → Framed v → IsCourse v moves
+      → turns_of moves ≡ before ++ SentTill till bytes true ∷ rest → (reply : ReplyValue) × IsFramed bytes (reply_value_tree reply)
+  moves-frame log v [] [] rest till bytes o f c e = absurd (let n : [] ≡ SentTill till bytes true ∷ rest = e in cc)
+  moves-frame log v [] (turn ∷ before) rest till bytes o f c e = absurd (let n : [] ≡ turn ∷ (before ++ SentTill till bytes true ∷ rest) = e in cc)
+  moves-frame log v (Begin ∷ moves) before rest till bytes o f c e =
+      moves-frame log (after v Begin) moves before rest till bytes (begin-ordered orders log v o c.0) (begin-framed laws log v o c.0 f) c.1 e
+  moves-frame log v (Read as_read ∷ moves) before rest till bytes o f c e =
+      moves-frame log (after v (Read as_read)) moves before rest till bytes (read-ordered log v as_read o c.0) (record { transactions = f.transactions; calls = tt }) c.1 e
+  moves-frame log v (Make turn ∷ moves) [] rest till bytes o f c e =
+      let same : turn ≡ SentTill till bytes true = (let n : turn ∷ turns_of moves ≡ SentTill till bytes true ∷ rest = e in cc) in
+      let made : IsCourse v (Make (SentTill till bytes true) ∷ moves) = subst (λ (one : Turn). IsCourse v (Make one ∷ moves)) same c in
+      let reply : ReplyValue = made.0.0 in
+      let within : IsReplyWithin reply = within-first v.calls (SendTill till reply) made.0.1 f.calls in
+      (reply, subst (λ (all : List ℕ). IsFramed all (reply_value_tree reply)) (sym made.0.2) (own-frame reply within))
+  moves-frame log v (Make turn ∷ moves) (first ∷ before) rest till bytes o f c e =
+      let tails : turns_of moves ≡ before ++ SentTill till bytes true ∷ rest = (let n : turn ∷ turns_of moves ≡ first ∷ (before ++ SentTill till bytes true ∷ rest) = e in cc) in
+      moves-frame (log ++ turn ∷ []) (after_turn v turn) moves before rest till bytes (turn-ordered orders log v turn o c.0) (turn-framed v turn f) c.1 tails
+
+  pub each-sent-is-framed : EachSentIsFramed
+  each-sent-is-framed before rest till bytes (v, s) =
+      moves-frame [] at_first s.course before rest till bytes first-ordered (record { transactions = none-serve; calls = tt }) s.lawful s.log_is

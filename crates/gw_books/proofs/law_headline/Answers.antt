@@ -1,0 +1,30 @@
+-- Proof of the contract of `law_headline`.
+use Rattle.gw_owes.proofs.RecordLemmas.{LedgerLaws}
+use Rattle.gw_rules.proofs.RecordRowLemmas.{OrderLaws}
+use Rattle.gw_books.proofs.DisagreeLemmas.{not-lawful}
+use Rattle.gw_books.proofs.HeadlineLemmas.{each-log-agrees, headline}
+use Rattle.gw_books.proofs.law_headline.Goals as goal
+
+-- the laws of what a row keeps
+order_laws : (c : goal.After-law_fits) → OrderLaws
+order_laws c = record { new = c.law_records.ensures.new; rows = c.law_records.ensures.rows; cuts = c.law_records.ensures.cuts; links = c.law_records.ensures.links; items = c.law_records.ensures.items }
+
+-- the ledger's laws
+ledger_laws : (c : goal.After-law_fits) → LedgerLaws
+ledger_laws c = record {
+  newest = c.law_next.ensures.newest;
+  open_slots = c.law_open.ensures.slot;
+  count = c.law_open.ensures.count;
+  within = c.law_within.ensures;
+  payment = c.law_fits.ensures.payment;
+  outcome = c.law_fits.ensures.outcome;
+}
+
+pub returns-clause-headline : goal.returns-clause-headline
+returns-clause-headline c = headline (order_laws c) (ledger_laws c)
+
+pub returns-clause-throughout : goal.returns-clause-throughout
+returns-clause-throughout c = each-log-agrees (order_laws c) (ledger_laws c)
+
+pub returns-clause-broken : goal.returns-clause-broken
+returns-clause-broken c = not-lawful (headline (order_laws c) (ledger_laws c))

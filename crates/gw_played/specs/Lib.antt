@@ -1,0 +1,3 @@
+-- The books of played terminals are honest.
+pub mod Example
+pub mod Played

@@ -1,0 +1,26 @@
+//! Honest books there are: along each lawful log whose terminals are played ones, their book is honest.
+#![tactic(auto)]
+
+ghost use Rattle.gw_played.specs.Example.{PlayedExamples};
+ghost use Rattle.gw_played.specs.Played.{PlayedAgrees, PlayedIsHonest};
+
+/// Along each lawful log whose terminals are played ones, each with a setting of its own, so that what is heard of a terminal is a prefix
+/// of what it had sent, the book of these terminals, with the places at which they book, is honest: each entry has the command that
+/// was sent to it, none comes after its link was replaced, a command has one entry, numbers rise, and each end of a dialogue is true.
+/// So the headline holds of it: what was done, and what tills were sent, agrees with it. In the examples a played terminal approves a payment,
+/// declines one, and cuts the connection at one, with its entry in the book or without.
+pub fn law_played()
+    ensures honest { PlayedIsHonest }
+    ensures agrees { PlayedAgrees }
+    ensures examples { PlayedExamples }
+{
+    gw_books::law_headline();
+    gw_owes::law_records();
+    zvt_apdu::law_decode_apdus();
+    zvt_msg::law_decode_pt_message();
+    zvt_msg::law_read_again();
+    zvt_msg::law_commands();
+    zvt_talk::law_ends();
+    zvt_talk::law_talk_steps();
+    xlate::law_commands();
+}
