@@ -32,7 +32,7 @@ pub record BreaksAgreement (course : List Move) (book : List BookedEntry) : Type
   pub honest : Honest (past_of course) book
   pub disagrees : ¬ Agrees (past_of course) book
 
--- a course that an honest book breaks is the lean course of no log
+-- a course along which an honest book doesn't agree is the lean course of no log
 abbrev pub NotLawful : Type 0
 NotLawful = (log : List Turn) (course : List Move) (book : List BookedEntry) → IsLeanCourse log course → BreaksAgreement course book → ⊥
 

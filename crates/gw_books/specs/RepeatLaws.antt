@@ -1,4 +1,4 @@
--- A key that is finished keeps its reply, the one that its till was sent first.
+-- A key that is finished keeps its reply, the one that was owed to its till first.
 use Rattle.std.specs.Prelude.{◌≡◌, pos, true, List, [], ◌∷◌, ◌++◌, Some, codes, option_and_then}
 use Rattle.gw_base.specs.declared.key.Key.{Key}
 use Rattle.jrn_record.specs.declared.records.Intent.{Intent as TheIntent}

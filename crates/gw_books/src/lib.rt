@@ -72,7 +72,7 @@ pub fn law_sent()
 }
 
 /// A key that is finished keeps its reply: whatever records come later, what the records have under it stays. Each key has a reply as its
-/// Outcome is kept, and the kept reply is that one, which its till is sent.
+/// Outcome is kept, and the kept reply is that one, which is owed to its till.
 pub fn law_kept_replies()
     ensures stays { FinishedStays }
     ensures first { FirstReplyIsKept }
@@ -111,8 +111,9 @@ pub fn law_past()
 
 /// What a till may rely on to which the end of a payment or a reversal was said, wherever the books of the terminals are honest: a success
 /// is an approved entry of its key, with its amount, its number and its receipt, which was booked before it was said; a failure with the
-/// mark of a transaction has no approved entry of its key in the whole book, and so never will. In the examples the one is said, and the
-/// other where a declined entry of its key is booked.
+/// mark of a transaction has no approved entry of its key in the whole book, and so never will have one (an entry of a command that is
+/// sent after the log's end is judged along the longer log). In the examples the one is said, and the other where a declined entry of its
+/// key is booked.
 pub fn law_tills()
     ensures success { SuccessIsBooked }
     ensures refused { RefusedIsNeverCharged }
@@ -125,11 +126,11 @@ pub fn law_tills()
 /// The headline. Along each lawful log, with power failures, records in flight, enquiries and all terminals, each book that is honest
 /// agrees with what was done and what tills were sent: each command that may charge a card was sent for a key of its own, and no two
 /// entries are of one key; a success is an approved entry of its key, with its numbers and its amount, which was booked before it was
-/// said; of the key of a refusal no entry is approved, and none ever will be; what is said not to be accepted, but with `MessageFormat`
-/// or with `NotAllowed` to other content, has no Intent, and neither has what is said not to be found; what is said to be in progress is
-/// unresolved; at a poll, where a terminal's link lasts whose enquiry has reported, no key is open that was open as the link was made
-/// (until reports resolve keys, such a link is cut); and what is outside the grammars changes no book. So it is of each prefix of the
-/// log. A course with an honest book that doesn't agree is that of no log.
+/// said; of the key of a refusal with the mark of a transaction no entry is approved, and none ever will be; what is said not to be
+/// accepted, but with `MessageFormat` or with `NotAllowed` to other content, has no Intent, and neither has what is said not to be found;
+/// what is said to be in progress is unresolved; at a poll, where a terminal's link lasts whose enquiry has reported, no key is open that
+/// was open as the link was made (until reports resolve keys, such a link is cut); and what is outside the grammars changes no book. So
+/// it is of each prefix of the log. A course along which an honest book doesn't agree is the lean course of no log.
 pub fn law_headline()
     ensures headline { HonestAgrees }
     ensures throughout { EachLogAgrees }

@@ -181,8 +181,8 @@ impl Dispatch {
         }
     }
 
-    /// Handles the bytes that a terminal's connection has brought. Those of a link that isn't held have no effect. It takes no memory: only
-    /// a call on the disk can fail.
+    /// Handles the bytes that a terminal's connection has brought. Those of a link that isn't held have no effect. It has no error but a
+    /// failed call on the disk.
     fn on_pt_bytes<S: Site>(
         &mut self,
         site: &mut S,
@@ -239,7 +239,7 @@ impl Dispatch {
         on_closed(&mut self.state.core, &self.readers, site, pt, now);
     }
 
-    /// Handles what a poll has brought. Memory is refused at most where that is a till, or bytes of one.
+    /// Handles what a poll has brought. Memory is refused at most where a till has opened, or bytes of one have come.
     fn on_event<S: Site>(
         &mut self,
         site: &mut S,

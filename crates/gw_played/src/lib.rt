@@ -6,9 +6,9 @@ ghost use Rattle.gw_played.specs.Played.{PlayedAgrees, PlayedIsHonest};
 
 /// Along each lawful log whose terminals are played ones, each with a setting of its own, so that what is heard of a terminal is a prefix
 /// of what it had sent, the book of these terminals, with the places at which they book, is honest: each entry has the command that
-/// was sent to it, none comes after its link was replaced, a command has one entry, numbers rise, and each end of a dialogue is true.
-/// So the headline holds of it: what was done, and what tills were sent, agrees with it. In the examples a played terminal approves a payment,
-/// declines one, and cuts the connection at one, with its entry in the book or without.
+/// was sent to its terminal, none comes after its link was replaced, a command has one entry, numbers rise, and each end of a dialogue is
+/// true. So the headline holds of it: what was done, and what tills were sent, agrees with it. In the examples a played terminal approves
+/// a payment, declines one, and cuts the connection at one, with its entry in the book or without.
 pub fn law_played()
     ensures honest { PlayedIsHonest }
     ensures agrees { PlayedAgrees }
