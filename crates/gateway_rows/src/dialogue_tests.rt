@@ -1,13 +1,15 @@
 //! Rows of the dialogue with a terminal: what each message, each silence and each failure means while it registers, while it
-//! is enquired, once it is ready, and while it serves a payment.
+//! is enquired, once it is ready, and while it serves a payment; and what its reports mean for a payment that is open.
 mod enquiry_rows;
 mod payment_rows;
 mod registration_rows;
+mod report_rows;
 
 use crate::tables::check_rows;
 use enquiry_rows::ENQUIRY;
 use payment_rows::PAYMENT;
 use registration_rows::REGISTRATION;
+use report_rows::REPORTS;
 use std::test::Fail;
 
 /// The terminal is asked to register, at moment 0.
@@ -63,6 +65,42 @@ pt 0 061e0183
 pay 1 1 10.99
 > intent 0 1 1099 0
 > pt 0 out 06010a04000000001099490978";
+
+/// It has served a payment, and is enquired while another is open, whose completion came without a status.
+const REPORTING: &str = "\
+terminal T1 EUR 123456 186 131
+at 1741342264
+> start
+open 1
+> link 0
+> pt 0 out 060006123456ba0978
+pt 0 800000060f00
+> pt 0 out 800000
+> pt 0 out 062003123456
+pt 0 800000061e0183
+> pt 0 out 800000
+pay 1 1 10.99
+> intent 0 1 1099 0
+> pt 0 out 06010a04000000001099490978
+pt 0 800000040f102700040000000010990b000123870017060f00
+> pt 0 out 800000
+> pt 0 out 800000
+> approved 1 0 123 17 1099
+> result 1 1 Success 000123-0017-0 10.99
+pay 1 2 5
+> intent 2 2 500 123
+> pt 0 out 06010a04000000000500490978
+pt 0 800000060f00
+> pt 0 out 800000
+> pt 0 cut
+at 1741342269
+tick
+> link 0
+> pt 0 out 060006123456ba0978
+at 1741342264
+pt 0 800000060f00800000
+> pt 0 out 800000
+> pt 0 out 062003123456";
 
 /// What may come once it is ready.
 const READY: &str = "\
@@ -148,4 +186,9 @@ fn ready(rt: HostRuntime) -> Result<(), Fail> {
 #[test]
 fn payment(rt: HostRuntime) -> Result<(), Fail> {
     check_rows(&rt, rt.alloc(), PAYING, PAYMENT)
+}
+
+#[test]
+fn reports(rt: HostRuntime) -> Result<(), Fail> {
+    check_rows(&rt, rt.alloc(), REPORTING, REPORTS)
 }

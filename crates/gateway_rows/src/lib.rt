@@ -12,6 +12,8 @@ mod payment_lines;
 #[cfg(test)]
 mod payment_tests;
 #[cfg(test)]
+mod recovery_tests;
+#[cfg(test)]
 mod replay;
 #[cfg(test)]
 mod script_tests;

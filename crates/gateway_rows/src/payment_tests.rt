@@ -356,7 +356,7 @@ pt 0 040f102700040000000010990b000050870017060f00
 pay 2 2 5
 > fails Payment 2 2 UnavailableDevice
 
-# The power fails while it is served.
+# The power fails while it is served, and the terminal reports it.
 pay 1 1 10.99
 > intent 0 1 1099 0
 > pt 0 out 06010a04000000001099490978
@@ -378,9 +378,11 @@ pt 0 800000060f00800000
 pt 0 040f102700040000000010990b000123870017060f00
 > pt 0 out 800000
 > pt 0 out 800000
-> pt 0 cut
+> approved 1 0 123 17 1099
 status 2 2 1
-> fails TransactionStatus 2 2 InProgress"#;
+> repeats 2 2 1 Success 000123-0017-0 10.99
+pay 2 1 10.99
+> result 2 1 Success 000123-0017-0 10.99"#;
 
 #[test]
 fn payments(rt: HostRuntime) -> Result<(), Fail> {

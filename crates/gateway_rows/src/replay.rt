@@ -54,3 +54,13 @@ pub(crate) fn check(
     let ended = ended(alloc, "replay", &mut input, &mut out)?;
     compare(rt, script, (ended, &out), (status, output))
 }
+
+/// What a replay of this script has written, which ends with status 0.
+pub(crate) fn replayed(alloc: Global, script: &str) -> Result<MemSink, Fail> {
+    let mut input = MemSource::new(Bytes::copied(alloc, script.as_bytes())?, None);
+    let mut out = MemSink::new(alloc, None, 0);
+    match ended(alloc, "replay", &mut input, &mut out)? {
+        0 => Ok(out),
+        _ => Err(Fail::from("another status")),
+    }
+}

@@ -81,7 +81,7 @@ fn push_message(text: &mut String, line: &str) -> Result<(), AllocError> {
 }
 
 /// Appends a line of a row to the script.
-fn push_played(script: &mut String, line: &str) -> Result<(), AllocError> {
+pub(crate) fn push_played(script: &mut String, line: &str) -> Result<(), AllocError> {
     match asking_till(line) {
         Some(till) => {
             push_form(script, "say % ", &[till])?;

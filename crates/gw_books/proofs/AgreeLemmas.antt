@@ -15,7 +15,7 @@ use Rattle.gw_books.specs.Past.{SentCommand, SentReply, Past}
 use Rattle.gw_books.specs.Books.{BookedEntry, is_cause, is_caused, is_caused_by, have_one_cause, comes_before, is_ordered}
 use Rattle.gw_books.specs.Said.{Said, all_said, IsFramed}
 use Rattle.gw_books.specs.Agrees.{EachSaid, entry_key, key_at_place, key_meant, is_transaction, is_success, fails_with, is_approved_entry, is_entry_said, is_unresolved, names_entry, success_agrees, refusal_agrees, unaccepted_agrees, not_found_agrees, in_progress_agrees}
-use Rattle.gw_books.proofs.Holding.{AreFalling, AreKeyed, BearsOut, HasApprovedEntry, HasNoApproval, HoldsAgrees, IsSaidTrue, IsSentTrue, SaysSuccess, sent_with}
+use Rattle.gw_books.proofs.Holding.{AreFalling, AreKeyed, BearsOut, HasApprovedEntry, HoldsAgrees, IsApprovalTrue, IsDeclineTrue, IsSaidTrue, IsSentTrue, SaysSuccess, sent_with}
 use Rattle.gw_books.proofs.KeyedLemmas.{AreApart, apart-distinct, caused-for, is-key-is, is-key-itself, key-sent, sent-below, sent-same}
 use Rattle.gw_books.proofs.ListLemmas.{In, all-in, all-from, any-in, any-from, none-from, bytes-are, bytes-itself}
 
@@ -35,7 +35,7 @@ sent-apart place (command ∷ commands) falling once = (
 -- ---- entries
 
 -- an entry whose cause was sent is of the command's terminal
-caused-poi : (past : Past) (entry : BookedEntry) (command : SentCommand) → AreFalling past.place past.commands → In command past.commands → entry.cause ≡ Some command.place
+pub caused-poi : (past : Past) (entry : BookedEntry) (command : SentCommand) → AreFalling past.place past.commands → In command past.commands → entry.cause ≡ Some command.place
     → is_caused past entry entry.cause ≡ true → command.poi ≡ entry.poi
 caused-poi past entry command falling within e caused =
     let f = subst (λ cause. is_caused past entry cause ≡ true) e caused in
@@ -118,15 +118,20 @@ unless false other holds = refl
 
 -- ---- a success
 
+-- an approved entry of a command is one of the command's key
+pub approved-for : (past : Past) → AreFalling past.place past.commands → (command : SentCommand) → In command past.commands → (key : Key) → command.key ≡ Some key → (entry : BookedEntry) → entry.cause ≡ Some command.place
+    → entry.approved ≡ true → is_approved_entry past key entry ≡ true
+approved-for past falling command sent key key_is entry caused approved =
+    let own : entry_key past entry ≡ Some key = ap (option_and_then (key_at_place past.commands)) caused ∙ (key-sent past.place past.commands falling command sent ∙ key_is) in
+    and_from entry.approved (is_key key (entry_key past entry)) approved (is-key-itself key (entry_key past entry) own)
+
 -- the entry that bears a success out is the one that is said
 entry-said : (past : Past) (book : List BookedEntry) (reply : SentReply) (said : Said) → AreFalling past.place past.commands → (command : SentCommand) → In command past.commands
     → (says : SaysSuccess reply.kept said) → command.key ≡ Some (intent_key says.says.intent) → (has : HasApprovedEntry book reply.place command says.says.outcome) → is_entry_said past reply said has.entry ≡ true
 entry-said past book reply said falling command sent says key has =
     let entry = has.entry in
     let outcome = says.says.outcome in
-    let key_is : entry_key past entry ≡ Some said.key =
-    ap (option_and_then (key_at_place past.commands)) has.caused ∙ (key-sent past.place past.commands falling command sent ∙ (key ∙ ap Some (sym says.says.key_is))) in
-    let approved : is_approved_entry past said.key entry ≡ true = and_from entry.approved (is_key said.key (entry_key past entry)) has.approved (is-key-itself said.key (entry_key past entry) key_is) in
+    let approved : is_approved_entry past said.key entry ≡ true = approved-for past falling command sent said.key (key ∙ ap Some (sym says.says.key_is)) entry has.caused has.approved in
     let text : said.transaction ≡ transaction_text entry.number entry.receipt outcome.slot =
     says.transaction_is ∙ (ap (λ n. transaction_text n outcome.receipt outcome.slot) (sym has.number) ∙ ap (λ n. transaction_text entry.number n outcome.slot) (sym has.receipt)) in
     let names : names_entry reply.kept said.key said.transaction entry ≡ true =
@@ -143,34 +148,34 @@ success-said : (kept : List Record) (past : Past) (book : List BookedEntry) → 
 success-said kept past book keyed reply sent said truth =
     unless (is_transaction said && is_success said) (list_any (is_entry_said past reply said) book) (λ t.
     let says = truth.success t in
-    let is = sent.outcomes says.says.at says.says.outcome says.says.intent says.says.found says.says.intent_is in
-    let has : HasApprovedEntry book reply.place is.command says.says.outcome = subst (λ b. BearsOut b book reply.place is.command says.says.outcome) says.says.approved_is is.borne_out in
-    any-from (is_entry_said past reply said) book has.entry has.within (entry-said past book reply said keyed.falling is.command is.sent says is.key_is has))
+    let is : IsApprovalTrue past.commands book reply.place (intent_key says.says.intent) says.says.outcome =
+    subst (λ b. BearsOut b past.commands book reply.place (intent_key says.says.intent) says.says.outcome) says.says.approved_is
+    (sent.outcomes says.says.at says.says.outcome says.says.intent says.says.found says.says.intent_is) in
+    any-from (is_entry_said past reply said) book is.booked.entry is.booked.within (entry-said past book reply said keyed.falling is.command is.sent says is.key_is is.booked))
 
 -- ---- a refusal
 
--- where no entry of a command is approved, none is for its key
-not-approved : (kept : List Record) (past : Past) (book : List BookedEntry) → AreKeyed kept past.place past.commands → (command : SentCommand) → In command past.commands → (key : Key) → command.key ≡ Some key
-    → HasNoApproval book command → (entry : BookedEntry) → In entry book → is_approved_entry past key entry ≡ true → ⊥
-not-approved kept past book keyed command sent key key_is none entry within e =
+-- where no entry of the commands for a key is approved, none is for it
+not-approved : (past : Past) (book : List BookedEntry) (key : Key) → IsDeclineTrue past.commands book key → (entry : BookedEntry) → In entry book → is_approved_entry past key entry ≡ true → ⊥
+not-approved past book key none entry within e =
     let p = and_parts entry.approved (is_key key (entry_key past entry)) e in
     let a = caused-for past entry key (is-key-is key (entry_key past entry) p.1) in
-    let same : a.command ≡ command = keyed.once a.command command key a.sent sent a.key_is key_is in
-    let f : entry.approved ≡ false = none entry within (a.cause_is ∙ ap (λ (one : SentCommand). Some one.place) same) in
+    let f : entry.approved ≡ false = none a.command a.sent a.key_is entry within a.cause_is in
     let clash : true ≡ false = sym p.0 ∙ f in
     absurd (cc)
 
-refusal-said : (kept : List Record) (past : Past) (book : List BookedEntry) → AreKeyed kept past.place past.commands
-    → (reply : SentReply) → IsSentTrue past.commands book reply → (said : Said) → IsSaidTrue reply.kept reply.occasion said → refusal_agrees past book reply said ≡ true
-refusal-said kept past book keyed reply sent said truth =
+pub none-approved : (past : Past) (book : List BookedEntry) (key : Key) → IsDeclineTrue past.commands book key → not (list_any (is_approved_entry past key) book) ≡ true
+none-approved past book key none =
+    not_from_false (list_any (is_approved_entry past key) book)
+    (none-from (is_approved_entry past key) book (λ entry within. false_from_ne_true (is_approved_entry past key entry) (not-approved past book key none entry within)))
+
+refusal-said : (past : Past) (book : List BookedEntry) → (reply : SentReply) → IsSentTrue past.commands book reply → (said : Said) → IsSaidTrue reply.kept reply.occasion said → refusal_agrees past book reply said ≡ true
+refusal-said past book reply sent said truth =
     unless (is_transaction said && (not (is_success said) && said.has_poi_data)) (not (list_any (is_approved_entry past said.key) book)) (λ t.
     let says = truth.refusal t in
-    let is = sent.outcomes says.at says.outcome says.intent says.found says.intent_is in
-    let none : HasNoApproval book is.command = subst (λ b. BearsOut b book reply.place is.command says.outcome) says.approved_is is.borne_out in
-    let key : is.command.key ≡ Some said.key = is.key_is ∙ ap Some (sym says.key_is) in
-    not_from_false (list_any (is_approved_entry past said.key) book)
-    (none-from (is_approved_entry past said.key) book
-    (λ entry within. false_from_ne_true (is_approved_entry past said.key entry) (not-approved kept past book keyed is.command is.sent said.key key none entry within))))
+    let none : IsDeclineTrue past.commands book (intent_key says.intent) =
+    subst (λ b. BearsOut b past.commands book reply.place (intent_key says.intent) says.outcome) says.approved_is (sent.outcomes says.at says.outcome says.intent says.found says.intent_is) in
+    none-approved past book said.key (subst (IsDeclineTrue past.commands book) (sym says.key_is) none))
 
 -- ---- what is in progress
 
@@ -200,7 +205,7 @@ holds-agrees v past book holds honest = record {
   sent_once = apart-distinct (λ (command : SentCommand). command.key) past.commands (sent-apart past.place past.commands holds.commands.falling holds.commands.once);
   booked_once = apart-distinct (entry_key past) book (booked-apart v.scene.kept past holds.commands book honest.caused honest.ordered);
   success = each-said success_agrees past book (success-said v.scene.kept past book holds.commands) holds.replies;
-  refusal = each-said refusal_agrees past book (refusal-said v.scene.kept past book holds.commands) holds.replies;
+  refusal = each-said refusal_agrees past book (refusal-said past book) holds.replies;
   unaccepted = each-said unaccepted_agrees past book (λ reply sent said truth. truth.unaccepted) holds.replies;
   not_found = each-said not_found_agrees past book (λ reply sent said truth. truth.not_found) holds.replies;
   in_progress = each-said in_progress_agrees past book (λ reply sent said truth. progress-said past book reply said truth) holds.replies;

@@ -3,6 +3,7 @@ use Rattle.std.proofs.Common.{◌≡◌, ◌≢◌, ◌≤◌, ◌<◌, ℕ, Boo
 use Rattle.std.proofs.lemmas.Bool.{and_parts, ltb-true, or_parts}
 use Rattle.std.specs.Prelude.{◌⊎◌, ◌||◌, ◌&&◌, not, bytes_eq, nat_lt, map, slice_get, Option, Some, None, option_to_list}
 use Rattle.std.specs.List.{list_any, list_all, flat_map}
+use Rattle.gw_base.specs.declared.setup.Setup.{Setup}
 use Rattle.gw_site.specs.Outside.{Connection, is_connected}
 use Rattle.gw_site.specs.declared.turn.Turn.{Turn}
 use Rattle.zvt_msg.specs.Message.{MessageValue}
@@ -45,7 +46,8 @@ use Rattle.gw_books.specs.Past.{Occasion, OfRequest, OfMessage, OfNothing, MadeL
 use Rattle.gw_books.specs.Books.{BookedEntry, Honest}
 use Rattle.gw_books.specs.Agrees.{is_report, is_report_on, report_resolves, is_resolved_on}
 use Rattle.gw_books.proofs.ListLemmas.{In, in-either}
-use Rattle.gw_books.proofs.Holding.{AreOutcomesTrue, AreCallsSound, is_handle, charge_owed, IsServingSound, IsResolvedOn, IsLinkSound, IsLinkAtRest, Holds, HoldsBetween, HoldsAfterRow, begun_past, RowHolds, BeginHolds, ReadHolds}
+use Rattle.gw_books.proofs.Holding.{AreOutcomesTrue, AreCallsSound, is_handle, charge_owed, IsServingSound, IsResolvedOn, IsLinkSound, IsLinkAtRest, Holds, HoldsBetween, HoldsAfterRow, begun_past, ReadHolds}
+use Rattle.gw_books.proofs.Numbering.{AreLinkedBeforeHearing, BeginHolds, Numbered, NumberedBetween, RowHolds}
 use Rattle.gw_books.proofs.QuietRowLemmas.{asked-ends-none}
 
 -- ---- dialogues
@@ -203,6 +205,14 @@ between-holds log v past book o b h k =
         by_cut (inl cut) = no-true (sym (ap (cut_owed sound.of_terminal.number) b.idle.calls) ∙ cut)
         by_cut (inr resolved) = subst (λ l. IsResolvedOn l link) coming resolved
 
+-- and the trace numbers with it
+pub between-numbered : (v : View) (past : Past) (book : List BookedEntry) → Numbered v past book → (setup : Setup) → NumberedBetween (known_in v.scene setup) past book
+between-numbered v past book n setup = record { records = n.kept; standings = n.standings }
+
+-- where the item that comes first handles an APDU, each link was made before that was heard
+pub first-linked : (v : View) (past : Past) (book : List BookedEntry) (item : RoundItem) (rest : List RoundItem) → Numbered v past book → v.items ≡ item ∷ rest → is_handle item ≡ true → AreLinkedBeforeHearing past
+first-linked v past book item rest n e handles = n.linked (ap (list_any is_handle) e ∙ ap (λ b. b || list_any is_handle rest) handles)
+
 -- ---- an item begins
 
 -- what a row leaves holds along the course
@@ -233,6 +243,8 @@ row-holds log v past book item rest row o b h k e is r =
       polls = polls-resolve past now (ends_of v.scene past (occasion_of item)) past.polls refl
           (λ poll within link. item-reports-none v.scene past item poll link (λ handles. h.handled (ap (list_any is_handle) e ∙ ap (λ b. b || list_any is_handle rest) handles) poll within)) h.polls;
       replies = h.replies;
+      replied = h.replied;
+      kept_polled = h.kept_polled;
     }
   where
     ended : (end : HeardEnd) → In end (ends_of v.scene past (occasion_of item)) ⊎ In end past.ends → end.place ≤ past.heard
@@ -245,7 +257,7 @@ row-holds log v past book item rest row o b h k e is r =
 
 -- where each row holds, so does the beginning of an item
 pub begin-holds : ((item : RoundItem) → RowHolds item) → BeginHolds
-begin-holds rows log v past book o b h honest = by_items v.items refl
+begin-holds rows log v past book o b h n honest = by_items v.items refl
   where
     by_items : (items : List RoundItem) → v.items ≡ items → Holds (after v Begin) (past_after v past Begin) book
     by_items [] e = no-true (sym (ap (may_begin v.scene) e) ∙ b.first)
@@ -253,7 +265,9 @@ begin-holds rows log v past book o b h honest = by_items v.items refl
         let k = round-setup v o.agrees.run b.idle.round in
         let known : Known = known_in v.scene k.setup in
         let book_honest : Honest (begun_past v.scene past item) book = subst (λ (items : List RoundItem). Honest (past_after (record v { items = items }) past Begin) book) e honest in
-        let r = rows item v.scene v.scene.outside.tills known past book refl (between-holds log v past book o b h k) (first-was-read log v item rest o k e) book_honest in
+        let r =
+        rows item v.scene v.scene.outside.tills known past book refl (between-holds log v past book o b h k) (between-numbered v past book n k.setup) (first-linked v past book item rest n e) (first-was-read log v item rest o k e)
+        book_honest in
         subst (λ (items : List RoundItem). Holds (after (record v { items = items }) Begin) (past_after (record v { items = items }) past Begin) book) (sym e)
         (row-holds log v past book item rest (row_at v.scene item) o b h k e (sym (row-is v.scene k item)) (subst (HoldsAfterRow known (begun_past v.scene past item) book) (sym (row-is v.scene k item)) r))
 
@@ -298,6 +312,8 @@ read-holds log v past book as_read o r h =
       links = λ runs link lasts. subst (λ l. IsLinkSound l v.scene.core [] past link) (sym coming) (subst (λ calls. IsLinkSound (records_coming v) v.scene.core calls past link) r.idle.calls (h.links clear link lasts));
       polls = h.polls;
       replies = h.replies;
+      replied = h.replied;
+      kept_polled = h.kept_polled;
     }
 
 -- ---- before the first turn
@@ -322,4 +338,6 @@ first-holds book = record {
   links = λ clear link lasts. absurd lasts;
   polls = refl;
   replies = λ reply within. absurd within;
+  replied = λ reply within. absurd within;
+  kept_polled = λ poll within. absurd within;
 }

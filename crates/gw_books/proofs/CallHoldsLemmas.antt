@@ -57,10 +57,11 @@ use Rattle.gw_books.specs.Agrees.{is_accepted, is_inside, is_report}
 use Rattle.gw_books.specs.Books.{BookedEntry}
 use Rattle.gw_books.specs.Past.{Occasion, SentCommand, MadeLink, HeardEnd, SentReply, Past, poi_of_number, open_key, is_of_instruction, may_charge, waiting_keys, with_reply, with_sent_command}
 use Rattle.gw_books.specs.Said.{Said, all_said, IsFramed}
-use Rattle.gw_books.proofs.Holding.{AreOutcomesTrue, AreKeyed, HasAcceptedKey, IsUnsent, IsSaidTrue, IsSentTrue, IsToBeAsked, IsReplySound, IsSendingSound, AreCallsSound, sending_charges, charge_owed, charges_terminal, deed_owed, IsServingSound, ServesTransaction, ServeTransactions, is_report_after, IsOfTerminal, IsLinkSound, TurnHolds, Holds}
+use Rattle.gw_books.proofs.Holding.{AreOutcomesTrue, AreKeyed, HasAcceptedKey, IsFirstOf, IsUnsent, IsSaidTrue, IsSentTrue, IsToBeAsked, IsReplySound, IsSendingSound, AreCallsSound, sending_charges, charge_owed, charges_terminal, deed_owed, IsServingSound, ServesTransaction, ServeTransactions, is_report_after, IsOfTerminal, IsLinkSound, TurnHolds, Holds}
 use Rattle.gw_books.proofs.LastCallLemmas.{IsLast, is-last, last-cuts, last-charges, same-coming, link-rests, terminal-stays, rest-sound, past_then, holds-on, keyed-later}
 use Rattle.gw_books.proofs.ListLemmas.{In, any-in, bytes-are, bytes-itself, filter-in}
-use Rattle.gw_books.proofs.RecordMoreLemmas.{accepted-intent, outcomes-later, outcomes-sent}
+use Rattle.gw_books.proofs.RecordMoreLemmas.{IsUnended, accepted-intent, first-itself, outcomes-later, outcomes-sent, unended-first}
+use Rattle.gw_books.proofs.RecordNumberLemmas.{open-key-unended}
 use Rattle.gw_books.proofs.SentBytesLemmas.{sent-says}
 use Rattle.gw_books.proofs.SentCommandLemmas.{charging, charged}
 
@@ -82,7 +83,7 @@ cut-pt-quiet : (pt : ℕ) → AreQuiet (OwedCutPt pt ∷ [])
 cut-pt-quiet pt = record { sound = λ records core commands occasion. (tt, tt); no_deed = refl; spares = refl }
 
 -- the call was made, and these are owed
-abbrev called_with : View → Turn → List OwedCall → View
+abbrev pub called_with : View → Turn → List OwedCall → View
 called_with v turn calls = record v { scene = called v.scene turn; calls = calls }
 
 -- the Outcomes that come stay true
@@ -110,6 +111,7 @@ till-sent log v past book turn calls till reply bytes o h next first quiet =
           let l = h.links last.clear link within in
           rest-sound (records_coming v) v.scene.core v.scene.core calls past next_past link refl (omega arith) refl (link-rests (records_coming v) v.scene.core v.calls past link l (last-cuts v call l.of_terminal.number last refl));
       replies = sent;
+      replied = replied;
     })
   where
     call : OwedCall
@@ -141,6 +143,10 @@ till-sent log v past book turn calls till reply bytes o h next first quiet =
     sent one (inl is) = subst (λ r. IsSentTrue past.commands book r) (sym is) new_true
     sent one (inr within) = h.replies one within
 
+    replied : (one : SentReply) → In one (new ∷ past.replies) → IsFirstOf one.kept v.scene.kept
+    replied one (inl is) = subst (λ (r : SentReply). IsFirstOf r.kept v.scene.kept) (sym is) (first-itself v.scene.kept)
+    replied one (inr within) = h.replied one within
+
 pub sent-till-holds : (till : ℕ) (bytes : List ℕ) (sent : Bool) → TurnHolds (SentTill till bytes sent)
 sent-till-holds till bytes true log v past book o ok h =
     let last = is-last log v (SendTill till ok.0) o ok.1 refl (λ more. refl) in
@@ -150,7 +156,7 @@ sent-till-holds till bytes false log v past book o ok h = till-sent log v past b
 -- ---- the connection of a till is cut
 
 -- a terminal of which a till is forgotten
-forgotten : (core : Core) (till number : ℕ) (terminal : Terminal) → slice_get (core_without core till).terminals number ≡ Some terminal → (old : Terminal) × (slice_get core.terminals number ≡ Some old) × (forgets_till till old ≡ terminal)
+pub forgotten : (core : Core) (till number : ℕ) (terminal : Terminal) → slice_get (core_without core till).terminals number ≡ Some terminal → (old : Terminal) × (slice_get core.terminals number ≡ Some old) × (forgets_till till old ≡ terminal)
 forgotten core till number terminal found =
     let there = image-there (forgets_till till) core.terminals number terminal found in
     (there.0, there.1, same-some (forgets_till till there.0) terminal (sym (there-image (forgets_till till) core.terminals number there.0 there.1) ∙ found))
@@ -178,6 +184,7 @@ cut-till-holds till log v past book o ok h =
           rest-sound (records_coming v) v.scene.core w.scene.core w.calls past next_past link (without-settings till v.scene.core.terminals) (omega arith) refl
           (link-rests (records_coming v) v.scene.core v.calls past link l (last-cuts v call l.of_terminal.number last refl));
       replies = h.replies;
+      replied = h.replied;
     })
   where
     call : OwedCall
@@ -212,7 +219,7 @@ distinct-pois (pt ∷ pts) (suc one) zero p q distinct differs found there same 
 distinct-pois (pt ∷ pts) (suc one) (suc other) p q distinct differs found there same = distinct-pois pts one other p q distinct.1 (λ e. differs (ap suc e)) found there same
 
 -- so two terminals don't have the same
-apart-pois : (log : List Turn) (v : View) (k : HasSetup v.scene) (one other : ℕ) (t u : Terminal) → Ordered log v → one ≢ other → slice_get v.scene.core.terminals one ≡ Some t → slice_get v.scene.core.terminals other ≡ Some u
+pub apart-pois : (log : List Turn) (v : View) (k : HasSetup v.scene) (one other : ℕ) (t u : Terminal) → Ordered log v → one ≢ other → slice_get v.scene.core.terminals one ≡ Some t → slice_get v.scene.core.terminals other ≡ Some u
     → bytes_eq t.pt.poi u.pt.poi ≡ false
 apart-pois log v k one other t u o differs found there = by_test (bytes_eq t.pt.poi u.pt.poi) refl
   where
@@ -229,7 +236,7 @@ apart-pois log v k one other t u o differs found there = by_test (bytes_eq t.pt.
 -- ---- a terminal is sent something
 
 -- a command that may charge a card asks for an Intent for whose key none was sent
-to-be-asked : (records : List Record) (core : Core) (commands : List SentCommand) (number : ℕ) (sending : Sending) → sending_charges sending ≡ true → IsSendingSound records core commands number sending → IsToBeAsked records core commands number
+pub to-be-asked : (records : List Record) (core : Core) (commands : List SentCommand) (number : ℕ) (sending : Sending) → sending_charges sending ≡ true → IsSendingSound records core commands number sending → IsToBeAsked records core commands number
 to-be-asked records core commands number (Ask (command.Register password config_byte currency)) e sound = no-true e
 to-be-asked records core commands number (Ask (command.Authorise amount currency)) e sound = sound
 to-be-asked records core commands number (Ask (command.Reverse password receipt)) e sound = absurd sound
@@ -271,14 +278,14 @@ serving-past records sent commands poi (Serving (Display header outputs) last) a
 serving-past records sent commands poi (Aside before reported) apart sound = tt
 
 -- what a terminal serves is what is open there
-served-key : (laws : LedgerLaws) (records : List Record) (poi : List ℕ) (slot last : ℕ) (intent : TheIntent) → AreFolded records → IsServedOpen records poi last slot → intent_at records slot ≡ Some intent → open_key records poi ≡ Some (intent_key intent)
+pub served-key : (laws : LedgerLaws) (records : List Record) (poi : List ℕ) (slot last : ℕ) (intent : TheIntent) → AreFolded records → IsServedOpen records poi last slot → intent_at records slot ≡ Some intent → open_key records poi ≡ Some (intent_key intent)
 served-key laws records poi slot last intent folded served found =
     let parts = open-parts laws records folded poi slot served.intent served.is_open in
     let same : served.intent ≡ intent = same-some served.intent intent (sym parts.intent_is ∙ found) in
     ap (option_map (λ (entry : Entry). intent_key entry.intent)) served.is_open ∙ ap (λ (i : TheIntent). Some (intent_key i)) same
 
 -- the command that is sent with these bytes
-abbrev command_sent : Scene → Past → List ℕ → List ℕ → SentCommand
+abbrev pub command_sent : Scene → Past → List ℕ → List ℕ → SentCommand
 command_sent scene past poi bytes = record { place = past.place; poi = poi; reversal = is_of_instruction 0x30 bytes; whole = nat_lt 0 (length (decode_apdus bytes).apdus); key = open_key scene.kept poi }
 
 module _ (laws : LedgerLaws) (log : List Turn) (v : View) (past : Past) (book : List BookedEntry) (turn : Turn) (calls : List OwedCall) (pt : ℕ) (sending : Sending) (bytes : List ℕ) (o : Ordered log v) (h : Holds v past book)
@@ -313,6 +320,7 @@ module _ (laws : LedgerLaws) (log : List Turn) (v : View) (past : Past) (book : 
             rest-sound (records_coming v) v.scene.core v.scene.core calls past (record past { place = past.place + 1 }) link refl (omega arith) refl
             (link-rests (records_coming v) v.scene.core v.calls past link l (last-cuts v call l.of_terminal.number last refl));
         replies = h.replies;
+        replied = h.replied;
       })
 
   -- the beginning of a command that may charge a card is sent
@@ -323,7 +331,8 @@ module _ (laws : LedgerLaws) (log : List Turn) (v : View) (past : Past) (book : 
         coming = same-coming v w call last quiet.spares refl refl;
         items = refl;
         commands = keyed-sent v.scene.kept sent past.commands (intent_key asked.intent) h.commands key_is accepted asked.unsent;
-        outcomes = outcomes-sent sent past.commands book (past.place + 1) (records_coming v) (outcomes-then v past book h);
+        outcomes = outcomes-sent sent past.commands book (past.place + 1) (records_coming v) (intent_key asked.intent) key_is (subst (λ records. IsUnended records (intent_key asked.intent)) (sym last.now) unended)
+            (outcomes-then v past book h);
         calls = quiet.sound (records_coming v) v.scene.core (sent ∷ past.commands) past.occasion;
         serving = λ number terminal found no_charge no_cut. by-number number pt (λ same. own number terminal found (sym same)) (λ differs. other number terminal found differs);
         transactions = h.transactions;
@@ -333,7 +342,10 @@ module _ (laws : LedgerLaws) (log : List Turn) (v : View) (past : Past) (book : 
         links = λ link within.
             let l = h.links last.clear link within in
             rest-sound (records_coming v) v.scene.core v.scene.core calls past next_past link refl (omega arith) refl (link-rests (records_coming v) v.scene.core v.calls past link l (last-cuts v call l.of_terminal.number last refl));
-        replies = λ reply within. let r = h.replies reply within in record { outcomes = outcomes-sent sent past.commands book reply.place reply.kept r.outcomes; says = r.says };
+        replies = λ reply within.
+            let r = h.replies reply within in
+            record { outcomes = outcomes-sent sent past.commands book reply.place reply.kept (intent_key asked.intent) key_is (unended_then reply (h.replied reply within)) r.outcomes; says = r.says };
+        replied = h.replied;
       })
     where
       call : OwedCall
@@ -376,6 +388,15 @@ module _ (laws : LedgerLaws) (log : List Turn) (v : View) (past : Past) (book : 
 
       key_is : open_key v.scene.kept (poi_of_number v.scene pt) ≡ Some (intent_key asked.intent)
       key_is = ap (open_key v.scene.kept) poi_is ∙ served-key laws v.scene.kept asked.terminal.pt.poi asked.slot asked.last asked.intent kept_folds served intent_kept
+
+      -- it has no Outcome, nor had it one as a reply was sent
+      unended : IsUnended v.scene.kept (intent_key asked.intent)
+      unended at outcome other found other_is =
+          let opened = open-parts laws v.scene.kept kept_folds asked.terminal.pt.poi asked.slot served.intent served.is_open in
+          open-key-unended laws v.scene.kept kept_folds asked.terminal.pt.poi asked.slot asked.intent opened.slot_is intent_kept at outcome other found other_is
+
+      unended_then : (reply : SentReply) → IsFirstOf reply.kept v.scene.kept → IsUnended reply.kept (intent_key asked.intent)
+      unended_then reply first_kept = unended-first reply.kept first_kept.0 (intent_key asked.intent) (subst (λ records. IsUnended records (intent_key asked.intent)) first_kept.1 unended)
 
       accepted : is_accepted v.scene.kept (intent_key asked.intent) ≡ true
       accepted = accepted-intent laws v.scene.kept asked.slot asked.intent kept_folds intent_kept
@@ -579,6 +600,7 @@ link-holds v past book turn pt call row calls links lasting last h r none cuts c
       deeds = h.deeds;
       links = sound;
       replies = h.replies;
+      replied = h.replied;
     })
   where
     w : View
@@ -655,7 +677,7 @@ cut-pt-holds pt log v past book o ok h =
 -- ---- a terminal is linked
 
 -- a terminal is linked that is there
-linked-there : (log : List Turn) (v : View) (pt : ℕ) → Ordered log v → first_call v.calls ≡ Some (LinkPt pt) → (terminal : Terminal) × (slice_get v.scene.core.terminals pt ≡ Some terminal)
+pub linked-there : (log : List Turn) (v : View) (pt : ℕ) → Ordered log v → first_call v.calls ≡ Some (LinkPt pt) → (terminal : Terminal) × (slice_get v.scene.core.terminals pt ≡ Some terminal)
 linked-there log v pt o next = by_found (slice_get v.scene.core.terminals pt) refl
   where
     s : Settled v

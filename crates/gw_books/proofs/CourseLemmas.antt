@@ -28,14 +28,14 @@ use Rattle.gw_books.proofs.PaymentTextLemmas.{payment-reads}
 
 -- ---- lean
 
-abbrev is_lean : List Move → Bool
+abbrev pub is_lean : List Move → Bool
 is_lean [] = true
 is_lean (Begin ∷ moves) = goes_on moves && is_lean moves
 is_lean (Read as_read ∷ moves) = goes_on moves && is_lean moves
 is_lean (Make turn ∷ moves) = is_lean moves
 
 -- a course that passes the test is lean
-lean-tested : (moves : List Move) → is_lean moves ≡ true → IsLean moves
+pub lean-tested : (moves : List Move) → is_lean moves ≡ true → IsLean moves
 lean-tested [] e = tt
 lean-tested (Begin ∷ moves) e = let p = and_parts (goes_on moves) (is_lean moves) e in (p.0, lean-tested moves p.1)
 lean-tested (Read as_read ∷ moves) e = let p = and_parts (goes_on moves) (is_lean moves) e in (p.0, lean-tested moves p.1)

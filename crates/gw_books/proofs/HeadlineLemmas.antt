@@ -1,5 +1,5 @@
 -- Along a lawful course an honest book agrees: what holds before the first move holds after each.
-use Rattle.std.proofs.Common.{List, [], ◌∷◌, ◌++◌, sym, subst}
+use Rattle.std.proofs.Common.{List, [], ◌∷◌, ◌++◌, refl, sym, subst}
 use Rattle.gw_site.specs.declared.turn.Turn.{Turn}
 use Rattle.gw_site.specs.declared.turn.Turn.TheVariants.{Start, OpenFailed, Polled, Opened, HeardTill, Closed, HeardPt, Lost, Stopped, Linked, LinkFailed, SentTill, SentPt, CutTill, CutPt, Wrote, Synced, DiskFailed, Crash}
 use Rattle.gw_owes.specs.Items.{RoundItem, Crowded, Message, Asked, Unframed, Gone, Greet, Handle, Serve, NextWaiting, Oversized, LinkLost, Late, Overdue, Due}
@@ -18,12 +18,16 @@ use Rattle.gw_books.proofs.AgreeLemmas.{holds-agrees}
 use Rattle.gw_books.proofs.BeginHoldsLemmas.{begin-holds, first-holds, read-holds}
 use Rattle.gw_books.proofs.CallHoldsLemmas.{cut-pt-holds, cut-till-holds, link-failed-holds, linked-holds, sent-pt-holds, sent-till-holds}
 use Rattle.gw_books.proofs.HandleLemmas.{handle-holds}
-use Rattle.gw_books.proofs.Holding.{Holds, RowHolds, TurnHolds}
+use Rattle.gw_books.proofs.HandleNumberLemmas.{handle-numbers}
+use Rattle.gw_books.proofs.Holding.{Holds, TurnHolds}
 use Rattle.gw_books.proofs.HonestLemmas.{honest-back}
+use Rattle.gw_books.proofs.Numbering.{Numbered, RowHolds, RowNumbers}
 use Rattle.gw_books.proofs.PastLawLemmas.{each-has-one-past}
 use Rattle.gw_books.proofs.QuietRowLemmas.{asked-holds, crowded-holds, due-holds, gone-holds, greet-holds, late-holds, link-lost-holds, message-holds, next-waiting-holds, overdue-holds, oversized-holds, unframed-holds}
+use Rattle.gw_books.proofs.RowNumberLemmas.{begin-numbers, row-numbers}
 use Rattle.gw_books.proofs.ServeLemmas.{serve-holds}
 use Rattle.gw_books.proofs.TurnHoldsLemmas.{closed-holds, crash-holds, disk-failed-holds, heard-pt-holds, heard-till-holds, lost-holds, open-failed-holds, opened-holds, polled-holds, start-holds, stopped-holds, synced-holds, wrote-holds}
+use Rattle.gw_books.proofs.TurnNumberLemmas.{first-numbered, read-numbers, turn-numbers}
 
 -- ---- each step
 
@@ -43,6 +47,23 @@ row-holds laws (LinkLost number) = link-lost-holds number
 row-holds laws (Late number) = late-holds number
 row-holds laws (Overdue key) = overdue-holds key
 row-holds laws (Due number) = due-holds number
+
+-- and its trace numbers
+numbers-of : LedgerLaws → (item : RoundItem) → RowNumbers item
+numbers-of laws (Crowded till) = row-numbers laws (Crowded till) refl
+numbers-of laws (Message till bytes) = row-numbers laws (Message till bytes) refl
+numbers-of laws (Asked till as_read) = row-numbers laws (Asked till as_read) refl
+numbers-of laws (Unframed till) = row-numbers laws (Unframed till) refl
+numbers-of laws (Gone till) = row-numbers laws (Gone till) refl
+numbers-of laws (Greet number apdu) = row-numbers laws (Greet number apdu) refl
+numbers-of laws (Handle number apdu) = handle-numbers laws number apdu
+numbers-of laws (Serve number till header request) = row-numbers laws (Serve number till header request) refl
+numbers-of laws (NextWaiting number) = row-numbers laws (NextWaiting number) refl
+numbers-of laws (Oversized number) = row-numbers laws (Oversized number) refl
+numbers-of laws (LinkLost number) = row-numbers laws (LinkLost number) refl
+numbers-of laws (Late number) = row-numbers laws (Late number) refl
+numbers-of laws (Overdue key) = row-numbers laws (Overdue key) refl
+numbers-of laws (Due number) = row-numbers laws (Due number) refl
 
 -- each turn
 turn-holds : LedgerLaws → (turn : Turn) → TurnHolds turn
@@ -68,17 +89,30 @@ turn-holds laws (Crash file) = crash-holds laws file
 
 -- ---- along a course
 
+-- what holds after moves of a lawful course, and of the trace numbers
+pub record HoldsNumbered (v : View) (past : Past) (book : List BookedEntry) : Type 0 where
+  pub holds : Holds v past book
+  pub numbers : Numbered v past book
+
 module _ (orders : OrderLaws) (laws : LedgerLaws) (book : List BookedEntry) where
   -- what holds before moves of a lawful course holds after them
-  course-holds : (log : List Turn) (v : View) (past : Past) (moves : List Move) → Ordered log v → IsCourse v moves → Holds v past book → Honest (past_from v past moves) book → Holds (view_from v moves) (past_from v past moves) book
-  course-holds log v past [] o c holds honest = holds
-  course-holds log v past (Begin ∷ moves) o c holds honest =
+  course-both : (log : List Turn) (v : View) (past : Past) (moves : List Move) → Ordered log v → IsCourse v moves → Holds v past book → Numbered v past book → Honest (past_from v past moves) book
+      → HoldsNumbered (view_from v moves) (past_from v past moves) book
+  course-both log v past [] o c holds numbers honest = record { holds = holds; numbers = numbers }
+  course-both log v past (Begin ∷ moves) o c holds numbers honest =
       let now : Honest (past_after v past Begin) book = honest-back (after v Begin) (past_after v past Begin) moves book honest in
-      course-holds log (after v Begin) (past_after v past Begin) moves (begin-ordered orders log v o c.0) c.1 (begin-holds (row-holds laws) log v past book o c.0 holds now) honest
-  course-holds log v past (Read as_read ∷ moves) o c holds honest =
-      course-holds log (after v (Read as_read)) (past_after v past (Read as_read)) moves (read-ordered log v as_read o c.0) c.1 (read-holds log v past book as_read o c.0 holds) honest
-  course-holds log v past (Make turn ∷ moves) o c holds honest =
-      course-holds (log ++ turn ∷ []) (after v (Make turn)) (past_after v past (Make turn)) moves (turn-ordered orders log v turn o c.0) c.1 (turn-holds laws turn log v past book o c.0 holds) honest
+      course-both log (after v Begin) (past_after v past Begin) moves (begin-ordered orders log v o c.0) c.1 (begin-holds (row-holds laws) log v past book o c.0 holds numbers now)
+      (begin-numbers (row-holds laws) (numbers-of laws) log v past book o c.0 holds numbers now) honest
+  course-both log v past (Read as_read ∷ moves) o c holds numbers honest =
+      course-both log (after v (Read as_read)) (past_after v past (Read as_read)) moves (read-ordered log v as_read o c.0) c.1 (read-holds log v past book as_read o c.0 holds)
+      (read-numbers log v past book as_read o c.0 holds numbers) honest
+  course-both log v past (Make turn ∷ moves) o c holds numbers honest =
+      course-both (log ++ turn ∷ []) (after v (Make turn)) (past_after v past (Make turn)) moves (turn-ordered orders log v turn o c.0) c.1 (turn-holds laws turn log v past book o c.0 holds)
+      (turn-numbers laws turn log v past book o c.0 holds numbers) honest
+
+  -- so it does from the first turn on
+  pub holds-along : (moves : List Move) → IsCourse at_first moves → Honest (past_of moves) book → HoldsNumbered (view_from at_first moves) (past_of moves) book
+  holds-along moves lawful honest = course-both [] at_first no_past moves first-ordered lawful (first-holds book) (first-numbered book) honest
 
 -- ---- the headline
 
@@ -89,7 +123,7 @@ headline orders laws log past book has honest = subst (λ (p : Past). Agrees p b
     own = subst (λ (p : Past). Honest p book) has.past_is honest
 
     agrees : Agrees (past_of has.moves) book
-    agrees = holds-agrees (view_from at_first has.moves) (past_of has.moves) book (course-holds orders laws book [] at_first no_past has.moves first-ordered has.lean.lawful (first-holds book) own) own
+    agrees = holds-agrees (view_from at_first has.moves) (past_of has.moves) book (holds-along orders laws book has.moves has.lean.lawful own).holds own
 
 -- so it is of each prefix of a lawful log
 pub each-log-agrees : OrderLaws → LedgerLaws → EachLogAgrees

@@ -25,18 +25,16 @@ use Rattle.gw_owes.specs.Calls.{Sending, Ask, Acknowledge, Refuse, OwedCall, Sen
 use Rattle.gw_owes.specs.Core.{Core}
 use Rattle.gw_owes.specs.Dialogues.{AllHaveDialogues, HasItsDialogue}
 use Rattle.gw_owes.specs.Items.{RoundItem, Crowded, Message, Asked, Unframed, Gone, Greet, Handle, Serve, NextWaiting, Oversized, LinkLost, Late, Overdue, Due}
-use Rattle.gw_owes.specs.RecordLaws.{IsInOrder, IsReadItem}
+use Rattle.gw_owes.specs.RecordLaws.{IsInOrder}
 use Rattle.gw_owes.specs.Reply.{ReplyValue, reply_value_tree}
 use Rattle.gw_owes.specs.Row.{Known, Row}
-use Rattle.gw_owes.specs.Rows.{row_of}
-use Rattle.gw_site.specs.Outside.{Connection}
-use Rattle.gw_rules.specs.Lawful.{AllowedTurn, Begins, IsRead}
+use Rattle.gw_rules.specs.Lawful.{AllowedTurn, IsRead}
 use Rattle.gw_owes.specs.ReadAs.{ReadAs}
 use Rattle.gw_rules.specs.RecordOrder.{records_coming}
 use Rattle.gw_rules.specs.Scene.{Scene}
 use Rattle.gw_rules.specs.Stage.{is_round, is_broken}
 use Rattle.gw_rules.specs.TranscriptLaws.{cut_owed}
-use Rattle.gw_rules.specs.View.{View, Move, Begin, Read, Make, after}
+use Rattle.gw_rules.specs.View.{View, Move, Read, Make, after}
 use Rattle.gw_rules.proofs.RecordOrderLemmas.{Ordered}
 use Rattle.gw_books.specs.Past.{Occasion, SentCommand, MadeLink, HeardEnd, SentReply, MadePoll, Past, no_past, occasion_of, ends_of, past_after}
 use Rattle.gw_books.specs.Books.{BookedEntry, Honest}
@@ -62,17 +60,24 @@ pub record HasApprovedEntry (book : List BookedEntry) (place : ℕ) (command : S
 abbrev pub HasNoApproval : List BookedEntry → SentCommand → Type 0
 HasNoApproval book command = (entry : BookedEntry) → In entry book → entry.cause ≡ Some command.place → entry.approved ≡ false
 
--- the book bears out an Outcome of the command, by whether it approves
-abbrev pub BearsOut : Bool → List BookedEntry → ℕ → SentCommand → TheOutcome → Type 0
-BearsOut true book place command outcome = HasApprovedEntry book place command outcome
-BearsOut false book place command outcome = HasNoApproval book command
-
--- the Outcome of this key is that of a command which was sent, and the book bears it out
-pub record IsOutcomeTrue (commands : List SentCommand) (book : List BookedEntry) (place : ℕ) (key : Key) (outcome : TheOutcome) : Type 0 where
+-- the approval of a key is that of a command which was sent for it, and has its entry
+pub record IsApprovalTrue (commands : List SentCommand) (book : List BookedEntry) (place : ℕ) (key : Key) (outcome : TheOutcome) : Type 0 where
   pub command : SentCommand
   pub sent : In command commands
   pub key_is : command.key ≡ Some key
-  pub borne_out : BearsOut outcome.approved book place command outcome
+  pub booked : HasApprovedEntry book place command outcome
+
+-- a key is declined: no command that was sent for it has an approved entry; there may be none
+abbrev pub IsDeclineTrue : List SentCommand → List BookedEntry → Key → Type 0
+IsDeclineTrue commands book key = (command : SentCommand) → In command commands → command.key ≡ Some key → HasNoApproval book command
+
+-- the book bears out an Outcome of this key, by whether it approves
+abbrev pub BearsOut : Bool → List SentCommand → List BookedEntry → ℕ → Key → TheOutcome → Type 0
+BearsOut true commands book place key outcome = IsApprovalTrue commands book place key outcome
+BearsOut false commands book place key outcome = IsDeclineTrue commands book key
+
+abbrev pub IsOutcomeTrue : List SentCommand → List BookedEntry → ℕ → Key → TheOutcome → Type 0
+IsOutcomeTrue commands book place key outcome = BearsOut outcome.approved commands book place key outcome
 
 -- so is each Outcome of the records
 abbrev pub AreOutcomesTrue : List SentCommand → List BookedEntry → ℕ → List Record → Type 0
@@ -148,6 +153,10 @@ pub record IsReplyWithin (reply : ReplyValue) : Type 0 where
 -- all that the reply says is true of the records
 abbrev pub IsReplyTrue : List Record → Occasion → ReplyValue → Type 0
 IsReplyTrue records occasion reply = (said : Said) → In said (said_by_reply reply) → IsSaidTrue records occasion said
+
+-- the first records of these
+abbrev pub IsFirstOf : List Record → List Record → Type 0
+IsFirstOf first records = (more : List Record) × (records ≡ first ++ more)
 
 -- the reply that was sent is true of the records with which it was sent, and so are their Outcomes
 pub record IsSentTrue (commands : List SentCommand) (book : List BookedEntry) (reply : SentReply) : Type 0 where
@@ -344,6 +353,9 @@ pub record Holds (v : View) (past : Past) (book : List BookedEntry) : Type 0 whe
   pub links : is_broken v.scene.stage ≡ false → (link : MadeLink) → In link past.lasting → IsLinkSound (records_coming v) v.scene.core v.calls past link
   pub polls : list_all (λ (poll : MadePoll). list_all (report_resolves past poll) poll.links) past.polls ≡ true
   pub replies : (reply : SentReply) → In reply past.replies → IsSentTrue past.commands book reply
+  -- what was kept then is kept still
+  pub replied : (reply : SentReply) → In reply past.replies → IsFirstOf reply.kept v.scene.kept
+  pub kept_polled : (poll : MadePoll) → In poll past.polls → IsFirstOf poll.kept v.scene.kept
 
 -- ---- between items
 
@@ -387,16 +399,7 @@ begun_past scene past item = record past { occasion = occasion_of item; ends = e
 
 -- ---- the steps
 
--- a row holds of what holds between items, where the book is honest for the past with what its item brings
-abbrev pub RowHolds : RoundItem → Type 0
-RowHolds item =
-    (scene : Scene) (tills : List Connection) (known : Known) (past : Past) (book : List BookedEntry) → scene.core ≡ known.core → HoldsBetween known past book → IsReadItem known.setup item
-    → Honest (begun_past scene past item) book → HoldsAfterRow known (begun_past scene past item) book (row_of tills known item)
-
 -- each move keeps what holds
-abbrev pub BeginHolds : Type 0
-BeginHolds = (log : List Turn) (v : View) (past : Past) (book : List BookedEntry) → Ordered log v → Begins v → Holds v past book → Honest (past_after v past Begin) book → Holds (after v Begin) (past_after v past Begin) book
-
 abbrev pub ReadHolds : Type 0
 ReadHolds = (log : List Turn) (v : View) (past : Past) (book : List BookedEntry) (as_read : ReadAs) → Ordered log v → IsRead v as_read → Holds v past book → Holds (after v (Read as_read)) (past_after v past (Read as_read)) book
 

@@ -89,11 +89,11 @@ ended-apart before (Settled settled) slot at fitting ended own = cc
 
 -- where the Outcome of a slot is
 module _ (laws : LedgerLaws) (before : List Record) (next : Record) (slot : ℕ) (within : slot < length before) where
-  ended-more : ended_at (before ++ next ∷ []) slot ≡ (if is_outcome_of slot next then Some (length before) else ended_at before slot)
+  pub ended-more : ended_at (before ++ next ∷ []) slot ≡ (if is_outcome_of slot next then Some (length before) else ended_at before slot)
   ended-more = ap (ended_in slot) (laws.newest before next)
       ∙ ap (λ (here : Bool). if here then None else (if is_outcome_of slot next then Some (length before) else ended_at before slot)) (eqb_above (length before) slot within)
 
-  ended-stays : (at : ℕ) → IsTrue (fits_beside_key before next) → ended_at before slot ≡ Some at → ended_at (before ++ next ∷ []) slot ≡ Some at
+  pub ended-stays : (at : ℕ) → IsTrue (fits_beside_key before next) → ended_at before slot ≡ Some at → ended_at (before ++ next ∷ []) slot ≡ Some at
   ended-stays at fitting ended = ended-more ∙ by-test (is_outcome_of slot next) refl
     where
       by-test : (own : Bool) → is_outcome_of slot next ≡ own → (if own then Some (length before) else ended_at before slot) ≡ Some at
@@ -103,11 +103,11 @@ module _ (laws : LedgerLaws) (before : List Record) (next : Record) (slot : ℕ)
 -- ---- an entry
 
 -- the entry of a slot
-abbrev entry_of : ℕ → TheIntent → Option TheOutcome → TheEntry
+abbrev pub entry_of : ℕ → TheIntent → Option TheOutcome → TheEntry
 entry_of slot intent result = record { slot = slot; intent = intent; result = result }
 
 -- an Intent has this entry once its Outcome is there
-ended-entry : (records : List Record) (slot at : ℕ) (intent : TheIntent) (outcome : TheOutcome) → intent_at records slot ≡ Some intent → ended_at records slot ≡ Some at → outcome_at records at ≡ Some outcome
+pub ended-entry : (records : List Record) (slot at : ℕ) (intent : TheIntent) (outcome : TheOutcome) → intent_at records slot ≡ Some intent → ended_at records slot ≡ Some at → outcome_at records at ≡ Some outcome
     → entry_at records slot ≡ Some (entry_of slot intent (Some outcome))
 ended-entry records slot at intent outcome asked ended found =
     ap (λ (end : Option ℕ). option_map (entry_with records slot end) (intent_at records slot)) ended
@@ -204,7 +204,7 @@ intent-record records slot intent asked = by-record (slice_get records slot) ref
     by-record (Some (Settled settled)) is there = absurd cc
 
 -- the key of an Intent has its entry
-entry-found : (laws : LedgerLaws) (records : List Record) (slot : ℕ) (intent : TheIntent) (entry : TheEntry) → AreFolded records → intent_at records slot ≡ Some intent
+pub entry-found : (laws : LedgerLaws) (records : List Record) (slot : ℕ) (intent : TheIntent) (entry : TheEntry) → AreFolded records → intent_at records slot ≡ Some intent
     → entry_at records slot ≡ Some entry → found_of records (intent_key intent) ≡ Some (Entry entry)
 entry-found laws records slot intent entry folded asked is =
     ap (option_and_then (λ (place : ℕ). option_and_then (found_by records place) (slice_get records place))) (own-slot laws records slot intent folded asked)

@@ -35,7 +35,7 @@ use Rattle.gw_rules.proofs.TranscriptLogLemmas.{image-there, there-image}
 use Rattle.gw_books.specs.Agrees.{is_inside}
 use Rattle.gw_books.specs.Books.{BookedEntry}
 use Rattle.gw_books.specs.Past.{Occasion, SentCommand, MadeLink, SentReply, Past}
-use Rattle.gw_books.proofs.Holding.{AreOutcomesTrue, AreFalling, AreKeyed, IsSentTrue, AreCallsSound, charges_terminal, charge_owed, deed_owed, IsServingSound, ServeTransactions, is_report_after, IsResolvedOn, IsOfTerminal, IsLinkSound, IsLinkAtRest, is_handle, Holds}
+use Rattle.gw_books.proofs.Holding.{AreOutcomesTrue, AreFalling, AreKeyed, IsFirstOf, IsSentTrue, AreCallsSound, charges_terminal, charge_owed, deed_owed, IsServingSound, ServeTransactions, is_report_after, IsResolvedOn, IsOfTerminal, IsLinkSound, IsLinkAtRest, is_handle, Holds}
 use Rattle.gw_books.proofs.ListLemmas.{In}
 
 -- ---- while no round goes on, calls on the disk alone are owed
@@ -209,6 +209,7 @@ pub record Leaves (v w : View) (past next : Past) (book : List BookedEntry) : Ty
   pub deeds : list_all is_inside next.deeds ≡ true
   pub links : (link : MadeLink) → In link next.lasting → IsLinkSound (records_coming v) w.scene.core w.calls next link
   pub replies : (reply : SentReply) → In reply next.replies → IsSentTrue next.commands book reply
+  pub replied : (reply : SentReply) → In reply next.replies → IsFirstOf reply.kept v.scene.kept
 
 -- with that it holds on
 pub holds-on : (v w : View) (past : Past) (book : List BookedEntry) (commands : List SentCommand) (links lasting : List MadeLink) (replies : List SentReply) (deeds : List Occasion) → Holds v past book
@@ -232,6 +233,8 @@ holds-on v w past book commands links lasting replies deeds h l =
       links = λ clear link within. subst (λ records. IsLinkSound records w.scene.core w.calls next link) (sym l.coming) (l.links link within);
       polls = h.polls;
       replies = l.replies;
+      replied = λ reply within. subst (IsFirstOf reply.kept) (sym l.kept) (l.replied reply within);
+      kept_polled = λ poll within. subst (IsFirstOf poll.kept) (sym l.kept) (h.kept_polled poll within);
     }
 
 -- ---- places

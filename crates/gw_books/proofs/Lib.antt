@@ -1,13 +1,16 @@
 -- The proof of the headline and of the laws about books, and the examples: what is said, what has happened, and what agrees.
 pub mod AgreeLemmas
 pub mod BeginHoldsLemmas
+pub mod BookLemmas
 pub mod CallHoldsLemmas
+pub mod CallNumberLemmas
 pub mod CourseLemmas
 pub mod DisagreeLemmas
 pub mod EventLimitLemmas
 pub mod ExampleLemmas
 pub mod FrameRowLemmas
 pub mod HandleLemmas
+pub mod HandleNumberLemmas
 pub mod HeadlineLemmas
 pub mod Holding
 pub mod HonestLemmas
@@ -17,16 +20,24 @@ pub mod LastCallLemmas
 pub mod ListLemmas
 pub mod MeaningLemmas
 pub mod MessageLemmas
+pub mod NumberStepLemmas
+pub mod Numbering
 pub mod PastLawLemmas
 pub mod PaymentTextLemmas
 pub mod QuietRowLemmas
 pub mod ReadLimitLemmas
 pub mod RecordMoreLemmas
+pub mod RecordNumberLemmas
 pub mod ReplyLimitLemmas
 pub mod ReplyTruthLemmas
+pub mod ReportLemmas
+pub mod RecoveryExampleLemmas
+pub mod RecoveryLemmas
 pub mod RoundExampleLemmas
 pub mod RoundLemmas
+pub mod RowNumberLemmas
 pub mod RowPartsLemmas
+pub mod SaidAsKeptLemmas
 pub mod SaidLemmas
 pub mod SentBytesLemmas
 pub mod SentCommandLemmas
@@ -35,3 +46,4 @@ pub mod ServeLemmas
 pub mod StepTruthLemmas
 pub mod TillLemmas
 pub mod TurnHoldsLemmas
+pub mod TurnNumberLemmas

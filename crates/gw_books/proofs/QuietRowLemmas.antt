@@ -41,7 +41,8 @@ use Rattle.gw_rules.proofs.StageLemmas.{no-true}
 use Rattle.gw_rules.proofs.TranscriptLogLemmas.{image-there, there-image}
 use Rattle.gw_books.specs.Past.{Occasion, OfNothing, SentCommand, MadeLink, HeardEnd, Past, occasion_read, ends_of}
 use Rattle.gw_books.specs.Books.{BookedEntry}
-use Rattle.gw_books.proofs.Holding.{AreOutcomesTrue, AreCallsSound, deed_owed, is_handle, IsServingSound, ServesTransaction, IsOfTerminal, IsLinkSound, IsLinkAtRest, HoldsBetween, HoldsAfterRow, records_after, RowHolds}
+use Rattle.gw_books.proofs.Holding.{AreOutcomesTrue, AreCallsSound, deed_owed, is_handle, IsServingSound, ServesTransaction, IsOfTerminal, IsLinkSound, IsLinkAtRest, HoldsBetween, HoldsAfterRow, records_after}
+use Rattle.gw_books.proofs.Numbering.{RowHolds}
 use Rattle.gw_books.proofs.ReplyLimitLemmas.{asked-within}
 use Rattle.gw_books.proofs.StepTruthLemmas.{asked-true}
 
@@ -186,18 +187,18 @@ nothing-holds known past book occasion h = owing-holds known past book occasion 
 -- ---- tills
 
 pub crowded-holds : (till : ℕ) → RowHolds (Crowded till)
-crowded-holds till scene tills known past book core h read honest = owing-holds known past book OfNothing (CutTill till ∷ []) [] h refl refl refl (tt, tt)
+crowded-holds till scene tills known past book core h numbered linked read honest = owing-holds known past book OfNothing (CutTill till ∷ []) [] h refl refl refl (tt, tt)
 
 pub message-holds : (till : ℕ) (bytes : List ℕ) → RowHolds (Message till bytes)
-message-holds till bytes scene tills known past book core h read honest = nothing-holds known past book OfNothing h
+message-holds till bytes scene tills known past book core h numbered linked read honest = nothing-holds known past book OfNothing h
 
 pub unframed-holds : (till : ℕ) → RowHolds (Unframed till)
-unframed-holds till scene tills known past book core h read honest =
+unframed-holds till scene tills known past book core h numbered linked read honest =
     by-where (λ (row : Row). HoldsAfterRow known (record past { occasion = OfNothing }) book row) known (owing known (CutTill till ∷ [])) (is_connected tills till) (nothing-holds known past book OfNothing h)
     (λ there. owing-holds known past book OfNothing (CutTill till ∷ []) [] h refl refl refl (tt, tt))
 
 pub gone-holds : (till : ℕ) → RowHolds (Gone till)
-gone-holds till scene tills known past book core h read honest =
+gone-holds till scene tills known past book core h numbered linked read honest =
     quiet-holds known past book OfNothing (gone_row known till) h (record { calm = gone-calm known.core till; none_kept = refl; no_deed = refl; handles_none = refl }) tt
 
 -- what a till's message begins is no more than Serve
@@ -219,7 +220,7 @@ begun-handles-none named known till header (requests.Display outputs) = refl
 begun-handles-none named known till header (requests.Print qualifier) = refl
 begun-handles-none named known till header requests.Diagnosis = refl
 
-asked-handles-none : (known : Known) (till : ℕ) (as_read : ReadAs) → list_any is_handle (begun_by known till as_read) ≡ false
+pub asked-handles-none : (known : Known) (till : ℕ) (as_read : ReadAs) → list_any is_handle (begun_by known till as_read) ≡ false
 asked-handles-none known till (Request header request) = begun-handles-none (named_terminal known.core header.poi) known till header request
 asked-handles-none known till Silent = refl
 asked-handles-none known till (NoMessage fault) = refl
@@ -245,7 +246,7 @@ replied-holds laws known past book till as_read h read = by_reply (reply_to know
         (record { within = asked-within laws known as_read reply h.in_order read e; says = asked-true laws known as_read reply h.in_order read e }, tt)
 
 pub asked-holds : (laws : LedgerLaws) (till : ℕ) (as_read : ReadAs) → RowHolds (Asked till as_read)
-asked-holds laws till as_read scene tills known past book core h read honest =
+asked-holds laws till as_read scene tills known past book core h numbered linked read honest =
     subst (λ (ends : List HeardEnd). HoldsAfterRow known (record past { occasion = occasion_read as_read; ends = ends ++ past.ends }) book (owing_where (is_connected tills till) known (asked_row known till as_read))) (sym (asked-ends-none scene past as_read))
     (by-where (λ (row : Row). HoldsAfterRow known (record past { occasion = occasion_read as_read }) book row) known (asked_row known till as_read) (is_connected tills till) (nothing-holds known past book (occasion_read as_read) h)
     (λ there. replied-holds laws known past book till as_read h read))
@@ -272,11 +273,11 @@ cut-holds : (known : Known) (past : Past) (book : List BookedEntry) (number : �
 cut-holds known past book number h = owing-holds known past book OfNothing _ [] h refl refl refl (tt, tt)
 
 pub oversized-holds : (number : ℕ) → RowHolds (Oversized number)
-oversized-holds number scene tills known past book core h read honest =
+oversized-holds number scene tills known past book core h numbered linked read honest =
     each-linked (LeavesHolding known past book) known number (λ terminal. cutting known number) (nothing-holds known past book OfNothing h) (λ terminal found linked. cut-holds known past book number h)
 
 pub greet-holds : (number : ℕ) (apdu : ApduValue) → RowHolds (Greet number apdu)
-greet-holds number apdu scene tills known past book core h read honest = by_decoded (decode_pt_message apdu)
+greet-holds number apdu scene tills known past book core h numbered linked read honest = by_decoded (decode_pt_message apdu)
   where
     by_decoded : (decoded : Result MessageValue PtFault) → LeavesHolding known past book (greet_decoded known number decoded)
     by_decoded (Ok message) =
@@ -285,12 +286,12 @@ greet-holds number apdu scene tills known past book core h read honest = by_deco
         each-linked (LeavesHolding known past book) known number (λ terminal. cutting known number) (nothing-holds known past book OfNothing h) (λ terminal found linked. cut-holds known past book number h)
 
 pub late-holds : (number : ℕ) → RowHolds (Late number)
-late-holds number scene tills known past book core h read honest =
+late-holds number scene tills known past book core h numbered linked read honest =
     each-terminal (LeavesHolding known past book) known number (λ terminal. owing_where (is_late known.moment terminal.talk) known (cutting known number)) (nothing-holds known past book OfNothing h)
     (λ terminal found. by-where (LeavesHolding known past book) known (cutting known number) (is_late known.moment terminal.talk) (nothing-holds known past book OfNothing h) (λ late. cut-holds known past book number h))
 
 pub due-holds : (number : ℕ) → RowHolds (Due number)
-due-holds number scene tills known past book core h read honest =
+due-holds number scene tills known past book core h numbered linked read honest =
     each-terminal (LeavesHolding known past book) known number (λ terminal. owing_where (is_due known.moment terminal.standing) known (owing known (LinkPt number ∷ []))) (nothing-holds known past book OfNothing h)
     (λ terminal found.
     by-where (LeavesHolding known past book) known (owing known (LinkPt number ∷ [])) (is_due known.moment terminal.standing) (nothing-holds known past book OfNothing h)
@@ -313,14 +314,14 @@ lost-unanswered asker (Aside before reported) serves = no-reply asker
 
 -- a link that is lost leaves its terminal unlinked
 pub link-lost-holds : (number : ℕ) → RowHolds (LinkLost number)
-link-lost-holds number scene tills known past book core h read honest =
+link-lost-holds number scene tills known past book core h numbered linked read honest =
     each-terminal (LeavesHolding known past book) known number (unlinks known number) (nothing-holds known past book OfNothing h) (λ terminal found.
     subst (λ (calls : List OwedCall). LeavesHolding known past book (becoming (with_terminal known.core number (unlinked_terminal terminal known.moment)) calls)) (sym (lost-unanswered terminal.asker terminal.standing (h.transactions number terminal found)))
     (quiet-holds known past book OfNothing (becoming (with_terminal known.core number (unlinked_terminal terminal known.moment)) []) h
     (record { calm = unlinked-calm known.core number terminal (unlinked_terminal terminal known.moment) _ found refl refl; none_kept = refl; no_deed = refl; handles_none = refl }) tt))
 
 pub next-waiting-holds : (number : ℕ) → RowHolds (NextWaiting number)
-next-waiting-holds number scene tills known past book core h read honest = nothing-holds known past book OfNothing h
+next-waiting-holds number scene tills known past book core h numbered linked read honest = nothing-holds known past book OfNothing h
 
 pub overdue-holds : (key : Key) → RowHolds (Overdue key)
-overdue-holds key scene tills known past book core h read honest = nothing-holds known past book OfNothing h
+overdue-holds key scene tills known past book core h numbered linked read honest = nothing-holds known past book OfNothing h

@@ -32,7 +32,7 @@ use Rattle.gw_owes.proofs.RecordLemmas.{LedgerLaws, account-more, entry-parts, i
 use Rattle.gw_books.specs.Agrees.{is_accepted}
 use Rattle.gw_books.specs.Books.{BookedEntry}
 use Rattle.gw_books.specs.Past.{SentCommand, MadeLink}
-use Rattle.gw_books.proofs.Holding.{AreOutcomesTrue, BearsOut, IsOutcomeTrue, IsResolvedOn, IsServingSound}
+use Rattle.gw_books.proofs.Holding.{AreOutcomesTrue, BearsOut, IsDeclineTrue, IsFirstOf, IsOutcomeTrue, IsResolvedOn, IsServingSound}
 
 -- ---- the slot of a key
 
@@ -167,39 +167,73 @@ pub outcomes-of-first : (commands : List SentCommand) (book : List BookedEntry) 
 outcomes-of-first commands book place records more are at outcome intent found intent_is =
     are at outcome intent (still-there records more at (Outcome outcome) found) (intent-stays records more outcome.slot intent intent_is)
 
-borne-later : (approved : Bool) (book : List BookedEntry) (place later : ℕ) (command : SentCommand) (outcome : TheOutcome) → place ≤ later → BearsOut approved book place command outcome → BearsOut approved book later command outcome
-borne-later true book place later command outcome le borne =
-    let placed = borne.placed in
+borne-later : (approved : Bool) (commands : List SentCommand) (book : List BookedEntry) (place later : ℕ) (key : Key) (outcome : TheOutcome) → place ≤ later → BearsOut approved commands book place key outcome → BearsOut approved commands book later key outcome
+borne-later true commands book place later key outcome le own =
+    let booked = own.booked in
+    let placed = booked.placed in
     record {
-      entry = borne.entry;
-      within = borne.within;
-      caused = borne.caused;
-      placed = omega (arith, placed, le);
-      approved = borne.approved;
-      number = borne.number;
-      receipt = borne.receipt;
-      amount = borne.amount;
+      command = own.command;
+      sent = own.sent;
+      key_is = own.key_is;
+      booked = record {
+        entry = booked.entry;
+        within = booked.within;
+        caused = booked.caused;
+        placed = omega (arith, placed, le);
+        approved = booked.approved;
+        number = booked.number;
+        receipt = booked.receipt;
+        amount = booked.amount;
+      };
     }
-borne-later false book place later command outcome le borne = borne
+borne-later false commands book place later key outcome le own = own
 
 -- an Outcome that is true stays so
 pub outcome-later : (commands : List SentCommand) (book : List BookedEntry) (place later : ℕ) (key : Key) (outcome : TheOutcome) → place ≤ later → IsOutcomeTrue commands book place key outcome → IsOutcomeTrue commands book later key outcome
-outcome-later commands book place later key outcome le o = record {
-  command = o.command;
-  sent = o.sent;
-  key_is = o.key_is;
-  borne_out = borne-later outcome.approved book place later o.command outcome le o.borne_out;
-}
+outcome-later commands book place later key outcome le own = borne-later outcome.approved commands book place later key outcome le own
 
 pub outcomes-later : (commands : List SentCommand) (book : List BookedEntry) (place later : ℕ) (records : List Record) → place ≤ later → AreOutcomesTrue commands book place records → AreOutcomesTrue commands book later records
 outcomes-later commands book place later records le are at outcome intent found intent_is = outcome-later commands book place later (intent_key intent) outcome le (are at outcome intent found intent_is)
 
--- and once one more command is sent
-pub outcome-sent : (command : SentCommand) (commands : List SentCommand) (book : List BookedEntry) (place : ℕ) (key : Key) (outcome : TheOutcome) → IsOutcomeTrue commands book place key outcome → IsOutcomeTrue (command ∷ commands) book place key outcome
-outcome-sent command commands book place key outcome o = record { command = o.command; sent = inr o.sent; key_is = o.key_is; borne_out = o.borne_out }
+-- the records have no Outcome of this key
+abbrev pub IsUnended : List Record → Key → Type 0
+IsUnended records key = (at : ℕ) (outcome : TheOutcome) (intent : TheIntent) → slice_get records at ≡ Some (Outcome outcome) → intent_at records outcome.slot ≡ Some intent → intent_key intent ≡ key → ⊥
 
-pub outcomes-sent : (command : SentCommand) (commands : List SentCommand) (book : List BookedEntry) (place : ℕ) (records : List Record) → AreOutcomesTrue commands book place records → AreOutcomesTrue (command ∷ commands) book place records
-outcomes-sent command commands book place records are at outcome intent found intent_is = outcome-sent command commands book place (intent_key intent) outcome (are at outcome intent found intent_is)
+-- neither have the first of them
+pub unended-first : (records more : List Record) (key : Key) → IsUnended (records ++ more) key → IsUnended records key
+unended-first records more key none at outcome intent found intent_is = none at outcome intent (still-there records more at (Outcome outcome) found) (intent-stays records more outcome.slot intent intent_is)
+
+borne-sent : (approved : Bool) (command : SentCommand) (commands : List SentCommand) (book : List BookedEntry) (place : ℕ) (key : Key) (outcome : TheOutcome) → (command.key ≡ Some key → ⊥)
+    → BearsOut approved commands book place key outcome → BearsOut approved (command ∷ commands) book place key outcome
+borne-sent true command commands book place key outcome apart own = record { command = own.command; sent = inr own.sent; key_is = own.key_is; booked = own.booked }
+borne-sent false command commands book place key outcome apart own = none
+  where
+    none : IsDeclineTrue (command ∷ commands) book key
+    none one (inl same) key_is = absurd (apart (ap (λ (c : SentCommand). c.key) (sym same) ∙ key_is))
+    none one (inr within) key_is = own one within key_is
+
+-- and once one more command is sent, for another key
+pub outcome-sent : (command : SentCommand) (commands : List SentCommand) (book : List BookedEntry) (place : ℕ) (key : Key) (outcome : TheOutcome) → (command.key ≡ Some key → ⊥)
+    → IsOutcomeTrue commands book place key outcome → IsOutcomeTrue (command ∷ commands) book place key outcome
+outcome-sent command commands book place key outcome apart own = borne-sent outcome.approved command commands book place key outcome apart own
+
+-- so do those of records without an Outcome of the command's key
+pub outcomes-sent : (command : SentCommand) (commands : List SentCommand) (book : List BookedEntry) (place : ℕ) (records : List Record) (key : Key) → command.key ≡ Some key → IsUnended records key
+    → AreOutcomesTrue commands book place records → AreOutcomesTrue (command ∷ commands) book place records
+outcomes-sent command commands book place records key key_is unended are at outcome intent found intent_is =
+    outcome-sent command commands book place (intent_key intent) outcome (λ own. unended at outcome intent found intent_is (same_Some (intent_key intent) key (sym own ∙ key_is))) (are at outcome intent found intent_is)
+
+-- ---- the first of the records
+
+-- all of them are
+pub first-itself : (records : List Record) → IsFirstOf records records
+first-itself records = ([], sym (append-nil records))
+
+-- the first of the first are
+pub first-of-first : (first records more : List Record) → IsFirstOf first records → IsFirstOf records more → IsFirstOf first more
+first-of-first first records more own later = (own.0 ++ later.0, later.1 ∙ ap (λ (l : List Record). l ++ later.0) own.1 ∙ append_assoc first own.0 later.0)
+
+-- ---- the Intents of Outcomes
 
 -- each Outcome of the records has its Intent there
 abbrev OutcomesHaveIntents : List Record → Type 0

@@ -18,12 +18,12 @@ use Rattle.gw_books.proofs.PaymentTextLemmas.{payment-reads}
 
 -- ---- parts of courses
 
-course-rest : (v : View) (xs ys : List Move) → IsCourse v (xs ++ ys) → IsCourse (view_from v xs) ys
+pub course-rest : (v : View) (xs ys : List Move) → IsCourse v (xs ++ ys) → IsCourse (view_from v xs) ys
 course-rest v [] ys c = c
 course-rest v (move ∷ xs) ys c = course-rest (after v move) xs ys c.1
 
 -- a lawful course goes on with these moves, and then may come a poll
-ends-round : (course moves : List Move) → IsCourse at_first course → IsCourse (view_from at_first course) moves → AreOfRound (turns_of moves) → MayPoll (view_from (view_from at_first course) moves) → EndsRound (turns_of course) (view_from at_first course) moves
+pub ends-round : (course moves : List Move) → IsCourse at_first course → IsCourse (view_from at_first course) moves → AreOfRound (turns_of moves) → MayPoll (view_from (view_from at_first course) moves) → EndsRound (turns_of course) (view_from at_first course) moves
 ends-round course moves before lawful round may = record {
   before = record { course = course; log_is = refl; lawful = before; view_is = refl };
   lawful = lawful;

@@ -41,9 +41,10 @@ use Rattle.gw_owes.specs.Laws.{ends_in_one}
 use Rattle.gw_owes.specs.PaymentLaws.{ApprovalIsKept, DeclineIsKept, EachAcceptedBegins, EachBegunIsServed, MeansAt, outcome_calls}
 use Rattle.gw_owes.specs.ReadAs.{IsReadAs, ReadAs, Request}
 use Rattle.gw_owes.specs.RecordLaws.{AreRecordsOf, IsInOrder, IsServedOpen}
-use Rattle.gw_owes.specs.Reply.{Finished}
+use Rattle.gw_owes.specs.Reply.{ReplyValue, Finished}
 use Rattle.gw_owes.specs.Row.{Known, Row, owing_where}
 use Rattle.gw_owes.specs.Rows.{asked_row, row_of}
+use Rattle.gw_owes.specs.Serving.{reply_to_outcome}
 use Rattle.gw_owes.specs.Steps.{Begins, step_result}
 use Rattle.gw_owes.proofs.ReadLemmas.{reads-one}
 use Rattle.gw_owes.proofs.RecordLemmas.{entry-parts, open_entry_of}
@@ -397,6 +398,16 @@ declined-body intent outcome reason what declined condition texts = record {
       ∙ texts-body intent (λ transaction stamp. PaymentDeclined transaction stamp (transaction_mark outcome.slot outcome) reason) texts;
 }
 
+-- an Outcome that a message of a terminal brings is kept, and its reply said
+pub outcome-is-said : (log : List Turn) (v : View) (moves : List Move) (setup : Setup) (number : ℕ) (apdu : ApduValue) (terminal : Terminal) (outcome : TheOutcome) (reply : ReplyValue) → EndsRound log v moves
+    → ComesNext v setup (Handle number apdu) → (handle_row (known_in v.scene setup) number apdu).calls ≡ outcome_calls (known_in v.scene setup) terminal outcome → reply_to_outcome v.scene.kept outcome.slot outcome ≡ Some reply
+    → IsKeptAndSaid v setup terminal outcome (turns_of moves)
+outcome-is-said log v moves setup number apdu terminal outcome reply ends next calls replies = record {
+  reply = reply;
+  reply_is = replies;
+  done = subst (λ c. BeginWith c (turns_of moves)) calls (item-done v setup (Handle number apdu) moves next refl (goes-of log v moves ends));
+}
+
 -- what a message of a terminal ends is kept and said
 end-is-said : OrderLaws → (log : List Turn) (v : View) (moves : List Move) (setup : Setup) (number : ℕ) (apdu : ApduValue) (terminal : Terminal) (last : ℕ) (meant : Heard) (outcome : TheOutcome) → EndsRound log v moves → ComesNext v setup (Handle number apdu)
     → MeansAt (known_in v.scene setup) number apdu terminal outcome.slot last meant → (handle_row (known_in v.scene setup) number apdu).calls ≡ outcome_calls (known_in v.scene setup) terminal outcome
@@ -409,11 +420,8 @@ end-is-said laws log v moves setup number apdu terminal last meant outcome ends 
     let within : IsIntent has.intent = intent-limits v.scene.kept outcome.slot has.intent order.folded (entry-parts v.scene.kept outcome.slot (open_entry_of outcome.slot has.intent) there).1 in
     let said : HasBody has.intent outcome = bodies has.intent has.what (texts-of has.intent within has.what) in
     let ended : TheEntry = record (open_entry_of outcome.slot has.intent) { result = Some outcome } in
-    record {
-      reply = Finished (header_of (Entry ended)) said.body;
-      reply_is = ap (option_and_then (λ (entry : TheEntry). kept_reply (Entry (record entry { result = Some outcome })))) there ∙ ap (option_map (Finished (header_of (Entry ended)))) said.body_is;
-      done = subst (λ c. BeginWith c (turns_of moves)) calls (item-done v setup (Handle number apdu) moves next refl (goes-of log v moves ends));
-    }
+    outcome-is-said log v moves setup number apdu terminal outcome (Finished (header_of (Entry ended)) said.body) ends next calls
+    (ap (option_and_then (λ (entry : TheEntry). kept_reply (Entry (record entry { result = Some outcome })))) there ∙ ap (option_map (Finished (header_of (Entry ended)))) said.body_is)
 
 pub approval-is-said : OrderLaws → ApprovalIsKept → ApprovalIsSaid
 approval-is-said laws kept log v moves setup number apdu terminal slot last figures ends next means above =

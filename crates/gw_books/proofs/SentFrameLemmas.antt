@@ -1,5 +1,5 @@
 -- All bytes that are sent to a till are the frame of a message: each reply that is owed can be spelled, whatever the books say.
-use Rattle.std.proofs.Common.{◌≡◌, ◌<◌, ◌^◌, ℕ, Bool, true, false, List, [], ◌∷◌, ◌++◌, length, refl, sym, ◌∙◌, subst, arith}
+use Rattle.std.proofs.Common.{◌≡◌, ◌<◌, ◌^◌, ℕ, Bool, true, false, List, [], ◌∷◌, ◌++◌, length, refl, sym, ◌∙◌, subst}
 use Rattle.std.specs.Prelude.{if◌then◌else◌, nat_lt, nat_le, slice_get, Option, Some, None, Result, Ok, Err}
 use Rattle.gw_base.specs.declared.figures.Figures.{Figures}
 use Rattle.gw_base.specs.declared.setup.Setup.{Setup}
@@ -14,7 +14,9 @@ use Rattle.zvt_talk.specs.declared.meaning.Heard.{Heard}
 use Rattle.zvt_talk.specs.declared.meaning.Heard.TheVariants as heard
 use Rattle.jrn_record.specs.Limits.{IsOutcome}
 use Rattle.jrn_record.specs.declared.records.Outcome.{Outcome as TheOutcome}
-use Rattle.gw_ledger.specs.Fold.{AreFolded}
+use Rattle.gw_ledger.specs.declared.entry.Entry.{Entry as TheEntry}
+use Rattle.gw_ledger.specs.Accounts.{last_number_of}
+use Rattle.gw_ledger.specs.Fold.{open_entry}
 use Rattle.gw_owes.specs.declared.terminal.Service.{Service}
 use Rattle.gw_owes.specs.declared.terminal.Service.TheVariants.{Transaction, EndOfDay, Display}
 use Rattle.gw_owes.specs.declared.terminal.Standing.{Standing}
@@ -25,22 +27,23 @@ use Rattle.gw_owes.specs.Core.{Core, new_core, new_terminal}
 use Rattle.gw_owes.specs.Deadlines.{is_late, is_due}
 use Rattle.gw_owes.specs.Greeting.{greeting, sending_calls, greet_decoded}
 use Rattle.gw_owes.specs.Handling.{consequence, enquiring, handle_decoded, handle_message, meaning_at, registering, serving, taken_as, taking}
-use Rattle.gw_owes.specs.HeardLaws.{FitsRecord}
+use Rattle.gw_owes.specs.HeardLaws.{FitsRecord, IsReportFit}
 use Rattle.gw_owes.specs.Items.{RoundItem, Crowded, Message, Asked, Unframed, Gone, Greet, Handle, Serve, NextWaiting, Oversized, LinkLost, Late, Overdue, Due}
 use Rattle.gw_owes.specs.Links.{cutting}
 use Rattle.gw_owes.specs.RecordLaws.{AreRecordsOf, IsInOrder, IsReadItem, IsServedOpen}
 use Rattle.gw_owes.specs.Reply.{ReplyValue, reply_value_tree}
-use Rattle.gw_owes.specs.Reports.{at_rest, report_against, on_record, standing_reported}
+use Rattle.gw_owes.specs.Reports.{Report, on_record, outcome_reported, report_against, report_row, standing_reported}
 use Rattle.gw_owes.specs.Requests.{reply_to}
 use Rattle.gw_owes.specs.Row.{Known, Row, owing, owing_nothing, owing_where}
 use Rattle.gw_owes.specs.Rows.{asked_row, row_of}
-use Rattle.gw_owes.specs.Serving.{approved_outcome, approved_row, declined_outcome, reply_to_outcome, resolves, serving_transaction, was_stopped}
+use Rattle.gw_owes.specs.Serving.{at_rest, approved_outcome, approved_row, declined_outcome, reply_to_outcome, resolves, serving_transaction, was_stopped}
 use Rattle.gw_owes.specs.Terminals.{core_without, forgets_till, link_lost, link_made, registers, reply_calls_to, terminal_at, terminal_becomes, unlinks}
 use Rattle.gw_owes.proofs.HandlingLemmas.{by-where, each-linked, each-terminal}
 use Rattle.gw_owes.proofs.HeardLemmas.{meant-fits}
 use Rattle.gw_owes.proofs.LimitLemmas.{approval-within, decline-within}
 use Rattle.gw_owes.proofs.PaymentLemmas.{each-served}
-use Rattle.gw_owes.proofs.RecordLemmas.{LedgerLaws, open-parts, open-within}
+use Rattle.gw_owes.proofs.RecordLemmas.{LedgerLaws, open-without-outcome}
+use Rattle.gw_owes.proofs.ServingLemmas.{reported-outcome, slot-small}
 use Rattle.gw_owes.proofs.SetLemmas.{same-some}
 use Rattle.gw_rules.specs.Lawful.{Begins, IsCourse, first_call, turns_of}
 use Rattle.gw_rules.specs.Opening.{opening}
@@ -167,46 +170,52 @@ module _ (laws : LedgerLaws) (known : Known) (order : IsInOrder known) (serve : 
   registering-kept heard.Unclear = stays-within (OwedCutPt number ∷ []) (tt, tt)
   registering-kept heard.Stray = stays-within [] tt
 
-  report-kept : (open_with : Option ℕ) (last reported : ℕ) → LeavesWithin (report_against open_with last known number now reported)
-  report-kept None last reported = becomes-within known serve number (at_rest now (standing_reported last reported)) [] (by-least (nat_le last reported)) tt
-    where
-      by-least : (b : Bool) → ServesTransaction (if b then Ready reported else Aside last reported)
-      by-least true = tt
-      by-least false = tt
-  report-kept (Some before) last reported = stays-within (OwedCutPt number ∷ []) (tt, tt)
-
-  enquiring-kept : (meant : Heard) → LeavesWithin (enquiring known number now meant)
-  enquiring-kept (heard.Begun stop) = stays-within [] tt
-  enquiring-kept (heard.Note intermediate_status) = stays-within [] tt
-  enquiring-kept heard.Line = stays-within [] tt
-  enquiring-kept heard.Block = stays-within [] tt
-  enquiring-kept heard.Seen = stays-within [] tt
-  enquiring-kept (heard.Approved figures) = stays-within [] tt
-  enquiring-kept heard.Done = stays-within [] tt
-  enquiring-kept (heard.Told reported approved result_code) = report-kept (on_record known.kept now.pt.poi).open_before (on_record known.kept now.pt.poi).last reported
-  enquiring-kept (heard.Declined result_code reported) = stays-within (OwedCutPt number ∷ []) (tt, tt)
-  enquiring-kept heard.Unclear = stays-within (OwedCutPt number ∷ []) (tt, tt)
-  enquiring-kept heard.Stray = stays-within [] tt
-
   -- the Outcome is kept, and its reply owed
   resolves-within : (last : ℕ) (outcome : TheOutcome) → IsOutcome outcome → LeavesWithin (resolves known number now (Ready last) outcome)
   resolves-within last outcome is =
       becomes-within known serve number _ _ tt
       (tt, (tt, (tt, (tt, reply-within old.asker (reply_to_outcome known.kept outcome.slot outcome) (λ own replies. outcome-within laws known outcome.slot outcome own order is replies)))))
 
-  slot-small : (last slot : ℕ) → IsServedOpen known.kept old.pt.poi last slot → slot < 2 ^ 32
-  slot-small last slot has =
-      let folded : AreFolded known.kept = order.folded in
-      let inside : slot < length known.kept = open-within laws known.kept folded old.pt.poi slot has.intent (open-parts laws known.kept folded old.pt.poi slot has.intent has.is_open) in
-      let most = order.of_setup.within.slots.1 in
-      let room = order.room in
-      omega (arith, inside, most, room)
+  -- the terminal reports its last transaction
+  report-kept : (report : Report) → IsReportFit report.trace report.approved → LeavesWithin (report_row (on_record known.kept now.pt.poi) known number now report)
+  report-kept report fit = by-open (open_entry known.kept now.pt.poi) refl
+    where
+      by-least : (least : ℕ) (b : Bool) → ServesTransaction (if b then Ready report.trace else Aside least report.trace)
+      by-least least true = tt
+      by-least least false = tt
+
+      of-open : (entry : TheEntry) → open_entry known.kept now.pt.poi ≡ Some entry → (b : Bool)
+          → LeavesWithin (if b then resolves known number now (Ready report.trace) (outcome_reported entry report known.moment)
+          else terminal_becomes known number (at_rest now (Aside entry.intent.before report.trace)) [])
+      of-open entry is true =
+          let small : entry.slot < 2 ^ 32 = slot-small laws known order now.pt.poi entry.slot entry.intent (open-without-outcome laws known.kept order.folded now.pt.poi entry is) in
+          resolves-within report.trace (outcome_reported entry report known.moment) (reported-outcome entry report known.moment small order.moment fit).within
+      of-open entry is false = becomes-within known serve number (at_rest now (Aside entry.intent.before report.trace)) [] tt tt
+
+      by-open : (opened : Option TheEntry) → open_entry known.kept now.pt.poi ≡ opened → LeavesWithin (report_against opened (last_number_of known.kept now.pt.poi) known number now report)
+      by-open None none =
+          becomes-within known serve number (at_rest now (standing_reported (last_number_of known.kept now.pt.poi) report.trace)) []
+          (by-least (last_number_of known.kept now.pt.poi) (nat_le (last_number_of known.kept now.pt.poi) report.trace)) tt
+      by-open (Some entry) is = of-open entry is (nat_le entry.intent.before report.trace)
+
+  enquiring-kept : (meant : Heard) → FitsRecord meant → LeavesWithin (enquiring known number now meant)
+  enquiring-kept (heard.Begun stop) fit = stays-within [] tt
+  enquiring-kept (heard.Note intermediate_status) fit = stays-within [] tt
+  enquiring-kept heard.Line fit = stays-within [] tt
+  enquiring-kept heard.Block fit = stays-within [] tt
+  enquiring-kept heard.Seen fit = stays-within [] tt
+  enquiring-kept (heard.Approved figures) fit = stays-within [] tt
+  enquiring-kept heard.Done fit = stays-within [] tt
+  enquiring-kept (heard.Told trace approved result_code) fit = report-kept (record { trace = trace; approved = approved; result_code = result_code }) fit
+  enquiring-kept (heard.Declined result_code reported) fit = stays-within (OwedCutPt number ∷ []) (tt, tt)
+  enquiring-kept heard.Unclear fit = stays-within (OwedCutPt number ∷ []) (tt, tt)
+  enquiring-kept heard.Stray fit = stays-within [] tt
 
   approved-kept : (slot last : ℕ) (figures : Figures) → IsServedOpen known.kept old.pt.poi last slot → FitsRecord (heard.Approved figures) → LeavesWithin (approved_row known number now slot last figures)
   approved-kept slot last figures has fit = by-test (nat_lt last figures.number)
     where
       by-test : (b : Bool) → LeavesWithin (if b then resolves known number now (Ready figures.number) (approved_outcome slot figures known.moment) else terminal_becomes known number (at_rest now (Aside last figures.number)) [])
-      by-test true = resolves-within figures.number (approved_outcome slot figures known.moment) (approval-within slot figures known.moment (slot-small last slot has) fit order.moment)
+      by-test true = resolves-within figures.number (approved_outcome slot figures known.moment) (approval-within slot figures known.moment (slot-small laws known order old.pt.poi slot has.intent has.is_open) fit order.moment)
       by-test false = becomes-within known serve number (at_rest now (Aside last figures.number)) [] tt tt
 
   transaction-kept : (slot last : ℕ) (meant : Heard) → IsServedOpen known.kept old.pt.poi last slot → FitsRecord meant → LeavesWithin (serving_transaction known number now slot last meant)
@@ -220,7 +229,8 @@ module _ (laws : LedgerLaws) (known : Known) (order : IsInOrder known) (serve : 
   transaction-kept slot last heard.Done has fit = stays-within [] tt
   transaction-kept slot last (heard.Told reported approved result_code) has fit = stays-within [] tt
   transaction-kept slot last (heard.Declined result_code reported) has fit =
-      resolves-within _ (declined_outcome slot result_code (was_stopped now.talk) known.moment) (decline-within slot result_code (was_stopped now.talk) known.moment (slot-small last slot has) order.moment)
+      resolves-within _ (declined_outcome slot result_code (was_stopped now.talk) known.moment)
+      (decline-within slot result_code (was_stopped now.talk) known.moment (slot-small laws known order old.pt.poi slot has.intent has.is_open) order.moment)
   transaction-kept slot last heard.Unclear has fit = stays-within (OwedCutPt number ∷ []) (tt, tt)
   transaction-kept slot last heard.Stray has fit = stays-within [] tt
 
@@ -232,7 +242,7 @@ module _ (laws : LedgerLaws) (known : Known) (order : IsInOrder known) (serve : 
   consequence-kept : (standing : Standing) (meant : Heard) → AreRecordsOf known.kept old.pt.poi standing → FitsRecord meant → LeavesWithin (consequence known number now meant standing)
   consequence-kept (Unlinked due) meant has fit = nothing-within known serve
   consequence-kept Registering meant has fit = registering-kept meant
-  consequence-kept Enquiring meant has fit = enquiring-kept meant
+  consequence-kept Enquiring meant has fit = enquiring-kept meant fit
   consequence-kept (Ready last) meant has fit = stays-within [] tt
   consequence-kept (Serving service last) meant has fit = serving-kept service last meant has fit
   consequence-kept (Aside before reported) meant has fit = stays-within [] tt

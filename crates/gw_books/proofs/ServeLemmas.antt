@@ -29,8 +29,9 @@ use Rattle.gw_books.specs.Agrees.{is_accepted}
 use Rattle.gw_books.specs.Books.{BookedEntry}
 use Rattle.gw_books.specs.Past.{MadeLink, Past}
 use Rattle.gw_books.proofs.FrameRowLemmas.{link-stays, serving-frame, transactions-stay}
-use Rattle.gw_books.proofs.Holding.{HoldsAfterRow, HoldsBetween, IsLinkSound, IsResolvedOn, IsServingSound, IsToBeAsked, IsUnsent, RowHolds, AreOutcomesTrue, begun_past, charge_owed}
+use Rattle.gw_books.proofs.Holding.{HoldsAfterRow, HoldsBetween, IsLinkSound, IsResolvedOn, IsServingSound, IsToBeAsked, IsUnsent, AreOutcomesTrue, begun_past, charge_owed}
 use Rattle.gw_books.proofs.ListLemmas.{In}
+use Rattle.gw_books.proofs.Numbering.{RowHolds}
 use Rattle.gw_books.proofs.RecordMoreLemmas.{outcomes-and-intent, resolved-more, unknown-accepted}
 
 module _ (laws : LedgerLaws) (scene : Scene) (known : Known) (past : Past) (book : List BookedEntry) (between : HoldsBetween known past book) (number till : ℕ) (header : Header) (request : SaleRequest) where
@@ -84,7 +85,7 @@ module _ (laws : LedgerLaws) (scene : Scene) (known : Known) (past : Past) (book
         ∙ (passes-steps known header (requests.Payment payment) (Some (record { number = number; terminal = terminal })) at.begins_is).unknown
 
     -- so that no command was sent for it
-    key-unsent : IsUnsent past.commands (intent_key intent)
+    pub key-unsent : IsUnsent past.commands (intent_key intent)
     key-unsent command sent key_is =
         let own = between.commands.accepted command sent in
         let same : own.key ≡ intent_key intent = same_Some own.key (intent_key intent) (sym own.key_is ∙ key_is) in
@@ -138,7 +139,7 @@ module _ (laws : LedgerLaws) (scene : Scene) (known : Known) (past : Past) (book
 
 -- a request that a terminal begins to serve holds
 pub serve-holds : (laws : LedgerLaws) (number till : ℕ) (header : Header) (request : SaleRequest) → RowHolds (Serve number till header request)
-serve-holds laws number till header request scene tills known past book same between read honest =
+serve-holds laws number till header request scene tills known past book same between numbered linked read honest =
     each-served (HoldsAfterRow known (begun_past scene past (Serve number till header request)) book) known number till header request
     (nothing-holds laws scene known past book between number till header request)
     (λ payment terminal last is at.

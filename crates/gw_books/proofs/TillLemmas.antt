@@ -30,7 +30,7 @@ use Rattle.gw_books.proofs.ExampleLemmas.{success-framed, refusal-framed}
 -- ---- lists
 
 -- what is at a place of a list is in it
-at-in : {A : Type 0} (list : List A) (at : ℕ) (x : A) → slice_get list at ≡ Some x → In x list
+pub at-in : {A : Type 0} (list : List A) (at : ℕ) (x : A) → slice_get list at ≡ Some x → In x list
 at-in [] at x e = cc
 at-in (y ∷ list) zero x e = let same : x ≡ y = cc in inl same
 at-in (y ∷ list) (suc at) x e = inr (at-in list at x e)
@@ -143,7 +143,7 @@ said-agrees agrees log past book till said has is_said each =
 -- ---- a success
 
 -- where it is so, the rest of an agreement holds
-so-agrees : (test other : Bool) → test ≡ true → (not test || other) ≡ true → other ≡ true
+pub so-agrees : (test other : Bool) → test ≡ true → (not test || other) ≡ true → other ≡ true
 so-agrees true other t e = e
 so-agrees false other t e = absurd (cc)
 

@@ -46,9 +46,9 @@ use Rattle.gw_rules.proofs.TranscriptLogLemmas.{image-there, there-image}
 use Rattle.gw_books.specs.Past.{Occasion, OfNothing, SentCommand, MadeLink, HeardEnd, MadePoll, Past, poi_of_number}
 use Rattle.gw_books.specs.Books.{BookedEntry}
 use Rattle.gw_books.specs.Agrees.{is_accepted, is_report, is_report_on, is_resolved_on, report_resolves, is_inside}
-use Rattle.gw_books.proofs.Holding.{AreOutcomesTrue, AreFalling, AreKeyed, AreCallsSound, charges_terminal, charge_owed, is_deed, deed_owed, IsServingSound, ServesTransaction, ServeTransactions, is_report_after, IsResolvedOn, IsLinkSound, is_handle, Holds, TurnHolds}
+use Rattle.gw_books.proofs.Holding.{AreOutcomesTrue, AreFalling, AreKeyed, IsFirstOf, AreCallsSound, charges_terminal, charge_owed, is_deed, deed_owed, IsServingSound, ServesTransaction, ServeTransactions, is_report_after, IsResolvedOn, IsLinkSound, is_handle, Holds, TurnHolds}
 use Rattle.gw_books.proofs.ListLemmas.{In, all-from, any-from, any-in, filter-in}
-use Rattle.gw_books.proofs.RecordMoreLemmas.{accepted-more, outcomes-of-first, outcomes-later}
+use Rattle.gw_books.proofs.RecordMoreLemmas.{accepted-more, first-itself, first-of-first, outcomes-of-first, outcomes-later}
 
 -- ---- commands
 
@@ -103,7 +103,7 @@ report-resolved past poll link resolves = by_test (list_any (is_report_on poll l
 
 -- ---- items of which no dialogue takes an APDU
 
-abbrev handles_none : List RoundItem → Type 0
+abbrev pub handles_none : List RoundItem → Type 0
 handles_none items = list_any is_handle items ≡ false
 
 none-append : (items more : List RoundItem) → handles_none items → handles_none more → handles_none (items ++ more)
@@ -121,16 +121,16 @@ none-overdue : (waits : List Wait) → handles_none (map (λ (wait : Wait). Over
 none-overdue [] = refl
 none-overdue (wait ∷ waits) = none-overdue waits
 
-due-handles-none : (core : Core) → handles_none (items_due core)
+pub due-handles-none : (core : Core) → handles_none (items_due core)
 due-handles-none core =
     none-append (for_each_terminal 0 Late core.terminals) (map (λ (wait : Wait). Overdue wait.key) (waits_by_deadline core.waits) ++ for_each_terminal 0 Due core.terminals) (none-each 0 Late core.terminals (λ n. refl))
     (none-append (map (λ (wait : Wait). Overdue wait.key) (waits_by_deadline core.waits)) (for_each_terminal 0 Due core.terminals) (none-overdue (waits_by_deadline core.waits)) (none-each 0 Due core.terminals (λ n. refl)))
 
 -- with what may be due after them
-then-due : (items : List RoundItem) (core : Core) → handles_none items → handles_none (items ++ items_due core)
+pub then-due : (items : List RoundItem) (core : Core) → handles_none items → handles_none (items ++ items_due core)
 then-due items core none = none-append items (items_due core) none (due-handles-none core)
 
-opened-handles-none : (till : ℕ) (tills : List Connection) → handles_none (till_opened_items till tills)
+pub opened-handles-none : (till : ℕ) (tills : List Connection) → handles_none (till_opened_items till tills)
 opened-handles-none till tills = by_test (nat_lt (length tills) 64)
   where
     by_test : (test : Bool) → handles_none (if test then [] else Crowded till ∷ [])
@@ -141,7 +141,7 @@ none-messages : (till : ℕ) (payloads : List (List ℕ)) → handles_none (map 
 none-messages till [] = refl
 none-messages till (payload ∷ payloads) = none-messages till payloads
 
-till-handles-none : (till : ℕ) (decoded : DecodedFrames) → handles_none (decoded_items till decoded)
+pub till-handles-none : (till : ℕ) (decoded : DecodedFrames) → handles_none (decoded_items till decoded)
 till-handles-none till decoded = none-append (map (Message till) decoded.payloads) _ (none-messages till decoded.payloads) (by_test (has_bad_length decoded.rest))
   where
     by_test : (test : Bool) → handles_none (if test then Unframed till ∷ [] else [])
@@ -249,17 +249,19 @@ synced-round Broken = refl
 abbrev next_past : Past → Occasion → ℕ → List MadeLink → List MadePoll → List Occasion → Past
 next_past past occasion heard lasting polls deeds = record past { place = past.place + 1; occasion = occasion; heard = heard; lasting = lasting; polls = polls; deeds = deeds }
 
--- each poll of these was made before the next turn, and each report before it has resolved
-record AreMade (past : Past) (polls : List MadePoll) : Type 0 where
+-- each poll of these was made before the next turn, with the first of these records, and each report before it has resolved
+record AreMade (kept : List Record) (past : Past) (polls : List MadePoll) : Type 0 where
   before : (poll : MadePoll) → In poll polls → poll.place < past.place + 1
+  kept_polled : (poll : MadePoll) → In poll polls → IsFirstOf poll.kept kept
   resolved : list_all (λ (poll : MadePoll). list_all (report_resolves past poll) poll.links) polls ≡ true
 
-made-before : (v : View) (past : Past) (book : List BookedEntry) → Holds v past book → AreMade past past.polls
-made-before v past book h = record { before = λ poll made. omega (arith, h.polled poll made); resolved = h.polls }
+made-before : (v : View) (past : Past) (book : List BookedEntry) → Holds v past book → AreMade v.scene.kept past past.polls
+made-before v past book h = record { before = λ poll made. omega (arith, h.polled poll made); kept_polled = h.kept_polled; resolved = h.polls }
 
 -- the same is remembered and the same records come, and the calls that are owed are sound
 record Leaves (v w : View) (past : Past) (occasion : Occasion) (heard : ℕ) (lasting : List MadeLink) (polls : List MadePoll) (deeds : List Occasion) : Type 0 where
   kept : (key : Key) → is_accepted v.scene.kept key ≡ true → is_accepted w.scene.kept key ≡ true
+  kept_first : IsFirstOf v.scene.kept w.scene.kept
   coming : records_coming w ≡ records_coming v
   core : w.scene.core ≡ v.scene.core
   clear : is_broken w.scene.stage ≡ false → is_broken v.scene.stage ≡ false
@@ -272,7 +274,7 @@ record Leaves (v w : View) (past : Past) (occasion : Occasion) (heard : ℕ) (la
   heard_most : heard ≤ past.place + 1
   handled : list_any is_handle w.items ≡ true → (poll : MadePoll) → In poll polls → poll.place < heard
   linked : (link : MadeLink) → In link lasting → In link past.lasting
-  made : AreMade past polls
+  made : AreMade v.scene.kept past polls
 
 -- after such a turn all holds still
 goes-on : (v w : View) (past : Past) (occasion : Occasion) (heard : ℕ) (lasting : List MadeLink) (polls : List MadePoll) (deeds : List Occasion) (book : List BookedEntry)
@@ -295,6 +297,8 @@ goes-on v w past occasion heard lasting polls deeds book h l = record {
   links = λ clear link within. link_stays link (h.links (l.clear clear) link (l.linked link within));
   polls = l.made.resolved;
   replies = h.replies;
+  replied = λ reply sent. first-of-first reply.kept v.scene.kept w.scene.kept (h.replied reply sent) l.kept_first;
+  kept_polled = λ poll made. first-of-first poll.kept v.scene.kept w.scene.kept (l.made.kept_polled poll made) l.kept_first;
 }
   where
     there : (number : ℕ) (terminal : Terminal) → slice_get w.scene.core.terminals number ≡ Some terminal → slice_get v.scene.core.terminals number ≡ Some terminal
@@ -317,12 +321,13 @@ goes-on v w past occasion heard lasting polls deeds book h l = record {
 -- no call was owed and none is, and the same is kept and remembered
 event-leaves : (v w : View) (past : Past) (occasion : Occasion) (heard : ℕ) (lasting : List MadeLink) (polls : List MadePoll) (book : List BookedEntry) → Holds v past book
     → is_broken v.scene.stage ≡ false → v.calls ≡ [] → w.calls ≡ [] → w.scene.kept ≡ v.scene.kept → w.scene.flight ≡ v.scene.flight → w.scene.core ≡ v.scene.core → past.heard ≤ heard → heard ≤ past.place + 1
-    → (list_any is_handle w.items ≡ true → (poll : MadePoll) → In poll polls → poll.place < heard) → ((link : MadeLink) → In link lasting → In link past.lasting) → AreMade past polls
+    → (list_any is_handle w.items ≡ true → (poll : MadePoll) → In poll polls → poll.place < heard) → ((link : MadeLink) → In link lasting → In link past.lasting) → AreMade v.scene.kept past polls
     → Leaves v w past occasion heard lasting polls past.deeds
 event-leaves v w past occasion heard lasting polls book h clear before none kept flight core least most handled linked made =
     let file : records_of w.scene ≡ records_of v.scene = ap (λ l. l ++ option_to_list w.scene.flight) kept ∙ ap (λ (f : Option Record). v.scene.kept ++ option_to_list f) flight in
     record {
       kept = λ key accepted. subst (λ (records : List Record). is_accepted records key ≡ true) (sym kept) accepted;
+      kept_first = subst (IsFirstOf v.scene.kept) (sym kept) (first-itself v.scene.kept);
       coming = ap (λ l. l ++ records_kept w.calls) file ∙ ap (λ calls. records_of v.scene ++ records_kept calls) (none ∙ sym before);
       core = core;
       clear = λ w_clear. clear;
@@ -408,9 +413,14 @@ polled-holds now log v past book o ok h =
     before one (inl same) = omega (arith, ap (λ (p : MadePoll). p.place) same)
     before one (inr older) = omega (arith, h.polled one older)
 
-    made : AreMade past (poll ∷ past.polls)
+    first_kept : (one : MadePoll) → In one (poll ∷ past.polls) → IsFirstOf one.kept v.scene.kept
+    first_kept one (inl same) = subst (λ (p : MadePoll). IsFirstOf p.kept v.scene.kept) (sym same) (first-itself v.scene.kept)
+    first_kept one (inr older) = h.kept_polled one older
+
+    made : AreMade v.scene.kept past (poll ∷ past.polls)
     made = record {
       before = before;
+      kept_polled = first_kept;
       resolved = and_from (list_all (report_resolves past poll) past.lasting) (list_all (λ (one : MadePoll). list_all (report_resolves past one) one.links) past.polls) (all-from (report_resolves past poll) past.lasting each) h.polls;
     }
 
@@ -419,11 +429,12 @@ polled-holds now log v past book o ok h =
 -- the first call was made, which is on the disk: the same is remembered, and the same records come
 disk-leaves : (v w : View) (past : Past) (deeds : List Occasion) (book : List BookedEntry) (call : OwedCall) → Holds v past book → first_call v.calls ≡ Some call
     → ((number : ℕ) → cuts_terminal number call ≡ false) → ((number : ℕ) → charges_terminal number call ≡ false) → w.calls ≡ later v.calls → w.items ≡ v.items → w.scene.core ≡ v.scene.core
-    → ((key : Key) → is_accepted v.scene.kept key ≡ true → is_accepted w.scene.kept key ≡ true) → records_coming w ≡ records_coming v → is_broken w.scene.stage ≡ is_broken v.scene.stage
+    → ((key : Key) → is_accepted v.scene.kept key ≡ true → is_accepted w.scene.kept key ≡ true) → IsFirstOf v.scene.kept w.scene.kept → records_coming w ≡ records_coming v → is_broken w.scene.stage ≡ is_broken v.scene.stage
     → (is_round w.scene.stage ≡ true → deed_owed w.calls ≡ true → is_inside past.occasion ≡ true) → list_all is_inside deeds ≡ true
     → Leaves v w past past.occasion past.heard past.lasting past.polls deeds
-disk-leaves v w past deeds book call h next cuts charges calls items core kept coming broken inside all_inside = record {
+disk-leaves v w past deeds book call h next cuts charges calls items core kept kept_first coming broken inside all_inside = record {
   kept = kept;
+  kept_first = kept_first;
   coming = coming;
   core = core;
   clear = λ clear. sym broken ∙ clear;
@@ -454,7 +465,7 @@ wrote-holds offset bytes log v past book o ok h = by_round (is_round v.scene.sta
 
     leaves : (deeds : List Occasion) → (is_round w.scene.stage ≡ true → deed_owed w.calls ≡ true → is_inside past.occasion ≡ true) → list_all is_inside deeds ≡ true → Leaves v w past past.occasion past.heard past.lasting past.polls deeds
     leaves deeds inside all_inside =
-        disk-leaves v w past deeds book ok.0 h ok.1 (λ number. writes-cut-none number ok.0 turn ok.2) (λ number. write-charges-none number ok.0 turn ok.2) refl refl refl (λ key accepted. accepted) coming
+        disk-leaves v w past deeds book ok.0 h ok.1 (λ number. writes-cut-none number ok.0 turn ok.2) (λ number. write-charges-none number ok.0 turn ok.2) refl refl refl (λ key accepted. accepted) (first-itself v.scene.kept) coming
         (wrote-broken v.scene.stage) inside all_inside
 
     -- while the journal is opened no write comes after this one
@@ -477,7 +488,8 @@ synced-holds laws log v past book o ok h =
     let coming : records_coming w ≡ records_coming v =
     ap (λ l. l ++ records_kept (later v.calls)) (append-nil (records_of v.scene)) ∙ ap (λ l. records_of v.scene ++ l) (sym (ap records_kept (first-later v.calls Sync ok))) in
     goes-on v w past past.occasion past.heard past.lasting past.polls past.deeds book h
-    (disk-leaves v w past past.deeds book Sync h ok (λ number. refl) (λ number. refl) refl refl refl (flight-accepted laws v.scene.kept v.scene.flight folded) coming (synced-broken v.scene.stage)
+    (disk-leaves v w past past.deeds book Sync h ok (λ number. refl) (λ number. refl) refl refl refl (flight-accepted laws v.scene.kept v.scene.flight folded) (option_to_list v.scene.flight, refl) coming
+    (synced-broken v.scene.stage)
     (λ round deed. h.inside (sym (synced-round v.scene.stage) ∙ round) (later-deed v.calls deed)) h.deeds)
 
 -- ---- the ends of runs, and their beginning
@@ -485,6 +497,7 @@ synced-holds laws log v past book o ok h =
 -- the calls that were owed are dropped: of the records that would have come the first ones come, and no link lasts where the disk is well
 record Drops (v w : View) (past : Past) (occasion : Occasion) (lasting : List MadeLink) : Type 0 where
   kept : (key : Key) → is_accepted v.scene.kept key ≡ true → is_accepted w.scene.kept key ≡ true
+  kept_first : IsFirstOf v.scene.kept w.scene.kept
   more : List Record
   first : records_coming v ≡ records_coming w ++ more
   calls : AreCallsSound (records_coming w) w.scene.core past.commands occasion w.calls
@@ -514,6 +527,8 @@ drops-hold v w past occasion lasting book h d = record {
   links = λ clear link within. absurd (d.links clear link within);
   polls = h.polls;
   replies = h.replies;
+  replied = λ reply sent. first-of-first reply.kept v.scene.kept w.scene.kept (h.replied reply sent) d.kept_first;
+  kept_polled = λ poll made. first-of-first poll.kept v.scene.kept w.scene.kept (h.kept_polled poll made) d.kept_first;
 }
 
 -- where calls are dropped, those of the records that were kept come that are there
@@ -525,10 +540,11 @@ no-terminal : {A : Type 0} (number : ℕ) (terminal : Terminal) → slice_get []
 no-terminal number terminal found = absurd (let n : None ≡ Some terminal = found in cc)
 
 -- nothing is remembered, and there is no run
-nobody-drops : (v w : View) (past : Past) → ((key : Key) → is_accepted v.scene.kept key ≡ true → is_accepted w.scene.kept key ≡ true) → (more : List Record) → records_coming v ≡ records_coming w ++ more
+nobody-drops : (v w : View) (past : Past) → ((key : Key) → is_accepted v.scene.kept key ≡ true → is_accepted w.scene.kept key ≡ true) → IsFirstOf v.scene.kept w.scene.kept → (more : List Record) → records_coming v ≡ records_coming w ++ more
     → w.calls ≡ [] → w.items ≡ [] → w.scene.core.terminals ≡ [] → is_round w.scene.stage ≡ false → Drops v w past OfNothing []
-nobody-drops v w past kept more first none items nobody ended = record {
+nobody-drops v w past kept kept_first more first none items nobody ended = record {
   kept = kept;
+  kept_first = kept_first;
   more = more;
   first = first;
   calls = subst (λ calls. AreCallsSound (records_coming w) w.scene.core past.commands OfNothing calls) (sym none) tt;
@@ -561,6 +577,7 @@ start-holds setup log v past book o ok h = drops-hold v w past OfNothing [] book
     drops : Drops v w past OfNothing []
     drops = record {
       kept = λ key accepted. accepted;
+      kept_first = first-itself v.scene.kept;
       more = records_kept v.calls;
       first = first-file v w.calls none;
       calls = opens-all (λ calls. AreCallsSound (records_coming w) w.scene.core past.commands OfNothing calls) (tt, tt) (tt, (tt, (tt, tt))) setup v.scene.outside.file (records_of v.scene);
@@ -575,17 +592,28 @@ start-holds setup log v past book o ok h = drops-hold v w past OfNothing [] book
 pub open-failed-holds : TurnHolds OpenFailed
 open-failed-holds log v past book o ok h =
     let w : View = after_turn v OpenFailed in
-    drops-hold v w past OfNothing [] book h (nobody-drops v w past (λ key accepted. accepted) (records_kept v.calls) (first-file v [] refl) refl refl refl refl)
+    drops-hold v w past OfNothing [] book h (nobody-drops v w past (λ key accepted. accepted) (first-itself v.scene.kept) (records_kept v.calls) (first-file v [] refl) refl refl refl refl)
 
 -- what was kept is kept after a power failure, and the records are the first of those that would have come
 record IsFirst (v : View) (kept : List Record) : Type 0 where
   stays : (key : Key) → is_accepted v.scene.kept key ≡ true → is_accepted kept key ≡ true
+  kept_first : IsFirstOf v.scene.kept kept
   more : List Record
   first : records_coming v ≡ kept ++ more
 
 left-first : LedgerLaws → (v : View) → AreFolded (records_of v.scene) → (gate : Bool) → IsFirst v (if gate then records_of v.scene else v.scene.kept)
-left-first laws v folded true = record { stays = flight-accepted laws v.scene.kept v.scene.flight folded; more = records_kept v.calls; first = refl }
-left-first laws v folded false = record { stays = λ key accepted. accepted; more = option_to_list v.scene.flight ++ records_kept v.calls; first = append_assoc v.scene.kept (option_to_list v.scene.flight) (records_kept v.calls) }
+left-first laws v folded true = record {
+  stays = flight-accepted laws v.scene.kept v.scene.flight folded;
+  kept_first = (option_to_list v.scene.flight, refl);
+  more = records_kept v.calls;
+  first = refl;
+}
+left-first laws v folded false = record {
+  stays = λ key accepted. accepted;
+  kept_first = first-itself v.scene.kept;
+  more = option_to_list v.scene.flight ++ records_kept v.calls;
+  first = append_assoc v.scene.kept (option_to_list v.scene.flight) (records_kept v.calls);
+}
 
 pub crash-holds : LedgerLaws → (file : List ℕ) → TurnHolds (Crash file)
 crash-holds laws file log v past book o ok h =
@@ -593,7 +621,7 @@ crash-holds laws file log v past book o ok h =
     let folded : AreFolded (records_of v.scene) = (folds-at-once log v (holds ledger_rules log v o.keeps)).file in
     let left : IsFirst v (kept_of v.scene file) = left-first laws v folded (has_gate file (length v.scene.kept)) in
     let coming : records_coming w ≡ kept_of v.scene file = append-nil (kept_of v.scene file ++ []) ∙ append-nil (kept_of v.scene file) in
-    drops-hold v w past OfNothing [] book h (nobody-drops v w past left.stays left.more (left.first ∙ ap (λ l. l ++ left.more) (sym coming)) refl refl refl refl)
+    drops-hold v w past OfNothing [] book h (nobody-drops v w past left.stays left.kept_first left.more (left.first ∙ ap (λ l. l ++ left.more) (sym coming)) refl refl refl refl)
 
 -- nothing is owed after a failed call on the disk
 pub disk-failed-holds : TurnHolds DiskFailed
@@ -605,6 +633,7 @@ disk-failed-holds log v past book o ok h = drops-hold v w past past.occasion pas
     drops : Drops v w past past.occasion past.lasting
     drops = record {
       kept = λ key accepted. accepted;
+      kept_first = first-itself v.scene.kept;
       more = records_kept v.calls;
       first = first-file v [] refl;
       calls = tt;

@@ -155,7 +155,7 @@ is_report_on poll link end = is_report end.ending && (bytes_eq end.poi link.poi 
 abbrev pub is_resolved_on : MadePoll → MadeLink → Bool
 is_resolved_on poll link = list_all (λ slot. nat_le link.records slot) (option_to_list (open_slot poll.kept link.poi))
 
--- where an enquiry has reported on the link, which lasts at the poll, nothing is open that was open as it was made; until reports resolve keys, such a link is cut
+-- where an enquiry has reported on the link, which lasts at the poll, nothing is open that was open as it was made
 abbrev pub report_resolves : Past → MadePoll → MadeLink → Bool
 report_resolves past poll link = not (list_any (is_report_on poll link) past.ends) || is_resolved_on poll link
 

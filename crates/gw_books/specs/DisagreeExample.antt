@@ -138,7 +138,7 @@ OutsideDisagrees = BreaksAgreement (paid_course ++ Make (HeardTill 1 (frame (0 �
 abbrev pub relinked_moves : List Move
 relinked_moves = Make (Polled (pos 5)) ∷ Make (Lost 0) ∷ (items_begin 3 ++ Make (Polled (pos 10)) ∷ (items_begin 2 ++ Make (Linked 0) ∷ Make (SentPt 0 register_bytes true) ∷ []))
 
--- its enquiry reports no transaction, and the key is open at the next poll
+-- its enquiry reports that there is no last transaction; the Outcome that is owed then isn't kept, and the key is open at the next poll
 abbrev pub unresolved_course : List Move
 unresolved_course = asked_course ++ relinked_moves ++ Make (Polled (pos 11)) ∷ Make (HeardPt 0 (ack ++ completion)) ∷ (items_begin 4 ++ Make (SentPt 0 ack true) ∷ Begin ∷ Make (SentPt 0 enquiry_sent true) ∷ (items_begin 3
     ++ Make (Polled (pos 12)) ∷ Make (HeardPt 0 (ack ++ abort 0x64)) ∷ (items_begin 4 ++ Make (SentPt 0 ack true) ∷ Begin ∷ Make (Polled (pos 13)) ∷ [])))

@@ -6,6 +6,8 @@ pub mod Example
 pub mod Headline
 pub mod Past
 pub mod PastLaws
+pub mod RecoveryExample
+pub mod RecoveryLaws
 pub mod RepeatLaws
 pub mod RoundLaws
 pub mod Said

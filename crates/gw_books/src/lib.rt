@@ -5,6 +5,8 @@ ghost use Rattle.gw_books.specs.Example.{AskedHasPast, LostAgrees, LostHasPast, 
 ghost use Rattle.gw_books.specs.DisagreeExample.{DisorderedBooks, EntriesOfOneKey, KeylessDisagrees, LaterEntryDisagrees, LinksEnd, NotLawful, NotFoundDisagrees, OtherContentAgrees, OtherRepeatDisagrees, OutsideDisagrees, ProgressDisagrees, RepeatAgrees, ReportedBooks, SameContentDisagrees, TwiceDisagrees, UnacceptedDisagrees, UnbookedDisagrees, UncausedBooks, UnreportedMayBeOpen, UnresolvedDisagrees, UntrueBooks, WaitingIsInProgress};
 ghost use Rattle.gw_books.specs.Headline.{HonestAgrees};
 ghost use Rattle.gw_books.specs.PastLaws.{EachHasOnePast, EachLogAgrees, HonestForPrefix};
+ghost use Rattle.gw_books.specs.RecoveryExample.{AsideIsNotHonest, RecoveredIsRepeated, RecoveredIsResolved, RecoveredIsSaid, UnperformedIsResolved};
+ghost use Rattle.gw_books.specs.RecoveryLaws.{EachOutcomeIsTrue, HonestSetsNoneAside, ReportIsSaid, ReportedIsResolved, SaidAsKept};
 ghost use Rattle.gw_books.specs.RepeatLaws.{FinishedStays, FirstReplyIsKept, PaidStays};
 ghost use Rattle.gw_books.specs.RoundLaws.{ApprovalIsSaid, DeclineIsSaid, OwedIsDone, PaymentIsAsked};
 ghost use Rattle.gw_books.specs.SaidLaws.{EachReplyIsFramed, EachReplySays, EachSentIsFramed, OneMessageIsFramed};
@@ -123,14 +125,46 @@ pub fn law_tills()
     law_headline();
 }
 
+/// What those who operate a gateway may rely on, wherever the books of the terminals are honest. After any number of power failures, at
+/// whatever places and with whatever images: at each poll while a link lasts on whose enquiry its terminal has reported, each key of its
+/// POIID that was kept before the link has its Outcome. Each Outcome on record at a poll is the terminal's: an approval has its entry,
+/// and a decline has none that is approved, now or ever. It stays so with whatever is kept later, and with it the kept reply. Each
+/// success that is said of a key with an Outcome by a report, in any run, also where a TransactionStatus repeats it, has the numbers and
+/// the amount of that one Outcome, and each failure with the mark of a transaction is of its decline. No terminal is set aside. Whatever
+/// the books are, a report of what is open, with a trace number that isn't below the one before, is kept, and said to the till that
+/// asked, where it is there, before the next poll. In the examples the power fails once a payment's command was sent, and a later run has
+/// the terminal's report: the payment was booked, and its Outcome is that approval, which a TransactionStatus then repeats, or nothing
+/// was, and it is a decline; a report comes while the till of the payment is there; and a terminal is set aside along a course for which
+/// neither the book with the transaction that it has reported first nor the empty one is honest.
+pub fn law_recovery()
+    ensures resolved { ReportedIsResolved }
+    ensures outcomes { EachOutcomeIsTrue }
+    ensures stays { FinishedStays }
+    ensures same { SaidAsKept }
+    ensures said { ReportIsSaid }
+    ensures aside { HonestSetsNoneAside }
+    ensures example { RecoveredIsResolved }
+    ensures same_example { RecoveredIsRepeated }
+    ensures unperformed_example { UnperformedIsResolved }
+    ensures said_example { RecoveredIsSaid }
+    ensures aside_example { AsideIsNotHonest }
+{
+    gw_owes::law_records();
+    gw_owes::law_open_reports();
+    gw_ledger::law_next();
+    gw_ledger::law_open();
+    gw_ledger::law_within();
+    gw_ledger::law_fits();
+}
+
 /// The headline. Along each lawful log, with power failures, records in flight, enquiries and all terminals, each book that is honest
 /// agrees with what was done and what tills were sent: each command that may charge a card was sent for a key of its own, and no two
 /// entries are of one key; a success is an approved entry of its key, with its numbers and its amount, which was booked before it was
 /// said; of the key of a refusal with the mark of a transaction no entry is approved, and none ever will be; what is said not to be
 /// accepted, but with `MessageFormat` or with `NotAllowed` to other content, has no Intent, and neither has what is said not to be found;
 /// what is said to be in progress is unresolved; at a poll, where a terminal's link lasts whose enquiry has reported, no key is open that
-/// was open as the link was made (until reports resolve keys, such a link is cut); and what is outside the grammars changes no book. So
-/// it is of each prefix of the log. A course along which an honest book doesn't agree is the lean course of no log.
+/// was open as the link was made; and what is outside the grammars changes no book. So it is of each prefix of the log. A course along
+/// which an honest book doesn't agree is the lean course of no log.
 pub fn law_headline()
     ensures headline { HonestAgrees }
     ensures throughout { EachLogAgrees }

@@ -6,5 +6,6 @@ pub mod KeptLemmas
 pub mod NamedLemmas
 pub mod OutputLemmas
 pub mod ReplyLemmas
+pub mod ReportLemmas
 pub mod ServingLemmas
 pub mod StepLemmas

@@ -16,9 +16,8 @@ use Rattle.gw_owes.specs.declared.terminal.Terminal.{Terminal}
 use Rattle.gw_owes.specs.Calls.{keep_calls}
 use Rattle.gw_owes.specs.KeptReplies.{kept_reply}
 use Rattle.gw_owes.specs.Reply.{ReplyValue}
-use Rattle.gw_owes.specs.Reports.{at_rest}
 use Rattle.gw_owes.specs.Row.{Known}
-use Rattle.gw_owes.specs.Serving.{approved_outcome, approved_row, reply_to_outcome, resolves}
+use Rattle.gw_owes.specs.Serving.{at_rest, approved_outcome, approved_row, reply_to_outcome, resolves}
 use Rattle.gw_owes.specs.Terminals.{reply_calls_to, terminal_becomes}
 use Rattle.gw_core.specs.declared.act.Act.TheVariants.{SendTill}
 use Rattle.gw_core.specs.IsRow.{AreCallsWith}

@@ -18,11 +18,11 @@ ghost use Rattle.gw_owes.specs.Links.{is_linked};
 ghost use Rattle.gw_owes.specs.Handling.{awaited_after, consequence, enquiring, enquiry_command, handle_message, meaning_at, meaning_for, registering, taken_as, taking};
 ghost use Rattle.gw_owes.specs.HeardLaws.{FitsRecord};
 ghost use Rattle.gw_owes.specs.RecordLaws.{AreRecordsOf, IsTalkRead, IsTerminalInOrder};
-ghost use Rattle.gw_owes.specs.Reports.{on_record, report_row, standing_reported};
 ghost use Rattle.gw_core.specs.IsRow.{IsRow, IsWantedAt, MayBeKept, ServesNoOther, alone, known_with};
 
 use crate::act::{Act, Acts};
-use crate::serving::{rest, serving_other, serving_transaction};
+use crate::reports::report;
+use crate::serving::{serving_other, serving_transaction};
 use gw_base::Pt;
 use gw_ledger::Ledger;
 use gw_owes::{Service, Standing, Terminal, law_meanings};
@@ -148,49 +148,24 @@ fn registering(terminal: &mut Terminal, pt: u16, heard: Heard, now: i64) -> Opti
     }
 }
 
-/// The standing of a terminal that reports this trace number, where this is the least that it may report.
-fn standing_reported(least: u32, reported: u32) -> Standing
-    ensures { result ≡ standing_reported least reported }
-{
-    if least <= reported {
-        Standing::Ready { last: reported }
-    } else {
-        Standing::Aside {
-            before: least,
-            reported,
-        }
-    }
-}
-
-/// What the terminal's report of this trace number leads to, by the records.
-fn report(terminal: &mut Terminal, ledger: &Ledger, pt: u16, reported: u32) -> Option<Act>
-    ensures row { (setup : Setup) (core : CoreValue) (moment : ℕ)
-        → IsRow ledger.now.records (report_row (on_record ledger.now.records terminal.old.pt.poi) (known_with setup ledger.now.records core moment) pt terminal.old reported)
-        (with_terminal core pt terminal.new) (alone result) }
-    ensures wanted { IfSome result (IsWantedAt pt) }
-    ensures settings { terminal.new.pt ≡ terminal.old.pt }
-    ensures others { ServesNoOther terminal.old.standing → ServesNoOther terminal.new.standing }
-{
-    let open = ledger.open_at(&terminal.pt.poi).is_some();
-    if open {
-        return Some(Act::CutPt(pt));
-    }
-    let least = ledger.last_number(&terminal.pt.poi);
-    rest(terminal, standing_reported(least, reported));
-    None
-}
-
 /// What follows in an enquiry.
-fn enquiring(terminal: &mut Terminal, ledger: &Ledger, pt: u16, heard: Heard) -> Option<Act>
-    ensures row { (setup : Setup) (core : CoreValue) (moment : ℕ)
-        → IsRow ledger.now.records (enquiring (known_with setup ledger.now.records core moment) pt terminal.old heard) (with_terminal core pt terminal.new) (alone result) }
-    ensures wanted { IfSome result (IsWantedAt pt) }
+fn enquiring(terminal: &mut Terminal, ledger: &Ledger, pt: u16, heard: Heard, now: i64) -> Acts
+    requires moment { IsMoment now }
+    requires numbers { FitsRecord heard }
+    ensures row { (setup : Setup) (core : CoreValue)
+        → IsRow ledger.now.records (enquiring (known_with setup ledger.now.records core (moment_of now)) pt terminal.old heard) (with_terminal core pt terminal.new) result }
+    ensures kept { IfSome result.keep (MayBeKept ledger.now.records) }
+    ensures wanted { IfSome result.act (IsWantedAt pt) }
     ensures settings { terminal.new.pt ≡ terminal.old.pt }
     ensures others { ServesNoOther terminal.old.standing → ServesNoOther terminal.new.standing }
 {
     match heard {
-        Heard::Told { number, .. } => report(terminal, ledger, pt, number),
-        Heard::Declined { .. } | Heard::Unclear => Some(Act::CutPt(pt)),
+        Heard::Told {
+            number,
+            approved,
+            code,
+        } => report(terminal, ledger, number, approved, code, now),
+        Heard::Declined { .. } | Heard::Unclear => Acts::cut(pt),
         Heard::Begun { .. }
         | Heard::Note(_)
         | Heard::Line
@@ -198,7 +173,7 @@ fn enquiring(terminal: &mut Terminal, ledger: &Ledger, pt: u16, heard: Heard) ->
         | Heard::Seen
         | Heard::Approved(_)
         | Heard::Done
-        | Heard::Stray => None,
+        | Heard::Stray => Acts::none(),
     }
 }
 
@@ -223,10 +198,7 @@ fn follow(terminal: &mut Terminal, ledger: &Ledger, pt: u16, heard: Heard, now: 
             keep: None,
             act: registering(terminal, pt, heard, now),
         },
-        Standing::Enquiring => Acts {
-            keep: None,
-            act: enquiring(terminal, ledger, pt, heard),
-        },
+        Standing::Enquiring => enquiring(terminal, ledger, pt, heard, now),
         Standing::Serving {
             service: Service::Transaction { slot },
             last,

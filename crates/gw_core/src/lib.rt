@@ -8,6 +8,7 @@ mod gateway;
 mod handling;
 mod kept_replies;
 mod refusal;
+mod reports;
 mod serving;
 mod steps;
 mod terminals;

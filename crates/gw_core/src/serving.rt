@@ -1,8 +1,8 @@
 //! What a message means for a payment that a terminal serves: its end is kept, and then its till gets the reply.
-ghost use Rattle.std.specs.Prelude.{◌≡◌, ◌<◌, ◌^◌, ◌++◌, ℕ, List, IfSome, IsTrue};
+ghost use Rattle.std.specs.Prelude.{◌≡◌, ◌<◌, ◌≤◌, ◌^◌, ◌++◌, ℕ, List, IfSome, IsTrue};
 ghost use Rattle.gw_base.specs.Moment.{IsMoment, moment_of};
 ghost use Rattle.gw_base.specs.declared.setup.Setup.{Setup};
-ghost use Rattle.jrn_record.specs.Limits.{IsOutcome};
+ghost use Rattle.jrn_record.specs.Limits.{IsOutcome, reason_code};
 ghost use Rattle.sale_reply.specs.Limits.{IsWithinLimits};
 ghost use Rattle.jrn_record.specs.declared.records.Record.{Record as TheRecord};
 ghost use Rattle.gw_ledger.specs.Fold.{fits};
@@ -12,14 +12,13 @@ ghost use Rattle.gw_owes.specs.Core.{Core as CoreValue};
 ghost use Rattle.gw_owes.specs.Handling.{serving_other};
 ghost use Rattle.gw_owes.specs.HeardLaws.{FitsRecord};
 ghost use Rattle.gw_owes.specs.RecordLaws.{IsServedOpen};
-ghost use Rattle.gw_owes.specs.Reports.{at_rest};
-ghost use Rattle.gw_owes.specs.Serving.{approved_outcome, approved_row, declined_outcome, declined_row, last_after_decline, reply_to_outcome, resolves, serving_transaction, stops, was_stopped};
+ghost use Rattle.gw_owes.specs.Serving.{approved_outcome, approved_row, at_rest, declined_outcome, declined_row, last_after_decline, refused_outcome, reply_to_outcome, resolves, serving_transaction, stops, was_stopped};
 ghost use Rattle.gw_owes.specs.Terminals.{reply_calls_to, with_terminal};
 ghost use Rattle.gw_core.specs.IsRow.{AreCallsWith, IsRow, IsWantedAt, MayBeKept, ServesNoOther, alone, known_with};
 ghost use Rattle.gw_core.specs.ReplyOf.{AreSameReplies};
 
 use crate::act::{Act, Acts};
-use gw_base::Figures;
+use gw_base::{Condition, Figures};
 use gw_ledger::{Entry, Found, Ledger, law_fits, law_within};
 use gw_owes::{Standing, Terminal};
 use jrn_record::{Outcome, Record};
@@ -37,7 +36,7 @@ pub(crate) fn rest(terminal: &mut Terminal, standing: Standing)
 }
 
 /// An approval with these figures.
-fn approved_outcome(slot: u32, figures: Figures, now: i64) -> Outcome
+pub(crate) fn approved_outcome(slot: u32, figures: Figures, now: i64) -> Outcome
     requires moment { IsMoment now }
     requires figures { FiguresFitRecord figures }
     ensures outcome { result ≡ approved_outcome slot figures (moment_of now) }
@@ -64,10 +63,11 @@ fn was_stopped(talk: &Option<Talk>) -> bool
     }
 }
 
-/// A decline for this result code.
-fn declined_outcome(slot: u32, result_code: u8, stop_sent: bool, now: i64) -> Outcome
+/// A refusal for this reason.
+pub(crate) fn refused_outcome(slot: u32, condition: Condition, now: i64) -> Outcome
     requires moment { IsMoment now }
-    ensures outcome { result ≡ declined_outcome slot result_code stop_sent (moment_of now) }
+    requires reason { 1 ≤ reason_code condition }
+    ensures outcome { result ≡ refused_outcome slot condition (moment_of now) }
     ensures within { IsOutcome result }
 {
     Outcome {
@@ -76,9 +76,18 @@ fn declined_outcome(slot: u32, result_code: u8, stop_sent: bool, now: i64) -> Ou
         number: 0,
         receipt: 0,
         amount: 0,
-        condition: Some(condition_of(result_code, stop_sent)),
+        condition: Some(condition),
         moment: now,
     }
+}
+
+/// A decline for this result code.
+pub(crate) fn declined_outcome(slot: u32, result_code: u8, stop_sent: bool, now: i64) -> Outcome
+    requires moment { IsMoment now }
+    ensures outcome { result ≡ declined_outcome slot result_code stop_sent (moment_of now) }
+    ensures within { IsOutcome result }
+{
+    refused_outcome(slot, condition_of(result_code, stop_sent), now)
 }
 
 /// The reply to the entry of this Outcome's slot once it has it.
@@ -116,7 +125,12 @@ fn reply_to_asker(asker: Option<u64>, ledger: &Ledger, outcome: &Outcome) -> Opt
 }
 
 /// The Outcome is kept, and then the till is sent the reply, where it is there.
-fn resolve(terminal: &mut Terminal, ledger: &Ledger, standing: Standing, outcome: Outcome) -> Acts
+pub(crate) fn resolve(
+    terminal: &mut Terminal,
+    ledger: &Ledger,
+    standing: Standing,
+    outcome: Outcome,
+) -> Acts
     requires within { IsOutcome outcome }
     requires fitting { IsTrue (fits ledger.now.records (Record.Outcome outcome)) }
     ensures row { (setup : Setup) (core : CoreValue) (moment pt : ℕ)

@@ -11,6 +11,7 @@ use Rattle.gw_base.proofs.MomentLemmas.{moment_of_bound}
 use Rattle.gw_site.specs.Observed.{Observed}
 use Rattle.gw_site.specs.Outside.{Outside, Connection, outside_after}
 use Rattle.gw_site.specs.declared.turn.Turn.TheVariants.{SentTill, CutTill as TillCut}
+use Rattle.jrn_record.specs.declared.records.Outcome.{Outcome as TheOutcome}
 use Rattle.jrn_record.specs.declared.records.Record.{Record}
 use Rattle.jrn_record.specs.declared.records.Record.TheVariants.{Outcome}
 use Rattle.sale_reply.specs.Reply.{tree_of}
@@ -30,6 +31,7 @@ use Rattle.gw_owes.specs.Items.{RoundItem, Greet, Handle, NextWaiting}
 use Rattle.gw_owes.specs.PaymentLaws.{EachRecordIsOfAnEnd}
 use Rattle.gw_owes.specs.RecordLaws.{AreTerminalsInOrder, AreOthersInOrder, EachCutKeepsInOrder, EachRowKeepsInOrder, IsInOrder}
 use Rattle.gw_owes.specs.Reply.{ReplyValue, reply_value_bytes, reply_value_tree}
+use Rattle.gw_owes.specs.Reports.{outcome_reported}
 use Rattle.gw_owes.specs.Row.{Known, Row, becoming}
 use Rattle.gw_owes.specs.TerminalLaws.{ChangesTerminalAlone, owes_cut, settings_of}
 use Rattle.gw_owes.specs.Terminals.{core_without, forgets_till}
@@ -242,8 +244,9 @@ moment-within now = within (moment_of now) (moment_of_bound now)
     within : (moment : ℕ) → moment ≤ last_moment → IsMoment (pos moment)
     within moment h = (omega (arith, ints), omega (arith, ints))
 
-first-same : (one other : Record) (more : List Record) → one ∷ [] ≡ other ∷ more → one ≡ other
-first-same one other more e = cc
+-- the ledger takes an Outcome without more memory
+outcome-spare : (the_record : Record) (outcome : TheOutcome) (spare : ℕ) (more : List Record) → the_record ∷ [] ≡ Outcome outcome ∷ more → HasSpareFor the_record spare
+outcome-spare the_record outcome spare more e = let same : the_record ≡ Outcome outcome = cc in subst (λ r. HasSpareFor r spare) (sym same) tt
 
 module _ (kept : List Record) (old mid : Core) (now : ℤ) (pt : ℕ) (apdu : ApduValue) (message : MessageValue) (acts : Acts) (decoded : decode_pt_message apdu ≡ Ok message) (is : GoesBy kept old (moment_of now) pt message mid acts) where
   row-is : (setup : Setup) → IsRow kept (handle_row (known_with setup kept old (moment_of now)) pt apdu) mid acts
@@ -334,8 +337,10 @@ module _ (kept : List Record) (old mid : Core) (now : ℤ) (pt : ℕ) (apdu : Ap
     spare-for : EachRecordIsOfAnEnd → (the_record : Record) (spare : ℕ) → acts.keep ≡ Some the_record → HasSpareFor the_record spare
     spare-for ends the_record spare keep =
         let kept_is : records_kept (handle_row (known_with order.setup kept old (moment_of now)) pt apdu).calls ≡ the_record ∷ [] = kept-same order.setup ∙ ap option_to_list keep in
-        let e = ends (known_with order.setup kept old (moment_of now)) pt apdu the_record [] kept_is in
-        subst (λ r. HasSpareFor r spare) (sym (first-same the_record (Outcome e.outcome) _ (sym kept_is ∙ ap records_kept e.calls_are))) tt
+        elim (ends (known_with order.setup kept old (moment_of now)) pt apdu the_record [] kept_is) [
+          | inl e ↦ outcome-spare the_record e.outcome spare _ (sym kept_is ∙ ap records_kept e.calls_are)
+          | inr r ↦ outcome-spare the_record (outcome_reported r.entry r.report (moment_of now)) spare _ (sym kept_is ∙ ap records_kept r.calls_are)
+        ]
 
     -- there is room for the record that is kept
     pub handled-room : EachRowKeepsInOrder → EachCutKeepsInOrder → EachRecordIsOfAnEnd → (records : Records) (observed : Observed) → records.ledger.records ≡ kept → StandFor gateway records observed

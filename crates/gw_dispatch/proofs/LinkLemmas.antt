@@ -15,8 +15,7 @@ use Rattle.gw_owes.specs.Links.{is_linked, cutting, LinkIsMade, LinkIsLost, link
 use Rattle.gw_owes.specs.Greeting.{greeting, sending_calls, greeted_row}
 use Rattle.gw_owes.specs.Handling.{taking, meaning_at, consequence, handle_message, handled_row}
 use Rattle.gw_owes.specs.Reply.{ReplyValue}
-use Rattle.gw_owes.specs.Reports.{at_rest}
-use Rattle.gw_owes.specs.Serving.{done_with, reply_to_outcome}
+use Rattle.gw_owes.specs.Serving.{at_rest, done_with, reply_to_outcome}
 use Rattle.gw_owes.specs.Deadlines.{late_row, is_late}
 use Rattle.gw_owes.specs.TerminalLaws.{ChangesTerminalAlone}
 use Rattle.gw_owes.proofs.HandlingLemmas.{each-terminal, each-linked}

@@ -1,4 +1,4 @@
--- Why a terminal is set aside.
+-- Why a terminal is set aside, and that it stays so.
 use Rattle.std.proofs.Common.{◌≡◌, ◌≤◌, ◌<◌, ◌⊎◌, ℕ, List, [], ◌∷◌, refl, sym, ◌∙◌, ap, subst, inl, inr, Bool, true, false}
 use Rattle.std.proofs.lemmas.Bool.{leb-false, lt-leb, ltb-false}
 use Rattle.std.specs.Prelude.{nat_le, nat_lt, if◌then◌else◌, Option, Some, None, Result, Ok, Err}
@@ -7,28 +7,28 @@ use Rattle.sale_values.specs.declared.header.Header.{Header}
 use Rattle.sale_values.specs.declared.request.SaleRequest.{SaleRequest}
 use Rattle.zvt_apdu.specs.Grammar.{ApduValue}
 use Rattle.zvt_msg.specs.declared.fault.PtFault.{PtFault}
-use Rattle.zvt_msg.specs.Message.{MessageValue}
+use Rattle.zvt_msg.specs.Message.{MessageValue, Ack, Nack, Intermediate, Line, Block, Status, Completion, Abort, Other}
 use Rattle.zvt_msg.specs.MessageDecode.{decode_pt_message}
 use Rattle.zvt_talk.specs.declared.meaning.Heard.{Heard}
 use Rattle.zvt_talk.specs.declared.meaning.Heard.TheVariants as heard
-use Rattle.zvt_talk.specs.Came.{is_taken}
+use Rattle.gw_ledger.specs.declared.entry.Entry.{Entry as TheEntry}
 use Rattle.gw_owes.specs.declared.terminal.Service.TheVariants.{Transaction, EndOfDay, Display}
 use Rattle.gw_owes.specs.declared.terminal.Standing.{Standing}
 use Rattle.gw_owes.specs.declared.terminal.Standing.TheVariants.{Unlinked, Registering, Enquiring, Ready, Serving, Aside}
 use Rattle.gw_owes.specs.declared.terminal.Terminal.{Terminal}
-use Rattle.gw_owes.specs.Calls.{LinkPt}
+use Rattle.gw_owes.specs.Calls.{Sending, OwedCall, CutPt, LinkPt, records_kept}
 use Rattle.gw_owes.specs.Deadlines.{is_late, is_due, late_row, due_row}
-use Rattle.gw_owes.specs.Greeting.{greeting, sending_calls, greet_decoded}
+use Rattle.gw_owes.specs.Greeting.{greeting, sending_calls, greet_decoded, oversized_row}
 use Rattle.gw_owes.specs.Handling.{meaning_at, taking, registering, enquiring, serving_other, consequence, handle_row}
-use Rattle.gw_owes.specs.Items.{Crowded, Message, Asked, Unframed, Gone, Greet, Handle, Serve, NextWaiting, Oversized, LinkLost, Late, Overdue, Due}
-use Rattle.gw_owes.specs.Links.{LinkIsMade, LinkHasFailed, LinkIsLost, is_linked, cutting}
-use Rattle.gw_owes.specs.Reports.{on_record, report_against, standing_reported, at_rest}
+use Rattle.gw_owes.specs.Items.{RoundItem, Crowded, Message, Asked, Unframed, Gone, Greet, Handle, Serve, NextWaiting, Oversized, LinkLost, Late, Overdue, Due}
+use Rattle.gw_owes.specs.Links.{LinkIsMade, LinkHasFailed, LinkIsLost, cutting}
+use Rattle.gw_owes.specs.Reports.{Report, on_record, least_against, least_reported, standing_reported, outcome_reported, report_of_open, report_against}
 use Rattle.gw_owes.specs.Row.{Known, Row, owing, owing_nothing, owing_where}
-use Rattle.gw_owes.specs.Serving.{staying, breaking, stops, approved_outcome, done_with, resolves, approved_row, serving_transaction}
-use Rattle.gw_owes.specs.TerminalLaws.{GoesOnTo, IsAsideAt, ReportsBelow, ApprovedNotAbove, IsSetAside, EachAsideHasCause, NoLinkEventSetsAside, EnquiredIsSetAside}
-use Rattle.gw_owes.specs.TerminalRows.{terminal_row}
+use Rattle.gw_owes.specs.Serving.{at_rest, staying, breaking, stops, approved_outcome, done_with, resolves, approved_row, serving_transaction}
+use Rattle.gw_owes.specs.TerminalLaws.{commands_in, GoesOnTo, IsAsideAt, ReportsBelow, ApprovedNotAbove, IsSetAside, EachAsideHasCause, NoLinkEventSetsAside, EnquiredIsSetAside, AsideStaysAside}
+use Rattle.gw_owes.specs.TerminalRows.{terminal_of, terminal_row, is_link_lost}
 use Rattle.gw_owes.specs.Terminals.{terminal_at, of_terminal, terminal_becomes, with_terminal, registers, unlinks}
-use Rattle.gw_owes.proofs.HandlingLemmas.{by-where, each-terminal, each-linked, each-handled, leads-by, means-taken}
+use Rattle.gw_owes.proofs.HandlingLemmas.{by-where, each-terminal, each-linked, each-handled, reported-leads}
 use Rattle.gw_owes.proofs.PaymentLemmas.{each-served}
 use Rattle.gw_owes.proofs.SetLemmas.{new-is-there, same-some}
 
@@ -50,13 +50,12 @@ becomes-none known number old new found none before reported a = none before rep
 
 -- ---- what follows from a message
 
--- by a standing and a meaning: a report below the last number of the records, or an approval that is not above the one before
+-- by a standing and a meaning: a report below the least that the records allow, or an approval that is not above the one before
 record ReportsSo (known : Known) (poi : List ℕ) (meant : Heard) (before reported : ℕ) : Type 0 where
   pub approved : Option Figures
   pub result_code : ℕ
   pub meant_is : meant ≡ heard.Told reported approved result_code
-  pub none_open : (on_record known.kept poi).open_before ≡ None
-  pub before_is : before ≡ (on_record known.kept poi).last
+  pub before_is : before ≡ least_reported (on_record known.kept poi)
   pub below : reported < before
 
 record ApprovesSo (meant : Heard) (before reported : ℕ) : Type 0 where
@@ -114,12 +113,23 @@ module _ (known : Known) (number : ℕ) (old taken : Terminal) (found : terminal
       by-test true is e = absurd (let n : Ready heard_of ≡ Aside before reported = e in cc)
       by-test false is e = ((let n : Aside last heard_of ≡ Aside before reported = e in cc), (let n : Aside last heard_of ≡ Aside before reported = e in cc), leb-false last heard_of is)
 
-  report-so : (open_with : Option ℕ) (last heard_of : ℕ) (before reported : ℕ) → IsAsideAt (report_against open_with last known number taken heard_of).core number before reported
-      → (open_with ≡ None) × (before ≡ last) × (reported ≡ heard_of) × (heard_of < last)
-  report-so None last heard_of before reported a =
-      let so = reported-so last heard_of before reported (aside-is known number old (at_rest taken (standing_reported last heard_of)) before reported found a) in
-      (refl, so.0, so.1, so.2)
-  report-so (Some is_open) last heard_of before reported a = absurd (breaks-none before reported a)
+  -- so too while something is open
+  open-so : (report : Report) (entry : TheEntry) (before reported : ℕ) → IsAsideAt (report_of_open known number taken report entry).core number before reported
+      → (before ≡ entry.intent.before) × (reported ≡ report.trace) × (report.trace < entry.intent.before)
+  open-so report entry before reported a = by-test (nat_le entry.intent.before report.trace) refl a
+    where
+      by-test : (least : Bool) → nat_le entry.intent.before report.trace ≡ least
+          → IsAsideAt (if least then resolves known number taken (Ready report.trace) (outcome_reported entry report known.moment) else terminal_becomes known number (at_rest taken (Aside entry.intent.before report.trace)) []).core number before reported
+          → (before ≡ entry.intent.before) × (reported ≡ report.trace) × (report.trace < entry.intent.before)
+      by-test true is a = absurd (becomes-none known number old (done_with taken (Ready report.trace)) found (λ b r e. (let n : Ready report.trace ≡ Aside b r = e in cc)) before reported a)
+      by-test false is a =
+          let e : Aside entry.intent.before report.trace ≡ Aside before reported = aside-is known number old (at_rest taken (Aside entry.intent.before report.trace)) before reported found a in
+          ((let n : Aside entry.intent.before report.trace ≡ Aside before reported = e in cc), (let n : Aside entry.intent.before report.trace ≡ Aside before reported = e in cc), leb-false entry.intent.before report.trace is)
+
+  report-so : (opened : Option TheEntry) (last : ℕ) (report : Report) (before reported : ℕ) → IsAsideAt (report_against opened last known number taken report).core number before reported
+      → (before ≡ least_against opened last) × (reported ≡ report.trace) × (report.trace < least_against opened last)
+  report-so None last report before reported a = reported-so last report.trace before reported (aside-is known number old (at_rest taken (standing_reported last report.trace)) before reported found a)
+  report-so (Some entry) last report before reported a = open-so report entry before reported a
 
   enquiring-so : (meant : Heard) (before reported : ℕ) → IsAsideAt (enquiring known number taken meant).core number before reported → ReportsSo known taken.pt.poi meant before reported
   enquiring-so (heard.Begun stop) before reported a = absurd (stays-none before reported a)
@@ -129,15 +139,14 @@ module _ (known : Known) (number : ℕ) (old taken : Terminal) (found : terminal
   enquiring-so heard.Seen before reported a = absurd (stays-none before reported a)
   enquiring-so (heard.Approved figures) before reported a = absurd (stays-none before reported a)
   enquiring-so heard.Done before reported a = absurd (stays-none before reported a)
-  enquiring-so (heard.Told heard_of approved result_code) before reported a =
-      let so = report-so (on_record known.kept taken.pt.poi).open_before (on_record known.kept taken.pt.poi).last heard_of before reported a in
+  enquiring-so (heard.Told trace approved result_code) before reported a =
+      let so = report-so (on_record known.kept taken.pt.poi).opened (on_record known.kept taken.pt.poi).last (record { trace = trace; approved = approved; result_code = result_code }) before reported a in
       record {
         approved = approved;
         result_code = result_code;
-        meant_is = ap (λ (n : ℕ). heard.Told n approved result_code) (sym so.2);
-        none_open = so.0;
-        before_is = so.1;
-        below = subst (λ (n : ℕ). n < before) (sym so.2) (subst (λ (n : ℕ). heard_of < n) (sym so.1) so.3);
+        meant_is = ap (λ (n : ℕ). heard.Told n approved result_code) (sym so.1);
+        before_is = so.0;
+        below = subst (λ (n : ℕ). n < before) (sym so.1) (subst (λ (n : ℕ). trace < n) (sym so.0) so.2);
       }
   enquiring-so (heard.Declined result_code trace) before reported a = absurd (breaks-none before reported a)
   enquiring-so heard.Unclear before reported a = absurd (breaks-none before reported a)
@@ -196,7 +205,7 @@ was-not known number terminal was found before reported e = was before reported 
 as-cause : (known : Known) (terminal : Terminal) (message : MessageValue) (before reported : ℕ) → AsideBy known terminal.pt.poi (meaning_at terminal message) terminal.standing before reported
     → ReportsBelow known terminal message before reported ⊎ ApprovedNotAbove terminal message before reported
 as-cause known terminal message before reported (inl (standing, so)) =
-    inl (record { standing_is = standing; approved = so.approved; result_code = so.result_code; meant = so.meant_is; none_open = so.none_open; before_is = so.before_is; below = so.below })
+    inl (record { standing_is = standing; approved = so.approved; result_code = so.result_code; meant = so.meant_is; before_is = so.before_is; below = so.below })
 as-cause known terminal message before reported (inr (slot, standing, so)) = inr (record { slot = slot; standing_is = standing; figures = so.figures; meant = so.meant_is; reported_is = so.reported_is; not_above = so.not_above })
 
 handle-aside : (known : Known) (number : ℕ) (apdu : ApduValue) → WasNone known number → (before reported : ℕ) → IsAsideAt (handle_row known number apdu).core number before reported → IsSetAside known (Handle number apdu) number before reported
@@ -265,19 +274,132 @@ no-link-event-sets-aside known number LinkIsLost before reported was a = lost-no
 -- ---- an enquiry
 
 pub enquired-is-set-aside : EnquiredIsSetAside
-enquired-is-set-aside known number apdu terminal message reported approved result_code found standing is means none_open below =
-    leads-by known number goes-to [] apdu terminal message found (ap is_linked standing) is (is_taken message) refl (means-taken terminal message _ means (λ e. cc))
-    (subst (λ (at : Standing). GoesOnTo number goes-to [] (consequence known number (taking terminal message known.moment) (meaning_at terminal message) at)) (sym standing)
-    (subst (λ (meant : Heard). GoesOnTo number goes-to [] (enquiring known number (taking terminal message known.moment) meant)) (sym means)
-    (by-open (on_record known.kept terminal.pt.poi).open_before none_open)))
+enquired-is-set-aside known number apdu terminal report reports below =
+    reported-leads known number (Aside (least_reported (on_record known.kept terminal.pt.poi)) report.trace) [] apdu terminal report reports
+    (by-opened (on_record known.kept terminal.pt.poi).opened below)
   where
-    goes-to : Standing
-    goes-to = Aside (on_record known.kept terminal.pt.poi).last reported
+    taken : Terminal
+    taken = taking terminal reports.message known.moment
 
-    last-is : standing_reported (on_record known.kept terminal.pt.poi).last reported ≡ goes-to
-    last-is = ap (λ (b : Bool). if b then Ready reported else Aside (on_record known.kept terminal.pt.poi).last reported) (lt-leb (on_record known.kept terminal.pt.poi).last reported below)
+    last : ℕ
+    last = (on_record known.kept terminal.pt.poi).last
 
-    by-open : (open_with : Option ℕ) → open_with ≡ None
-        → GoesOnTo number goes-to [] (report_against open_with (on_record known.kept terminal.pt.poi).last known number (taking terminal message known.moment) reported)
-    by-open None none = record { terminal = _; found = new-is-there known.core.terminals number terminal _ found; standing_is = last-is; calls_are = refl }
-    by-open (Some before) none = absurd cc
+    -- the standing is that of a report below the least
+    goes : (least : ℕ) → GoesOnTo number (Aside least report.trace) [] (terminal_becomes known number (at_rest taken (Aside least report.trace)) [])
+    goes least = record { terminal = _; found = new-is-there known.core.terminals number terminal _ reports.found; standing_is = refl; calls_are = refl }
+
+    by-opened : (opened : Option TheEntry) → report.trace < least_against opened last → GoesOnTo number (Aside (least_against opened last) report.trace) [] (report_against opened last known number taken report)
+    by-opened None below =
+        subst (λ (b : Bool). GoesOnTo number (Aside last report.trace) [] (terminal_becomes known number (at_rest taken (if b then Ready report.trace else Aside last report.trace)) []))
+        (sym (lt-leb last report.trace below)) (goes last)
+    by-opened (Some entry) below =
+        subst (λ (b : Bool). GoesOnTo number (Aside entry.intent.before report.trace) []
+        (if b then resolves known number taken (Ready report.trace) (outcome_reported entry report known.moment) else terminal_becomes known number (at_rest taken (Aside entry.intent.before report.trace)) []))
+        (sym (lt-leb entry.intent.before report.trace below)) (goes entry.intent.before)
+
+-- ---- one that is set aside stays so
+
+-- the terminal of this number is set aside after the row, for which no record is kept and no command is sent
+record IsStillAside (number before reported : ℕ) (row : Row) : Type 0 where
+  pub aside : IsAsideAt row.core number before reported
+  pub kept_none : records_kept row.calls ≡ []
+  pub asked_none : commands_in row.calls ≡ 0
+
+-- a row that changes nothing leaves it so
+still-aside : (known : Known) (number before reported : ℕ) (calls : List OwedCall) → IsAsideAt known.core number before reported → records_kept calls ≡ [] → commands_in calls ≡ 0
+    → IsStillAside number before reported (owing known calls)
+still-aside known number before reported calls was kept_none asked_none = record { aside = was; kept_none = kept_none; asked_none = asked_none }
+
+idle-aside : (known : Known) (number before reported : ℕ) → IsAsideAt known.core number before reported → IsStillAside number before reported (owing_nothing known)
+idle-aside known number before reported was = still-aside known number before reported [] was refl refl
+
+cut-aside : (known : Known) (at number before reported : ℕ) → IsAsideAt known.core number before reported → IsStillAside number before reported (cutting known at)
+cut-aside known at number before reported was = still-aside known number before reported (CutPt at ∷ []) was refl refl
+
+-- a greeting is no record and no command
+greeting-keeps-none : (number : ℕ) (sending : Option Sending) → records_kept (sending_calls number sending) ≡ []
+greeting-keeps-none number None = refl
+greeting-keeps-none number (Some sending) = refl
+
+greeting-asks-none : (number : ℕ) (message : MessageValue) → commands_in (sending_calls number (greeting message)) ≡ 0
+greeting-asks-none number Ack = refl
+greeting-asks-none number (Nack error_code) = refl
+greeting-asks-none number (Intermediate intermediate_status) = refl
+greeting-asks-none number (Line text) = refl
+greeting-asks-none number (Block objects) = refl
+greeting-asks-none number (Status fields) = refl
+greeting-asks-none number Completion = refl
+greeting-asks-none number (Abort result_code) = refl
+greeting-asks-none number Other = refl
+
+greet-stays : (known : Known) (at number before reported : ℕ) (decoded : Result MessageValue PtFault) → IsAsideAt known.core number before reported → IsStillAside number before reported (greet_decoded known at decoded)
+greet-stays known at number before reported (Ok message) was =
+    each-linked (IsStillAside number before reported) known at (λ terminal. owing known (sending_calls at (greeting message))) (idle-aside known number before reported was)
+    (λ terminal found linked. still-aside known number before reported (sending_calls at (greeting message)) was (greeting-keeps-none at (greeting message)) (greeting-asks-none at message))
+greet-stays known at number before reported (Err fault) was =
+    each-linked (IsStillAside number before reported) known at (λ terminal. cutting known at) (idle-aside known number before reported was) (λ terminal found linked. cut-aside known at number before reported was)
+
+oversized-stays : (known : Known) (at number before reported : ℕ) → IsAsideAt known.core number before reported → IsStillAside number before reported (oversized_row known at)
+oversized-stays known at number before reported was =
+    each-linked (IsStillAside number before reported) known at (λ terminal. cutting known at) (idle-aside known number before reported was) (λ terminal found linked. cut-aside known at number before reported was)
+
+late-stays : (known : Known) (at number before reported : ℕ) → IsAsideAt known.core number before reported → IsStillAside number before reported (late_row known at)
+late-stays known at number before reported was =
+    each-terminal (IsStillAside number before reported) known at (λ terminal. owing_where (is_late known.moment terminal.talk) known (cutting known at)) (idle-aside known number before reported was)
+    (λ terminal found. by-where (IsStillAside number before reported) known (cutting known at) (is_late known.moment terminal.talk) (idle-aside known number before reported was)
+    (λ late. cut-aside known at number before reported was))
+
+due-stays : (known : Known) (at number before reported : ℕ) → IsAsideAt known.core number before reported → IsStillAside number before reported (due_row known at)
+due-stays known at number before reported was =
+    each-terminal (IsStillAside number before reported) known at (λ terminal. owing_where (is_due known.moment terminal.standing) known (owing known (LinkPt at ∷ []))) (idle-aside known number before reported was)
+    (λ terminal found. by-where (IsStillAside number before reported) known (owing known (LinkPt at ∷ [])) (is_due known.moment terminal.standing) (idle-aside known number before reported was)
+    (λ due. still-aside known number before reported (LinkPt at ∷ []) was refl refl))
+
+-- the terminal that is set aside is the one of its number
+stands-aside : (known : Known) (number : ℕ) (terminal : Terminal) (before reported : ℕ) → IsAsideAt known.core number before reported → terminal_at known number ≡ Some terminal → terminal.standing ≡ Aside before reported
+stands-aside known number terminal before reported was found = ap (λ (t : Terminal). t.standing) (same-some terminal was.terminal (sym found ∙ was.found)) ∙ was.standing_is
+
+-- a message changes nothing but what is awaited
+handle-stays : (known : Known) (number : ℕ) (apdu : ApduValue) (before reported : ℕ) → IsAsideAt known.core number before reported → IsStillAside number before reported (handle_row known number apdu)
+handle-stays known number apdu before reported was =
+    each-handled (IsStillAside number before reported) known number apdu (idle-aside known number before reported was)
+    (λ terminal message found linked is taken.
+    let stands = stands-aside known number terminal before reported was found in
+    subst (λ (at : Standing). IsStillAside number before reported (consequence known number (taking terminal message known.moment) (meaning_at terminal message) at)) (sym stands)
+    (record {
+      aside = record { terminal = _; found = new-is-there known.core.terminals number terminal _ found; standing_is = stands };
+      kept_none = refl;
+      asked_none = refl;
+    }))
+
+-- and it begins nothing
+serve-stays : (known : Known) (number till : ℕ) (header : Header) (request : SaleRequest) (before reported : ℕ) → IsAsideAt known.core number before reported
+    → IsStillAside number before reported (terminal_row known (Serve number till header request))
+serve-stays known number till header request before reported was =
+    each-served (IsStillAside number before reported) known number till header request (idle-aside known number before reported was)
+    (λ payment terminal last is at. absurd (let e : Ready last ≡ Aside before reported = sym at.standing_is ∙ stands-aside known number terminal before reported was at.found in cc))
+
+-- so with each item
+item-stays : (known : Known) (item : RoundItem) (number before reported : ℕ) → terminal_of item ≡ Some number → is_link_lost item ≡ false → IsAsideAt known.core number before reported
+    → IsStillAside number before reported (terminal_row known item)
+item-stays known (Crowded till) number before reported about no_loss was = idle-aside known number before reported was
+item-stays known (Message till bytes) number before reported about no_loss was = idle-aside known number before reported was
+item-stays known (Asked till as_read) number before reported about no_loss was = idle-aside known number before reported was
+item-stays known (Unframed till) number before reported about no_loss was = idle-aside known number before reported was
+item-stays known (Gone till) number before reported about no_loss was = idle-aside known number before reported was
+item-stays known (Greet at apdu) number before reported about no_loss was = greet-stays known at number before reported (decode_pt_message apdu) was
+item-stays known (Handle at apdu) number before reported about no_loss was =
+    subst (λ (n : ℕ). IsStillAside number before reported (handle_row known n apdu)) (sym (same-number at number about)) (handle-stays known number apdu before reported was)
+item-stays known (Serve at till header request) number before reported about no_loss was =
+    subst (λ (n : ℕ). IsStillAside number before reported (terminal_row known (Serve n till header request))) (sym (same-number at number about)) (serve-stays known number till header request before reported was)
+item-stays known (NextWaiting at) number before reported about no_loss was = idle-aside known number before reported was
+item-stays known (Oversized at) number before reported about no_loss was = oversized-stays known at number before reported was
+item-stays known (LinkLost at) number before reported about no_loss was = absurd cc
+item-stays known (Late at) number before reported about no_loss was = late-stays known at number before reported was
+item-stays known (Overdue key) number before reported about no_loss was = idle-aside known number before reported was
+item-stays known (Due at) number before reported about no_loss was = due-stays known at number before reported was
+
+pub aside-stays-aside : AsideStaysAside
+aside-stays-aside known item number before reported about no_loss was =
+    let still = item-stays known item number before reported about no_loss was in
+    record { aside = still.aside; kept_none = still.kept_none; asked_none = still.asked_none }

@@ -61,7 +61,7 @@ pub record MayBegin (known : Known) (header : Header) : Type 0 where
   pub unknown : found_for known.kept header ≡ None
   pub room : length known.kept + (open_count_of known.kept + 2) ≤ known.setup.slots
 
-may-begin : (known : Known) (header : Header) (request : SaleRequest) (named : Option NamedTerminal) → is_beginning (step_result known header request named) ≡ true → MayBegin known header
+pub may-begin : (known : Known) (header : Header) (request : SaleRequest) (named : Option NamedTerminal) → is_beginning (step_result known header request named) ≡ true → MayBegin known header
 may-begin known header request named begins =
     let both = third-and-eighth (is_repeated known.kept request (found_for known.kept header) && has_reply (found_for known.kept header)) (is_repeated known.kept request (found_for known.kept header)) (is_some (found_for known.kept header))
     (not (is_some named)) (is_unserved request) (asks_other_currency request named) (is_used_up known.kept header.poi named) (lacks_room known.setup.slots known.kept) (is_unavailable named) (is_ready named) begins in

@@ -17,6 +17,7 @@ use Rattle.zvt_talk.specs.Came.{is_taken}
 use Rattle.zvt_talk.specs.Table.{full_figures, declined, declined_unless, approved_with, transaction_result, transaction_completed, enquiry_aborted, enquiry_approved, enquiry_completed, enquiry_result, service_completed, service_result}
 use Rattle.zvt_talk.specs.Talk.{TalkFacts}
 use Rattle.zvt_talk.specs.TalkSteps.{meaning_in_phase, next_phase, next_talk}
+use Rattle.gw_ledger.specs.declared.entry.Entry.{Entry as TheEntry}
 use Rattle.gw_owes.specs.declared.terminal.Service.{Service}
 use Rattle.gw_owes.specs.declared.terminal.Service.TheVariants.{Transaction, EndOfDay, Display}
 use Rattle.gw_owes.specs.declared.terminal.Standing.{Standing}
@@ -27,8 +28,8 @@ use Rattle.gw_owes.specs.Items.{Crowded, Message, Asked as AskedItem, Unframed, 
 use Rattle.gw_owes.specs.Row.{Known, Row}
 use Rattle.gw_owes.specs.Terminals.{terminal_at, of_terminal, with_terminal, terminal_becomes, link_made, link_lost, registers, unlinks, unlinked_terminal}
 use Rattle.gw_owes.specs.Links.{LinkIsMade, LinkHasFailed, LinkIsLost}
-use Rattle.gw_owes.specs.Reports.{on_record, report_against, standing_reported, at_rest}
-use Rattle.gw_owes.specs.Serving.{approved_outcome, resolves, approved_row, serving_transaction}
+use Rattle.gw_owes.specs.Reports.{Report, on_record, standing_reported, outcome_reported, report_of_open, report_against}
+use Rattle.gw_owes.specs.Serving.{at_rest, approved_outcome, resolves, approved_row, serving_transaction}
 use Rattle.gw_owes.specs.Handling.{awaited_after, taken_as, meaning_for, meaning_at, taking, registering, enquiring, serving, consequence}
 use Rattle.gw_owes.specs.Greeting.{greet_row, oversized_row}
 use Rattle.gw_owes.specs.Deadlines.{late_row, due_row}
@@ -297,10 +298,18 @@ reported-rests least reported talk awaited none = by-least (nat_le least reporte
     by-least true = none
     by-least false = none
 
-report-keeps : (known : Known) (number : ℕ) (terminal : Terminal) (open_with : Option ℕ) (last reported : ℕ) → AllHaveDialogues known.core → terminal.awaited ≡ 0 → Keeps (report_against open_with last known number terminal reported)
-report-keeps known number terminal None last reported all none no_cut =
-    all-with known.core number _ (but-one known.core number all) (reported-rests last reported None terminal.awaited (record { none = refl; awaited_is = none }))
-report-keeps known number terminal (Some before) last reported all none no_cut = absurd cc
+open-keeps : (known : Known) (number : ℕ) (terminal : Terminal) (report : Report) (entry : TheEntry) → AllHaveDialogues known.core → terminal.awaited ≡ 0 → AllHaveDialogues (report_of_open known number terminal report entry).core
+open-keeps known number terminal report entry all none = by-number (nat_le entry.intent.before report.trace)
+  where
+    by-number : (least : Bool) → AllHaveDialogues (if least then resolves known number terminal (Ready report.trace) (outcome_reported entry report known.moment) else terminal_becomes known number (at_rest terminal (Aside entry.intent.before report.trace)) []).core
+    by-number true = all-with known.core number _ (but-one known.core number all) (record { none = refl; awaited_is = none })
+    by-number false = all-with known.core number _ (but-one known.core number all) (record { none = refl; awaited_is = none })
+
+report-keeps : (known : Known) (number : ℕ) (terminal : Terminal) (opened : Option TheEntry) (last : ℕ) (report : Report) → AllHaveDialogues known.core → terminal.awaited ≡ 0
+    → AllHaveDialogues (report_against opened last known number terminal report).core
+report-keeps known number terminal None last report all none =
+    all-with known.core number _ (but-one known.core number all) (reported-rests last report.trace None terminal.awaited (record { none = refl; awaited_is = none }))
+report-keeps known number terminal (Some entry) last report all none = open-keeps known number terminal report entry all none
 
 enquiring-keeps : (known : Known) (number : ℕ) (terminal : Terminal) (phase : Phase) (meant : Heard) → AllHaveDialogues known.core → EnquiryNext phase terminal.awaited meant
     → (AwaitedIn phase terminal.awaited → HasItsDialogue terminal) → Keeps (enquiring known number terminal meant)
@@ -311,7 +320,8 @@ enquiring-keeps known number terminal phase heard.Block all next has no_cut = al
 enquiring-keeps known number terminal phase heard.Seen all next has no_cut = all-with known.core number terminal (but-one known.core number all) (has next)
 enquiring-keeps known number terminal phase (heard.Approved figures) all next has no_cut = absurd next
 enquiring-keeps known number terminal phase heard.Done all next has no_cut = absurd next
-enquiring-keeps known number terminal phase (heard.Told reported approved result_code) all next has no_cut = report-keeps known number terminal (on_record known.kept terminal.pt.poi).open_before (on_record known.kept terminal.pt.poi).last reported all next no_cut
+enquiring-keeps known number terminal phase (heard.Told trace approved result_code) all next has no_cut =
+    report-keeps known number terminal (on_record known.kept terminal.pt.poi).opened (on_record known.kept terminal.pt.poi).last (record { trace = trace; approved = approved; result_code = result_code }) all next
 enquiring-keeps known number terminal phase (heard.Declined result_code reported) all next has no_cut = absurd cc
 enquiring-keeps known number terminal phase heard.Unclear all next has no_cut = absurd cc
 enquiring-keeps known number terminal phase heard.Stray all next has no_cut = all-with known.core number terminal (but-one known.core number all) (has next)

@@ -1,7 +1,7 @@
 -- What a message of a terminal leaves and owes, in each of its standings.
 use Rattle.std.proofs.Common.{◌≡◌, ◌≢◌, ◌≤◌, ◌⊎◌, ℕ, ◌+◌, List, [], ◌∷◌, refl, sym, ◌∙◌, ap, subst, arith, inl, inr, Bool, true, false}
 use Rattle.std.proofs.lemmas.Bool.{le-leb}
-use Rattle.std.specs.Prelude.{nat_lt, Option, Some, None, Result, Ok, Err, if◌then◌else◌}
+use Rattle.std.specs.Prelude.{nat_le, nat_lt, Option, Some, None, Result, Ok, Err, if◌then◌else◌}
 use Rattle.gw_base.specs.declared.figures.Figures.{Figures}
 use Rattle.zvt_apdu.specs.Grammar.{ApduValue}
 use Rattle.zvt_msg.specs.declared.fault.PtFault.{PtFault}
@@ -16,6 +16,7 @@ use Rattle.zvt_talk.specs.Laws.{IsAckOrNack}
 use Rattle.zvt_talk.specs.Talk.{TalkFacts}
 use Rattle.zvt_talk.specs.TalkSteps.{meaning_in_phase}
 use Rattle.jrn_record.specs.declared.records.Outcome.{Outcome as TheOutcome}
+use Rattle.gw_ledger.specs.declared.entry.Entry.{Entry as TheEntry}
 use Rattle.gw_owes.specs.Calls.{OwedCall, SendPt, CutPt, Ask}
 use Rattle.gw_owes.specs.declared.terminal.Service.{Service}
 use Rattle.gw_owes.specs.declared.terminal.Service.TheVariants.{Transaction, EndOfDay, Display}
@@ -25,11 +26,11 @@ use Rattle.gw_owes.specs.declared.terminal.Terminal.{Terminal}
 use Rattle.gw_owes.specs.Row.{Known, Row, owing_nothing, owing_where}
 use Rattle.gw_owes.specs.Terminals.{terminal_at, of_terminal, terminal_becomes}
 use Rattle.gw_owes.specs.Links.{is_linked, of_linked}
-use Rattle.gw_owes.specs.Reports.{on_record, report_against, standing_reported, at_rest}
-use Rattle.gw_owes.specs.Serving.{staying, breaking, stops, approved_outcome, declined_outcome, was_stopped, reply_to_outcome, done_with, resolves, approved_row, last_after_decline, declined_row, serving_transaction}
+use Rattle.gw_owes.specs.Reports.{Report, on_record, standing_reported, outcome_reported, report_of_open, report_against, report_row}
+use Rattle.gw_owes.specs.Serving.{at_rest, staying, breaking, stops, approved_outcome, declined_outcome, was_stopped, reply_to_outcome, done_with, resolves, approved_row, last_after_decline, declined_row, serving_transaction}
 use Rattle.gw_owes.specs.Handling.{awaited_after, taken_as, meaning_for, meaning_at, taking, enquiry_command, enquires, registering, enquiring, serving_other, serving, consequence, handle_message, handle_decoded, handle_row}
 use Rattle.gw_owes.specs.Laws.{ends_in_one, EndsInOne}
-use Rattle.gw_owes.specs.TerminalLaws.{ChangesTerminalAlone, HasNoEffect, TakesOne, EachAckTakesOne, commands_in, Awaits, owes_cut, IsBeforeReady, Breaks, BreaksDialogue, HasDialogueOnlyIn, IsLinkedAt, GoesOnTo}
+use Rattle.gw_owes.specs.TerminalLaws.{ChangesTerminalAlone, HasNoEffect, TakesOne, EachAckTakesOne, commands_in, Awaits, owes_cut, IsBeforeReady, BreaksDialogue, HasDialogueOnlyIn, IsLinkedAt, GoesOnTo, ReportsAt, EnquiredIsReady}
 use Rattle.gw_owes.proofs.RowLemmas.{reply-ends, reply-commands, reply-no-cut}
 use Rattle.gw_owes.proofs.SetLemmas.{new-is-there, same-some, alone-same, alone-set}
 
@@ -90,10 +91,6 @@ becomes-stopped known number terminal = record { new = record terminal { awaited
 becomes-at-rest : (known : Known) (number : ℕ) (terminal : Terminal) (standing : Standing) → Becomes known number terminal (terminal_becomes known number (at_rest terminal standing) [])
 becomes-at-rest known number terminal standing = record { new = at_rest terminal standing; calls = []; row_is = refl; settings = refl; awaited = none-more terminal.awaited; ends = refl }
 
-becomes-reported : (known : Known) (number : ℕ) (terminal : Terminal) (open_with : Option ℕ) (last reported : ℕ) → Becomes known number terminal (report_against open_with last known number terminal reported)
-becomes-reported known number terminal None last reported = becomes-at-rest known number terminal (standing_reported last reported)
-becomes-reported known number terminal (Some before) last reported = breaks known number terminal
-
 becomes-resolved : (known : Known) (number : ℕ) (terminal : Terminal) (standing : Standing) (outcome : TheOutcome) → Becomes known number terminal (resolves known number terminal standing outcome)
 becomes-resolved known number terminal standing outcome = record {
   new = done_with terminal standing;
@@ -103,6 +100,18 @@ becomes-resolved known number terminal standing outcome = record {
   awaited = none-more terminal.awaited ∙ ap (λ (n : ℕ). terminal.awaited + n) (sym (reply-commands terminal.asker (reply_to_outcome known.kept outcome.slot outcome)));
   ends = reply-ends terminal.asker (reply_to_outcome known.kept outcome.slot outcome);
 }
+
+-- a report while something is open resolves it, or sets the terminal aside
+becomes-by-open : (known : Known) (number : ℕ) (terminal : Terminal) (report : Report) (entry : TheEntry) → Becomes known number terminal (report_of_open known number terminal report entry)
+becomes-by-open known number terminal report entry = by-number (nat_le entry.intent.before report.trace)
+  where
+    by-number : (least : Bool) → Becomes known number terminal (if least then resolves known number terminal (Ready report.trace) (outcome_reported entry report known.moment) else terminal_becomes known number (at_rest terminal (Aside entry.intent.before report.trace)) [])
+    by-number true = becomes-resolved known number terminal (Ready report.trace) (outcome_reported entry report known.moment)
+    by-number false = becomes-at-rest known number terminal (Aside entry.intent.before report.trace)
+
+becomes-reported : (known : Known) (number : ℕ) (terminal : Terminal) (opened : Option TheEntry) (last : ℕ) (report : Report) → Becomes known number terminal (report_against opened last known number terminal report)
+becomes-reported known number terminal None last report = becomes-at-rest known number terminal (standing_reported last report.trace)
+becomes-reported known number terminal (Some entry) last report = becomes-by-open known number terminal report entry
 
 becomes-approved : (known : Known) (number : ℕ) (terminal : Terminal) (slot last : ℕ) (figures : Figures) → Becomes known number terminal (approved_row known number terminal slot last figures)
 becomes-approved known number terminal slot last figures = by-number (nat_lt last figures.number)
@@ -136,7 +145,8 @@ enquiring-becomes known number terminal heard.Block = stays known number termina
 enquiring-becomes known number terminal heard.Seen = stays known number terminal
 enquiring-becomes known number terminal (heard.Approved figures) = stays known number terminal
 enquiring-becomes known number terminal heard.Done = stays known number terminal
-enquiring-becomes known number terminal (heard.Told reported approved result_code) = becomes-reported known number terminal (on_record known.kept terminal.pt.poi).open_before (on_record known.kept terminal.pt.poi).last reported
+enquiring-becomes known number terminal (heard.Told trace approved result_code) =
+    becomes-reported known number terminal (on_record known.kept terminal.pt.poi).opened (on_record known.kept terminal.pt.poi).last (record { trace = trace; approved = approved; result_code = result_code })
 enquiring-becomes known number terminal (heard.Declined result_code reported) = breaks known number terminal
 enquiring-becomes known number terminal heard.Unclear = breaks known number terminal
 enquiring-becomes known number terminal heard.Stray = stays known number terminal
@@ -184,22 +194,11 @@ consequence-becomes known number terminal meant (Aside before reported) linked =
 
 -- ---- why it is cut
 
--- a report while a key is open, by what it means and the standing
-record ReportsOpen (known : Known) (poi : List ℕ) (meant : Heard) (standing : Standing) : Type 0 where
-  pub standing_is : standing ≡ Enquiring
-  pub reported : ℕ
-  pub approved : Option Figures
-  pub result_code : ℕ
-  pub means : meant ≡ heard.Told reported approved result_code
-  pub before : ℕ
-  pub is_open : (on_record known.kept poi).open_before ≡ Some before
+-- an unclear end, or a declined registration or enquiry
+abbrev BreaksBy : Heard → Standing → Type 0
+BreaksBy meant standing = (meant ≡ heard.Unclear) ⊎ ((result_code : ℕ) × (trace : Option ℕ) × (meant ≡ heard.Declined result_code trace) × IsBeforeReady standing)
 
--- an unclear end, a declined registration or enquiry, or a report while a key is open
-abbrev BreaksBy : Known → List ℕ → Heard → Standing → Type 0
-BreaksBy known poi meant standing =
-    (meant ≡ heard.Unclear) ⊎ (((result_code : ℕ) × (trace : Option ℕ) × (meant ≡ heard.Declined result_code trace) × IsBeforeReady standing) ⊎ ReportsOpen known poi meant standing)
-
-registering-breaks : (known : Known) (number : ℕ) (terminal : Terminal) (meant : Heard) → owes_cut (registering known number terminal meant).calls ≡ true → BreaksBy known terminal.pt.poi meant Registering
+registering-breaks : (known : Known) (number : ℕ) (terminal : Terminal) (meant : Heard) → owes_cut (registering known number terminal meant).calls ≡ true → BreaksBy meant Registering
 registering-breaks known number terminal (heard.Begun stop) cuts = absurd cc
 registering-breaks known number terminal (heard.Note intermediate_status) cuts = absurd cc
 registering-breaks known number terminal heard.Line cuts = absurd cc
@@ -208,17 +207,26 @@ registering-breaks known number terminal heard.Seen cuts = absurd cc
 registering-breaks known number terminal (heard.Approved figures) cuts = absurd cc
 registering-breaks known number terminal heard.Done cuts = absurd cc
 registering-breaks known number terminal (heard.Told reported approved result_code) cuts = absurd cc
-registering-breaks known number terminal (heard.Declined result_code reported) cuts = inr (inl (result_code, reported, refl, inl refl))
+registering-breaks known number terminal (heard.Declined result_code reported) cuts = inr (result_code, reported, refl, inl refl)
 registering-breaks known number terminal heard.Unclear cuts = inl refl
 registering-breaks known number terminal heard.Stray cuts = absurd cc
 
-report-breaks : (known : Known) (number : ℕ) (terminal : Terminal) (reported : ℕ) (approved : Option Figures) (result_code : ℕ) (open_with : Option ℕ) → (on_record known.kept terminal.pt.poi).open_before ≡ open_with
-    → owes_cut (report_against open_with (on_record known.kept terminal.pt.poi).last known number terminal reported).calls ≡ true → BreaksBy known terminal.pt.poi (heard.Told reported approved result_code) Enquiring
-report-breaks known number terminal reported approved result_code None is cuts = absurd cc
-report-breaks known number terminal reported approved result_code (Some before) is cuts =
-    inr (inr (record { standing_is = refl; reported = reported; approved = approved; result_code = result_code; means = refl; before = before; is_open = is }))
+contradicts : (cut : Bool) → cut ≡ false → cut ≡ true → ⊥
+contradicts cut is_false is_true = let e : false ≡ true = sym is_false ∙ is_true in cc
 
-enquiring-breaks : (known : Known) (number : ℕ) (terminal : Terminal) (meant : Heard) → owes_cut (enquiring known number terminal meant).calls ≡ true → BreaksBy known terminal.pt.poi meant Enquiring
+open-no-cut : (known : Known) (number : ℕ) (terminal : Terminal) (report : Report) (entry : TheEntry) → owes_cut (report_of_open known number terminal report entry).calls ≡ false
+open-no-cut known number terminal report entry = by-number (nat_le entry.intent.before report.trace)
+  where
+    by-number : (least : Bool) → owes_cut (if least then resolves known number terminal (Ready report.trace) (outcome_reported entry report known.moment) else terminal_becomes known number (at_rest terminal (Aside entry.intent.before report.trace)) []).calls ≡ false
+    by-number true = reply-no-cut terminal.asker (reply_to_outcome known.kept (outcome_reported entry report known.moment).slot (outcome_reported entry report known.moment))
+    by-number false = refl
+
+-- a report cuts no connection
+report-no-cut : (known : Known) (number : ℕ) (terminal : Terminal) (opened : Option TheEntry) (last : ℕ) (report : Report) → owes_cut (report_against opened last known number terminal report).calls ≡ false
+report-no-cut known number terminal None last report = refl
+report-no-cut known number terminal (Some entry) last report = open-no-cut known number terminal report entry
+
+enquiring-breaks : (known : Known) (number : ℕ) (terminal : Terminal) (meant : Heard) → owes_cut (enquiring known number terminal meant).calls ≡ true → BreaksBy meant Enquiring
 enquiring-breaks known number terminal (heard.Begun stop) cuts = absurd cc
 enquiring-breaks known number terminal (heard.Note intermediate_status) cuts = absurd cc
 enquiring-breaks known number terminal heard.Line cuts = absurd cc
@@ -226,13 +234,11 @@ enquiring-breaks known number terminal heard.Block cuts = absurd cc
 enquiring-breaks known number terminal heard.Seen cuts = absurd cc
 enquiring-breaks known number terminal (heard.Approved figures) cuts = absurd cc
 enquiring-breaks known number terminal heard.Done cuts = absurd cc
-enquiring-breaks known number terminal (heard.Told reported approved result_code) cuts = report-breaks known number terminal reported approved result_code (on_record known.kept terminal.pt.poi).open_before refl cuts
-enquiring-breaks known number terminal (heard.Declined result_code reported) cuts = inr (inl (result_code, reported, refl, inr refl))
+enquiring-breaks known number terminal (heard.Told trace approved result_code) cuts =
+    absurd (contradicts _ (report-no-cut known number terminal (on_record known.kept terminal.pt.poi).opened (on_record known.kept terminal.pt.poi).last (record { trace = trace; approved = approved; result_code = result_code })) cuts)
+enquiring-breaks known number terminal (heard.Declined result_code reported) cuts = inr (result_code, reported, refl, inr refl)
 enquiring-breaks known number terminal heard.Unclear cuts = inl refl
 enquiring-breaks known number terminal heard.Stray cuts = absurd cc
-
-contradicts : (cut : Bool) → cut ≡ false → cut ≡ true → ⊥
-contradicts cut is_false is_true = let e : false ≡ true = sym is_false ∙ is_true in cc
 
 approved-no-cut : (known : Known) (number : ℕ) (terminal : Terminal) (slot last : ℕ) (figures : Figures) → owes_cut (approved_row known number terminal slot last figures).calls ≡ false
 approved-no-cut known number terminal slot last figures = by-number (nat_lt last figures.number)
@@ -241,7 +247,7 @@ approved-no-cut known number terminal slot last figures = by-number (nat_lt last
     by-number true = reply-no-cut terminal.asker (reply_to_outcome known.kept slot (approved_outcome slot figures known.moment))
     by-number false = refl
 
-other-breaks : (known : Known) (number : ℕ) (terminal : Terminal) (meant : Heard) (standing : Standing) → owes_cut (serving_other known number terminal meant).calls ≡ true → BreaksBy known terminal.pt.poi meant standing
+other-breaks : (known : Known) (number : ℕ) (terminal : Terminal) (meant : Heard) (standing : Standing) → owes_cut (serving_other known number terminal meant).calls ≡ true → BreaksBy meant standing
 other-breaks known number terminal (heard.Begun true) standing cuts = absurd cc
 other-breaks known number terminal (heard.Begun false) standing cuts = absurd cc
 other-breaks known number terminal (heard.Note intermediate_status) standing cuts = absurd cc
@@ -255,7 +261,7 @@ other-breaks known number terminal (heard.Declined result_code reported) standin
 other-breaks known number terminal heard.Unclear standing cuts = inl refl
 other-breaks known number terminal heard.Stray standing cuts = absurd cc
 
-transaction-breaks : (known : Known) (number : ℕ) (terminal : Terminal) (slot last : ℕ) (meant : Heard) (standing : Standing) → owes_cut (serving_transaction known number terminal slot last meant).calls ≡ true → BreaksBy known terminal.pt.poi meant standing
+transaction-breaks : (known : Known) (number : ℕ) (terminal : Terminal) (slot last : ℕ) (meant : Heard) (standing : Standing) → owes_cut (serving_transaction known number terminal slot last meant).calls ≡ true → BreaksBy meant standing
 transaction-breaks known number terminal slot last (heard.Begun true) standing cuts = absurd cc
 transaction-breaks known number terminal slot last (heard.Begun false) standing cuts = absurd cc
 transaction-breaks known number terminal slot last (heard.Note intermediate_status) standing cuts = absurd cc
@@ -269,12 +275,12 @@ transaction-breaks known number terminal slot last (heard.Declined result_code r
 transaction-breaks known number terminal slot last heard.Unclear standing cuts = inl refl
 transaction-breaks known number terminal slot last heard.Stray standing cuts = absurd cc
 
-serving-breaks : (known : Known) (number : ℕ) (terminal : Terminal) (service : Service) (last : ℕ) (meant : Heard) (standing : Standing) → owes_cut (serving known number terminal service last meant).calls ≡ true → BreaksBy known terminal.pt.poi meant standing
+serving-breaks : (known : Known) (number : ℕ) (terminal : Terminal) (service : Service) (last : ℕ) (meant : Heard) (standing : Standing) → owes_cut (serving known number terminal service last meant).calls ≡ true → BreaksBy meant standing
 serving-breaks known number terminal (Transaction slot) last meant standing cuts = transaction-breaks known number terminal slot last meant standing cuts
 serving-breaks known number terminal (EndOfDay header period) last meant standing cuts = other-breaks known number terminal meant standing cuts
 serving-breaks known number terminal (Display header outputs) last meant standing cuts = other-breaks known number terminal meant standing cuts
 
-consequence-breaks : (known : Known) (number : ℕ) (terminal : Terminal) (meant : Heard) (standing : Standing) → owes_cut (consequence known number terminal meant standing).calls ≡ true → BreaksBy known terminal.pt.poi meant standing
+consequence-breaks : (known : Known) (number : ℕ) (terminal : Terminal) (meant : Heard) (standing : Standing) → owes_cut (consequence known number terminal meant standing).calls ≡ true → BreaksBy meant standing
 consequence-breaks known number terminal meant (Unlinked due) cuts = absurd cc
 consequence-breaks known number terminal meant Registering cuts = registering-breaks known number terminal meant cuts
 consequence-breaks known number terminal meant Enquiring cuts = enquiring-breaks known number terminal meant cuts
@@ -284,20 +290,13 @@ consequence-breaks known number terminal meant (Aside before reported) cuts = ab
 
 -- ---- what is cut
 
-registering-cut : (known : Known) (number : ℕ) (terminal : Terminal) (meant : Heard) → BreaksBy known terminal.pt.poi meant Registering → (registering known number terminal meant).calls ≡ CutPt number ∷ []
+registering-cut : (known : Known) (number : ℕ) (terminal : Terminal) (meant : Heard) → BreaksBy meant Registering → (registering known number terminal meant).calls ≡ CutPt number ∷ []
 registering-cut known number terminal meant (inl is) = ap (λ m. (registering known number terminal m).calls) is
-registering-cut known number terminal meant (inr (inl (result_code, trace, is, before))) = ap (λ m. (registering known number terminal m).calls) is
-registering-cut known number terminal meant (inr (inr reports)) = absurd (apart reports.standing_is)
-  where
-    apart : Registering ≡ Enquiring → ⊥
-    apart e = cc
+registering-cut known number terminal meant (inr (result_code, trace, is, before)) = ap (λ m. (registering known number terminal m).calls) is
 
-enquiring-cut : (known : Known) (number : ℕ) (terminal : Terminal) (meant : Heard) → BreaksBy known terminal.pt.poi meant Enquiring → (enquiring known number terminal meant).calls ≡ CutPt number ∷ []
+enquiring-cut : (known : Known) (number : ℕ) (terminal : Terminal) (meant : Heard) → BreaksBy meant Enquiring → (enquiring known number terminal meant).calls ≡ CutPt number ∷ []
 enquiring-cut known number terminal meant (inl is) = ap (λ m. (enquiring known number terminal m).calls) is
-enquiring-cut known number terminal meant (inr (inl (result_code, trace, is, before))) = ap (λ m. (enquiring known number terminal m).calls) is
-enquiring-cut known number terminal meant (inr (inr reports)) =
-    ap (λ m. (enquiring known number terminal m).calls) reports.means
-    ∙ ap (λ (open_with : Option ℕ). (report_against open_with (on_record known.kept terminal.pt.poi).last known number terminal reports.reported).calls) reports.is_open
+enquiring-cut known number terminal meant (inr (result_code, trace, is, before)) = ap (λ m. (enquiring known number terminal m).calls) is
 
 not-before : (service : Service) (last : ℕ) → IsBeforeReady (Serving service last) → ⊥
 not-before service last (inl is) = cc
@@ -308,59 +307,27 @@ unclear-cut known number terminal (Transaction slot) last = refl
 unclear-cut known number terminal (EndOfDay header period) last = refl
 unclear-cut known number terminal (Display header outputs) last = refl
 
-serving-cut : (known : Known) (number : ℕ) (terminal : Terminal) (meant : Heard) (service : Service) (last : ℕ) → BreaksBy known terminal.pt.poi meant (Serving service last) → (serving known number terminal service last meant).calls ≡ CutPt number ∷ []
+serving-cut : (known : Known) (number : ℕ) (terminal : Terminal) (meant : Heard) (service : Service) (last : ℕ) → BreaksBy meant (Serving service last) → (serving known number terminal service last meant).calls ≡ CutPt number ∷ []
 serving-cut known number terminal meant service last (inl is) = ap (λ m. (serving known number terminal service last m).calls) is ∙ unclear-cut known number terminal service last
-serving-cut known number terminal meant service last (inr (inl (result_code, trace, is, before))) = absurd (not-before service last before)
-serving-cut known number terminal meant service last (inr (inr reports)) = absurd (apart reports.standing_is)
-  where
-    apart : Serving service last ≡ Enquiring → ⊥
-    apart e = cc
+serving-cut known number terminal meant service last (inr (result_code, trace, is, before)) = absurd (not-before service last before)
 
 -- what leaves a dialogue unclear means something
-not-stray : (known : Known) (poi : List ℕ) (meant : Heard) (standing : Standing) → BreaksBy known poi meant standing → meant ≢ heard.Stray
-not-stray known poi meant standing (inl is) e = cc
-not-stray known poi meant standing (inr (inl (result_code, trace, is, before))) e = cc
-not-stray known poi meant standing (inr (inr reports)) e = cc
+not-stray : (meant : Heard) (standing : Standing) → BreaksBy meant standing → meant ≢ heard.Stray
+not-stray meant standing (inl is) e = cc
+not-stray meant standing (inr (result_code, trace, is, before)) e = cc
 
 -- where no dialogue runs a message means nothing
 means-none : (terminal : Terminal) (message : MessageValue) → terminal.talk ≡ None → meaning_at terminal message ≡ heard.Stray
 means-none terminal message none = ap (λ (talk : Option TalkFacts). meaning_for talk (taken_as terminal.awaited message)) none
 
-consequence-cut : (known : Known) (number : ℕ) (terminal : Terminal) (meant : Heard) (standing : Standing) (talk : Option TalkFacts) → BreaksBy known terminal.pt.poi meant standing → HasDialogueOnlyIn standing talk → (talk ≡ None → meant ≡ heard.Stray)
+consequence-cut : (known : Known) (number : ℕ) (terminal : Terminal) (meant : Heard) (standing : Standing) (talk : Option TalkFacts) → BreaksBy meant standing → HasDialogueOnlyIn standing talk → (talk ≡ None → meant ≡ heard.Stray)
     → (consequence known number terminal meant standing).calls ≡ CutPt number ∷ []
-consequence-cut known number terminal meant (Unlinked due) talk breaks only none = absurd (not-stray known terminal.pt.poi meant (Unlinked due) breaks (none only))
+consequence-cut known number terminal meant (Unlinked due) talk breaks only none = absurd (not-stray meant (Unlinked due) breaks (none only))
 consequence-cut known number terminal meant Registering talk breaks only none = registering-cut known number terminal meant breaks
 consequence-cut known number terminal meant Enquiring talk breaks only none = enquiring-cut known number terminal meant breaks
-consequence-cut known number terminal meant (Ready last) talk breaks only none = absurd (not-stray known terminal.pt.poi meant (Ready last) breaks (none only))
+consequence-cut known number terminal meant (Ready last) talk breaks only none = absurd (not-stray meant (Ready last) breaks (none only))
 consequence-cut known number terminal meant (Serving service last) talk breaks only none = serving-cut known number terminal meant service last breaks
-consequence-cut known number terminal meant (Aside before reported) talk breaks only none = absurd (not-stray known terminal.pt.poi meant (Aside before reported) breaks (none only))
-
--- the cause of a cut, in the words of the law
-as-law : (known : Known) (terminal : Terminal) (message : MessageValue) → BreaksBy known terminal.pt.poi (meaning_at terminal message) terminal.standing → Breaks known terminal message
-as-law known terminal message (inl is) = inl is
-as-law known terminal message (inr (inl declined)) = inr (inl declined)
-as-law known terminal message (inr (inr reports)) = inr (inr (record {
-  standing_is = reports.standing_is;
-  reported = reports.reported;
-  approved = reports.approved;
-  result_code = reports.result_code;
-  meant = reports.means;
-  before = reports.before;
-  is_open = reports.is_open;
-}))
-
-of-law : (known : Known) (terminal : Terminal) (message : MessageValue) → Breaks known terminal message → BreaksBy known terminal.pt.poi (meaning_at terminal message) terminal.standing
-of-law known terminal message (inl is) = inl is
-of-law known terminal message (inr (inl declined)) = inr (inl declined)
-of-law known terminal message (inr (inr reports)) = inr (inr (record {
-  standing_is = reports.standing_is;
-  reported = reports.reported;
-  approved = reports.approved;
-  result_code = reports.result_code;
-  means = reports.meant;
-  before = reports.before;
-  is_open = reports.is_open;
-}))
+consequence-cut known number terminal meant (Aside before reported) talk breaks only none = absurd (not-stray meant (Aside before reported) breaks (none only))
 
 -- ---- the row
 
@@ -402,7 +369,7 @@ handle-cuts known number apdu =
       found = found;
       message = message;
       decoded = is;
-      why = as-law known terminal message (consequence-breaks known number (taking terminal message known.moment) (meaning_at terminal message) terminal.standing cuts);
+      why = consequence-breaks known number (taking terminal message known.moment) (meaning_at terminal message) terminal.standing cuts;
     })
 
 -- the row of a message that is taken
@@ -514,12 +481,12 @@ means-taken terminal message meant means some = by-is (is_taken message) refl
     by-is false is = absurd (some (sym means ∙ ap (meaning_at terminal) (not-taken message is) ∙ other-stray terminal))
 
 cut-by : (known : Known) (number : ℕ) (apdu : ApduValue) (terminal : Terminal) (message : MessageValue) → terminal_at known number ≡ Some terminal → is_linked terminal.standing ≡ true
-    → decode_pt_message apdu ≡ Ok message → HasDialogueOnlyIn terminal.standing terminal.talk → BreaksBy known terminal.pt.poi (meaning_at terminal message) terminal.standing → (handle_row known number apdu).calls ≡ CutPt number ∷ []
+    → decode_pt_message apdu ≡ Ok message → HasDialogueOnlyIn terminal.standing terminal.talk → BreaksBy (meaning_at terminal message) terminal.standing → (handle_row known number apdu).calls ≡ CutPt number ∷ []
 cut-by known number apdu terminal message found linked is only breaks =
     ap (λ (row : Row). row.calls)
     (handled-is known number apdu terminal message found linked is
     ∙ ap (λ (b : Bool). owing_where b known (consequence known number (taking terminal message known.moment) (meaning_at terminal message) terminal.standing))
-    (means-taken terminal message (meaning_at terminal message) refl (not-stray known terminal.pt.poi (meaning_at terminal message) terminal.standing breaks)))
+    (means-taken terminal message (meaning_at terminal message) refl (not-stray (meaning_at terminal message) terminal.standing breaks)))
     ∙ consequence-cut known number (taking terminal message known.moment) (meaning_at terminal message) terminal.standing terminal.talk breaks only (means-none terminal message)
 
 -- a message that breaks its dialogue cuts the connection
@@ -527,7 +494,7 @@ pub breaks-cut : (known : Known) (number : ℕ) (apdu : ApduValue) → IsLinkedA
 breaks-cut known number apdu there breaks =
     let same : breaks.terminal ≡ there.terminal = same-some breaks.terminal there.terminal (sym breaks.found ∙ there.found) in
     cut-by known number apdu breaks.terminal breaks.message breaks.found (ap (λ (t : Terminal). is_linked t.standing) same ∙ there.linked) breaks.decoded
-    (subst (λ (t : Terminal). HasDialogueOnlyIn t.standing t.talk) (sym same) there.dialogue) (of-law known breaks.terminal breaks.message breaks.why)
+    (subst (λ (t : Terminal). HasDialogueOnlyIn t.standing t.talk) (sym same) there.dialogue) breaks.why
 
 pub leads-by : (known : Known) (number : ℕ) (standing : Standing) (calls : List OwedCall) (apdu : ApduValue) (terminal : Terminal) (message : MessageValue) → terminal_at known number ≡ Some terminal → is_linked terminal.standing ≡ true
     → decode_pt_message apdu ≡ Ok message → (taken : Bool) → is_taken message ≡ taken → taken ≡ true
@@ -545,20 +512,24 @@ registered-is-enquired known number apdu terminal message found standing is mean
     leads-by known number Enquiring _ apdu terminal message found (ap is_linked standing) is (is_taken message) refl (means-taken terminal message heard.Done means (λ e. cc))
     (rw (standing, means) (record { terminal = _; found = new-is-there known.core.terminals number terminal _ found; standing_is = refl; calls_are = refl }))
 
-pub enquired-is-ready : (known : Known) (number : ℕ) (apdu : ApduValue) (terminal : Terminal) (message : MessageValue) (reported : ℕ) (approved : Option Figures) (result_code : ℕ) → terminal_at known number ≡ Some terminal
-    → terminal.standing ≡ Enquiring → decode_pt_message apdu ≡ Ok message → meaning_at terminal message ≡ heard.Told reported approved result_code
-    → (on_record known.kept terminal.pt.poi).open_before ≡ None → (on_record known.kept terminal.pt.poi).last ≤ reported
-    → GoesOnTo number (Ready reported) [] (handle_row known number apdu)
-enquired-is-ready known number apdu terminal message reported approved result_code found standing is means none_open least =
-    leads-by known number (Ready reported) [] apdu terminal message found (ap is_linked standing) is (is_taken message) refl (means-taken terminal message _ means (λ e. cc))
-    (subst (λ (at : Standing). GoesOnTo number (Ready reported) [] (consequence known number (taking terminal message known.moment) (meaning_at terminal message) at)) (sym standing)
-    (subst (λ (meant : Heard). GoesOnTo number (Ready reported) [] (enquiring known number (taking terminal message known.moment) meant)) (sym means)
-    (by-open (on_record known.kept terminal.pt.poi).open_before none_open)))
-  where
-    last-is : standing_reported (on_record known.kept terminal.pt.poi).last reported ≡ Ready reported
-    last-is = ap (λ (b : Bool). if b then Ready reported else Aside (on_record known.kept terminal.pt.poi).last reported) (le-leb (on_record known.kept terminal.pt.poi).last reported least)
+-- where a terminal that is enquired reports its last transaction, what follows goes by the records
+pub reported-leads : (known : Known) (number : ℕ) (standing : Standing) (calls : List OwedCall) (apdu : ApduValue) (terminal : Terminal) (report : Report) (reports : ReportsAt known number apdu terminal report)
+    → GoesOnTo number standing calls (report_row (on_record known.kept terminal.pt.poi) known number (taking terminal (ReportsAt.message reports) known.moment) report)
+    → GoesOnTo number standing calls (handle_row known number apdu)
+reported-leads known number standing calls apdu terminal report reports leads =
+    let message : MessageValue = reports.message in
+    leads-by known number standing calls apdu terminal message reports.found (ap is_linked reports.standing_is) reports.decoded (is_taken message) refl (means-taken terminal message _ reports.means (λ e. cc))
+    (subst (λ (at : Standing). GoesOnTo number standing calls (consequence known number (taking terminal message known.moment) (meaning_at terminal message) at)) (sym reports.standing_is)
+    (subst (λ (meant : Heard). GoesOnTo number standing calls (enquiring known number (taking terminal message known.moment) meant)) (sym reports.means) leads))
 
-    by-open : (open_with : Option ℕ) → open_with ≡ None
-        → GoesOnTo number (Ready reported) [] (report_against open_with (on_record known.kept terminal.pt.poi).last known number (taking terminal message known.moment) reported)
-    by-open None none = record { terminal = _; found = new-is-there known.core.terminals number terminal _ found; standing_is = last-is; calls_are = refl }
-    by-open (Some before) none = absurd cc
+pub enquired-is-ready : EnquiredIsReady
+enquired-is-ready known number apdu terminal report reports none_open least =
+    reported-leads known number (Ready report.trace) [] apdu terminal report reports (by-opened (on_record known.kept terminal.pt.poi).opened none_open)
+  where
+    stands : standing_reported (on_record known.kept terminal.pt.poi).last report.trace ≡ Ready report.trace
+    stands = ap (λ (b : Bool). if b then Ready report.trace else Aside (on_record known.kept terminal.pt.poi).last report.trace) (le-leb (on_record known.kept terminal.pt.poi).last report.trace least)
+
+    by-opened : (opened : Option TheEntry) → opened ≡ None
+        → GoesOnTo number (Ready report.trace) [] (report_against opened (on_record known.kept terminal.pt.poi).last known number (taking terminal reports.message known.moment) report)
+    by-opened None none = record { terminal = _; found = new-is-there known.core.terminals number terminal _ reports.found; standing_is = stands; calls_are = refl }
+    by-opened (Some entry) none = absurd cc

@@ -1,9 +1,10 @@
 -- What a message that was read means lies within the limits of a record, and the dialogue goes on with what was read.
 use Rattle.std.proofs.Common.{◌≡◌, ℕ, ◌^◌, ◌<◌, ◌≤◌, Bool, true, false, ◌&&◌, cond, eqb, leb, refl, arith}
-use Rattle.std.specs.Prelude.{ℤ, Option, Some, None, IfSome, if◌then◌else◌, pos, ◌+ℤ◌}
+use Rattle.std.specs.Prelude.{ℤ, Option, Some, None, IfSome, MatchOption, if◌then◌else◌, pos, ◌+ℤ◌}
 use Rattle.std.specs.Option.{option_map}
 use Rattle.std.proofs.lemmas.Bool.{and_parts, leb-true}
 use Rattle.gw_base.specs.Limits.{IsTrace}
+use Rattle.gw_base.specs.declared.figures.Figures.{Figures}
 use Rattle.zvt_bmp.specs.declared.fields.Fields.{Fields}
 use Rattle.zvt_msg.specs.Message.{MessageValue, Ack, Nack, Intermediate, Line, Block, Status, Completion, Abort, Other}
 use Rattle.zvt_msg.specs.Numbers.{NumbersFitFields}
@@ -19,7 +20,7 @@ use Rattle.zvt_talk.specs.Table.{acknowledged, approved_with, declined, declined
 use Rattle.zvt_talk.specs.Talk.{TalkFacts}
 use Rattle.zvt_talk.specs.TalkSteps.{meaning_in_phase, next_phase, next_talk, no_statuses}
 use Rattle.gw_owes.specs.Handling.{meaning_for, taken_as}
-use Rattle.gw_owes.specs.HeardLaws.{FitsRecord, IsTraceOrNone}
+use Rattle.gw_owes.specs.HeardLaws.{AreFiguresOf, FitsRecord, IsTraceOrNone}
 use Rattle.gw_owes.specs.RecordLaws.{HasReadStatuses, IsTalkRead, WasLastRead}
 
 -- what holds of both holds of each
@@ -37,20 +38,32 @@ last-trace-fits : (last : Option Fields) → WasLastRead last → IsTraceOrNone 
 last-trace-fits None read = tt
 last-trace-fits (Some status) read = trace-fits status.trace read.trace
 
+-- the figures are those of the transaction with this trace number, which is there
+abbrev AreFiguresOfStatus : Option ℕ → Figures → Type 0
+AreFiguresOfStatus trace figures = MatchOption trace ⊥ (λ (number : ℕ). AreFiguresOf number figures)
+
 figures-fit : (trace receipt amount : Option ℕ) → IfSome trace (λ n. n < 100 ^ 3) → IfSome receipt (λ n. n < 100 ^ 2) → IfSome amount (λ n. n < 100 ^ 6)
-    → FitsRecord (approved_with (figures_of trace receipt amount))
+    → IfSome (figures_of trace receipt amount) (AreFiguresOfStatus trace)
 figures-fit None receipt amount t r a = tt
 figures-fit (Some trace) None amount t r a = tt
 figures-fit (Some trace) (Some receipt) None t r a = tt
 figures-fit (Some trace) (Some receipt) (Some amount) t r a = by-test (leb 1 trace && leb 1 amount) refl
   where
-    by-test : (b : Bool) → (leb 1 trace && leb 1 amount) ≡ b → FitsRecord (approved_with (if b then Some (record { number = trace; receipt = receipt; amount = amount }) else None))
+    by-test : (b : Bool) → (leb 1 trace && leb 1 amount) ≡ b → IfSome (if b then Some (record { number = trace; receipt = receipt; amount = amount }) else None) (AreFiguresOf trace)
     by-test false is = tt
     by-test true is =
         let parts = and_parts (leb 1 trace) (leb 1 amount) is in
         let first : 1 ≤ trace = leb-true 1 trace parts.0 in
         let some : 1 ≤ amount = leb-true 1 amount parts.1 in
-        record { first_trace = first; trace = omega (arith, t); receipt = omega (arith, r); amount = (some, omega (arith, a)) }
+        record {
+          fit = record { first_trace = first; trace = omega (arith, t); receipt = omega (arith, r); amount = (some, omega (arith, a)) };
+          number_is = refl;
+        }
+
+approved-with-fits : (trace : Option ℕ) (figures : Option Figures) → IfSome figures (AreFiguresOfStatus trace) → FitsRecord (approved_with figures)
+approved-with-fits trace None are = tt
+approved-with-fits None (Some figures) are = absurd are
+approved-with-fits (Some trace) (Some figures) are = are.fit
 
 declined-fits : (statuses : Statuses) (result_code : ℕ) → WasLastRead statuses.last → FitsRecord (declined statuses result_code)
 declined-fits statuses result_code read = last-trace-fits statuses.last read
@@ -63,25 +76,27 @@ transaction-result-fits : (statuses : Statuses) (status : Fields) (result : Opti
 transaction-result-fits statuses status None read digits = tt
 transaction-result-fits statuses status (Some result_code) read digits =
     of-both FitsRecord (eqb result_code 0) (approved_with (full_figures status)) (declined_unless statuses.approved statuses result_code)
-    (figures-fit status.trace status.receipt status.amount digits.trace digits.receipt digits.amount) (unless-fits statuses.approved statuses result_code read)
+    (approved-with-fits status.trace (full_figures status) (figures-fit status.trace status.receipt status.amount digits.trace digits.receipt digits.amount)) (unless-fits statuses.approved statuses result_code read)
 
 transaction-fits : (statuses : Statuses) (last : Option Fields) → WasLastRead statuses.last → WasLastRead last → FitsRecord (transaction_completed statuses last)
 transaction-fits statuses None read digits = tt
 transaction-fits statuses (Some status) read digits = transaction-result-fits statuses status status.result read digits
 
-approved-fits : (trace : ℕ) (figures : Option _) → IsTrace trace → FitsRecord (enquiry_approved trace figures)
-approved-fits trace None fits = tt
-approved-fits trace (Some figures) fits = fits
+approved-fits : (trace : ℕ) (figures : Option Figures) → IsTrace trace → IfSome figures (AreFiguresOf trace) → FitsRecord (enquiry_approved trace figures)
+approved-fits trace None within are = tt
+approved-fits trace (Some figures) within are = record { within = within; figures = are }
 
-enquiry-result-fits : (status : Fields) (result trace : Option ℕ) → IsTraceOrNone trace → FitsRecord (enquiry_result status result trace)
-enquiry-result-fits status None trace fits = tt
-enquiry-result-fits status (Some result_code) None fits = tt
-enquiry-result-fits status (Some result_code) (Some trace) fits =
-    of-both FitsRecord (eqb result_code 0) (enquiry_approved trace (full_figures status)) (heard.Told trace None result_code) (approved-fits trace (full_figures status) fits) fits
+enquiry-result-fits : (status : Fields) (result trace : Option ℕ) → IsTraceOrNone trace → IfSome (full_figures status) (AreFiguresOfStatus trace) → FitsRecord (enquiry_result status result trace)
+enquiry-result-fits status None trace within are = tt
+enquiry-result-fits status (Some result_code) None within are = tt
+enquiry-result-fits status (Some result_code) (Some trace) within are =
+    of-both FitsRecord (eqb result_code 0) (enquiry_approved trace (full_figures status)) (heard.Told trace None result_code)
+    (approved-fits trace (full_figures status) within are) (record { within = within; figures = tt })
 
 enquiry-fits : (last : Option Fields) → WasLastRead last → FitsRecord (enquiry_completed last)
 enquiry-fits None read = tt
-enquiry-fits (Some status) read = enquiry-result-fits status status.result status.trace (trace-fits status.trace read.trace)
+enquiry-fits (Some status) read =
+    enquiry-result-fits status status.result status.trace (trace-fits status.trace read.trace) (figures-fit status.trace status.receipt status.amount read.trace read.receipt read.amount)
 
 service-result-fits : (statuses : Statuses) (result : Option ℕ) → WasLastRead statuses.last → FitsRecord (service_result statuses result)
 service-result-fits statuses None read = tt
@@ -100,7 +115,7 @@ completion-fits EndOfDay statuses read = service-fits statuses statuses.last rea
 completion-fits Display statuses read = tt
 
 aborted-fits : (none : ℕ) (last : Option Fields) (result_code : ℕ) → FitsRecord (enquiry_aborted none last result_code)
-aborted-fits none None result_code = of-both FitsRecord (eqb result_code none) (heard.Told 0 None result_code) heard.Unclear (omega arith) tt
+aborted-fits none None result_code = of-both FitsRecord (eqb result_code none) (heard.Told 0 None result_code) heard.Unclear (record { within = omega arith; figures = tt }) tt
 aborted-fits none (Some status) result_code = tt
 
 abort-with-fits : (dialogue_kind : DialogueKind) (none : ℕ) (statuses : Statuses) (result_code : ℕ) → WasLastRead statuses.last → FitsRecord (meaning_of_abort_with dialogue_kind none statuses result_code)

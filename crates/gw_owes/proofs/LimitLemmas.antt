@@ -27,7 +27,7 @@ use Rattle.xlate.specs.Codes.{CodeRow, abort_result_code, code_rows, condition_i
 use Rattle.gw_owes.specs.Payments.{payment_intent}
 use Rattle.gw_owes.specs.ReadAs.{Request}
 use Rattle.gw_owes.specs.RecordLaws.{IsReadFromTill}
-use Rattle.gw_owes.specs.Serving.{approved_outcome, declined_outcome}
+use Rattle.gw_owes.specs.Serving.{approved_outcome, declined_outcome, refused_outcome}
 use Rattle.gw_owes.proofs.HeardLemmas.{of-both}
 
 -- ---- texts and amounts of a tree
@@ -176,13 +176,17 @@ reason-of result_code stop_sent = of-both IsReason (eqb result_code abort_result
     in-rows [] reasons = omega arith
     in-rows (row ∷ rows) reasons = of-both IsReason (eqb row.result_code result_code) row.condition (condition_in_rows rows result_code) reasons.0 (in-rows rows reasons.1)
 
--- a decline
-pub decline-within : (slot result_code : ℕ) (stop_sent : Bool) (moment : ℕ) → slot < 2 ^ 32 → IsMoment (pos moment) → IsOutcome (declined_outcome slot result_code stop_sent moment)
-decline-within slot result_code stop_sent moment small at = record {
+-- a refusal for a reason that it can have
+pub refusal-within : (slot : ℕ) (condition : Condition) (moment : ℕ) → slot < 2 ^ 32 → 1 ≤ reason_code condition → IsMoment (pos moment) → IsOutcome (refused_outcome slot condition moment)
+refusal-within slot condition moment small reason at = record {
   slot = small;
   number = refl;
   receipt = refl;
   amount = refl;
-  condition = reason-of result_code stop_sent;
+  condition = reason;
   moment = at;
 }
+
+-- a decline
+pub decline-within : (slot result_code : ℕ) (stop_sent : Bool) (moment : ℕ) → slot < 2 ^ 32 → IsMoment (pos moment) → IsOutcome (declined_outcome slot result_code stop_sent moment)
+decline-within slot result_code stop_sent moment small at = refusal-within slot (condition_of_code result_code stop_sent) moment small (reason-of result_code stop_sent) at

@@ -1,8 +1,9 @@
--- How payments begin and end, and what a repeated request does.
-use Rattle.std.proofs.Common.{◌≡◌, ◌≢◌, ◌⊎◌, ℕ, List, [], ◌∷◌, refl, sym, ◌∙◌, ap, subst, inl, inr, Bool, true, false}
-use Rattle.std.proofs.lemmas.Bool.{lt-ltb, le-ltb, ltb-true}
-use Rattle.std.specs.Prelude.{pos, ◌+ℤ◌, nat_lt, not, bytes_eq, unwrap_or, option_map, slice_get, set, if◌then◌else◌, Option, Some, None, Result, Ok, Err}
+-- How payments begin and end, what a report of an open one does, and a repeated request.
+use Rattle.std.proofs.Common.{◌≡◌, ◌≢◌, ◌⊎◌, ◌<◌, ◌≤◌, ℕ, List, [], ◌∷◌, refl, sym, ◌∙◌, ap, subst, arith, inl, inr, Bool, true, false}
+use Rattle.std.proofs.lemmas.Bool.{lt-ltb, le-ltb, le-leb, ltb-true, leb-true}
+use Rattle.std.specs.Prelude.{pos, ◌+ℤ◌, nat_le, nat_lt, not, bytes_eq, unwrap_or, option_map, slice_get, set, if◌then◌else◌, Option, Some, None, Result, Ok, Err}
 use Rattle.gw_base.specs.Currency.{currency_letters}
+use Rattle.gw_base.specs.declared.condition.Condition.TheVariants.{Aborted}
 use Rattle.gw_base.specs.declared.figures.Figures.{Figures}
 use Rattle.gw_base.specs.declared.key.Key.{Key}
 use Rattle.gw_site.specs.Outside.{Connection, is_connected}
@@ -28,6 +29,7 @@ use Rattle.zvt_talk.specs.TalkSteps.{meaning_in_phase, next_phase, next_talk, wi
 use Rattle.jrn_record.specs.declared.records.Outcome.{Outcome as TheOutcome}
 use Rattle.jrn_record.specs.declared.records.Record.{Record}
 use Rattle.jrn_record.specs.declared.records.Record.TheVariants.{Intent, Outcome}
+use Rattle.gw_ledger.specs.declared.entry.Entry.{Entry as TheEntry}
 use Rattle.gw_ledger.specs.declared.entry.Found.{Found}
 use Rattle.gw_ledger.specs.Sums.{is_intent}
 use Rattle.gw_owes.specs.declared.terminal.Service.TheVariants.{Transaction, EndOfDay, Display}
@@ -45,16 +47,16 @@ use Rattle.gw_owes.specs.Links.{is_linked, cutting}
 use Rattle.gw_owes.specs.Payments.{payment_intent, asked_for, beginning_row, begins_in, begins_payment, is_beginning, serve_row}
 use Rattle.gw_owes.specs.ReadAs.{ReadAs, Request, Silent, NoMessage, NoJson}
 use Rattle.gw_owes.specs.Reply.{ReplyValue}
-use Rattle.gw_owes.specs.Reports.{on_record, report_against, at_rest}
+use Rattle.gw_owes.specs.Reports.{Report, on_record, outcome_as_last, outcome_reported, report_of_open, report_against}
 use Rattle.gw_owes.specs.Requests.{begun_by, reply_to}
 use Rattle.gw_owes.specs.Row.{Known, Row, owing, owing_nothing, owing_where}
 use Rattle.gw_owes.specs.Rows.{row_of, asked_row}
-use Rattle.gw_owes.specs.Serving.{staying, breaking, stops, approved_outcome, declined_outcome, was_stopped, resolves, approved_row, last_after_decline, serving_transaction}
+use Rattle.gw_owes.specs.Serving.{at_rest, staying, breaking, stops, approved_outcome, refused_outcome, declined_outcome, was_stopped, resolves, approved_row, last_after_decline, serving_transaction}
 use Rattle.gw_owes.specs.Steps.{StepResult, KeptReply, Fails, Begins, is_unserved, step_result, reply_of_result, items_of_result}
 use Rattle.gw_owes.specs.TerminalLaws.{GoesOnTo}
 use Rattle.gw_owes.specs.Terminals.{terminal_at, of_terminal, terminal_becomes, unlinks, reply_calls_to, reply_to_lost}
-use Rattle.gw_owes.specs.PaymentLaws.{asks_for_payment, sends_terminal, sends_till, BeginsPayment, BeginsThere, EachAcceptedBegins, BeginsToServe, EachBegunIsServed, EachPaymentIsKeptFirst, EachIntentIsAsked, MeansAt, outcome_calls, ApprovalIsKept, NotAboveIsSetAside, DeclineIsKept, UnclearKeepsNothing, IsOutcomeOf, EndsServed, EachTillHasItsOutcomeKept, EachRecordIsOfAnEnd, RepeatBeginsNothing, AsksNoTerminal, EachAskedSendsNoTerminal, BeginsAtNamed, EachAskedBeginsPayment, OnlyAskedBegins}
-use Rattle.gw_owes.proofs.HandlingLemmas.{by-where, each-terminal, each-linked, each-handled, leads-by, means-taken}
+use Rattle.gw_owes.specs.PaymentLaws.{asks_for_payment, sends_terminal, sends_till, BeginsPayment, BeginsThere, EachAcceptedBegins, BeginsToServe, EachBegunIsServed, EachPaymentIsKeptFirst, EachIntentIsAsked, MeansAt, outcome_calls, ApprovalIsKept, NotAboveIsSetAside, DeclineIsKept, UnclearKeepsNothing, IsOutcomeOf, ReportsOfOpen, ResolvesKey, EachTillHasItsOutcomeKept, EachRecordIsOfAnEnd, ReportedApprovalIsKept, ReportedDeclineIsKept, UnperformedIsAborted, RepeatBeginsNothing, AsksNoTerminal, EachAskedSendsNoTerminal, BeginsAtNamed, EachAskedBeginsPayment, OnlyAskedBegins}
+use Rattle.gw_owes.proofs.HandlingLemmas.{by-where, each-terminal, each-linked, each-handled, leads-by, means-taken, reported-leads}
 use Rattle.gw_owes.proofs.PaymentLemmas.{each-served, passes-steps}
 use Rattle.gw_owes.proofs.SetLemmas.{new-is-there, same-some}
 
@@ -99,6 +101,24 @@ record ResolvesIn (known : Known) (number : ℕ) (terminal : Terminal) (meant : 
   pub standing_is : standing ≡ Serving (Transaction slot) last
   pub resolved : Resolves known number terminal slot last meant row
 
+-- the row resolves what is open, by this report
+record ResolvesOpen (known : Known) (number : ℕ) (terminal : Terminal) (report : Report) (row : Row) : Type 0 where
+  pub entry : TheEntry
+  pub opened : (on_record known.kept terminal.pt.poi).opened ≡ Some entry
+  pub not_below : entry.intent.before ≤ report.trace
+  pub row_is : row ≡ resolves known number terminal (Ready report.trace) (outcome_reported entry report known.moment)
+
+-- so it is of a terminal that is enquired, and of a message that reports its last transaction
+record ReportsIn (known : Known) (number : ℕ) (terminal : Terminal) (meant : Heard) (standing : Standing) (row : Row) : Type 0 where
+  pub report : Report
+  pub standing_is : standing ≡ Enquiring
+  pub meant_is : meant ≡ heard.Told report.trace report.approved report.result_code
+  pub resolved : ResolvesOpen known number terminal report row
+
+-- nothing that concerns a payment is owed, or what is served is resolved, or what is open
+abbrev IsPlainOrResolved : Known → ℕ → Terminal → Heard → Standing → Row → Type 0
+IsPlainOrResolved known number terminal meant standing row = IsPlain row ⊎ (ResolvesIn known number terminal meant standing row ⊎ ReportsIn known number terminal meant standing row)
+
 plain-stays : (known : Known) (number : ℕ) (terminal : Terminal) → IsPlain (staying known number terminal)
 plain-stays known number terminal = record { asks = refl; keeps = refl; sends = refl; items = refl }
 
@@ -114,9 +134,19 @@ plain-enquires known number terminal = record { asks = refl; keeps = refl; sends
 plain-rests : (known : Known) (number : ℕ) (terminal : Terminal) (standing : Standing) → IsPlain (terminal_becomes known number (at_rest terminal standing) [])
 plain-rests known number terminal standing = record { asks = refl; keeps = refl; sends = refl; items = refl }
 
-plain-report : (known : Known) (number : ℕ) (terminal : Terminal) (open_with : Option ℕ) (last reported : ℕ) → IsPlain (report_against open_with last known number terminal reported)
-plain-report known number terminal None last reported = record { asks = refl; keeps = refl; sends = refl; items = refl }
-plain-report known number terminal (Some before) last reported = plain-breaks known number terminal
+open-resolves : (known : Known) (number : ℕ) (terminal : Terminal) (report : Report) (entry : TheEntry) → (on_record known.kept terminal.pt.poi).opened ≡ Some entry
+    → IsPlain (report_of_open known number terminal report entry) ⊎ ResolvesOpen known number terminal report (report_of_open known number terminal report entry)
+open-resolves known number terminal report entry is = by-number (nat_le entry.intent.before report.trace) refl
+  where
+    by-number : (not_below : Bool) → nat_le entry.intent.before report.trace ≡ not_below → IsPlain (if not_below then resolves known number terminal (Ready report.trace) (outcome_reported entry report known.moment) else terminal_becomes known number (at_rest terminal (Aside entry.intent.before report.trace)) [])
+        ⊎ ResolvesOpen known number terminal report (if not_below then resolves known number terminal (Ready report.trace) (outcome_reported entry report known.moment) else terminal_becomes known number (at_rest terminal (Aside entry.intent.before report.trace)) [])
+    by-number true not_below = inr (record { entry = entry; opened = is; not_below = leb-true entry.intent.before report.trace not_below; row_is = refl })
+    by-number false below = inl (plain-rests known number terminal (Aside entry.intent.before report.trace))
+
+report-resolves : (known : Known) (number : ℕ) (terminal : Terminal) (report : Report) (opened : Option TheEntry) (last : ℕ) → (on_record known.kept terminal.pt.poi).opened ≡ opened
+    → IsPlain (report_against opened last known number terminal report) ⊎ ResolvesOpen known number terminal report (report_against opened last known number terminal report)
+report-resolves known number terminal report None last is = inl (plain-rests known number terminal _)
+report-resolves known number terminal report (Some entry) last is = open-resolves known number terminal report entry is
 
 registering-plain : (known : Known) (number : ℕ) (terminal : Terminal) (meant : Heard) → IsPlain (registering known number terminal meant)
 registering-plain known number terminal (heard.Begun stop) = plain-stays known number terminal
@@ -131,18 +161,26 @@ registering-plain known number terminal (heard.Declined result_code reported) = 
 registering-plain known number terminal heard.Unclear = plain-breaks known number terminal
 registering-plain known number terminal heard.Stray = plain-stays known number terminal
 
-enquiring-plain : (known : Known) (number : ℕ) (terminal : Terminal) (meant : Heard) → IsPlain (enquiring known number terminal meant)
-enquiring-plain known number terminal (heard.Begun stop) = plain-stays known number terminal
-enquiring-plain known number terminal (heard.Note intermediate_status) = plain-stays known number terminal
-enquiring-plain known number terminal heard.Line = plain-stays known number terminal
-enquiring-plain known number terminal heard.Block = plain-stays known number terminal
-enquiring-plain known number terminal heard.Seen = plain-stays known number terminal
-enquiring-plain known number terminal (heard.Approved figures) = plain-stays known number terminal
-enquiring-plain known number terminal heard.Done = plain-stays known number terminal
-enquiring-plain known number terminal (heard.Told reported approved result_code) = plain-report known number terminal (on_record known.kept terminal.pt.poi).open_before (on_record known.kept terminal.pt.poi).last reported
-enquiring-plain known number terminal (heard.Declined result_code reported) = plain-breaks known number terminal
-enquiring-plain known number terminal heard.Unclear = plain-breaks known number terminal
-enquiring-plain known number terminal heard.Stray = plain-stays known number terminal
+resolves-by-report : (known : Known) (number : ℕ) (terminal : Terminal) (trace : ℕ) (approved : Option Figures) (result_code : ℕ) (row : Row)
+    → IsPlain row ⊎ ResolvesOpen known number terminal (record { trace = trace; approved = approved; result_code = result_code }) row
+    → IsPlain row ⊎ ReportsIn known number terminal (heard.Told trace approved result_code) Enquiring row
+resolves-by-report known number terminal trace approved result_code row (inl plain) = inl plain
+resolves-by-report known number terminal trace approved result_code row (inr resolved) =
+    inr (record { report = record { trace = trace; approved = approved; result_code = result_code }; standing_is = refl; meant_is = refl; resolved = resolved })
+
+enquiring-resolves : (known : Known) (number : ℕ) (terminal : Terminal) (meant : Heard) → IsPlain (enquiring known number terminal meant) ⊎ ReportsIn known number terminal meant Enquiring (enquiring known number terminal meant)
+enquiring-resolves known number terminal (heard.Begun stop) = inl (plain-stays known number terminal)
+enquiring-resolves known number terminal (heard.Note intermediate_status) = inl (plain-stays known number terminal)
+enquiring-resolves known number terminal heard.Line = inl (plain-stays known number terminal)
+enquiring-resolves known number terminal heard.Block = inl (plain-stays known number terminal)
+enquiring-resolves known number terminal heard.Seen = inl (plain-stays known number terminal)
+enquiring-resolves known number terminal (heard.Approved figures) = inl (plain-stays known number terminal)
+enquiring-resolves known number terminal heard.Done = inl (plain-stays known number terminal)
+enquiring-resolves known number terminal (heard.Told trace approved result_code) =
+    resolves-by-report known number terminal trace approved result_code _ (report-resolves known number terminal _ (on_record known.kept terminal.pt.poi).opened (on_record known.kept terminal.pt.poi).last refl)
+enquiring-resolves known number terminal (heard.Declined result_code reported) = inl (plain-breaks known number terminal)
+enquiring-resolves known number terminal heard.Unclear = inl (plain-breaks known number terminal)
+enquiring-resolves known number terminal heard.Stray = inl (plain-stays known number terminal)
 
 other-plain : (known : Known) (number : ℕ) (terminal : Terminal) (meant : Heard) → IsPlain (serving_other known number terminal meant)
 other-plain known number terminal (heard.Begun true) = plain-stops known number terminal
@@ -183,40 +221,44 @@ transaction-resolves known number terminal slot last (heard.Declined result_code
 transaction-resolves known number terminal slot last heard.Unclear = inl (plain-breaks known number terminal)
 transaction-resolves known number terminal slot last heard.Stray = inl (plain-stays known number terminal)
 
-within : (known : Known) (number : ℕ) (terminal : Terminal) (slot last : ℕ) (meant : Heard) (row : Row)
-    → IsPlain row ⊎ Resolves known number terminal slot last meant row → IsPlain row ⊎ ResolvesIn known number terminal meant (Serving (Transaction slot) last) row
-within known number terminal slot last meant row (inl plain) = inl plain
-within known number terminal slot last meant row (inr resolved) = inr (record { slot = slot; last = last; standing_is = refl; resolved = resolved })
+of-served : (known : Known) (number : ℕ) (terminal : Terminal) (slot last : ℕ) (meant : Heard) (row : Row)
+    → IsPlain row ⊎ Resolves known number terminal slot last meant row → IsPlainOrResolved known number terminal meant (Serving (Transaction slot) last) row
+of-served known number terminal slot last meant row (inl plain) = inl plain
+of-served known number terminal slot last meant row (inr resolved) = inr (inl (record { slot = slot; last = last; standing_is = refl; resolved = resolved }))
 
-consequence-resolves : (known : Known) (number : ℕ) (terminal : Terminal) (meant : Heard) (standing : Standing)
-    → IsPlain (consequence known number terminal meant standing) ⊎ ResolvesIn known number terminal meant standing (consequence known number terminal meant standing)
+of-enquired : (known : Known) (number : ℕ) (terminal : Terminal) (meant : Heard) (row : Row)
+    → IsPlain row ⊎ ReportsIn known number terminal meant Enquiring row → IsPlainOrResolved known number terminal meant Enquiring row
+of-enquired known number terminal meant row (inl plain) = inl plain
+of-enquired known number terminal meant row (inr reports) = inr (inr reports)
+
+consequence-resolves : (known : Known) (number : ℕ) (terminal : Terminal) (meant : Heard) (standing : Standing) → IsPlainOrResolved known number terminal meant standing (consequence known number terminal meant standing)
 consequence-resolves known number terminal meant (Unlinked due) = inl (record { asks = refl; keeps = refl; sends = refl; items = refl })
 consequence-resolves known number terminal meant Registering = inl (registering-plain known number terminal meant)
-consequence-resolves known number terminal meant Enquiring = inl (enquiring-plain known number terminal meant)
+consequence-resolves known number terminal meant Enquiring = of-enquired known number terminal meant _ (enquiring-resolves known number terminal meant)
 consequence-resolves known number terminal meant (Ready last) = inl (plain-stays known number terminal)
 consequence-resolves known number terminal meant (Serving (Transaction slot) last) =
-    within known number terminal slot last meant _ (transaction-resolves known number terminal slot last meant)
+    of-served known number terminal slot last meant _ (transaction-resolves known number terminal slot last meant)
 consequence-resolves known number terminal meant (Serving (EndOfDay header period) last) = inl (other-plain known number terminal meant)
 consequence-resolves known number terminal meant (Serving (Display header outputs) last) = inl (other-plain known number terminal meant)
 consequence-resolves known number terminal meant (Aside before reported) = inl (plain-stays known number terminal)
 
 -- ---- the row of a message
 
--- nothing that concerns a payment is owed, or what is served has ended
+-- nothing that concerns a payment is owed, or what is served has ended, or a report resolves what is open
 abbrev IsPlainOrEnds : Known → ℕ → ApduValue → Row → Type 0
-IsPlainOrEnds known number apdu row = IsPlain row ⊎ (EndsServed known number apdu row.calls × (row.items ≡ []))
+IsPlainOrEnds known number apdu row = IsPlain row ⊎ (ResolvesKey known number apdu row.calls × (row.items ≡ []))
 
-handle-ends-served : (known : Known) (number : ℕ) (apdu : ApduValue) → IsPlainOrEnds known number apdu (handle_row known number apdu)
-handle-ends-served known number apdu =
+handle-resolves : (known : Known) (number : ℕ) (apdu : ApduValue) → IsPlainOrEnds known number apdu (handle_row known number apdu)
+handle-resolves known number apdu =
     each-handled (IsPlainOrEnds known number apdu) known number apdu (inl (record { asks = refl; keeps = refl; sends = refl; items = refl }))
     (λ terminal message found linked is taken. ends terminal message found is _ (consequence-resolves known number (taking terminal message known.moment) (meaning_at terminal message) terminal.standing))
   where
     ends : (terminal : Terminal) (message : MessageValue) → terminal_at known number ≡ Some terminal → decode_pt_message apdu ≡ Ok message → (row : Row)
-        → IsPlain row ⊎ ResolvesIn known number (taking terminal message known.moment) (meaning_at terminal message) terminal.standing row → IsPlainOrEnds known number apdu row
+        → IsPlainOrResolved known number (taking terminal message known.moment) (meaning_at terminal message) terminal.standing row → IsPlainOrEnds known number apdu row
     ends terminal message found is row (inl plain) = inl plain
-    ends terminal message found is row (inr within) =
+    ends terminal message found is row (inr (inl within)) =
         inr (
-          record {
+          inl (record {
             terminal = terminal;
             slot = within.slot;
             last = within.last;
@@ -226,7 +268,19 @@ handle-ends-served known number apdu =
             slot_is = within.resolved.slot_is;
             end_is = within.resolved.end_is;
             calls_are = ap (λ (r : Row). r.calls) within.resolved.row_is;
-          },
+          }),
+          ap (λ (r : Row). r.items) within.resolved.row_is,
+        )
+    ends terminal message found is row (inr (inr within)) =
+        inr (
+          inr (record {
+            terminal = terminal;
+            report = within.report;
+            entry = within.resolved.entry;
+            of_open = record { reports = record { found = found; standing_is = within.standing_is; message = message; decoded = is; means = within.meant_is }; opened = within.resolved.opened };
+            not_below = within.resolved.not_below;
+            calls_are = ap (λ (r : Row). r.calls) within.resolved.row_is;
+          }),
           ap (λ (r : Row). r.items) within.resolved.row_is,
         )
 
@@ -234,9 +288,9 @@ apart : false ≡ true → ⊥
 apart e = cc
 
 pub each-kept-before-reply : EachTillHasItsOutcomeKept
-each-kept-before-reply known number apdu sends = by-either (handle-ends-served known number apdu)
+each-kept-before-reply known number apdu sends = by-either (handle-resolves known number apdu)
   where
-    by-either : IsPlainOrEnds known number apdu (handle_row known number apdu) → EndsServed known number apdu (handle_row known number apdu).calls
+    by-either : IsPlainOrEnds known number apdu (handle_row known number apdu) → ResolvesKey known number apdu (handle_row known number apdu).calls
     by-either (inl plain) = absurd (apart (sym plain.sends ∙ sends))
     by-either (inr ends) = ends.0
 
@@ -244,9 +298,9 @@ none-more : (the_record : Record) (more : List Record) → [] ≡ the_record ∷
 none-more the_record more e = cc
 
 pub each-record-of-an-end : EachRecordIsOfAnEnd
-each-record-of-an-end known number apdu the_record more kept = by-either (handle-ends-served known number apdu)
+each-record-of-an-end known number apdu the_record more kept = by-either (handle-resolves known number apdu)
   where
-    by-either : IsPlainOrEnds known number apdu (handle_row known number apdu) → EndsServed known number apdu (handle_row known number apdu).calls
+    by-either : IsPlainOrEnds known number apdu (handle_row known number apdu) → ResolvesKey known number apdu (handle_row known number apdu).calls
     by-either (inl plain) = absurd (none-more the_record more (sym plain.keeps ∙ kept))
     by-either (inr ends) = ends.0
 
@@ -323,6 +377,43 @@ decline-is-kept known number apdu terminal slot last result_code reported at =
       calls_are = ap (λ (stopped : Bool). outcome_calls known terminal (declined_outcome slot result_code stopped known.moment)) (stopped-same terminal.talk (taken_as terminal.awaited at.message) known.moment result_code reported at.means);
     })
 
+-- ---- a report resolves what is open
+
+-- with a trace number not below the one before, its Outcome is kept, and the terminal is ready with that number
+reported-resolves : (known : Known) (number : ℕ) (apdu : ApduValue) (terminal : Terminal) (report : Report) (entry : TheEntry) (outcome : TheOutcome) → ReportsOfOpen known number apdu terminal report entry
+    → entry.intent.before ≤ report.trace → outcome_reported entry report known.moment ≡ outcome → GoesOnTo number (Ready report.trace) (outcome_calls known terminal outcome) (handle_row known number apdu)
+reported-resolves known number apdu terminal report entry outcome of_open not_below is =
+    let taken : Terminal = taking terminal of_open.reports.message known.moment in
+    reported-leads known number (Ready report.trace) (outcome_calls known terminal outcome) apdu terminal report of_open.reports
+    (subst (λ (opened : Option TheEntry). GoesOnTo number (Ready report.trace) (outcome_calls known terminal outcome) (report_against opened (on_record known.kept terminal.pt.poi).last known number taken report)) (sym of_open.opened)
+    (subst (λ (above : Bool). GoesOnTo number (Ready report.trace) (outcome_calls known terminal outcome)
+    (if above then resolves known number taken (Ready report.trace) (outcome_reported entry report known.moment) else terminal_becomes known number (at_rest taken (Aside entry.intent.before report.trace)) []))
+    (sym (le-leb entry.intent.before report.trace not_below))
+    (record { terminal = _; found = new-is-there known.core.terminals number terminal _ of_open.reports.found; standing_is = refl; calls_are = ap (λ (kept : TheOutcome). outcome_calls known terminal kept) is })))
+
+-- the Outcome that is reported, by whether the trace number is above the one before
+abbrev outcome-by : TheEntry → Report → ℕ → Bool → TheOutcome
+outcome-by entry report moment above = if above then outcome_as_last entry.slot report.approved report.result_code moment else refused_outcome entry.slot Aborted moment
+
+-- that of a number above is that of the last transaction
+reported-last : (known : Known) (number : ℕ) (apdu : ApduValue) (terminal : Terminal) (report : Report) (entry : TheEntry) (approved : Option Figures) → ReportsOfOpen known number apdu terminal report entry
+    → entry.intent.before < report.trace → report.approved ≡ approved
+    → GoesOnTo number (Ready report.trace) (outcome_calls known terminal (outcome_as_last entry.slot approved report.result_code known.moment)) (handle_row known number apdu)
+reported-last known number apdu terminal report entry approved of_open above is =
+    reported-resolves known number apdu terminal report entry (outcome_as_last entry.slot approved report.result_code known.moment) of_open (omega (arith, above))
+    (ap (outcome-by entry report known.moment) (lt-ltb entry.intent.before report.trace above) ∙ ap (λ (a : Option Figures). outcome_as_last entry.slot a report.result_code known.moment) is)
+
+pub reported-approval-is-kept : ReportedApprovalIsKept
+reported-approval-is-kept known number apdu terminal report entry figures of_open above approved = reported-last known number apdu terminal report entry (Some figures) of_open above approved
+
+pub reported-decline-is-kept : ReportedDeclineIsKept
+reported-decline-is-kept known number apdu terminal report entry of_open above declined = reported-last known number apdu terminal report entry None of_open above declined
+
+pub unperformed-is-aborted : UnperformedIsAborted
+unperformed-is-aborted known number apdu terminal report entry of_open same =
+    reported-resolves known number apdu terminal report entry (refused_outcome entry.slot Aborted known.moment) of_open (omega (arith, same))
+    (ap (outcome-by entry report known.moment) (le-ltb entry.intent.before report.trace (omega (arith, same))))
+
 -- ---- the rows that begin a payment
 
 -- no payment is begun: no terminal is asked for one, and no Intent is kept
@@ -360,15 +451,28 @@ not-intent outcome (Intent intent) more others kept is = cc
 not-intent outcome (Outcome other) more others kept is = cc
 not-intent outcome (Record.Settled settled) more others kept is = cc
 
+-- an Outcome is kept, and then its reply is sent
+record KeepsOutcome (known : Known) (calls : List OwedCall) : Type 0 where
+  pub terminal : Terminal
+  pub outcome : TheOutcome
+  pub calls_are : calls ≡ outcome_calls known terminal outcome
+
+either-keeps : (known : Known) (number : ℕ) (apdu : ApduValue) (calls : List OwedCall) → ResolvesKey known number apdu calls → KeepsOutcome known calls
+either-keeps known number apdu calls (inl ends) = record { terminal = ends.terminal; outcome = ends.outcome; calls_are = ends.calls_are }
+either-keeps known number apdu calls (inr reports) = record { terminal = reports.terminal; outcome = outcome_reported reports.entry reports.report known.moment; calls_are = reports.calls_are }
+
+keeping-begins : (known : Known) (row : Row) → KeepsOutcome known row.calls → BeginsNone row
+keeping-begins known row kept_with = record {
+  asks = ap asks_for_payment kept_with.calls_are ∙ reply-asks kept_with.terminal.asker _;
+  keeps = λ the_record more kept intent. not-intent kept_with.outcome the_record more _ (sym (ap records_kept kept_with.calls_are) ∙ kept) intent;
+}
+
 handle-begins : (known : Known) (number : ℕ) (apdu : ApduValue) → BeginsNone (handle_row known number apdu)
-handle-begins known number apdu = by-either (handle-ends-served known number apdu)
+handle-begins known number apdu = by-either (handle-resolves known number apdu)
   where
     by-either : IsPlainOrEnds known number apdu (handle_row known number apdu) → BeginsNone (handle_row known number apdu)
     by-either (inl plain) = none-kept _ plain.asks plain.keeps
-    by-either (inr (ends, items)) = record {
-      asks = ap asks_for_payment ends.calls_are ∙ reply-asks ends.terminal.asker _;
-      keeps = λ the_record more kept intent. not-intent ends.outcome the_record more _ (sym (ap records_kept ends.calls_are) ∙ kept) intent;
-    }
+    by-either (inr (ends, items)) = keeping-begins known _ (either-keeps known number apdu _ ends)
 
 -- the key of a request is that of its Intent
 key-is : (sale poi : List ℕ) (service : Option (List ℕ)) (key : Key) → option_map (λ (s : List ℕ). record { sale = sale; poi = poi; service = s }) service ≡ Some key → record { sale = sale; poi = poi; service = unwrap_or service [] } ≡ key
@@ -576,7 +680,7 @@ repeat-begins-nothing tills known till header request found is = by-either (aske
 -- ---- what begins nothing
 
 handle-items : (known : Known) (number : ℕ) (apdu : ApduValue) → (handle_row known number apdu).items ≡ []
-handle-items known number apdu = by-either (handle-ends-served known number apdu)
+handle-items known number apdu = by-either (handle-resolves known number apdu)
   where
     by-either : IsPlainOrEnds known number apdu (handle_row known number apdu) → (handle_row known number apdu).items ≡ []
     by-either (inl plain) = plain.items

@@ -1,11 +1,11 @@
 -- What one more record says of a terminal, and leaves of the others.
-use Rattle.std.proofs.Common.{◌≡◌, ◌≢◌, ◌∙◌, ℕ, zero, suc, ◌<◌, ◌≤◌, eqb, max, Bool, true, false, ◌&&◌, not, List, [], ◌∷◌, ◌++◌, length, Option, Some, None, is_some, IsTrue, slice_get, refl, sym, ap, subst, arith, append_assoc}
+use Rattle.std.proofs.Common.{◌≡◌, ◌≢◌, ◌∙◌, ℕ, zero, suc, ◌<◌, ◌≤◌, eqb, leb, max, Bool, true, false, ◌&&◌, not, List, [], ◌∷◌, ◌++◌, length, Option, Some, None, is_some, IsTrue, slice_get, refl, sym, ap, subst, arith, append_assoc}
 use Rattle.std.specs.Prelude.{if◌then◌else◌, option_and_then, option_map}
 use Rattle.std.specs.Ordering.{is_eq, nat_cmp}
 use Rattle.std.specs.Cmp.Lexicographic.{slice_cmp}
 use Rattle.std.specs.declared.cmp.Ordering.{Ordering}
 use Rattle.std.specs.declared.cmp.Ordering.TheVariants.{Less, Equal, Greater}
-use Rattle.std.proofs.lemmas.Bool.{eqb-true, eqb-false}
+use Rattle.std.proofs.lemmas.Bool.{and_parts, eqb-true, eqb-false, leb-true}
 use Rattle.std.proofs.lemmas.Bool.Decides.{nat_tests}
 use Rattle.std.proofs.lemmas.Cmp.{tied_itself, nat_list_cmp_total}
 use Rattle.std.proofs.lemmas.List.{append-nil}
@@ -20,8 +20,9 @@ use Rattle.jrn_record.specs.declared.records.Record.TheVariants.{Intent, Outcome
 use Rattle.gw_ledger.specs.declared.account.Account.{Account}
 use Rattle.gw_ledger.specs.declared.entry.Entry.{Entry as TheEntry}
 use Rattle.gw_ledger.specs.Accounts.{account_in, account_of, account_with, is_poi, last_number_of, open_slot, poi_of}
-use Rattle.gw_ledger.specs.Fold.{AreFolded, FitBy, fits, open_entry}
-use Rattle.gw_ledger.specs.History.{same_text}
+use Rattle.gw_ledger.specs.Fold.{AreFolded, FitBy, fits, fits_beside_key, has_fitting_original, is_unknown, open_entry}
+use Rattle.gw_ledger.specs.History.{history, same_text}
+use Rattle.gw_ledger.specs.Keys.{intent_key}
 use Rattle.gw_ledger.specs.Laws.{NewestIsFirst, OpenSlotIsOpen, CountIsOfOpenSlots, EntriesAreWithin, PaymentFits, OutcomeFits, count_below, poi_at}
 use Rattle.gw_ledger.specs.Slots.{as_intent, ended_at, ended_in, entry_at, entry_with, intent_at, is_open, is_outcome_of}
 use Rattle.gw_ledger.specs.Sums.{one_if, open_count_of, open_in, open_with}
@@ -200,6 +201,21 @@ module _ (laws : LedgerLaws) (kept : List Record) (folded : AreFolded kept) wher
       let mine : is_poi poi (poi_at kept slot) ≡ true = ((laws.open_slots kept folded poi slot).0 opened.slot_is).1 in
       same-text-is poi intent.poi (sym (ap (λ (asked : Option TheIntent). is_poi poi (option_map (λ (i : TheIntent). i.poi) asked)) opened.intent_is) ∙ mine)
 
+  -- the open entry of a terminal has no Outcome
+  pub open-without-outcome : (poi : List ℕ) (entry : TheEntry) → open_entry kept poi ≡ Some entry → open_entry kept poi ≡ Some (open_entry_of entry.slot entry.intent)
+  open-without-outcome poi entry entry_is = by-slot (open_slot kept poi) refl entry_is
+    where
+      by-slot : (found : Option ℕ) → open_slot kept poi ≡ found → option_and_then (entry_at kept) found ≡ Some entry → open_entry kept poi ≡ Some (open_entry_of entry.slot entry.intent)
+      by-slot None is there = absurd cc
+      by-slot (Some at) is there =
+          let parts = entry-parts kept at entry there in
+          let here : at ≡ entry.slot = sym parts.0 in
+          entry-of-open kept poi entry.slot entry.intent (record {
+            slot_is = is ∙ ap Some here;
+            intent_is = ap (intent_at kept) (sym here) ∙ parts.1;
+            unended = ap (ended_at kept) (sym here) ∙ (open-unended poi at is).unended;
+          })
+
   -- one is counted at least
   pub open-counted : (poi : List ℕ) (slot : ℕ) (intent : TheIntent) → IsOpenWith kept poi slot intent → 1 ≤ open_count_of kept
   open-counted poi slot intent opened =
@@ -281,6 +297,79 @@ intent-opens laws kept intent = record {
 
 pub intent-number : (laws : LedgerLaws) (kept : List Record) (intent : TheIntent) → last_number_of (kept ++ Intent intent ∷ []) intent.poi ≡ max (last_number_of kept intent.poi) intent.before
 intent-number laws kept intent = ap (λ (a : Account). a.trace) (own-account laws kept (Intent intent) intent.poi (same-text-itself intent.poi))
+
+-- a slot is that of an Intent, whose number before isn't below the terminal's last one
+record IsNotBelow (kept : List Record) (poi : List ℕ) (slot : ℕ) : Type 0 where
+  intent : TheIntent
+  intent_is : intent_at kept slot ≡ Some intent
+  not_below : last_number_of kept poi ≤ intent.before
+
+-- so it is of each terminal's open slot
+abbrev AreOpenNotBelow : List Record → Type 0
+AreOpenNotBelow kept = (poi : List ℕ) (slot : ℕ) → open_slot kept poi ≡ Some slot → IsNotBelow kept poi slot
+
+no-records-not-below : AreOpenNotBelow []
+unfolding history
+no-records-not-below poi slot is = absurd cc
+
+not-below-stays : (kept more : List Record) (poi : List ℕ) (slot : ℕ) → last_number_of (kept ++ more) poi ≡ last_number_of kept poi → IsNotBelow kept poi slot → IsNotBelow (kept ++ more) poi slot
+not-below-stays kept more poi slot same has = record {
+  intent = has.intent;
+  intent_is = intent-stays kept more slot has.intent has.intent_is;
+  not_below = subst (λ (n : ℕ). n ≤ has.intent.before) (sym same) has.not_below;
+}
+
+-- an Intent fits only where its number before isn't below its terminal's last one
+fitting-before : (kept : List Record) (intent : TheIntent) → IsTrue (fits kept (Intent intent)) → last_number_of kept intent.poi ≤ intent.before
+fitting-before kept intent fitting =
+    let beside = and_parts (is_unknown kept (intent_key intent)) (fits_beside_key kept (Intent intent)) fitting in
+    let numbered = and_parts (not (is_some (open_slot kept intent.poi)) && leb (last_number_of kept intent.poi) intent.before) (has_fitting_original kept intent intent.what) beside.1 in
+    let tested = and_parts (not (is_some (open_slot kept intent.poi))) (leb (last_number_of kept intent.poi) intent.before) numbered.0 in
+    leb-true (last_number_of kept intent.poi) intent.before tested.1
+
+module _ (laws : LedgerLaws) where
+  own-not-below : (kept : List Record) (next : Record) (poi : List ℕ) (slot : ℕ) → IsTrue (fits kept next) → AreOpenNotBelow kept → is_poi poi (poi_of kept next) ≡ true
+      → open_slot (kept ++ next ∷ []) poi ≡ Some slot → IsNotBelow (kept ++ next ∷ []) poi slot
+  own-not-below kept (Intent intent) poi slot fitting before own is =
+      let account = own-account laws kept (Intent intent) poi own in
+      let here : length kept ≡ slot = same_Some (length kept) slot (sym (ap (λ (a : Account). a.unresolved) account) ∙ is) in
+      let number : last_number_of (kept ++ Intent intent ∷ []) poi ≡ max (last_number_of kept poi) intent.before = ap (λ (a : Account). a.trace) account in
+      let risen : last_number_of kept poi ≤ intent.before = subst (λ (p : List ℕ). last_number_of kept p ≤ intent.before) (sym (same-text-is poi intent.poi own)) (fitting-before kept intent fitting) in
+      record {
+        intent = intent;
+        intent_is = subst (λ (at : ℕ). intent_at (kept ++ Intent intent ∷ []) at ≡ Some intent) here (ap (option_and_then as_intent) (last-there kept (Intent intent)));
+        not_below = omega arith;
+      }
+  own-not-below kept (Outcome outcome) poi slot fitting before own is =
+      let closed : open_slot (kept ++ Outcome outcome ∷ []) poi ≡ None = ap (λ (a : Account). a.unresolved) (own-account laws kept (Outcome outcome) poi own) in
+      absurd cc
+  own-not-below kept (Settled settled) poi slot fitting before own is =
+      let account = own-account laws kept (Settled settled) poi own in
+      not-below-stays kept (Settled settled ∷ []) poi slot (ap (λ (a : Account). a.trace) account) (before poi slot (sym (ap (λ (a : Account). a.unresolved) account) ∙ is))
+
+  not-below-more : (kept : List Record) (next : Record) → IsTrue (fits kept next) → AreOpenNotBelow kept → AreOpenNotBelow (kept ++ next ∷ [])
+  not-below-more kept next fitting before poi slot is = by-poi (is_poi poi (poi_of kept next)) refl
+    where
+      by-poi : (b : Bool) → is_poi poi (poi_of kept next) ≡ b → IsNotBelow (kept ++ next ∷ []) poi slot
+      by-poi true own = own-not-below kept next poi slot fitting before own is
+      by-poi false apart = not-below-stays kept (next ∷ []) poi slot (other-number laws kept next poi apart) (before poi slot (sym (other-slot laws kept next poi apart) ∙ is))
+
+  fit-not-below : (before rest : List Record) → FitBy fits before rest → AreOpenNotBelow before → AreOpenNotBelow (before ++ rest)
+  fit-not-below before [] fit holds = subst AreOpenNotBelow (sym (append-nil before)) holds
+  fit-not-below before (first ∷ rest) fit holds =
+      subst AreOpenNotBelow (append_assoc before (first ∷ []) rest) (fit-not-below (before ++ first ∷ []) rest fit.1 (not-below-more before first fit.0 holds))
+
+  -- the number before of a terminal's open entry isn't below its last one
+  pub open-not-below : (kept : List Record) → AreFolded kept → (poi : List ℕ) (entry : TheEntry) → open_entry kept poi ≡ Some entry → last_number_of kept poi ≤ entry.intent.before
+  open-not-below kept folded poi entry entry_is = by-slot (open_slot kept poi) refl entry_is
+    where
+      by-slot : (found : Option ℕ) → open_slot kept poi ≡ found → option_and_then (entry_at kept) found ≡ Some entry → last_number_of kept poi ≤ entry.intent.before
+      by-slot None is there = absurd cc
+      by-slot (Some at) is there =
+          let parts = entry-parts kept at entry there in
+          let has = fit-not-below [] kept folded.fit no-records-not-below poi at is in
+          let same : has.intent ≡ entry.intent = same_Some has.intent entry.intent (sym has.intent_is ∙ parts.1) in
+          subst (λ (intent : TheIntent). last_number_of kept poi ≤ intent.before) same has.not_below
 
 -- the next record is the Outcome of the terminal's open entry: it has none any more
 module _ (laws : LedgerLaws) (kept : List Record) (folded : AreFolded kept) (poi : List ℕ) (intent : TheIntent) (outcome : TheOutcome) (opened : IsOpenWith kept poi outcome.slot intent) where

@@ -1,13 +1,16 @@
 -- What a message of a terminal leaves and owes keeps what is known in order.
 use Rattle.std.proofs.Common.{◌≡◌, ◌∙◌, ℕ, ◌+◌, ◌^◌, ◌<◌, ◌≤◌, max, Bool, true, false, ltb, leb, List, [], ◌∷◌, ◌++◌, length, refl, sym, ap, subst, arith}
-use Rattle.std.specs.Prelude.{Option, Some, None, option_and_then, option_map, if◌then◌else◌}
+use Rattle.std.specs.Prelude.{Option, Some, None, option_and_then, if◌then◌else◌, pos}
 use Rattle.std.proofs.lemmas.Bool.{leb-true, ltb-true}
 use Rattle.gw_base.specs.Limits.{IsTrace}
+use Rattle.gw_base.specs.Moment.{IsMoment}
+use Rattle.gw_base.specs.declared.condition.Condition.TheVariants.{Aborted}
 use Rattle.gw_base.specs.declared.figures.Figures.{Figures}
 use Rattle.zvt_talk.specs.declared.meaning.Heard.{Heard}
 use Rattle.zvt_talk.specs.declared.meaning.Heard.TheVariants as heard
 use Rattle.zvt_talk.specs.Limits.{FiguresFitRecord}
 use Rattle.jrn_record.specs.Limits.{IsOutcome}
+use Rattle.jrn_record.specs.declared.records.Intent.{Intent as TheIntent}
 use Rattle.jrn_record.specs.declared.records.Outcome.{Outcome as TheOutcome}
 use Rattle.jrn_record.specs.declared.records.Record.TheVariants.{Outcome}
 use Rattle.gw_ledger.specs.declared.entry.Entry.{Entry as TheEntry}
@@ -21,16 +24,16 @@ use Rattle.gw_owes.specs.declared.terminal.Service.TheVariants.{Transaction, End
 use Rattle.gw_owes.specs.declared.terminal.Standing.{Standing}
 use Rattle.gw_owes.specs.declared.terminal.Standing.TheVariants.{Unlinked, Registering, Enquiring, Ready, Serving, Aside}
 use Rattle.gw_owes.specs.declared.terminal.Terminal.{Terminal}
-use Rattle.gw_owes.specs.HeardLaws.{FitsRecord, IsTraceOrNone}
+use Rattle.gw_owes.specs.HeardLaws.{AreFiguresOf, FitsRecord, IsReportFit, IsTraceOrNone}
 use Rattle.gw_owes.specs.Handling.{consequence, enquiring, registering, serving}
 use Rattle.gw_owes.specs.RecordLaws.{AreRecordsOf, IsInOrder, IsServedOpen, IsServiceOnRecord, IsTalkRead}
-use Rattle.gw_owes.specs.Reports.{at_rest, on_record, report_against, report_row}
+use Rattle.gw_owes.specs.Reports.{Report, on_record, outcome_as_last, outcome_reported, report_against, report_of_open, report_row, standing_reported}
 use Rattle.gw_owes.specs.Row.{Known}
-use Rattle.gw_owes.specs.Serving.{approved_outcome, approved_row, declined_outcome, declined_row, done_with, last_after_decline, reply_to_outcome, resolves, serving_transaction, staying, stops, was_stopped}
+use Rattle.gw_owes.specs.Serving.{at_rest, approved_outcome, approved_row, declined_outcome, declined_row, done_with, last_after_decline, refused_outcome, reply_to_outcome, resolves, serving_transaction, staying, stops, was_stopped}
 use Rattle.gw_owes.specs.Terminals.{reply_calls_to, terminal_at, terminal_becomes}
 use Rattle.gw_owes.proofs.KeepingLemmas.{RowKeeps, becomes-keeps, breaking-keeps, no-calls, nothing-keeps, record-keeps, replies-keep-nothing}
-use Rattle.gw_owes.proofs.LimitLemmas.{approval-within, decline-within}
-use Rattle.gw_owes.proofs.RecordLemmas.{LedgerLaws, open-counted, open-parts, open-within, open_entry_of, outcome-closes, outcome-number, outcome-poi}
+use Rattle.gw_owes.proofs.LimitLemmas.{approval-within, decline-within, refusal-within}
+use Rattle.gw_owes.proofs.RecordLemmas.{LedgerLaws, open-counted, open-not-below, open-parts, open-within, open-without-outcome, open_entry_of, outcome-closes, outcome-number, outcome-poi}
 
 -- ---- limits
 
@@ -43,9 +46,9 @@ open-before-within laws known order poi last slot has =
     subst IsTrace has.before within.intent.before
 
 -- the slot of an open entry is a small number
-slot-small : (laws : LedgerLaws) (known : Known) → IsInOrder known → (poi : List ℕ) (last slot : ℕ) → IsServedOpen known.kept poi last slot → slot < 2 ^ 32
-slot-small laws known order poi last slot has =
-    let inside : slot < length known.kept = open-within laws known.kept order.folded poi slot has.intent (open-parts laws known.kept order.folded poi slot has.intent has.is_open) in
+pub slot-small : (laws : LedgerLaws) (known : Known) → IsInOrder known → (poi : List ℕ) (slot : ℕ) (intent : TheIntent) → open_entry known.kept poi ≡ Some (open_entry_of slot intent) → slot < 2 ^ 32
+slot-small laws known order poi slot intent is_open =
+    let inside : slot < length known.kept = open-within laws known.kept order.folded poi slot intent (open-parts laws known.kept order.folded poi slot intent is_open) in
     let most : known.setup.slots ≤ 1000000 = order.of_setup.within.slots.1 in
     let room = order.room in
     omega arith
@@ -66,6 +69,47 @@ last-after-above last (Some reported) = by-test (ltb last reported) refl
     by-test true above = let lt : last < reported = ltb-true last reported above in omega arith
     by-test false above = omega arith
 
+-- ---- what a terminal reports of what is open
+
+-- the Outcome of the entry with this slot and number before, where this trace number is reported: it is within its limits, and its number is above the one before where it approves, and at most the one reported
+pub record IsOutcomeReported (slot before trace : ℕ) (outcome : TheOutcome) : Type 0 where
+  pub slot_is : outcome.slot ≡ slot
+  pub within : IsOutcome outcome
+  pub above : outcome.approved ≡ true → before < outcome.number
+  pub not_above : outcome.number ≤ trace
+
+last-reported : (slot before trace : ℕ) (approved : Option Figures) (result_code moment : ℕ) → slot < 2 ^ 32 → IsMoment (pos moment) → IsReportFit trace approved → before < trace
+    → IsOutcomeReported slot before trace (outcome_as_last slot approved result_code moment)
+last-reported slot before trace None result_code moment small at fit lt = record {
+  slot_is = refl;
+  within = decline-within slot result_code false moment small at;
+  above = λ approved. absurd cc;
+  not_above = omega arith;
+}
+last-reported slot before trace (Some figures) result_code moment small at fit lt =
+    let are : AreFiguresOf trace figures = fit.figures in
+    let same : figures.number ≡ trace = are.number_is in
+    record {
+      slot_is = refl;
+      within = approval-within slot figures moment small are.fit at;
+      above = λ approved. omega arith;
+      not_above = omega arith;
+    }
+
+pub reported-outcome : (entry : TheEntry) (report : Report) (moment : ℕ) → entry.slot < 2 ^ 32 → IsMoment (pos moment) → IsReportFit report.trace report.approved
+    → IsOutcomeReported entry.slot entry.intent.before report.trace (outcome_reported entry report moment)
+reported-outcome entry report moment small at fit = by-test (ltb entry.intent.before report.trace) refl
+  where
+    by-test : (b : Bool) → ltb entry.intent.before report.trace ≡ b
+        → IsOutcomeReported entry.slot entry.intent.before report.trace (if b then outcome_as_last entry.slot report.approved report.result_code moment else refused_outcome entry.slot Aborted moment)
+    by-test true rises = last-reported entry.slot entry.intent.before report.trace report.approved report.result_code moment small at fit (ltb-true entry.intent.before report.trace rises)
+    by-test false rises = record {
+      slot_is = refl;
+      within = refusal-within entry.slot Aborted moment small (omega arith) at;
+      above = λ approved. absurd cc;
+      not_above = omega arith;
+    }
+
 -- ---- what a terminal becomes
 
 module _ (laws : LedgerLaws) (known : Known) (order : IsInOrder known) (number : ℕ) (old now : Terminal) (here : terminal_at known number ≡ Some old) (same : now.pt ≡ old.pt) (read : IsTalkRead now.talk) where
@@ -79,28 +123,32 @@ module _ (laws : LedgerLaws) (known : Known) (order : IsInOrder known) (number :
       becomes-keeps known order number now [] no-calls (record { records = subst (AreRecordsOf known.kept now.pt.poi) (sym is) has; read = read })
 
   -- the Outcome of its open entry is kept, and it is ready with a number that isn't below
-  resolves-keeps : (outcome : TheOutcome) (last ready : ℕ) → IsServedOpen known.kept now.pt.poi last outcome.slot → IsOutcome outcome → (outcome.approved ≡ true → last < outcome.number)
-      → max last outcome.number ≤ ready → IsTrace ready → RowKeeps known number (resolves known number now (Ready ready) outcome)
-  resolves-keeps outcome last ready has within above not_below trace =
-      let opened = open-parts laws known.kept order.folded now.pt.poi outcome.slot has.intent has.is_open in
-      let counted : 1 ≤ open_count_of known.kept = open-counted laws known.kept order.folded now.pt.poi outcome.slot has.intent opened in
+  resolves-keeps : (outcome : TheOutcome) (intent : TheIntent) (ready : ℕ) → open_entry known.kept now.pt.poi ≡ Some (open_entry_of outcome.slot intent) → IsOutcome outcome → (outcome.approved ≡ true → intent.before < outcome.number)
+      → last_number_of known.kept now.pt.poi ≤ ready → outcome.number ≤ ready → IsTrace ready → RowKeeps known number (resolves known number now (Ready ready) outcome)
+  resolves-keeps outcome intent ready is_open within above last_not_above not_above trace =
+      let opened = open-parts laws known.kept order.folded now.pt.poi outcome.slot intent is_open in
+      let counted : 1 ≤ open_count_of known.kept = open-counted laws known.kept order.folded now.pt.poi outcome.slot intent opened in
       let room = order.room in
-      let fitting : fits known.kept (Outcome outcome) ≡ true =
-      laws.outcome known.kept order.folded now.pt.poi (open_entry_of outcome.slot has.intent) outcome has.is_open refl (λ approved. subst (λ (n : ℕ). n < outcome.number) (sym has.before) (above approved)) in
-      let before : last_number_of known.kept now.pt.poi ≤ last = has.not_below in
-      let after : last_number_of (known.kept ++ Outcome outcome ∷ []) now.pt.poi ≡ max (last_number_of known.kept now.pt.poi) outcome.number =
-      outcome-number laws known.kept order.folded now.pt.poi has.intent outcome opened in
+      let fitting : fits known.kept (Outcome outcome) ≡ true = laws.outcome known.kept order.folded now.pt.poi (open_entry_of outcome.slot intent) outcome is_open refl above in
+      let after : last_number_of (known.kept ++ Outcome outcome ∷ []) now.pt.poi ≡ max (last_number_of known.kept now.pt.poi) outcome.number = outcome-number laws known.kept order.folded now.pt.poi intent outcome opened in
       record-keeps known order number laws old (done_with now (Ready ready)) (Outcome outcome) (reply_calls_to now.asker (reply_to_outcome known.kept outcome.slot outcome))
       (replies-keep-nothing now.asker (reply_to_outcome known.kept outcome.slot outcome)) here within fitting (omega arith)
-      (outcome-poi laws known.kept order.folded now.pt.poi has.intent outcome opened ∙ ap (λ pt. Some pt.poi) same)
+      (outcome-poi laws known.kept order.folded now.pt.poi intent outcome opened ∙ ap (λ pt. Some pt.poi) same)
       (record {
         records = record {
-          none_open = ap (option_and_then (entry_at (known.kept ++ Outcome outcome ∷ []))) (outcome-closes laws known.kept order.folded now.pt.poi has.intent outcome opened);
+          none_open = ap (option_and_then (entry_at (known.kept ++ Outcome outcome ∷ []))) (outcome-closes laws known.kept order.folded now.pt.poi intent outcome opened);
           not_below = omega arith;
           within = trace;
         };
         read = tt;
       })
+
+  -- so it is of what is served
+  served-keeps : (outcome : TheOutcome) (last ready : ℕ) → IsServedOpen known.kept now.pt.poi last outcome.slot → IsOutcome outcome → (outcome.approved ≡ true → last < outcome.number)
+      → last ≤ ready → outcome.number ≤ ready → IsTrace ready → RowKeeps known number (resolves known number now (Ready ready) outcome)
+  served-keeps outcome last ready has within above not_below not_above trace =
+      let before : last_number_of known.kept now.pt.poi ≤ last = has.not_below in
+      resolves-keeps outcome has.intent ready has.is_open within (λ approved. subst (λ (n : ℕ). n < outcome.number) (sym has.before) (above approved)) (omega arith) not_above trace
 
   -- a payment is approved
   approved-keeps : (slot last : ℕ) (figures : Figures) → IsServedOpen known.kept now.pt.poi last slot → FiguresFitRecord figures → RowKeeps known number (approved_row known number now slot last figures)
@@ -110,15 +158,15 @@ module _ (laws : LedgerLaws) (known : Known) (order : IsInOrder known) (number :
           → RowKeeps known number (if b then resolves known number now (Ready figures.number) (approved_outcome slot figures known.moment) else terminal_becomes known number (at_rest now (Aside last figures.number)) [])
       by-test true rises =
           let above : last < figures.number = ltb-true last figures.number rises in
-          resolves-keeps (approved_outcome slot figures known.moment) last figures.number has (approval-within slot figures known.moment (slot-small laws known order now.pt.poi last slot has) fit order.moment) (λ approved. above) (omega arith) fit.trace
+          served-keeps (approved_outcome slot figures known.moment) last figures.number has (approval-within slot figures known.moment (slot-small laws known order now.pt.poi slot has.intent has.is_open) fit order.moment) (λ approved. above) (omega arith)
+          (omega arith) fit.trace
       by-test false rises = becomes-keeps known order number (at_rest now (Aside last figures.number)) [] no-calls (record { records = tt; read = tt })
 
   -- or declined
   declined-keeps : (slot last result_code : ℕ) (reported : Option ℕ) → IsServedOpen known.kept now.pt.poi last slot → IsTraceOrNone reported → RowKeeps known number (declined_row known number now slot last result_code reported)
   declined-keeps slot last result_code reported has fits =
-      let above : last ≤ last_after_decline last reported = last-after-above last reported in
-      resolves-keeps (declined_outcome slot result_code (was_stopped now.talk) known.moment) last (last_after_decline last reported) has
-      (decline-within slot result_code (was_stopped now.talk) known.moment (slot-small laws known order now.pt.poi last slot has) order.moment) (λ approved. absurd cc) (omega arith)
+      served-keeps (declined_outcome slot result_code (was_stopped now.talk) known.moment) last (last_after_decline last reported) has
+      (decline-within slot result_code (was_stopped now.talk) known.moment (slot-small laws known order now.pt.poi slot has.intent has.is_open) order.moment) (λ approved. absurd cc) (last-after-above last reported) (omega arith)
       (last-after-within last reported (open-before-within laws known order now.pt.poi last slot has) fits)
 
   -- the stop of what is served
@@ -141,20 +189,39 @@ module _ (laws : LedgerLaws) (known : Known) (order : IsInOrder known) (number :
   registering-keeps heard.Stray is = stays-keeps Registering is tt
 
   -- what a terminal reports without an open entry
-  reported-keeps : (reported : ℕ) → IsTrace reported → RowKeeps known number (report_row (on_record known.kept now.pt.poi) known number now reported)
-  reported-keeps reported trace = by-open (open_entry known.kept now.pt.poi) refl
+  reported-none-open : (reported : ℕ) → IsTrace reported → open_entry known.kept now.pt.poi ≡ None
+      → RowKeeps known number (terminal_becomes known number (at_rest now (standing_reported (last_number_of known.kept now.pt.poi) reported)) [])
+  reported-none-open reported trace none = by-test (leb (last_number_of known.kept now.pt.poi) reported) refl
     where
-      by-test : (b : Bool) → leb (last_number_of known.kept now.pt.poi) reported ≡ b → open_entry known.kept now.pt.poi ≡ None
+      by-test : (b : Bool) → leb (last_number_of known.kept now.pt.poi) reported ≡ b
           → RowKeeps known number (terminal_becomes known number (at_rest now (if b then Ready reported else Aside (last_number_of known.kept now.pt.poi) reported)) [])
-      by-test true above none =
+      by-test true above =
           becomes-keeps known order number (at_rest now (Ready reported)) [] no-calls
           (record { records = record { none_open = none; not_below = leb-true (last_number_of known.kept now.pt.poi) reported above; within = trace }; read = tt })
-      by-test false above none = becomes-keeps known order number (at_rest now (Aside (last_number_of known.kept now.pt.poi) reported)) [] no-calls (record { records = tt; read = tt })
+      by-test false above = becomes-keeps known order number (at_rest now (Aside (last_number_of known.kept now.pt.poi) reported)) [] no-calls (record { records = tt; read = tt })
 
-      by-open : (opened : Option TheEntry) → open_entry known.kept now.pt.poi ≡ opened
-          → RowKeeps known number (report_against (option_map (λ (entry : TheEntry). entry.intent.before) opened) (last_number_of known.kept now.pt.poi) known number now reported)
-      by-open None none = by-test (leb (last_number_of known.kept now.pt.poi) reported) refl none
-      by-open (Some entry) is = breaking-keeps known order number now
+  -- and with one
+  reported-of-open : (report : Report) (entry : TheEntry) → IsReportFit report.trace report.approved → open_entry known.kept now.pt.poi ≡ Some entry → RowKeeps known number (report_of_open known number now report entry)
+  reported-of-open report entry fit is = by-test (leb entry.intent.before report.trace) refl
+    where
+      by-test : (b : Bool) → leb entry.intent.before report.trace ≡ b
+          → RowKeeps known number (if b then resolves known number now (Ready report.trace) (outcome_reported entry report known.moment)
+          else terminal_becomes known number (at_rest now (Aside entry.intent.before report.trace)) [])
+      by-test true above =
+          let not_below : entry.intent.before ≤ report.trace = leb-true entry.intent.before report.trace above in
+          let last : last_number_of known.kept now.pt.poi ≤ entry.intent.before = open-not-below laws known.kept order.folded now.pt.poi entry is in
+          let is_open = open-without-outcome laws known.kept order.folded now.pt.poi entry is in
+          let outcome = reported-outcome entry report known.moment (slot-small laws known order now.pt.poi entry.slot entry.intent is_open) order.moment fit in
+          resolves-keeps (outcome_reported entry report known.moment) entry.intent report.trace
+          (subst (λ (slot : ℕ). open_entry known.kept now.pt.poi ≡ Some (open_entry_of slot entry.intent)) (sym outcome.slot_is) is_open) outcome.within outcome.above (omega arith) outcome.not_above fit.within
+      by-test false above = becomes-keeps known order number (at_rest now (Aside entry.intent.before report.trace)) [] no-calls (record { records = tt; read = tt })
+
+  reported-keeps : (report : Report) → IsReportFit report.trace report.approved → RowKeeps known number (report_row (on_record known.kept now.pt.poi) known number now report)
+  reported-keeps report fit = by-open (open_entry known.kept now.pt.poi) refl
+    where
+      by-open : (opened : Option TheEntry) → open_entry known.kept now.pt.poi ≡ opened → RowKeeps known number (report_against opened (last_number_of known.kept now.pt.poi) known number now report)
+      by-open None none = reported-none-open report.trace fit.within none
+      by-open (Some entry) is = reported-of-open report entry fit is
 
   enquiring-keeps : (meant : Heard) → now.standing ≡ Enquiring → FitsRecord meant → RowKeeps known number (enquiring known number now meant)
   enquiring-keeps (heard.Begun stop) is fits = stays-keeps Enquiring is tt
@@ -164,7 +231,7 @@ module _ (laws : LedgerLaws) (known : Known) (order : IsInOrder known) (number :
   enquiring-keeps heard.Seen is fits = stays-keeps Enquiring is tt
   enquiring-keeps (heard.Approved figures) is fits = stays-keeps Enquiring is tt
   enquiring-keeps heard.Done is fits = stays-keeps Enquiring is tt
-  enquiring-keeps (heard.Told reported approved result_code) is fits = reported-keeps reported fits
+  enquiring-keeps (heard.Told trace approved result_code) is fits = reported-keeps (record { trace = trace; approved = approved; result_code = result_code }) fits
   enquiring-keeps (heard.Declined result_code reported) is fits = breaking-keeps known order number now
   enquiring-keeps heard.Unclear is fits = breaking-keeps known order number now
   enquiring-keeps heard.Stray is fits = stays-keeps Enquiring is tt

@@ -25,6 +25,7 @@ use Rattle.zvt_talk.specs.Laws.{IsTransaction, IsEndOf, IsTransactionEnd, IsEnqu
 use Rattle.zvt_talk.specs.Talk.{TalkFacts, meaning, is_end, end_of, talk_after}
 use Rattle.zvt_talk.specs.TalkSteps.{next_talk}
 use Rattle.jrn_record.specs.declared.records.Outcome.{Outcome as TheOutcome}
+use Rattle.gw_ledger.specs.declared.entry.Entry.{Entry as TheEntry}
 use Rattle.gw_ledger.specs.History.{history}
 use Rattle.gw_owes.specs.Reply.{ReplyValue}
 use Rattle.gw_owes.specs.declared.terminal.Service.TheVariants as services
@@ -37,8 +38,8 @@ use Rattle.gw_owes.specs.Row.{Known, Row, owing, owing_nothing, owing_where}
 use Rattle.gw_owes.specs.Calls.{LinkPt}
 use Rattle.gw_owes.specs.Terminals.{terminal_at, of_terminal, with_terminal, registers, unlinks, unlinked_terminal, link_lost, link_made, reply_calls_to, reply_to_lost, terminal_becomes}
 use Rattle.gw_owes.specs.Links.{is_linked, cutting, LinkEvent, link_row, LinkIsMade, LinkHasFailed, LinkIsLost}
-use Rattle.gw_owes.specs.Reports.{standing_reported, on_record, at_rest, report_against}
-use Rattle.gw_owes.specs.Serving.{staying, stops, reply_to_outcome, done_with, resolves, approved_outcome, was_stopped, declined_outcome, approved_row, last_after_decline, serving_transaction}
+use Rattle.gw_owes.specs.Reports.{Report, on_record, least_against, least_reported, standing_reported, outcome_reported, report_of_open, report_against}
+use Rattle.gw_owes.specs.Serving.{at_rest, staying, stops, reply_to_outcome, done_with, resolves, approved_outcome, was_stopped, declined_outcome, approved_row, last_after_decline, serving_transaction}
 use Rattle.gw_owes.specs.Payments.{begins_in, is_beginning, begins_payment, serve_row}
 use Rattle.gw_owes.specs.Steps.{step_result}
 use Rattle.gw_owes.specs.Handling.{awaited_after, taken_as, meaning_for, meaning_at, taking, registering, enquiring, consequence, handle_message, handle_decoded, handle_row}
@@ -62,7 +63,7 @@ follows known number transcript old new found talk awaited standing =
 
 -- the least trace number that the terminal may report
 abbrev least_of : Known → Terminal → ℕ
-least_of known terminal = (on_record known.kept terminal.pt.poi).last
+least_of known terminal = least_reported (on_record known.kept terminal.pt.poi)
 
 -- the terminal has taken a message in a dialogue that has such ends, which meant this
 record HasTaken (known : Known) (number : ℕ) (transcript : List Carried) (ends : Heard → Type 0) (standing : Standing) (terminal : Terminal) (meant : Heard) : Type 0 where
@@ -107,6 +108,21 @@ ends-talk laws known number transcript ends standing terminal meant taken ended 
 abbrev Follows : Known → ℕ → List Carried → Row → Type 0
 Follows known number transcript row = owes_cut row.calls ≡ false → FollowsTranscript number (commanded_by known.moment row.calls ++ transcript) row.core
 
+-- ---- an Outcome
+
+reply-quiet : (moment : ℕ) (asker : Option ℕ) (reply : Option ReplyValue) → commanded_by moment (reply_calls_to asker reply) ≡ []
+reply-quiet moment None reply = refl
+reply-quiet moment (Some till) None = refl
+reply-quiet moment (Some till) (Some reply) = refl
+
+-- its Outcome is kept, its till gets the reply, and no command is sent
+resolves-follows : (known : Known) (number : ℕ) (transcript : List Carried) (old terminal : Terminal) (standing : Standing) (outcome : TheOutcome) → terminal_at known number ≡ Some old → None ≡ talk_by terminal.pt transcript
+    → terminal.awaited ≡ awaited_by transcript → Some (as_carried standing) ≡ standing_by terminal.pt transcript → Follows known number transcript (resolves known number terminal standing outcome)
+resolves-follows known number transcript old terminal standing outcome found talk awaited stands no_cut =
+    subst (λ (sent : List Carried). FollowsTranscript number (sent ++ transcript) (with_terminal known.core number (done_with terminal standing)))
+    (sym (reply-quiet known.moment terminal.asker (reply_to_outcome known.kept outcome.slot outcome)))
+    (follows known number transcript old (done_with terminal standing) found talk awaited stands)
+
 -- ---- a registration
 
 registering-follows : (laws : DialogueLaws) (known : Known) (number : ℕ) (transcript : List Carried) (terminal : Terminal) (meant : Heard) → HasTaken known number transcript IsServiceEnd Registering terminal meant
@@ -130,13 +146,23 @@ ready-or-aside : (above : Bool) (last before reported : ℕ) → as_carried (if 
 ready-or-aside true last before reported = refl
 ready-or-aside false last before reported = refl
 
-report-follows : (laws : DialogueLaws) (known : Known) (number : ℕ) (transcript : List Carried) (terminal : Terminal) (reported : ℕ) (approved : Option Figures) (result_code : ℕ) (open_before : Option ℕ)
-    → HasTaken known number transcript IsEnquiryEnd Enquiring terminal (heard.Told reported approved result_code) → Follows known number transcript (report_against open_before (least_of known terminal) known number terminal reported)
-report-follows laws known number transcript terminal reported approved result_code None taken no_cut =
-    follows known number transcript taken.old (at_rest terminal (standing_reported (least_of known terminal) reported)) taken.found
-    (ends-talk laws known number transcript IsEnquiryEnd Enquiring terminal (heard.Told reported approved result_code) taken refl) taken.awaited_is
-    (ap (λ (s : Standing). Some s) (ready-or-aside (nat_le (least_of known terminal) reported) reported (least_of known terminal) reported) ∙ sym taken.leads)
-report-follows laws known number transcript terminal reported approved result_code (Some before) taken no_cut = absurd cc
+-- a report while something is open resolves it, or sets the terminal aside
+open-follows : (known : Known) (number : ℕ) (transcript : List Carried) (old terminal : Terminal) (report : Report) (entry : TheEntry) → terminal_at known number ≡ Some old → None ≡ talk_by terminal.pt transcript
+    → terminal.awaited ≡ awaited_by transcript → standing_by terminal.pt transcript ≡ Some (standing_reported entry.intent.before report.trace) → Follows known number transcript (report_of_open known number terminal report entry)
+open-follows known number transcript old terminal report entry found talk awaited stands = by-number (nat_le entry.intent.before report.trace) stands
+  where
+    by-number : (least : Bool) → standing_by terminal.pt transcript ≡ Some (if least then Ready report.trace else Aside entry.intent.before report.trace)
+        → Follows known number transcript (if least then resolves known number terminal (Ready report.trace) (outcome_reported entry report known.moment) else terminal_becomes known number (at_rest terminal (Aside entry.intent.before report.trace)) [])
+    by-number true stands = resolves-follows known number transcript old terminal (Ready report.trace) (outcome_reported entry report known.moment) found talk awaited (sym stands)
+    by-number false stands = λ no_cut. follows known number transcript old (at_rest terminal (Aside entry.intent.before report.trace)) found talk awaited (sym stands)
+
+report-follows : (known : Known) (number : ℕ) (transcript : List Carried) (old terminal : Terminal) (opened : Option TheEntry) (last : ℕ) (report : Report) → terminal_at known number ≡ Some old → None ≡ talk_by terminal.pt transcript
+    → terminal.awaited ≡ awaited_by transcript → standing_by terminal.pt transcript ≡ Some (standing_reported (least_against opened last) report.trace)
+    → Follows known number transcript (report_against opened last known number terminal report)
+report-follows known number transcript old terminal None last report found talk awaited stands =
+    λ no_cut. follows known number transcript old (at_rest terminal (standing_reported last report.trace)) found talk awaited
+    (ap (λ (s : Standing). Some s) (ready-or-aside (nat_le last report.trace) report.trace last report.trace) ∙ sym stands)
+report-follows known number transcript old terminal (Some entry) last report found talk awaited stands = open-follows known number transcript old terminal report entry found talk awaited stands
 
 enquiring-follows : (laws : DialogueLaws) (known : Known) (number : ℕ) (transcript : List Carried) (terminal : Terminal) (meant : Heard) → HasTaken known number transcript IsEnquiryEnd Enquiring terminal meant
     → Follows known number transcript (enquiring known number terminal meant)
@@ -147,26 +173,15 @@ enquiring-follows laws known number transcript terminal heard.Block taken no_cut
 enquiring-follows laws known number transcript terminal heard.Seen taken no_cut = goes-on laws known number transcript IsEnquiryEnd Enquiring terminal heard.Seen taken refl
 enquiring-follows laws known number transcript terminal (heard.Approved figures) taken no_cut = absurd (taken.may_end refl)
 enquiring-follows laws known number transcript terminal heard.Done taken no_cut = absurd (taken.may_end refl)
-enquiring-follows laws known number transcript terminal (heard.Told reported approved result_code) taken no_cut =
-    report-follows laws known number transcript terminal reported approved result_code (on_record known.kept terminal.pt.poi).open_before taken no_cut
+enquiring-follows laws known number transcript terminal (heard.Told trace approved result_code) taken no_cut =
+    report-follows known number transcript taken.old terminal (on_record known.kept terminal.pt.poi).opened (on_record known.kept terminal.pt.poi).last
+    (record { trace = trace; approved = approved; result_code = result_code }) taken.found
+    (ends-talk laws known number transcript IsEnquiryEnd Enquiring terminal (heard.Told trace approved result_code) taken refl) taken.awaited_is taken.leads no_cut
 enquiring-follows laws known number transcript terminal (heard.Declined result_code reported) taken no_cut = absurd cc
 enquiring-follows laws known number transcript terminal heard.Unclear taken no_cut = absurd cc
 enquiring-follows laws known number transcript terminal heard.Stray taken no_cut = goes-on laws known number transcript IsEnquiryEnd Enquiring terminal heard.Stray taken refl
 
 -- ---- a payment or a reversal
-
-reply-quiet : (moment : ℕ) (asker : Option ℕ) (reply : Option ReplyValue) → commanded_by moment (reply_calls_to asker reply) ≡ []
-reply-quiet moment None reply = refl
-reply-quiet moment (Some till) None = refl
-reply-quiet moment (Some till) (Some reply) = refl
-
--- its Outcome is kept, its till gets the reply, and no command is sent
-resolves-follows : (known : Known) (number : ℕ) (transcript : List Carried) (old terminal : Terminal) (standing : Standing) (outcome : TheOutcome) → terminal_at known number ≡ Some old → None ≡ talk_by terminal.pt transcript
-    → terminal.awaited ≡ awaited_by transcript → Some (as_carried standing) ≡ standing_by terminal.pt transcript → Follows known number transcript (resolves known number terminal standing outcome)
-resolves-follows known number transcript old terminal standing outcome found talk awaited stands no_cut =
-    subst (λ (sent : List Carried). FollowsTranscript number (sent ++ transcript) (with_terminal known.core number (done_with terminal standing)))
-    (sym (reply-quiet known.moment terminal.asker (reply_to_outcome known.kept outcome.slot outcome)))
-    (follows known number transcript old (done_with terminal standing) found talk awaited stands)
 
 approved-follows : (laws : DialogueLaws) (known : Known) (number : ℕ) (transcript : List Carried) (terminal : Terminal) (slot last : ℕ) (figures : Figures) → HasTaken known number transcript IsTransactionEnd (Serving (services.Transaction slot) last) terminal (heard.Approved figures)
     → Follows known number transcript (approved_row known number terminal slot last figures)

@@ -103,7 +103,8 @@ enquiring known number terminal heard.Block = staying known number terminal
 enquiring known number terminal heard.Seen = staying known number terminal
 enquiring known number terminal (heard.Approved figures) = staying known number terminal
 enquiring known number terminal heard.Done = staying known number terminal
-enquiring known number terminal (heard.Told reported approved result_code) = report_row (on_record known.kept terminal.pt.poi) known number terminal reported
+enquiring known number terminal (heard.Told trace approved result_code) =
+    report_row (on_record known.kept terminal.pt.poi) known number terminal (record { trace = trace; approved = approved; result_code = result_code })
 enquiring known number terminal (heard.Declined result_code reported) = breaking known number terminal
 enquiring known number terminal heard.Unclear = breaking known number terminal
 enquiring known number terminal heard.Stray = staying known number terminal

@@ -2,7 +2,7 @@
 use Rattle.std.specs.Prelude.{◌≡◌, ℕ, pos, true, false, List, [], ◌∷◌, ◌++◌, fold, slice_get, Option, Some, None, codes}
 use Rattle.std.specs.Option.{option_map}
 use Rattle.gw_base.specs.declared.condition.Condition.{Condition}
-use Rattle.gw_base.specs.declared.condition.Condition.TheVariants.{Aborted, Busy, Cancel, InProgress, NotAllowed, Refusal, UnavailableService}
+use Rattle.gw_base.specs.declared.condition.Condition.TheVariants.{Aborted, Busy, Cancel, InProgress, NotAllowed, Refusal, UnavailableDevice, UnavailableService}
 use Rattle.gw_base.specs.declared.currency.Currency.TheVariants.{Eur}
 use Rattle.gw_site.specs.Outside.{Connection, is_connected}
 use Rattle.sale_values.specs.declared.header.Header.{Header}
@@ -23,7 +23,7 @@ use Rattle.gw_owes.specs.declared.terminal.Standing.{Standing}
 use Rattle.gw_owes.specs.declared.terminal.Standing.TheVariants.{Unlinked, Enquiring, Ready, Serving, Aside}
 use Rattle.gw_owes.specs.declared.terminal.Terminal.{Terminal}
 use Rattle.gw_owes.specs.Calls.{Ask, Acknowledge, OwedCall, SendTill, SendPt, CutPt, keep_calls, records_kept, sending_bytes}
-use Rattle.gw_owes.specs.Core.{new_terminal}
+use Rattle.gw_owes.specs.Core.{new_core, new_terminal}
 use Rattle.gw_owes.specs.Diagnosis.{named_terminal}
 use Rattle.gw_owes.specs.Events.{pt_bytes_items}
 use Rattle.gw_owes.specs.Items.{RoundItem, Asked, Gone, Serve}
@@ -267,19 +267,59 @@ pub record ExampleUnclearEnd : Type 0 where
   pub repeated :
       ComesTo (since_payment 1 (codes "1") 1099 (since_reported unknown_status 0)) (reported_calls 0 ++ CutPt 0 ∷ SendTill 1 (payment_failure (codes "1") InProgress) ∷ []) (Unlinked (Some 1741342269))
 
+-- ---- a report while it is open
+
+-- the payment has begun with this trace number before it, and the link is lost
+abbrev pub since_lost : ℕ → Since
+since_lost last = since_linked LinkIsLost (since_begun last)
+
+-- a later run, with the same records
+abbrev pub since_restarted : Since → Since
+since_restarted since = record since { known = record since.known { core = new_core since.known.setup } }
+
 -- the terminal is linked again, registers and is enquired
-abbrev pub since_enquired : Since
-since_enquired = since_sent ack (since_sent completion (since_sent ack (since_linked LinkIsMade since_failed_send)))
+abbrev pub since_enquired : Since → Since
+since_enquired since = since_sent ack (since_sent completion (since_sent ack (since_linked LinkIsMade since)))
 
 -- what is owed until then
-abbrev pub enquired_calls : List OwedCall
-enquired_calls = begun_calls 0 ++ SendPt 0 (Ask (registration one_pt)) ∷ acknowledged_once ++ SendPt 0 (Ask (enquiry_command one_pt)) ∷ []
+abbrev pub enquired_calls : ℕ → List OwedCall
+enquired_calls last = begun_calls last ++ SendPt 0 (Ask (registration one_pt)) ∷ acknowledged_once ++ SendPt 0 (Ask (enquiry_command one_pt)) ∷ []
 
--- while a payment is open a report isn't used yet: the connection is cut, and the payment stays in progress
-pub record ExampleReportWhileOpen : Type 0 where
-  pub enquired : ComesTo since_enquired enquired_calls Enquiring
-  pub reported : ComesTo (since_sent completion (since_sent approved_status since_enquired)) (enquired_calls ++ acknowledged_once ++ acknowledged_once ++ CutPt 0 ∷ []) (Unlinked (Some 1741342269))
-  pub none : ComesTo (since_sent (abort 0x83) since_enquired) (enquired_calls ++ acknowledged_once ++ CutPt 0 ∷ []) (Unlinked (Some 1741342269))
+-- it reports its last transaction with this status
+abbrev pub since_reporting : List ℕ → Since → Since
+since_reporting status since = since_sent completion (since_sent status since)
+
+-- what is owed until then
+abbrev pub reporting_calls : ℕ → List OwedCall
+reporting_calls last = enquired_calls last ++ acknowledged_once ++ acknowledged_once
+
+-- a Status with the result code 6C, trace number 123 and receipt number 17
+abbrev pub cancelled_status : List ℕ
+cancelled_status = 0x04 ∷ 0x0F ∷ 0x09 ∷ 0x27 ∷ 0x6C ∷ 0x0B ∷ 0x00 ∷ 0x01 ∷ 0x23 ∷ 0x87 ∷ 0x00 ∷ 0x17 ∷ []
+
+-- A trace number above the one before is the payment's own: its Outcome is kept, and the till that is still there gets the reply. The one before says that nothing came of it, also where the terminal has no last transaction. In a later run no till gets a reply.
+pub record ExampleReportsOfOpen : Type 0 where
+  pub enquired : ComesTo (since_enquired (since_lost 0)) (enquired_calls 0) Enquiring
+  pub approved : ComesTo (since_reporting approved_status (since_enquired (since_lost 0))) (reporting_calls 0 ++ ended_with_reply (approved_with_amount 1099) (approved_reply 1099)) (Ready 123)
+  pub declined : ComesTo (since_reporting cancelled_status (since_enquired (since_lost 122))) (reporting_calls 122 ++ ended_with_reply (declined_for Cancel) (declined_reply Cancel)) (Ready 123)
+  pub unperformed : ComesTo (since_reporting approved_status (since_enquired (since_lost 123))) (reporting_calls 123 ++ ended_with_reply (declined_for Aborted) (declined_reply Aborted)) (Ready 123)
+  pub none : ComesTo (since_sent (abort 0x83) (since_enquired (since_lost 0))) (enquired_calls 0 ++ acknowledged_once ++ ended_with_reply (declined_for Aborted) (declined_reply Aborted)) (Ready 0)
+  pub later_run : ComesTo (since_reporting approved_status (since_enquired (since_restarted (since_begun 0)))) (reporting_calls 0 ++ keep_calls 1 (Outcome (approved_with_amount 1099))) (Ready 123)
+  pub none_later : ComesTo (since_sent (abort 0x83) (since_enquired (since_restarted (since_begun 0)))) (enquired_calls 0 ++ acknowledged_once ++ keep_calls 1 (Outcome (declined_for Aborted))) (Ready 0)
+  pub repeated :
+      ComesTo (since_payment 2 (codes "1") 1099 (since_reporting approved_status (since_enquired (since_restarted (since_begun 0)))))
+      (reporting_calls 0 ++ keep_calls 1 (Outcome (approved_with_amount 1099)) ++ SendTill 2 (approved_reply 1099) ∷ []) (Ready 123)
+
+-- A trace number below the one before sets the terminal aside: nothing is kept, the payment stays in progress, and no payment is begun; it stays so whatever the terminal sends, until its link is lost, and then it is enquired again.
+pub record ExampleReportBelowOpen : Type 0 where
+  pub below : ComesTo (since_reporting approved_status (since_enquired (since_lost 124))) (reporting_calls 124) (Aside 124 123)
+  pub status :
+      ComesTo (since_status 1 (codes "1") (since_reporting approved_status (since_enquired (since_lost 124))))
+      (reporting_calls 124 ++ SendTill 1 (failure_reply (till_header (codes "TransactionStatus") (codes "3")) InProgress) ∷ []) (Aside 124 123)
+  pub second :
+      ComesTo (since_payment 2 (codes "2") 500 (since_reporting approved_status (since_enquired (since_lost 124)))) (reporting_calls 124 ++ SendTill 2 (payment_failure (codes "2") UnavailableDevice) ∷ []) (Aside 124 123)
+  pub stays : ComesTo (since_reporting approved_status (since_reporting approved_status (since_enquired (since_lost 124)))) (reporting_calls 124 ++ acknowledged_once ++ acknowledged_once) (Aside 124 123)
+  pub lost : ComesTo (since_linked LinkIsLost (since_reporting approved_status (since_enquired (since_lost 124)))) (reporting_calls 124) (Unlinked (Some 1741342269))
 
 -- once the payment is approved, the terminal is linked again, registers and is enquired
 abbrev pub since_enquired_again : Since

@@ -1,7 +1,8 @@
--- Laws of payments: each begins with its Intent kept, each ends with its Outcome kept before its till gets the reply, and a repeated request asks no terminal.
+-- Laws of payments: each begins with its Intent kept, each ends with its Outcome kept before its till gets the reply, or has it by a report, and a repeated request asks no terminal.
 use Rattle.std.specs.Prelude.{◌≡◌, ◌⊎◌, ◌<◌, ◌≤◌, ℕ, pos, Bool, true, false, ◌||◌, bytes_eq, List, [], ◌∷◌, ◌++◌, length, slice_get, Option, Some, None, Ok}
 use Rattle.std.specs.Option.{option_map}
 use Rattle.gw_base.specs.Currency.{currency_letters, currency_number}
+use Rattle.gw_base.specs.declared.condition.Condition.TheVariants.{Aborted}
 use Rattle.gw_base.specs.declared.figures.Figures.{Figures}
 use Rattle.gw_base.specs.declared.key.Key.{Key}
 use Rattle.gw_site.specs.Outside.{Connection, is_connected}
@@ -21,6 +22,7 @@ use Rattle.jrn_record.specs.declared.records.Intent.{Intent as TheIntent}
 use Rattle.jrn_record.specs.declared.records.Outcome.{Outcome as TheOutcome}
 use Rattle.jrn_record.specs.declared.records.Record.{Record}
 use Rattle.jrn_record.specs.declared.records.Record.TheVariants.{Intent, Outcome}
+use Rattle.gw_ledger.specs.declared.entry.Entry.{Entry as TheEntry}
 use Rattle.gw_ledger.specs.declared.entry.Found.{Found}
 use Rattle.gw_ledger.specs.Keys.{intent_key}
 use Rattle.gw_ledger.specs.Sums.{is_intent}
@@ -34,11 +36,12 @@ use Rattle.gw_owes.specs.Handling.{meaning_at, handle_row}
 use Rattle.gw_owes.specs.Items.{RoundItem, Crowded, Message, Asked, Unframed, Gone, Greet, Handle, Serve, NextWaiting, Oversized, LinkLost, Late, Overdue, Due}
 use Rattle.gw_owes.specs.KeptReplies.{own_key, found_for}
 use Rattle.gw_owes.specs.ReadAs.{ReadAs, Request}
+use Rattle.gw_owes.specs.Reports.{Report, on_record, outcome_reported}
 use Rattle.gw_owes.specs.Row.{Known, Row}
 use Rattle.gw_owes.specs.Rows.{row_of}
 use Rattle.gw_owes.specs.Serving.{was_stopped, reply_to_outcome, last_after_decline}
 use Rattle.gw_owes.specs.Steps.{Begins, step_result}
-use Rattle.gw_owes.specs.TerminalLaws.{GoesOnTo}
+use Rattle.gw_owes.specs.TerminalLaws.{GoesOnTo, ReportsAt}
 use Rattle.gw_owes.specs.Terminals.{terminal_at, reply_calls_to}
 
 -- ---- calls
@@ -236,15 +239,62 @@ pub record EndsServed (known : Known) (number : ℕ) (apdu : ApduValue) (calls :
   pub end_is : IsOutcomeOf meant last outcome
   pub calls_are : calls ≡ outcome_calls known terminal outcome
 
+-- a terminal reports its last transaction while this payment or reversal of it is open, with this trace number before
+pub record ReportsOfOpen (known : Known) (number : ℕ) (apdu : ApduValue) (terminal : Terminal) (report : Report) (entry : TheEntry) : Type 0 where
+  pub reports : ReportsAt known number apdu terminal report
+  pub opened : (on_record known.kept terminal.pt.poi).opened ≡ Some entry
+
+-- such a report resolves what is open, and the Outcome is kept before the reply is sent
+pub record ReportResolves (known : Known) (number : ℕ) (apdu : ApduValue) (calls : List OwedCall) : Type 0 where
+  pub terminal : Terminal
+  pub report : Report
+  pub entry : TheEntry
+  pub of_open : ReportsOfOpen known number apdu terminal report entry
+  pub not_below : entry.intent.before ≤ report.trace
+  pub calls_are : calls ≡ outcome_calls known terminal (outcome_reported entry report known.moment)
+
+-- a message of a terminal ends what it serves, or reports of what is open
+abbrev pub ResolvesKey : Known → ℕ → ApduValue → List OwedCall → Type 0
+ResolvesKey known number apdu calls = EndsServed known number apdu calls ⊎ ReportResolves known number apdu calls
+
 -- where a message of a terminal sends a till anything, an Outcome is kept first, and that is the reply to it
 abbrev pub EachTillHasItsOutcomeKept : Type 0
-EachTillHasItsOutcomeKept = (known : Known) (number : ℕ) (apdu : ApduValue) → sends_till (handle_row known number apdu).calls ≡ true → EndsServed known number apdu (handle_row known number apdu).calls
+EachTillHasItsOutcomeKept = (known : Known) (number : ℕ) (apdu : ApduValue) → sends_till (handle_row known number apdu).calls ≡ true → ResolvesKey known number apdu (handle_row known number apdu).calls
 
--- a message of a terminal keeps no record but the Outcome of what it ends
+-- a message of a terminal keeps no record but the Outcome of what it ends, or of what it reports
 abbrev pub EachRecordIsOfAnEnd : Type 0
 EachRecordIsOfAnEnd =
     (known : Known) (number : ℕ) (apdu : ApduValue) (the_record : Record) (more : List Record) → records_kept (handle_row known number apdu).calls ≡ the_record ∷ more
-    → EndsServed known number apdu (handle_row known number apdu).calls
+    → ResolvesKey known number apdu (handle_row known number apdu).calls
+
+-- ---- a report resolves what is open
+
+-- a report with a trace number above the one before is the end of what is open: where it was approved its figures are kept
+abbrev pub ReportedApprovalIsKept : Type 0
+ReportedApprovalIsKept =
+    (known : Known) (number : ℕ) (apdu : ApduValue) (terminal : Terminal) (report : Report) (entry : TheEntry) (figures : Figures) → ReportsOfOpen known number apdu terminal report entry
+    → entry.intent.before < report.trace → report.approved ≡ Some figures
+    → GoesOnTo number (Ready report.trace)
+    (outcome_calls known terminal (record { approved = true; slot = entry.slot; number = figures.number; receipt = figures.receipt; amount = figures.amount; condition = None; moment = pos known.moment }))
+    (handle_row known number apdu)
+
+-- and else the condition of its code, as where nothing was stopped
+abbrev pub ReportedDeclineIsKept : Type 0
+ReportedDeclineIsKept =
+    (known : Known) (number : ℕ) (apdu : ApduValue) (terminal : Terminal) (report : Report) (entry : TheEntry) → ReportsOfOpen known number apdu terminal report entry
+    → entry.intent.before < report.trace → report.approved ≡ None
+    → GoesOnTo number (Ready report.trace)
+    (outcome_calls known terminal (record { approved = false; slot = entry.slot; number = 0; receipt = 0; amount = 0; condition = Some (condition_of_code report.result_code false); moment = pos known.moment }))
+    (handle_row known number apdu)
+
+-- where the last trace number is still the one before, nothing came of what is open: it is `Aborted`, whatever the last transaction was
+abbrev pub UnperformedIsAborted : Type 0
+UnperformedIsAborted =
+    (known : Known) (number : ℕ) (apdu : ApduValue) (terminal : Terminal) (report : Report) (entry : TheEntry) → ReportsOfOpen known number apdu terminal report entry
+    → report.trace ≡ entry.intent.before
+    → GoesOnTo number (Ready report.trace)
+    (outcome_calls known terminal (record { approved = false; slot = entry.slot; number = 0; receipt = 0; amount = 0; condition = Some Aborted; moment = pos known.moment }))
+    (handle_row known number apdu)
 
 -- ---- repeats
 

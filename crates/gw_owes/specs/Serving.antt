@@ -1,5 +1,6 @@
 -- What a message means for a payment or a reversal that a terminal serves: its end is kept, and then its till gets the reply.
 use Rattle.std.specs.Prelude.{ℕ, ◌+◌, pos, nat_lt, Bool, true, false, if◌then◌else◌, List, [], ◌∷◌, ◌++◌, length, Option, Some, None, option_and_then}
+use Rattle.gw_base.specs.declared.condition.Condition.{Condition}
 use Rattle.gw_base.specs.declared.figures.Figures.{Figures}
 use Rattle.zvt_msg.specs.declared.command.Command.TheVariants as command
 use Rattle.zvt_talk.specs.declared.meaning.Heard.{Heard}
@@ -19,7 +20,6 @@ use Rattle.gw_owes.specs.declared.terminal.Terminal.{Terminal}
 use Rattle.gw_owes.specs.Calls.{Ask, SendPt, CutPt, keep_calls}
 use Rattle.gw_owes.specs.KeptReplies.{kept_reply}
 use Rattle.gw_owes.specs.Reply.{ReplyValue}
-use Rattle.gw_owes.specs.Reports.{at_rest}
 use Rattle.gw_owes.specs.Row.{Known, Row}
 use Rattle.gw_owes.specs.Terminals.{terminal_becomes, reply_calls_to}
 
@@ -56,21 +56,29 @@ abbrev pub was_stopped : Option TalkFacts → Bool
 was_stopped None = false
 was_stopped (Some talk) = was_stop_sent talk.phase
 
--- a decline for this result code
-abbrev pub declined_outcome : ℕ → ℕ → Bool → ℕ → TheOutcome
-declined_outcome slot result_code stop_sent moment = record {
+-- a refusal for this reason
+abbrev pub refused_outcome : ℕ → Condition → ℕ → TheOutcome
+refused_outcome slot condition moment = record {
   approved = false;
   slot = slot;
   number = 0;
   receipt = 0;
   amount = 0;
-  condition = Some (condition_of_code result_code stop_sent);
+  condition = Some condition;
   moment = pos moment;
 }
+
+-- a decline for this result code
+abbrev pub declined_outcome : ℕ → ℕ → Bool → ℕ → TheOutcome
+declined_outcome slot result_code stop_sent moment = refused_outcome slot (condition_of_code result_code stop_sent) moment
 
 -- the reply to the entry of this slot once it has this Outcome
 abbrev pub reply_to_outcome : List Record → ℕ → TheOutcome → Option ReplyValue
 reply_to_outcome kept slot outcome = option_and_then (λ (entry : TheEntry). kept_reply (Entry (record entry { result = Some outcome }))) (entry_at kept slot)
+
+-- no dialogue runs any more, and the terminal has this standing
+abbrev pub at_rest : Terminal → Standing → Terminal
+at_rest terminal standing = record terminal { standing = standing; talk = None }
 
 -- the dialogue is over and no till waits for its end any more: the terminal has this standing
 abbrev pub done_with : Terminal → Standing → Terminal

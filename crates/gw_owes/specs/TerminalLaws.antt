@@ -10,7 +10,7 @@ use Rattle.zvt_talk.specs.declared.meaning.Heard.TheVariants as heard
 use Rattle.zvt_talk.specs.declared.phase.Phase.TheVariants.{Asked}
 use Rattle.zvt_talk.specs.Laws.{IsAckOrNack}
 use Rattle.zvt_talk.specs.Talk.{TalkFacts}
-use Rattle.gw_owes.specs.Calls.{Sending, Ask, Acknowledge, Refuse, OwedCall, SendTill, SendPt, CutTill, CutPt, LinkPt, WriteBody, WriteGate, WriteFirstGate, Sync, sending_bytes}
+use Rattle.gw_owes.specs.Calls.{Sending, Ask, Acknowledge, Refuse, OwedCall, SendTill, SendPt, CutTill, CutPt, LinkPt, WriteBody, WriteGate, WriteFirstGate, Sync, sending_bytes, records_kept}
 use Rattle.gw_owes.specs.declared.terminal.Service.TheVariants.{Transaction}
 use Rattle.gw_owes.specs.declared.terminal.Standing.{Standing}
 use Rattle.gw_owes.specs.declared.terminal.Standing.TheVariants.{Unlinked, Registering, Enquiring, Ready, Serving, Aside}
@@ -22,9 +22,9 @@ use Rattle.gw_owes.specs.Terminals.{terminal_at, registration}
 use Rattle.gw_owes.specs.Links.{is_linked, LinkEvent, LinkIsMade, link_row}
 use Rattle.gw_owes.specs.Greeting.{greet_row, oversized_row}
 use Rattle.gw_owes.specs.Handling.{awaited_after, meaning_at, enquiry_command, handle_row}
-use Rattle.gw_owes.specs.Reports.{on_record}
+use Rattle.gw_owes.specs.Reports.{Report, on_record, least_reported}
 use Rattle.gw_owes.specs.Deadlines.{is_due, due_row}
-use Rattle.gw_owes.specs.TerminalRows.{terminal_of, terminal_row}
+use Rattle.gw_owes.specs.TerminalRows.{terminal_of, terminal_row, is_link_lost}
 
 -- ---- what stays
 
@@ -151,22 +151,11 @@ owes_cut (Sync ∷ calls) = owes_cut calls
 abbrev pub IsBeforeReady : Standing → Type 0
 IsBeforeReady standing = (standing ≡ Registering) ⊎ (standing ≡ Enquiring)
 
--- the terminal reports its last transaction while a payment or a reversal of it is open, which is as unclear as no report
-pub record ReportsWhileOpen (known : Known) (terminal : Terminal) (message : MessageValue) : Type 0 where
-  pub standing_is : terminal.standing ≡ Enquiring
-  pub reported : ℕ
-  pub approved : Option Figures
-  pub result_code : ℕ
-  pub meant : meaning_at terminal message ≡ heard.Told reported approved result_code
-  pub before : ℕ
-  pub is_open : (on_record known.kept terminal.pt.poi).open_before ≡ Some before
-
--- why a message breaks its dialogue: its end is unclear, it declines a registration or an enquiry, or it reports while a key is open
-abbrev pub Breaks : Known → Terminal → MessageValue → Type 0
-Breaks known terminal message =
+-- why a message breaks its dialogue: its end is unclear, or it declines a registration or an enquiry
+abbrev pub Breaks : Terminal → MessageValue → Type 0
+Breaks terminal message =
     (meaning_at terminal message ≡ heard.Unclear)
-    ⊎ (((result_code : ℕ) × (trace : Option ℕ) × (meaning_at terminal message ≡ heard.Declined result_code trace) × IsBeforeReady terminal.standing)
-    ⊎ ReportsWhileOpen known terminal message)
+    ⊎ ((result_code : ℕ) × (trace : Option ℕ) × (meaning_at terminal message ≡ heard.Declined result_code trace) × IsBeforeReady terminal.standing)
 
 -- the message of an APDU breaks its dialogue
 pub record BreaksDialogue (known : Known) (number : ℕ) (apdu : ApduValue) : Type 0 where
@@ -174,7 +163,7 @@ pub record BreaksDialogue (known : Known) (number : ℕ) (apdu : ApduValue) : Ty
   pub found : terminal_at known number ≡ Some terminal
   pub message : MessageValue
   pub decoded : decode_pt_message apdu ≡ Ok message
-  pub why : Breaks known terminal message
+  pub why : Breaks terminal message
 
 -- the terminal has a dialogue whose deadline is now or before
 pub record IsLateAt (known : Known) (number : ℕ) : Type 0 where
@@ -281,13 +270,20 @@ RegisteredIsEnquired =
     (known : Known) (number : ℕ) (apdu : ApduValue) (terminal : Terminal) (message : MessageValue) → terminal_at known number ≡ Some terminal → terminal.standing ≡ Registering
     → decode_pt_message apdu ≡ Ok message → meaning_at terminal message ≡ heard.Done → GoesOnTo number Enquiring (SendPt number (Ask (enquiry_command terminal.pt)) ∷ []) (handle_row known number apdu)
 
+-- a terminal that is enquired sends a message that reports its last transaction
+pub record ReportsAt (known : Known) (number : ℕ) (apdu : ApduValue) (terminal : Terminal) (report : Report) : Type 0 where
+  pub found : terminal_at known number ≡ Some terminal
+  pub standing_is : terminal.standing ≡ Enquiring
+  pub message : MessageValue
+  pub decoded : decode_pt_message apdu ≡ Ok message
+  pub means : meaning_at terminal message ≡ heard.Told report.trace report.approved report.result_code
+
 -- one whose enquiry reports a trace number is ready with it, where no payment and no reversal of it is open and none has a greater one
 abbrev pub EnquiredIsReady : Type 0
 EnquiredIsReady =
-    (known : Known) (number : ℕ) (apdu : ApduValue) (terminal : Terminal) (message : MessageValue) (reported : ℕ) (approved : Option Figures) (result_code : ℕ) → terminal_at known number ≡ Some terminal
-    → terminal.standing ≡ Enquiring → decode_pt_message apdu ≡ Ok message → meaning_at terminal message ≡ heard.Told reported approved result_code
-    → (on_record known.kept terminal.pt.poi).open_before ≡ None → (on_record known.kept terminal.pt.poi).last ≤ reported
-    → GoesOnTo number (Ready reported) [] (handle_row known number apdu)
+    (known : Known) (number : ℕ) (apdu : ApduValue) (terminal : Terminal) (report : Report) → ReportsAt known number apdu terminal report
+    → (on_record known.kept terminal.pt.poi).opened ≡ None → (on_record known.kept terminal.pt.poi).last ≤ report.trace
+    → GoesOnTo number (Ready report.trace) [] (handle_row known number apdu)
 
 -- ---- terminals that are set aside
 
@@ -297,14 +293,13 @@ pub record IsAsideAt (core : Core) (number before reported : ℕ) : Type 0 where
   pub found : slice_get core.terminals number ≡ Some terminal
   pub standing_is : terminal.standing ≡ Aside before reported
 
--- the terminal is enquired and reports a trace number below the last one of its records, while no payment and no reversal of it is open
+-- the terminal is enquired and reports a trace number below the least that it may report: the one before its open payment or reversal, or the last one of its records
 pub record ReportsBelow (known : Known) (terminal : Terminal) (message : MessageValue) (before reported : ℕ) : Type 0 where
   pub standing_is : terminal.standing ≡ Enquiring
   pub approved : Option Figures
   pub result_code : ℕ
   pub meant : meaning_at terminal message ≡ heard.Told reported approved result_code
-  pub none_open : (on_record known.kept terminal.pt.poi).open_before ≡ None
-  pub before_is : before ≡ (on_record known.kept terminal.pt.poi).last
+  pub before_is : before ≡ least_reported (on_record known.kept terminal.pt.poi)
   pub below : reported < before
 
 -- the terminal approves what it serves with a trace number that is not above the one before
@@ -336,10 +331,21 @@ EachAsideHasCause =
 abbrev pub NoLinkEventSetsAside : Type 0
 NoLinkEventSetsAside = (known : Known) (number : ℕ) (event : LinkEvent) (before reported : ℕ) → ((least other : ℕ) → IsAsideAt known.core number least other → ⊥) → IsAsideAt (link_row known number event).core number before reported → ⊥
 
--- one whose enquiry reports a trace number below the last one, where no payment and no reversal of it is open, is set aside
+-- one whose enquiry reports a trace number below the least is set aside, and nothing is kept
 abbrev pub EnquiredIsSetAside : Type 0
 EnquiredIsSetAside =
-    (known : Known) (number : ℕ) (apdu : ApduValue) (terminal : Terminal) (message : MessageValue) (reported : ℕ) (approved : Option Figures) (result_code : ℕ) → terminal_at known number ≡ Some terminal
-    → terminal.standing ≡ Enquiring → decode_pt_message apdu ≡ Ok message → meaning_at terminal message ≡ heard.Told reported approved result_code
-    → (on_record known.kept terminal.pt.poi).open_before ≡ None → reported < (on_record known.kept terminal.pt.poi).last
-    → GoesOnTo number (Aside (on_record known.kept terminal.pt.poi).last reported) [] (handle_row known number apdu)
+    (known : Known) (number : ℕ) (apdu : ApduValue) (terminal : Terminal) (report : Report) → ReportsAt known number apdu terminal report
+    → report.trace < least_reported (on_record known.kept terminal.pt.poi)
+    → GoesOnTo number (Aside (least_reported (on_record known.kept terminal.pt.poi)) report.trace) [] (handle_row known number apdu)
+
+-- the terminal of this number is set aside after the item too: no record is kept for it, and no command is sent to it
+pub record StaysAside (known : Known) (item : RoundItem) (number before reported : ℕ) : Type 0 where
+  pub aside : IsAsideAt (terminal_row known item).core number before reported
+  pub kept_none : records_kept (terminal_row known item).calls ≡ []
+  pub asked_none : commands_in (terminal_row known item).calls ≡ 0
+
+-- whatever it sends, it stays so until its link is lost: no record is kept for it, and no command is sent to it
+abbrev pub AsideStaysAside : Type 0
+AsideStaysAside =
+    (known : Known) (item : RoundItem) (number before reported : ℕ) → terminal_of item ≡ Some number → is_link_lost item ≡ false → IsAsideAt known.core number before reported
+    → StaysAside known item number before reported

@@ -1,5 +1,5 @@
 -- What each item of a terminal owes.
-use Rattle.std.specs.Prelude.{ℕ, Option, Some, None}
+use Rattle.std.specs.Prelude.{ℕ, Bool, true, false, Option, Some, None}
 use Rattle.gw_owes.specs.Items.{RoundItem, Crowded, Message, Asked, Unframed, Gone, Greet, Handle, Serve, NextWaiting, Oversized, LinkLost, Late, Overdue, Due}
 use Rattle.gw_owes.specs.Row.{Known, Row, owing_nothing}
 use Rattle.gw_owes.specs.Links.{LinkIsLost, link_row}
@@ -24,6 +24,23 @@ terminal_of (LinkLost number) = Some number
 terminal_of (Late number) = Some number
 terminal_of (Overdue key) = None
 terminal_of (Due number) = Some number
+
+-- the item says that the terminal's link is lost
+abbrev pub is_link_lost : RoundItem → Bool
+is_link_lost (Crowded till) = false
+is_link_lost (Message till bytes) = false
+is_link_lost (Asked till as_read) = false
+is_link_lost (Unframed till) = false
+is_link_lost (Gone till) = false
+is_link_lost (Greet number apdu) = false
+is_link_lost (Handle number apdu) = false
+is_link_lost (Serve number till header request) = false
+is_link_lost (NextWaiting number) = false
+is_link_lost (Oversized number) = false
+is_link_lost (LinkLost number) = true
+is_link_lost (Late number) = false
+is_link_lost (Overdue key) = false
+is_link_lost (Due number) = false
 
 -- What an item of a terminal leaves and owes as it begins; other items owe nothing here. No request waits for a terminal yet, so that none is begun.
 abbrev pub terminal_row : Known → RoundItem → Row

@@ -1,5 +1,5 @@
 -- The transcript of a terminal's link, which is all that was sent and taken on it, and what the gateway remembers of the terminal by that flat list.
-use Rattle.std.specs.Prelude.{◌≡◌, ℕ, ◌+◌, pos, Bool, true, false, if◌then◌else◌, List, [], ◌∷◌, ◌++◌, nat_lt, slice_get, Option, Some, None, is_some, option_and_then, Result, Ok, Err, ◌==◌}
+use Rattle.std.specs.Prelude.{◌≡◌, ℕ, ◌+◌, pos, Bool, false, if◌then◌else◌, List, [], ◌∷◌, ◌++◌, nat_lt, slice_get, Option, Some, None, is_some, option_and_then, Result, Ok, Err, ◌==◌}
 use Rattle.std.specs.Option.{option_or}
 use Rattle.gw_base.specs.declared.setup.Pt.{Pt}
 use Rattle.gw_base.specs.declared.setup.Setup.{Setup}
@@ -25,17 +25,17 @@ use Rattle.gw_owes.specs.Items.{RoundItem, Crowded, Message, Asked, Unframed, Go
 use Rattle.gw_owes.specs.Row.{Known, Row}
 use Rattle.gw_owes.specs.Terminals.{terminal_at}
 use Rattle.gw_owes.specs.Links.{is_linked, LinkEvent, LinkIsLost, link_row}
-use Rattle.gw_owes.specs.Reports.{standing_reported, on_record}
+use Rattle.gw_owes.specs.Reports.{standing_reported, on_record, least_reported}
 use Rattle.gw_owes.specs.Serving.{last_after_decline}
 use Rattle.gw_owes.specs.Handling.{awaited_after, taken_as}
 use Rattle.gw_owes.specs.TerminalLaws.{owes_cut}
-use Rattle.gw_owes.specs.TerminalRows.{terminal_of, terminal_row}
+use Rattle.gw_owes.specs.TerminalRows.{terminal_of, terminal_row, is_link_lost}
 
 -- what a link carries, at its moment; a transcript is a list of these since the link was made, the newest first
 pub data Carried : Type 0 where
   -- this command was sent
   Commanded : Command → ℕ → Carried
-  -- this message was taken, when the records had this last trace number of the terminal
+  -- this message was taken, when by the records this was the least trace number that the terminal might report
   Took : MessageValue → ℕ → ℕ → Carried
 
 -- ---- what is remembered, by the transcript
@@ -44,13 +44,13 @@ pub data Carried : Type 0 where
 abbrev pub awaited_by : List Carried → ℕ
 awaited_by [] = 0
 awaited_by (Commanded command moment ∷ earlier) = awaited_by earlier + 1
-awaited_by (Took message moment last ∷ earlier) = awaited_after message (awaited_by earlier)
+awaited_by (Took message moment least ∷ earlier) = awaited_after message (awaited_by earlier)
 
 -- the dialogue of the last command that begins one
 abbrev pub dialogue_by : Pt → List Carried → Option Dialogue
 dialogue_by pt [] = None
 dialogue_by pt (Commanded command moment ∷ earlier) = option_or (dialogue_of command pt.none pt.answer pt.command (pos moment)) (dialogue_by pt earlier)
-dialogue_by pt (Took message moment last ∷ earlier) = dialogue_by pt earlier
+dialogue_by pt (Took message moment least ∷ earlier) = dialogue_by pt earlier
 
 -- one message more, as the dialogue is handed it where so many Acks and Nacks are awaited
 abbrev pub came_with : MessageValue → ℕ → ℕ → List Came → List Came
@@ -60,7 +60,7 @@ came_with message moment awaited came = came ++ CameMessage (taken_as awaited me
 abbrev pub came_by : List Carried → List Came
 came_by [] = []
 came_by (Commanded command moment ∷ earlier) = if is_some (dialogue_kind_of command) then [] else came_by earlier
-came_by (Took message moment last ∷ earlier) = came_with message moment (awaited_by earlier) (came_by earlier)
+came_by (Took message moment least ∷ earlier) = came_with message moment (awaited_by earlier) (came_by earlier)
 
 -- the talk of a dialogue after all that came, while it goes on
 abbrev pub talk_going_on : Dialogue → List Came → Option TalkFacts
@@ -148,7 +148,7 @@ standing_commanded (commands.Show lines) standing = None
 abbrev pub standing_by : Pt → List Carried → Option Standing
 standing_by pt [] = Some (Unlinked None)
 standing_by pt (Commanded command moment ∷ earlier) = standing_commanded command (standing_by pt earlier)
-standing_by pt (Took message moment last ∷ earlier) = option_and_then (standing_taken last (ended_with pt message moment earlier)) (standing_by pt earlier)
+standing_by pt (Took message moment least ∷ earlier) = option_and_then (standing_taken least (ended_with pt message moment earlier)) (standing_by pt earlier)
 
 -- what is served without its slot in the records
 abbrev pub without_slot : Service → Service
@@ -196,13 +196,13 @@ commanded_by moment (Sync ∷ calls) = commanded_by moment calls
 
 -- a message is taken but where it is outside the table; an APDU outside the grammar is none
 abbrev pub took_decoded : ℕ → ℕ → Result MessageValue PtFault → List Carried
-took_decoded moment last (Ok message) = if is_taken message then Took message moment last ∷ [] else []
-took_decoded moment last (Err fault) = []
+took_decoded moment least (Ok message) = if is_taken message then Took message moment least ∷ [] else []
+took_decoded moment least (Err fault) = []
 
 -- what is taken of a terminal, where there is one and it is linked
 abbrev pub took_of : Known → Option Terminal → Result MessageValue PtFault → List Carried
 took_of known None decoded = []
-took_of known (Some terminal) decoded = if is_linked terminal.standing then took_decoded known.moment (on_record known.kept terminal.pt.poi).last decoded else []
+took_of known (Some terminal) decoded = if is_linked terminal.standing then took_decoded known.moment (least_reported (on_record known.kept terminal.pt.poi)) decoded else []
 
 -- the message that an item takes
 abbrev pub took_by : Known → RoundItem → List Carried
@@ -230,23 +230,6 @@ abbrev pub transcript_anew : Known → ℕ → LinkEvent → List Carried
 transcript_anew known number event = commanded_by known.moment (link_row known number event).calls
 
 -- ---- the law
-
--- the item says that the terminal's link is lost
-abbrev pub is_link_lost : RoundItem → Bool
-is_link_lost (Crowded till) = false
-is_link_lost (Message till bytes) = false
-is_link_lost (Asked till as_read) = false
-is_link_lost (Unframed till) = false
-is_link_lost (Gone till) = false
-is_link_lost (Greet number apdu) = false
-is_link_lost (Handle number apdu) = false
-is_link_lost (Serve number till header request) = false
-is_link_lost (NextWaiting number) = false
-is_link_lost (Oversized number) = false
-is_link_lost (LinkLost number) = true
-is_link_lost (Late number) = false
-is_link_lost (Overdue key) = false
-is_link_lost (Due number) = false
 
 -- the transcript after an item of the terminal: with its link it begins anew
 abbrev pub transcript_after : Known → RoundItem → List Carried → List Carried

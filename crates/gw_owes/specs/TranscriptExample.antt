@@ -132,8 +132,8 @@ serving_transcript = Commanded (Authorise 1099 978) 5 ∷ ready_transcript
 
 -- a Status with this result code and this trace number is taken
 abbrev pub took_status : ℕ → ℕ → ℕ → ℕ → Carried
-took_status result_code trace moment last =
-    Took (Status (record { result = Some result_code; amount = Some 1099; trace = Some trace; receipt = Some 17; currency = None; tail = 16 })) moment last
+took_status result_code trace moment least =
+    Took (Status (record { result = Some result_code; amount = Some 1099; trace = Some trace; receipt = Some 17; currency = None; tail = 16 })) moment least
 
 -- that of the one whose payment was approved
 abbrev pub approved_transcript : List Carried

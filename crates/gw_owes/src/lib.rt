@@ -10,7 +10,9 @@ mod step_laws;
 mod terminal;
 mod terminal_laws;
 
-pub use payment_laws::{law_payment_begins, law_payment_ends, law_payment_examples, law_repeats};
+pub use payment_laws::{
+    law_open_reports, law_payment_begins, law_payment_ends, law_payment_examples, law_repeats,
+};
 pub use record_laws::{law_meanings, law_record_examples, law_records};
 pub use step_laws::{law_on_record, law_step_examples};
 pub use terminal::{Service, Standing, Terminal};

@@ -1,6 +1,6 @@
 //! Laws of payments. Each function does nothing: its contract is the law.
-ghost use Rattle.gw_owes.specs.PaymentExample.{ExampleApproved, ExampleCommandFails, ExampleDeclined, ExampleNotAbove, ExamplePaymentAccepted, ExamplePaymentBegins, ExampleReportWhileOpen, ExampleRoom, ExampleSecondRequest, ExampleUnclearEnd};
-ghost use Rattle.gw_owes.specs.PaymentLaws.{ApprovalIsKept, DeclineIsKept, EachAcceptedBegins, EachAskedBeginsPayment, EachAskedSendsNoTerminal, EachBegunIsServed, EachIntentIsAsked, EachPaymentIsKeptFirst, EachRecordIsOfAnEnd, EachTillHasItsOutcomeKept, NotAboveIsSetAside, OnlyAskedBegins, RepeatBeginsNothing, UnclearKeepsNothing};
+ghost use Rattle.gw_owes.specs.PaymentExample.{ExampleApproved, ExampleCommandFails, ExampleDeclined, ExampleNotAbove, ExamplePaymentAccepted, ExamplePaymentBegins, ExampleReportsOfOpen, ExampleRoom, ExampleSecondRequest, ExampleUnclearEnd};
+ghost use Rattle.gw_owes.specs.PaymentLaws.{ApprovalIsKept, DeclineIsKept, EachAcceptedBegins, EachAskedBeginsPayment, EachAskedSendsNoTerminal, EachBegunIsServed, EachIntentIsAsked, EachPaymentIsKeptFirst, EachRecordIsOfAnEnd, EachTillHasItsOutcomeKept, NotAboveIsSetAside, OnlyAskedBegins, RepeatBeginsNothing, ReportedApprovalIsKept, ReportedDeclineIsKept, UnclearKeepsNothing, UnperformedIsAborted};
 
 /// A payment begins only with its Intent kept first, in the next slot, with the amount and the key of the request, the terminal's
 /// currency and its last trace number; and where an Intent is kept the terminal is asked next. A payment of a till that is there,
@@ -12,9 +12,9 @@ pub fn law_payment_begins()
     ensures served { EachBegunIsServed }
 {}
 
-/// A payment ends only with its Outcome kept before its till gets the reply. An approval keeps the figures that the terminal
-/// reported, where its trace number is above the one before; else nothing is kept, and the terminal is set aside. A decline keeps
-/// the condition of its code. An unclear end keeps nothing: the connection is cut, and the key stays open.
+/// A payment ends only with its Outcome kept before its till gets the reply, also where a report resolves it. An approval keeps the
+/// figures that the terminal reported, where its trace number is above the one before; else nothing is kept, and the terminal is set
+/// aside. A decline keeps the condition of its code. An unclear end keeps nothing: the connection is cut, and the key stays open.
 pub fn law_payment_ends()
     ensures reply { EachTillHasItsOutcomeKept }
     ensures kept { EachRecordIsOfAnEnd }
@@ -22,6 +22,18 @@ pub fn law_payment_ends()
     ensures aside { NotAboveIsSetAside }
     ensures declined { DeclineIsKept }
     ensures unclear { UnclearKeepsNothing }
+{}
+
+/// A payment or a reversal that is open is resolved by the terminal's report of its last transaction, in whatever run, with its Outcome
+/// kept before its till gets the reply, where it is there. A trace number above the one before is that of its own end: an approval keeps
+/// the figures that are reported, and a decline the condition of its code. Where it is still the one before, the terminal hasn't carried
+/// it out, and it is `Aborted`, whatever the last transaction was. (That the figures have the reported trace number is `law_meanings`.
+/// One below sets the terminal aside: `law_set_aside`.)
+pub fn law_open_reports()
+    ensures approved { ReportedApprovalIsKept }
+    ensures declined { ReportedDeclineIsKept }
+    ensures unperformed { UnperformedIsAborted }
+    ensures examples { ExampleReportsOfOpen }
 {}
 
 /// A request on a key that is on record asks no terminal: what a till asks sends none anything, and begins a payment, at the
@@ -35,7 +47,7 @@ pub fn law_repeats()
 
 /// Examples, which are computed: a payment of 10.99 that begins, and one whose command can't be sent; approvals, of all of it, of
 /// 9.00, with an unknown field, and for a till that is gone; one with a trace number that isn't above the one before; ends that are
-/// unclear, and a report while the payment is open; declines; repeats, a second payment, and one with too few slots.
+/// unclear; declines; repeats, a second payment, and one with too few slots.
 pub fn law_payment_examples()
     ensures begins { ExamplePaymentBegins }
     ensures accepted { ExamplePaymentAccepted }
@@ -43,7 +55,6 @@ pub fn law_payment_examples()
     ensures approved { ExampleApproved }
     ensures not_above { ExampleNotAbove }
     ensures unclear { ExampleUnclearEnd }
-    ensures report { ExampleReportWhileOpen }
     ensures declined { ExampleDeclined }
     ensures second { ExampleSecondRequest }
     ensures room { ExampleRoom }

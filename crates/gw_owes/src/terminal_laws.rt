@@ -1,8 +1,8 @@
 //! Laws of what the items of terminals and their links leave and owe. Each function does nothing: its contract is the law.
 ghost use Rattle.gw_owes.specs.Dialogues.{EachLinkGivesDialogues, EachRowKeepsDialogues, NewCoreHasDialogues};
-ghost use Rattle.gw_owes.specs.PaymentExample.{ExampleReportBelow};
+ghost use Rattle.gw_owes.specs.PaymentExample.{ExampleReportBelow, ExampleReportBelowOpen};
 ghost use Rattle.gw_owes.specs.TerminalExample.{ExampleAside, ExampleBecomesReady, ExampleComparedReports, ExampleDiagnosis, ExampleEnquiryFails, ExampleFailedSend, ExampleForeignCommand, ExampleLateStop, ExampleLinkFails, ExampleManyTerminals, ExampleOutside, ExampleRegistrationFails, ExampleReportsLast, ExampleSilence, ExampleStop, ExampleStrayMessages, ExampleUnlinked, ExampleUnserved};
-ghost use Rattle.gw_owes.specs.TerminalLaws.{AbsentIsOwedNothing, DueIsLinked, EachAckTakesOne, EachAsideHasCause, EachCauseCuts, EachCutHasCause, EachLinkChangesItsTerminal, EachLinkCountsAnew, EachMessageCounts, EachMessageIsGreeted, EachRowChangesItsTerminal, EnquiredIsReady, EnquiredIsSetAside, ForeignHasNoEffect, GreetingChangesNothing, GreetingsAreSpelled, LateNackIsUnclear, LinkedIsRegistered, NoLinkEventCuts, NoLinkEventSetsAside, RegisteredIsEnquired, UnlinkedIsOwedNothing};
+ghost use Rattle.gw_owes.specs.TerminalLaws.{AbsentIsOwedNothing, AsideStaysAside, DueIsLinked, EachAckTakesOne, EachAsideHasCause, EachCauseCuts, EachCutHasCause, EachLinkChangesItsTerminal, EachLinkCountsAnew, EachMessageCounts, EachMessageIsGreeted, EachRowChangesItsTerminal, EnquiredIsReady, EnquiredIsSetAside, ForeignHasNoEffect, GreetingChangesNothing, GreetingsAreSpelled, LateNackIsUnclear, LinkedIsRegistered, NoLinkEventCuts, NoLinkEventSetsAside, RegisteredIsEnquired, UnlinkedIsOwedNothing};
 ghost use Rattle.gw_owes.specs.Transcript.{EachLinkBeginsTranscript, EachRowFollowsTranscript, EachStepFollowsTranscript, NewCoreFollowsTranscript};
 ghost use Rattle.gw_owes.specs.TranscriptExample.{ExampleTranscript};
 
@@ -33,8 +33,8 @@ pub fn law_awaited()
 {}
 
 /// A terminal's connection is cut only for an APDU outside the grammar, bytes that begin one above the limit, an unclear end, a
-/// declined registration or enquiry, a report while a key of it is open, and a deadline; and where it is linked it is cut for each
-/// of these, and nothing else is owed then. Beside these there is the cut after a send that fails, which no item owes.
+/// declined registration or enquiry, and a deadline; and where it is linked it is cut for each of these, and nothing else is owed
+/// then. Beside these there is the cut after a send that fails, which no item owes.
 pub fn law_terminal_cuts()
     ensures items { EachCutHasCause }
     ensures causes { EachCauseCuts }
@@ -48,7 +48,8 @@ pub fn law_greetings()
     ensures spelled { GreetingsAreSpelled }
 {}
 
-/// A terminal that is due is linked, then registered, then enquired, and then ready with what it reports.
+/// A terminal that is due is linked, then registered, then enquired, and then ready with what it reports, where nothing is open on
+/// record and none on record is greater (else: `law_open_reports`, `law_set_aside`).
 pub fn law_way_to_ready()
     ensures due { DueIsLinked }
     ensures linked { LinkedIsRegistered }
@@ -56,14 +57,17 @@ pub fn law_way_to_ready()
     ensures enquired { EnquiredIsReady }
 {}
 
-/// A terminal is set aside only by a message of its own: where it is enquired, no payment and no reversal of it is open, and it
-/// reports a trace number below the last one of its records; or where it approves what it serves with one that isn't above the one
-/// before. And it is set aside by each such report.
+/// Of its own items a terminal is set aside only by a message: where it is enquired and reports a trace number below the one before its
+/// open payment or reversal, or, where none is open, below the last one of its records; or where it approves what it serves with one
+/// that isn't above the one before. It is set aside by each such report, and nothing is kept. It stays so through each item of its own
+/// until its link is lost, with no record kept for it and no command sent to it.
 pub fn law_set_aside()
     ensures items { EachAsideHasCause }
     ensures links { NoLinkEventSetsAside }
     ensures enquired { EnquiredIsSetAside }
+    ensures stays { AsideStaysAside }
     ensures example { ExampleReportBelow }
+    ensures open_example { ExampleReportBelowOpen }
 {}
 
 /// Each terminal has the dialogue of its standing: a registration, an enquiry or a payment that goes on, with the Ack or Nack of its

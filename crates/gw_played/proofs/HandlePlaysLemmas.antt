@@ -4,14 +4,12 @@ use Rattle.std.specs.Prelude.{◌⊎◌, pos, bytes_eq, if◌then◌else◌, map
 use Rattle.std.specs.List.{flat_map, list_any}
 use Rattle.std.specs.Option.{option_to_list}
 use Rattle.std.proofs.lemmas.Bool.{eqb-false, eqb-true}
-use Rattle.std.proofs.lemmas.Bool.Decides.{nat_tests}
 use Rattle.std.proofs.lemmas.List.Elements.{All-head, All-tail}
 use Rattle.gw_base.specs.Setup.{IsPt}
 use Rattle.gw_base.specs.declared.figures.Figures.{Figures}
 use Rattle.gw_base.specs.declared.setup.Pt.{Pt}
 use Rattle.gw_site.specs.Outside.{heard_on, is_connected}
 use Rattle.zvt_apdu.specs.Grammar.{ApduValue}
-use Rattle.zvt_apdu.specs.DecodeStream.{decode_apdus}
 use Rattle.zvt_msg.specs.declared.command.Command.{Command}
 use Rattle.zvt_msg.specs.declared.command.Command.TheVariants as commands
 use Rattle.zvt_msg.specs.declared.fault.PtFault.{PtFault}
@@ -21,10 +19,9 @@ use Rattle.zvt_talk.specs.declared.dialogue_kind.DialogueKind.{DialogueKind}
 use Rattle.zvt_talk.specs.declared.dialogue_kind.DialogueKind.TheVariants.{Registration, Enquiry, Payment}
 use Rattle.zvt_talk.specs.declared.meaning.Heard.{Heard}
 use Rattle.zvt_talk.specs.declared.meaning.Heard.TheVariants as heard
-use Rattle.zvt_talk.specs.Came.{Message, is_taken, messages}
+use Rattle.zvt_talk.specs.Came.{is_taken}
 use Rattle.zvt_talk.specs.Dialogue.{dialogue_kind_of}
-use Rattle.zvt_talk.specs.Talk.{TalkFacts, meaning, talk_after}
-use Rattle.zvt_talk.specs.TalkSteps.{next_talk}
+use Rattle.zvt_talk.specs.Talk.{TalkFacts}
 use Rattle.pt_core.specs.declared.book.BookEntry.{BookEntry}
 use Rattle.pt_core.specs.Ends.{IsTrueEnd}
 use Rattle.pt_core.specs.Exchange.{heard_on_link}
@@ -48,9 +45,9 @@ use Rattle.gw_owes.specs.Items.{RoundItem, Handle}
 use Rattle.gw_owes.specs.Links.{is_linked}
 use Rattle.gw_owes.specs.RecordLaws.{AreRecordsOf, IsInOrder}
 use Rattle.gw_owes.specs.Reply.{ReplyValue}
-use Rattle.gw_owes.specs.Reports.{at_rest, on_record, report_against, report_row}
+use Rattle.gw_owes.specs.Reports.{Report, on_record, outcome_reported, report_against, report_row}
 use Rattle.gw_owes.specs.Row.{Known, Row, becoming, owing_where}
-use Rattle.gw_owes.specs.Serving.{approved_outcome, approved_row, breaking, declined_outcome, declined_row, done_with, last_after_decline, reply_to_outcome, resolves, serving_transaction, staying, was_stopped}
+use Rattle.gw_owes.specs.Serving.{at_rest, approved_outcome, approved_row, breaking, declined_outcome, declined_row, done_with, last_after_decline, reply_to_outcome, resolves, serving_transaction, staying, was_stopped}
 use Rattle.gw_owes.specs.Terminals.{after_command, of_terminal, reply_calls_to, terminal_at, terminal_becomes, with_terminal}
 use Rattle.gw_owes.proofs.KeepingLemmas.{setting-there}
 use Rattle.gw_owes.proofs.SetLemmas.{same-some}
@@ -69,176 +66,11 @@ use Rattle.gw_books.proofs.FrameRowLemmas.{each-in-place}
 use Rattle.gw_books.proofs.Holding.{charge_owed, is_handle}
 use Rattle.gw_books.proofs.ListLemmas.{In, bytes-are, found-in, in-either}
 use Rattle.gw_played.specs.Played.{PlacedExchange, book_along, exchanges_in}
-use Rattle.gw_played.proofs.Playing.{AreMessages, IsLastServed, IsLeft, IsOfCommand, IsPaying, IsPeer, IsPeerIn, IsQuiet, IsTalking, PeerLaws, Plays, PlaysItem, WasLinked, ask_owed, brings_charge, link_owed, met_in, pending}
+use Rattle.gw_played.proofs.Playing.{IsLastServed, IsLeft, IsOfCommand, IsPaying, IsPeer, IsPeerIn, IsQuiet, IsTalking, PeerLaws, Plays, PlaysItem, WasLinked, ask_owed, brings_charge, link_owed, met_in, pending}
 use Rattle.gw_played.proofs.HonestGrowLemmas.{honest-ends}
 use Rattle.gw_played.proofs.PeerEndLemmas.{approved-true, declined-true, heard_now, reported-true}
-use Rattle.gw_played.proofs.PeerTalkLemmas.{GoesOn, IsAsked, MayEnd, Spoken, StaysOpen, EndsHere, same-kind, spoken}
-
--- ---- numbers
-
-own-number : (n : ℕ) → eqb n n ≡ true
-own-number n = grind (arith, nat_tests)
-
-other-number : (n other : ℕ) → other ≢ n → eqb n other ≡ false
-other-number n other apart = by-test (eqb n other) refl
-  where
-    by-test : (b : Bool) → eqb n other ≡ b → b ≡ false
-    by-test true is = absurd (apart (sym (eqb-true n other is)))
-    by-test false is = refl
-
-no-true : {A : Type 0} → true ≡ false → A
-no-true e = absurd cc
-
--- ---- what is pending
-
-own-pending : (number : ℕ) (apdu : ApduValue) (rest : List RoundItem) → pending number (Handle number apdu ∷ rest) ≡ apdu ∷ pending number rest
-own-pending number apdu rest = ap (λ (b : Bool). if b then apdu ∷ pending number rest else pending number rest) (own-number number)
-
-other-pending : (number other : ℕ) (apdu : ApduValue) (rest : List RoundItem) → other ≢ number → pending other (Handle number apdu ∷ rest) ≡ pending other rest
-other-pending number other apdu rest apart = ap (λ (b : Bool). if b then apdu ∷ pending other rest else pending other rest) (other-number number other apart)
-
--- ---- other items with the same of a terminal pending
-
-module _ (setting : Setting) (placed : List PlacedExchange) (number : ℕ) (items others : List RoundItem) (same : pending number items ≡ pending number others) where
-  left-stays : (left : List MessageValue) → IsLeft setting placed number items left → IsLeft setting placed number others left
-  left-stays left it = record {
-    unheard = it.unheard;
-    stream = it.stream;
-    are = subst (λ (l : List ApduValue). AreMessages (l ++ (decode_apdus ((decode_apdus (heard_on_link (exchanges_in placed))).rest ++ it.unheard)).apdus) left) same it.are;
-  }
-
-  quiet-stays : IsQuiet setting placed number items → IsQuiet setting placed number others
-  quiet-stays it = record { none_left = left-stays [] it.none_left; uncut = it.uncut; waits = it.waits }
-
-  abbrev talking-stays : (talk : Option TalkFacts) (command : Command) → IsTalking setting placed number items talk command → IsTalking setting placed number others talk command
-  talking-stays talk command it = record {
-    apdu = it.apdu;
-    before = it.before;
-    spells = it.spells;
-    book_is = it.book_is;
-    dialogue = it.dialogue;
-    begins = it.begins;
-    came = it.came;
-    talk_is = it.talk_is;
-    unstopped = it.unstopped;
-    goes_on = it.goes_on;
-    left = it.left;
-    is_left = left-stays it.left it.is_left;
-    whole = it.whole;
-    uncut = it.uncut;
-    waits = it.waits;
-  }
-
-  peer-stays : (poi : List ℕ) (sent : List SentCommand) (talk : Option TalkFacts) (standing : Standing) → IsPeerIn setting poi placed number items sent talk standing → IsPeerIn setting poi placed number others sent talk standing
-  peer-stays poi sent talk (Unlinked due) it = tt
-  peer-stays poi sent talk Registering (password, config, currency, it) = (password, config, currency, talking-stays talk (commands.Register password config currency) it)
-  peer-stays poi sent talk Enquiring (password, it) = (password, talking-stays talk (commands.Enquire password) it)
-  peer-stays poi sent talk (Ready last) it = quiet-stays it
-  peer-stays poi sent talk (Serving (Transaction slot) last) it =
-      record { amount = it.amount; currency = it.currency; talking = talking-stays talk (commands.Authorise it.amount it.currency) it.talking; last = it.last }
-  peer-stays poi sent talk (Serving (EndOfDay header period) last) it = tt
-  peer-stays poi sent talk (Serving (Display header outputs) last) it = tt
-  peer-stays poi sent talk (Aside before reported) it = quiet-stays it
-
--- ---- the first message that is left
-
--- the item's APDU is the first message of these
-record IsFirst (setting : Setting) (placed : List PlacedExchange) (number : ℕ) (apdu : ApduValue) (rest : List RoundItem) (left : List MessageValue) : Type 0 where
-  message : MessageValue
-  later : List MessageValue
-  left_is : left ≡ message ∷ later
-  decodes : decode_pt_message apdu ≡ Ok message
-  is_left : IsLeft setting placed number rest later
-
-first-left : (setting : Setting) (placed : List PlacedExchange) (number : ℕ) (apdu : ApduValue) (rest : List RoundItem) (left : List MessageValue) → IsLeft setting placed number (Handle number apdu ∷ rest) left
-    → IsFirst setting placed number apdu rest left
-first-left setting placed number apdu rest left it = by-left left (subst (λ (l : List ApduValue). AreMessages (l ++ more) left) (own-pending number apdu rest) it.are)
-  where
-    more : List ApduValue
-    more = (decode_apdus ((decode_apdus (heard_on_link (exchanges_in placed))).rest ++ it.unheard)).apdus
-
-    by-left : (messages : List MessageValue) → AreMessages (apdu ∷ (pending number rest ++ (decode_apdus ((decode_apdus (heard_on_link (exchanges_in placed))).rest ++ it.unheard)).apdus)) messages
-        → IsFirst setting placed number apdu rest messages
-    by-left [] are = absurd are
-    by-left (message ∷ later) are = record { message = message; later = later; left_is = refl; decodes = are.0; is_left = record { unheard = it.unheard; stream = it.stream; are = are.1 } }
-
--- ---- a message in a dialogue
-
-same-message : (apdu : ApduValue) (one other : MessageValue) → decode_pt_message apdu ≡ Ok one → decode_pt_message apdu ≡ Ok other → one ≡ other
-same-message apdu one other here there = let e : (let r : Result MessageValue PtFault = Ok one in r) ≡ Ok other = sym here ∙ there in cc
-
-module _ (laws : PeerLaws) (setting : Setting) (placed : List PlacedExchange) (number : ℕ) (apdu : ApduValue) (rest : List RoundItem) (message : MessageValue) (decodes : decode_pt_message apdu ≡ Ok message) (old : Terminal) (moment : ℕ) where
-  -- the terminal has handled the command so far
-  abbrev TalksOf : Command → Type 0
-  TalksOf command = IsTalking setting placed number (Handle number apdu ∷ rest) old.talk command
-
-  -- the dialogue goes on
-  record Goes (command : Command) (t : TalksOf command) : Type 0 where
-    on : GoesOn (meaning_at old message)
-    talking : IsTalking setting placed number rest (taking old message moment).talk command
-    before_is : t.before ≡ talking.before
-    apdu_is : t.apdu ≡ talking.apdu
-
-  -- the message ends it
-  record Stops (command : Command) (t : TalksOf command) : Type 0 where
-    ends : MayEnd t.dialogue.dialogue_kind (meaning_at old message)
-    quiet : IsQuiet setting placed number rest
-    true_of : IsTrueEnd (book_of setting t.before) (entries_of (reaction_after setting t.before t.apdu)) (meaning_at old message)
-
-  -- the message is taken, and the dialogue goes on or ends
-  record Talks (command : Command) (t : TalksOf command) : Type 0 where
-    taken : is_taken message ≡ true
-    follows : Goes command t ⊎ Stops command t
-
-  talks : (command : Command) (t : TalksOf command) → IsAsked command → Talks command t
-  talks command t asked = record { taken = said.taken_is; follows = by-then said.then }
-    where
-      first : IsFirst setting placed number apdu rest t.left
-      first = first-left setting placed number apdu rest t.left t.is_left
-
-      left-is : t.left ≡ message ∷ first.later
-      left-is = first.left_is ∙ ap (λ (m : MessageValue). m ∷ first.later) (same-message apdu first.message message first.decodes decodes)
-
-      said : Spoken setting t.before t.apdu t.dialogue t.came message first.later
-      said = spoken laws setting t.before t.apdu command t.dialogue t.came message first.later asked t.spells t.begins t.unstopped t.goes_on (ap (λ (l : List MessageValue). messages t.came ++ l) (sym left-is) ∙ t.whole)
-
-      means : meaning_at old message ≡ meaning t.dialogue t.came message
-      means = ap (λ (talk : Option TalkFacts). meaning_for talk (taken_as old.awaited message)) t.talk_is ∙ ap (meaning_for (Some (talk_after t.dialogue t.came))) (said.same old.awaited) ∙ said.means
-
-      next : (taking old message moment).talk ≡ Some (talk_after t.dialogue (t.came ++ Message message (pos moment) ∷ []))
-      next =
-          ap (λ (talk : Option TalkFacts). option_map (λ (one : TalkFacts). next_talk one (taken_as old.awaited message) (pos moment)) talk) t.talk_is
-          ∙ ap (λ (m : MessageValue). Some (next_talk (talk_after t.dialogue t.came) m (pos moment))) (said.same old.awaited)
-          ∙ ap (λ (one : TalkFacts). Some one) (said.next (pos moment))
-
-      by-then : StaysOpen t.dialogue t.came message ⊎ EndsHere setting t.before t.apdu t.dialogue t.came message first.later → Goes command t ⊎ Stops command t
-      by-then (inl stays) = inl (record {
-        on = subst GoesOn (sym means) stays.on;
-        talking = record {
-          apdu = t.apdu;
-          before = t.before;
-          spells = t.spells;
-          book_is = t.book_is;
-          dialogue = t.dialogue;
-          begins = t.begins;
-          came = t.came ++ Message message (pos moment) ∷ [];
-          talk_is = next;
-          unstopped = said.unstopped (pos moment);
-          goes_on = stays.goes_on (pos moment);
-          left = first.later;
-          is_left = first.is_left;
-          whole = said.whole (pos moment);
-          uncut = t.uncut;
-          waits = t.waits;
-        };
-        before_is = refl;
-        apdu_is = refl;
-      })
-      by-then (inr ends) = inr (record {
-        ends = subst (MayEnd t.dialogue.dialogue_kind) (sym means) ends.ends;
-        quiet = record { none_left = subst (IsLeft setting placed number rest) ends.none_left first.is_left; uncut = t.uncut ends.uncut; waits = t.waits };
-        true_of = subst (IsTrueEnd (book_of setting t.before) (entries_of (reaction_after setting t.before t.apdu))) (sym means) ends.true_of;
-      })
+use Rattle.gw_played.proofs.PeerTalkLemmas.{GoesOn, IsAsked, MayEnd, same-kind}
+use Rattle.gw_played.proofs.TakenMessageLemmas.{own-number, other-number, no-true, own-pending, other-pending, peer-stays, first-left, Goes, Stops, Talks, talks}
 
 -- ---- calls
 
@@ -555,6 +387,13 @@ module _ (laws : PeerLaws) (settings : List ℕ → Setting) (v : View) (past : 
         becomes-leaves old new calls (OfMessage number message) ends here linked same mild linked_now
         (λ uncut. subst (λ (b : Bool). IsPeer b (settings new.pt.poi) (exchanges new.pt.poi) number rest past.commands calls new) (sym unasked) peer) sound
 
+    -- a key is resolved: its Outcome is kept, and the till gets the reply
+    resolved : (ready : ℕ) (outcome : TheOutcome) (ends : List HeardEnd) → AreSound ends → IsQuiet setting placed number rest → Leaving (resolves known number now (Ready ready) outcome) ends
+    resolved ready outcome ends sound quiet =
+        rests (done_with now (Ready ready)) (keep_calls (length known.kept) (Outcome outcome) ++ reply_calls_to now.asker (reply_to_outcome known.kept outcome.slot outcome)) ends refl
+        (mild-kept number (length known.kept) outcome (reply_calls_to now.asker (reply_to_outcome known.kept outcome.slot outcome)) (mild-replies number now.asker (reply_to_outcome known.kept outcome.slot outcome)))
+        refl (asks-no-more number now.asker (reply_to_outcome known.kept outcome.slot outcome)) quiet sound
+
     -- ---- a registration
 
     -- the terminal is enquired
@@ -603,17 +442,25 @@ module _ (laws : PeerLaws) (settings : List ℕ → Setting) (v : View) (past : 
             ap (λ (o : Option Command). entries_of (by_command setting.none (play_left setting.plays t.before) (book_of setting t.before) t.apdu.class o)) t.spells
             ∙ by-last setting.none (last_book_entry (book_of setting t.before))
 
-    -- a report
-    reports : (reported : ℕ) (ends : List HeardEnd) → AreSound ends → IsQuiet setting placed number rest → Leaving (report_row (on_record known.kept old.pt.poi) known number now reported) ends
-    reports reported ends sound quiet = by-open (option_map (λ (entry : TheEntry). entry.intent.before) (open_entry known.kept old.pt.poi))
+    -- a report: what is open is resolved, but where the trace number is below the one before
+    reports : (report : Report) (ends : List HeardEnd) → AreSound ends → IsQuiet setting placed number rest → Leaving (report_row (on_record known.kept old.pt.poi) known number now report) ends
+    reports report ends sound quiet = by-open (open_entry known.kept old.pt.poi)
       where
-        by-least : (b : Bool) → Leaving (terminal_becomes known number (at_rest now (if b then Ready reported else Aside (last_number_of known.kept old.pt.poi) reported)) []) ends
-        by-least true = rests (at_rest now (Ready reported)) [] ends refl (mild-none number) refl refl quiet sound
-        by-least false = rests (at_rest now (Aside (last_number_of known.kept old.pt.poi) reported)) [] ends refl (mild-none number) refl refl quiet sound
+        aside : (least : ℕ) → Leaving (terminal_becomes known number (at_rest now (Aside least report.trace)) []) ends
+        aside least = rests (at_rest now (Aside least report.trace)) [] ends refl (mild-none number) refl refl quiet sound
 
-        by-open : (opened : Option ℕ) → Leaving (report_against opened (last_number_of known.kept old.pt.poi) known number now reported) ends
-        by-open None = by-least (leb (last_number_of known.kept old.pt.poi) reported)
-        by-open (Some before) = breaks ends sound
+        by-last : (last : ℕ) (b : Bool) → Leaving (terminal_becomes known number (at_rest now (if b then Ready report.trace else Aside last report.trace)) []) ends
+        by-last last true = rests (at_rest now (Ready report.trace)) [] ends refl (mild-none number) refl refl quiet sound
+        by-last last false = aside last
+
+        by-before : (entry : TheEntry) (b : Bool)
+            → Leaving (if b then resolves known number now (Ready report.trace) (outcome_reported entry report known.moment) else terminal_becomes known number (at_rest now (Aside entry.intent.before report.trace)) []) ends
+        by-before entry true = resolved report.trace (outcome_reported entry report known.moment) ends sound quiet
+        by-before entry false = aside entry.intent.before
+
+        by-open : (opened : Option TheEntry) → Leaving (report_against opened (last_number_of known.kept old.pt.poi) known number now report) ends
+        by-open None = by-last (last_number_of known.kept old.pt.poi) (leb (last_number_of known.kept old.pt.poi) report.trace)
+        by-open (Some entry) = by-before entry (leb entry.intent.before report.trace)
 
     enquiring-ends : (password : List ℕ) (t : IsTalking setting placed number (Handle number apdu ∷ rest) old.talk (commands.Enquire password)) (meant : Heard) → MayEnd Enquiry meant → IsQuiet setting placed number rest
         → IsTrueEnd (book_of setting t.before) (entries_of (reaction_after setting t.before t.apdu)) meant → Leaving (enquiring known number now meant) (EndsIn Enquiring meant)
@@ -625,7 +472,7 @@ module _ (laws : PeerLaws) (settings : List ℕ → Setting) (v : View) (past : 
     enquiring-ends password t (heard.Approved figures) may quiet true_of = absurd may.0
     enquiring-ends password t heard.Done may quiet true_of = absurd may.0
     enquiring-ends password t (heard.Told reported approved result_code) may quiet true_of =
-        reports reported (heard_now past old.pt.poi (Reported reported approved) ∷ [])
+        reports (record { trace = reported; approved = approved; result_code = result_code }) (heard_now past old.pt.poi (Reported reported approved) ∷ [])
         (one-sound (Reported reported approved) tt
         (reported-true laws setting old.pt.poi placed past (plays.honest old.pt.poi) calm-now t.before reported result_code approved (entries_of (reaction_after setting t.before t.apdu)) (books-none password t) true_of))
         quiet
@@ -634,13 +481,6 @@ module _ (laws : PeerLaws) (settings : List ℕ → Setting) (v : View) (past : 
     enquiring-ends password t heard.Stray may quiet true_of = absurd may.0
 
     -- ---- a payment
-
-    -- the Outcome is kept, and the till gets the reply
-    resolved : (ready : ℕ) (outcome : TheOutcome) (ends : List HeardEnd) → AreSound ends → IsQuiet setting placed number rest → Leaving (resolves known number now (Ready ready) outcome) ends
-    resolved ready outcome ends sound quiet =
-        rests (done_with now (Ready ready)) (keep_calls (length known.kept) (Outcome outcome) ++ reply_calls_to now.asker (reply_to_outcome known.kept outcome.slot outcome)) ends refl
-        (mild-kept number (length known.kept) outcome (reply_calls_to now.asker (reply_to_outcome known.kept outcome.slot outcome)) (mild-replies number now.asker (reply_to_outcome known.kept outcome.slot outcome)))
-        refl (asks-no-more number now.asker (reply_to_outcome known.kept outcome.slot outcome)) quiet sound
 
     module _ (slot last : ℕ) (p : IsPaying setting old.pt.poi placed number (Handle number apdu ∷ rest) past.commands old.talk) where
       -- the last command to the terminal

@@ -10,5 +10,6 @@ pub mod PlayedExampleLemmas
 pub mod PlayedLemmas
 pub mod Playing
 pub mod SentPtPlaysLemmas
+pub mod TakenMessageLemmas
 pub mod TurnPlaysLemmas
 pub mod WholeBookLemmas

@@ -8,7 +8,8 @@ ghost use Rattle.gw_played.specs.Played.{PlayedAgrees, PlayedIsHonest};
 /// of what it had sent, the book of these terminals, with the places at which they book, is honest: each entry has the command that
 /// was sent to its terminal, none comes after its link was replaced, a command has one entry, numbers rise, and each end of a dialogue is
 /// true. So the headline holds of it: what was done, and what tills were sent, agrees with it. In the examples a played terminal approves
-/// a payment, declines one, and cuts the connection at one, with its entry in the book or without.
+/// a payment, declines one, and cuts the connection at one, with its entry in the book or without. At the enquiry of its next link it
+/// reports the entry, or that there is none, which ends the payment that is open; so it does where the power has failed before.
 pub fn law_played()
     ensures honest { PlayedIsHonest }
     ensures agrees { PlayedAgrees }

@@ -146,5 +146,5 @@ split-report = record {
   terminal = found (slice_get report_view.scene.core.terminals 0);
   ends = report-ends;
   chunk_is = refl;
-  ready = report-makes-ready report_log report_view report_moves 0 (found (slice_get report_view.scene.core.terminals 0)) 123 report-ends refl (omega arith);
+  ready = report-makes-ready report_log report_view report_moves 0 (found (slice_get report_view.scene.core.terminals 0)) 123 report-ends (omega arith);
 }

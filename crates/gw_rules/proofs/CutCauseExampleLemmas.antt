@@ -122,7 +122,7 @@ declined-begins = record {
 
 declined-breaks : BreaksDialogue (known_along aborted_course) 0 abort_apdu
 unfolding decode_apdus decode_apdus_within decode_pt_message
-declined-breaks = record { terminal = terminal_along aborted_course; found = refl; message = Abort (Some 0x6C); decoded = refl; why = inr (inl (0x6C, None, refl, inl refl)) }
+declined-breaks = record { terminal = terminal_along aborted_course; found = refl; message = Abort (Some 0x6C); decoded = refl; why = inr (0x6C, None, refl, inl refl) }
 
 pub declined-cut : ExampleDeclinedCut
 unfolding decode_apdus decode_apdus_within decode_pt_message declined-breaks

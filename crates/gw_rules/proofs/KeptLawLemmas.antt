@@ -29,7 +29,7 @@ use Rattle.gw_rules.specs.Scene.{Scene, records_of}
 use Rattle.gw_rules.specs.Stage.{Opening, AtPoll, is_round}
 use Rattle.gw_rules.specs.View.{View, Read, begun, started, after, after_turn, at_first}
 use Rattle.gw_rules.proofs.JournalLemmas.{opening-has-journal}
-use Rattle.gw_rules.proofs.JournalStateLemmas.{JournalState, state-first, state-leaves, state-open}
+use Rattle.gw_rules.proofs.JournalStateLemmas.{state-first, state-leaves, state-open}
 use Rattle.gw_rules.proofs.KeptFileLemmas.{Files, clean-files, Basis, owned, handed, InOrder, Had, HadWhere, order-more, order-none, FreeSlots, file-gate, free-none, kept-by-either, kept-by-more, kept-by-order, kept_by, none-truncated, one-byte-file, one-byte-files}
 use Rattle.gw_rules.proofs.KeptPhaseLemmas.{Phase, RanWhere, Body, Facts, FirstSync, Holds, IsOfLog, busy-off-poll, owes_all, rests-sparing, round-runs}
 use Rattle.gw_rules.proofs.KeptTurnLemmas.{idle-rests, no-more, outside-later, still-facts, turns}

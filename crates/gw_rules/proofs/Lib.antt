@@ -45,6 +45,7 @@ pub mod PendingLemmas
 pub mod PrefixLemmas
 pub mod RecordOrderLemmas
 pub mod RecordRowLemmas
+pub mod RecoveryLogLemmas
 pub mod RegistrationLemmas
 pub mod ReportLemmas
 pub mod RestLemmas

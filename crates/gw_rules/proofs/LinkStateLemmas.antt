@@ -25,11 +25,10 @@ use Rattle.gw_owes.specs.Links.{is_linked, cutting}
 use Rattle.gw_owes.specs.Reply.{ReplyValue}
 use Rattle.gw_owes.specs.Payments.{beginning_row, payment_intent, asked_for, serve_row}
 use Rattle.gw_owes.specs.ReadAs.{ReadAs}
-use Rattle.gw_owes.specs.Reports.{at_rest}
 use Rattle.gw_owes.specs.Requests.{begun_by, reply_to}
 use Rattle.gw_owes.specs.Row.{Known, Row, owing, owing_nothing, owing_where}
 use Rattle.gw_owes.specs.Rows.{asked_row, row_of}
-use Rattle.gw_owes.specs.Serving.{reply_to_outcome, done_with, resolves}
+use Rattle.gw_owes.specs.Serving.{at_rest, reply_to_outcome, done_with, resolves}
 use Rattle.gw_owes.specs.TerminalLaws.{settings_of}
 use Rattle.gw_owes.specs.Terminals.{terminal_at, of_terminal, terminal_becomes, with_terminal, registers, link_made, reply_calls_to, reply_to_lost, unlinks, unlinked_terminal, link_lost, forgets_till}
 use Rattle.gw_owes.specs.declared.terminal.Standing.{Standing}

@@ -1,43 +1,36 @@
 -- The example logs of a payment.
-use Rattle.std.proofs.Common.{◌≡◌, List, [], ◌∷◌, ◌++◌, refl, true, inr, arith}
-use Rattle.std.specs.Prelude.{pos, drop, slice_get, Option, Some, None}
+use Rattle.std.proofs.Common.{◌≡◌, List, [], ◌∷◌, ◌++◌, refl, true, arith}
+use Rattle.std.specs.Prelude.{pos, slice_get, Option, Some, None}
 use Rattle.gw_site.specs.declared.turn.Turn.TheVariants.{Polled, HeardPt, Lost, Linked, SentTill, SentPt, CutPt, Stopped}
 use Rattle.zvt_apdu.specs.DecodeStream.{decode_apdus, decode_apdus_within}
-use Rattle.zvt_apdu.proofs.DecodeStreamLemmas.{split_is}
 use Rattle.zvt_bmp.specs.Decode.{decode_field_value, decode_status_field, decode_status_within, decode_status}
-use Rattle.zvt_msg.specs.Message.{Completion}
 use Rattle.zvt_msg.specs.MessageDecode.{decode_pt_message}
 use Rattle.zvt_msg.specs.declared.command.Command.TheVariants as commands
 use Rattle.jrn_record.specs.declared.records.Record.TheVariants.{Intent, Outcome}
 use Rattle.gw_ledger.specs.History.{history}
 use Rattle.gw_owes.specs.Calls.{Ask, WriteBody, WriteGate}
 use Rattle.gw_rules.specs.Lawful.{IsCourse, Stands}
-use Rattle.gw_rules.specs.PaymentLogExample.{serving_view, BegunIsServedOpen, replied_course, replied_view, PaidHasNoneOpen, late_moves, PaymentIsSilent, payment_request, logged_intent, logged_outcome, logged_reply, ready_none_course, begun_course, approved_course, keep_moves, ready_none_log, begun_log, enquired_again_log, reported_course, open_log, open_course, PaymentIsLawful}
+use Rattle.gw_rules.specs.PaymentLogExample.{serving_view, BegunIsServedOpen, replied_course, replied_view, PaidHasNoneOpen, late_moves, PaymentIsSilent, payment_request, logged_intent, logged_outcome, logged_reply, ready_none_course, begun_course, approved_course, keep_moves, ready_none_log, begun_log, enquired_again_course, resolved_course, ResolvedIsLawful, PaymentIsLawful}
 use Rattle.gw_owes.specs.Core.{new_terminal}
-use Rattle.gw_owes.specs.Items.{Handle}
 use Rattle.gw_owes.specs.Reply.{reply_value_bytes}
 use Rattle.gw_owes.specs.TerminalExample.{ack, completion, approved_status, enquiry_sent}
-use Rattle.gw_owes.specs.TerminalLaws.{ReportsWhileOpen, BreaksDialogue}
 use Rattle.gw_owes.specs.declared.terminal.Terminal.{Terminal}
-use Rattle.gw_rules.specs.CutCauseExample.{known_along, completion_apdu, ExampleOpenCut}
-use Rattle.gw_rules.specs.CutCauses.{HasSaidApdu, BeginsCut, BrokeDialogue}
-use Rattle.gw_rules.specs.RowExample.{example_pt, terminal_setup, register_bytes}
+use Rattle.gw_rules.specs.RowExample.{example_pt, register_bytes}
 use Rattle.gw_rules.specs.TerminalLogExample.{items_begin}
 use Rattle.gw_rules.specs.View.{View, Move, Begin, Make, view_from, at_first}
 use Rattle.gw_rules.proofs.CourseLemmas.{course-append}
 use Rattle.gw_rules.proofs.PaymentTextLemmas.{payment-chunk, payment-read}
 use Rattle.gw_rules.proofs.TestedLemmas.{course-tested}
-use Rattle.gw_rules.proofs.TextLemmas.{bytes-tested}
 use Rattle.gw_rules.proofs.TerminalLogLemmas.{after_start, from-start}
 
-abbrev ready_none_view : View
+abbrev pub ready_none_view : View
 ready_none_view = view_from at_first ready_none_course
 
-ready-none-lawful : IsCourse at_first ready_none_course
+pub ready-none-lawful : IsCourse at_first ready_none_course
 unfolding decode_apdus decode_apdus_within decode_pt_message history
 ready-none-lawful = from-start (after_start ready_none_course) refl
 
-begun-lawful : IsCourse ready_none_view begun_course
+pub begun-lawful : IsCourse ready_none_view begun_course
 unfolding decode_apdus decode_apdus_within decode_pt_message history payment_request
 begun-lawful = (
   record { running = refl; calls = refl; items = refl },
@@ -86,7 +79,7 @@ begun-lawful = (
   ),
 )
 
-abbrev begun_view : View
+abbrev pub begun_view : View
 begun_view = view_from ready_none_view begun_course
 
 -- the terminal's messages, up to where the Completion is handled
@@ -99,22 +92,22 @@ reported-lawful = course-tested begun_view reported_moves refl
 
 -- and from there on
 abbrev ended_moves : List Move
-ended_moves = Begin ∷ (keep_moves 1 (Outcome logged_outcome) ++ Make (SentTill 1 (reply_value_bytes logged_reply) true) ∷ (items_begin 3 ++ Make (Polled (pos 5)) ∷ Make Stopped ∷ []))
+ended_moves = Begin ∷ (keep_moves 1 (Outcome (logged_outcome 4)) ++ Make (SentTill 1 (reply_value_bytes (logged_reply 4)) true) ∷ (items_begin 3 ++ Make (Polled (pos 5)) ∷ Make Stopped ∷ []))
 
 ended-lawful : IsCourse (view_from begun_view reported_moves) ended_moves
 unfolding decode_apdus decode_apdus_within decode_pt_message decode_status decode_status_within decode_status_field decode_field_value history payment_request
 ended-lawful = (
   record { idle = record { round = refl; calls = refl }; first = refl },
   (
-    (WriteBody 1 (Outcome logged_outcome), refl, refl),
+    (WriteBody 1 (Outcome (logged_outcome 4)), refl, refl),
     (
       refl,
       (
-        (WriteGate 1 (Outcome logged_outcome), refl, refl),
+        (WriteGate 1 (Outcome (logged_outcome 4)), refl, refl),
         (
           refl,
           (
-            (logged_reply, refl, refl),
+            (logged_reply 4, refl, refl),
             (
               record { idle = record { round = refl; calls = refl }; first = refl },
               (
@@ -146,7 +139,7 @@ payment-lawful = record {
   kept_is = refl;
 }
 
--- ---- its key stays open
+-- ---- its key stays open until the terminal reports
 
 -- its link is lost
 abbrev lost_moves : List Move
@@ -168,7 +161,7 @@ lost-lawful = (
   ),
 )
 
--- it is linked again, and reports
+-- it is linked again, and reports, up to where the Completion is handled
 abbrev again_moves : List Move
 again_moves =
     Make (Polled (pos 9)) ∷ (items_begin 2 ++ Make (Linked 0) ∷ Make (SentPt 0 register_bytes true) ∷ Make (Polled (pos 10)) ∷ Make (HeardPt 0 (ack ++ completion)) ∷ (items_begin 4 ++ Make (SentPt 0 ack true) ∷ Begin ∷ Make (SentPt 0 enquiry_sent true)
@@ -178,91 +171,61 @@ again-lawful : IsCourse (view_from begun_view lost_moves) again_moves
 unfolding decode_apdus decode_apdus_within decode_pt_message decode_status decode_status_within decode_status_field decode_field_value history payment_request
 again-lawful = course-tested (view_from begun_view lost_moves) again_moves refl
 
-open-lawful : IsCourse at_first open_course
-open-lawful =
-    course-append at_first ready_none_course (begun_course ++ reported_course) ready-none-lawful
-    (course-append ready_none_view begun_course reported_course begun-lawful (course-append begun_view lost_moves again_moves lost-lawful again-lawful))
+-- and is resolved
+abbrev resolve_moves : List Move
+resolve_moves = Begin ∷ (keep_moves 1 (Outcome (logged_outcome 11)) ++ Make (SentTill 1 (reply_value_bytes (logged_reply 11)) true) ∷ (items_begin 3 ++ Make (Polled (pos 12)) ∷ Make Stopped ∷ []))
 
--- and is cut
-abbrev cut_moves : List Move
-cut_moves = Begin ∷ Make (CutPt 0) ∷ (items_begin 3 ++ Make (Polled (pos 12)) ∷ Make Stopped ∷ [])
-
-cut-lawful : IsCourse (view_from at_first open_course) cut_moves
+resolve-lawful : IsCourse (view_from (view_from begun_view lost_moves) again_moves) resolve_moves
 unfolding decode_apdus decode_apdus_within decode_pt_message decode_status decode_status_within decode_status_field decode_field_value history payment_request
-cut-lawful = course-tested (view_from at_first open_course) cut_moves refl
+resolve-lawful = (
+  record { idle = record { round = refl; calls = refl }; first = refl },
+  (
+    (WriteBody 1 (Outcome (logged_outcome 11)), refl, refl),
+    (
+      refl,
+      (
+        (WriteGate 1 (Outcome (logged_outcome 11)), refl, refl),
+        (
+          refl,
+          (
+            (logged_reply 11, refl, refl),
+            (
+              record { idle = record { round = refl; calls = refl }; first = refl },
+              (
+                record { idle = record { round = refl; calls = refl }; first = refl },
+                (
+                  record { idle = record { round = refl; calls = refl }; first = refl },
+                  (record { running = refl; calls = refl; items = refl }, (refl, tt)),
+                ),
+              ),
+            ),
+          ),
+        ),
+      ),
+    ),
+  ),
+)
 
-open-said : HasSaidApdu open_log 0 completion_apdu
-unfolding decode_apdus decode_apdus_within payment_request
-open-said = record {
-  earlier = record { class = 0x80; instr = 0x00; body = [] } ∷ record { class = 0x04; instr = 0x0F; body = drop 3 approved_status } ∷ [];
-  later = [];
-  left = [];
-  said = record {
-    before = ready_none_log ++ begun_log ++ enquired_again_log;
-    chunk = ack ++ approved_status ++ completion;
-    inside = SentPt 0 ack true ∷ SentPt 0 ack true ∷ [];
-    log_is = refl;
-    round = (refl, (refl, tt));
-    said = record {
-      before = (decode_apdus (ack ++ completion)).apdus;
-      rest = [];
-      spelled = split_is (ack ++ completion) (bytes-tested (ack ++ completion) refl);
-      all = split_is ((ack ++ completion) ++ ack ++ approved_status ++ completion) (bytes-tested ((ack ++ completion) ++ ack ++ approved_status ++ completion) refl);
+pub resolved-lawful : ResolvedIsLawful
+unfolding decode_apdus decode_apdus_within decode_pt_message decode_status decode_status_within decode_status_field decode_field_value history payment_request
+resolved-lawful = record {
+  leaves = record {
+    along = record {
+      turns = refl;
+      lawful = course-append at_first ready_none_course (begun_course ++ enquired_again_course ++ resolved_course) ready-none-lawful
+          (course-append ready_none_view begun_course (enquired_again_course ++ resolved_course) begun-lawful
+          (course-append begun_view lost_moves (again_moves ++ resolve_moves) lost-lawful (course-append (view_from begun_view lost_moves) again_moves resolve_moves again-lawful resolve-lawful)));
     };
+    standing_is = refl;
   };
-}
-
-open-begins : BeginsCut open_log 0 (Handle 0 completion_apdu) (known_along open_course)
-unfolding decode_apdus decode_apdus_within decode_pt_message decode_status decode_status_within decode_status_field decode_field_value history payment_request
-open-begins = record {
-  view = view_from at_first open_course;
-  along = record { course = open_course; log_is = refl; lawful = open-lawful; view_is = refl };
-  begins = record { idle = record { round = refl; calls = refl }; first = refl };
-  rest = _;
-  items_are = refl;
-  setup = terminal_setup;
-  setup_is = refl;
-  known_is = refl;
-  owed = refl;
-}
-
-abbrev found : Option Terminal → Terminal
-found None = new_terminal example_pt
-found (Some terminal) = terminal
-
-abbrev open_terminal : Terminal
-open_terminal = found (slice_get (view_from at_first open_course).scene.core.terminals 0)
-
-open-reports : ReportsWhileOpen (known_along open_course) open_terminal Completion
-unfolding decode_apdus decode_apdus_within decode_pt_message decode_status decode_status_within decode_status_field decode_field_value history payment_request
-open-reports = record {
-  standing_is = refl;
-  reported = 123;
-  approved = Some (record { number = 123; receipt = 17; amount = 1099 });
-  result_code = 0;
-  meant = refl;
-  before = 0;
-  is_open = refl;
-}
-
-open-breaks : BreaksDialogue (known_along open_course) 0 completion_apdu
-unfolding decode_apdus decode_apdus_within decode_pt_message decode_status decode_status_within decode_status_field decode_field_value history payment_request
-open-breaks = record { terminal = open_terminal; found = refl; message = Completion; decoded = refl; why = inr (inr open-reports) }
-
-pub open-cut : ExampleOpenCut
-unfolding decode_apdus decode_apdus_within decode_pt_message decode_status decode_status_within decode_status_field decode_field_value history payment_request open-breaks
-open-cut = record {
-  is_cut = record { along = record { turns = refl; lawful = course-append at_first open_course cut_moves open-lawful cut-lawful }; standing_is = refl };
-  said = open-said;
-  begins = open-begins;
-  breaks = open-breaks;
-  reports = open-reports;
-  cause = BrokeDialogue completion_apdu (known_along open_course) open-said open-begins open-breaks;
-  cause_is = refl;
   kept_is = refl;
 }
 
 -- ---- what other laws say of them
+
+abbrev pub found : Option Terminal → Terminal
+found None = new_terminal example_pt
+found (Some terminal) = terminal
 
 serving-stands : Stands (ready_none_log ++ begun_log) serving_view
 serving-stands = record { course = ready_none_course ++ begun_course; log_is = refl; lawful = course-append at_first ready_none_course begun_course ready-none-lawful begun-lawful; view_is = refl }
@@ -283,13 +246,13 @@ begun-served-open = record {
 
 -- the end of the payment, up to its reply
 abbrev reply_moves : List Move
-reply_moves = Begin ∷ (keep_moves 1 (Outcome logged_outcome) ++ Make (SentTill 1 (reply_value_bytes logged_reply) true) ∷ [])
+reply_moves = Begin ∷ (keep_moves 1 (Outcome (logged_outcome 4)) ++ Make (SentTill 1 (reply_value_bytes (logged_reply 4)) true) ∷ [])
 
 reply-lawful : IsCourse (view_from begun_view reported_moves) reply_moves
 unfolding decode_apdus decode_apdus_within decode_pt_message decode_status decode_status_within decode_status_field decode_field_value history payment_request
 reply-lawful = (
   record { idle = record { round = refl; calls = refl }; first = refl },
-  ((WriteBody 1 (Outcome logged_outcome), refl, refl), (refl, ((WriteGate 1 (Outcome logged_outcome), refl, refl), (refl, ((logged_reply, refl, refl), tt))))),
+  ((WriteBody 1 (Outcome (logged_outcome 4)), refl, refl), (refl, ((WriteGate 1 (Outcome (logged_outcome 4)), refl, refl), (refl, ((logged_reply 4, refl, refl), tt))))),
 )
 
 pub paid-none-open : PaidHasNoneOpen

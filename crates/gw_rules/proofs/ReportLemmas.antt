@@ -1,7 +1,7 @@
--- An enquiry that reports the last transaction makes its terminal ready.
+-- An enquiry that reports the last transaction makes its terminal ready, and resolves what is open.
 use Rattle.std.proofs.Common.{◌≡◌, ℕ, List, [], ◌∷◌, refl, sym, ◌∙◌, ap, subst, true, false, inl, inr}
-use Rattle.std.proofs.lemmas.Bool.{and_parts}
-use Rattle.std.specs.Prelude.{◌⊎◌, ◌≤◌, not, slice_get, Option, Some, None}
+use Rattle.std.proofs.lemmas.Bool.{and_parts, le-leb}
+use Rattle.std.specs.Prelude.{Bool, ◌⊎◌, ◌≤◌, nat_le, not, if◌then◌else◌, slice_get, Option, Some, None}
 use Rattle.std.specs.Option.{option_map}
 use Rattle.gw_base.specs.declared.setup.Pt.{Pt}
 use Rattle.gw_base.specs.declared.setup.Setup.{Setup}
@@ -13,18 +13,21 @@ use Rattle.zvt_talk.specs.Talk.{is_end}
 use Rattle.zvt_talk.specs.declared.meaning.Heard.{Heard}
 use Rattle.zvt_talk.specs.declared.meaning.Heard.TheVariants as heard
 use Rattle.jrn_record.specs.declared.records.Record.{Record}
+use Rattle.gw_ledger.specs.declared.entry.Entry.{Entry as TheEntry}
 use Rattle.gw_owes.specs.Core.{Core}
 use Rattle.gw_owes.specs.Handling.{meaning_at, taking, enquiring, consequence, handle_row}
 use Rattle.gw_owes.specs.Items.{RoundItem, Crowded, Message, Asked, Unframed, Gone, Greet, Handle, Serve, NextWaiting, Oversized, LinkLost, Late, Overdue, Due}
 use Rattle.gw_owes.specs.ReadAs.{ReadAs}
-use Rattle.gw_owes.specs.Reports.{OnRecord, on_record}
+use Rattle.gw_owes.specs.Reports.{Report, OnRecord, on_record, least_against, least_reported, standing_reported, outcome_reported, report_of_open, report_against, report_row}
 use Rattle.gw_owes.specs.Row.{Known, Row}
 use Rattle.gw_owes.specs.Rows.{row_of}
-use Rattle.gw_owes.specs.Serving.{staying}
+use Rattle.gw_owes.specs.Serving.{at_rest, staying, done_with, resolves}
+use Rattle.gw_owes.specs.TerminalLaws.{GoesOnTo, ReportsAt}
+use Rattle.gw_owes.specs.Terminals.{terminal_at, terminal_becomes}
 use Rattle.gw_owes.specs.declared.terminal.Standing.{Standing}
-use Rattle.gw_owes.specs.declared.terminal.Standing.TheVariants.{Enquiring, Ready}
+use Rattle.gw_owes.specs.declared.terminal.Standing.TheVariants.{Enquiring, Ready, Aside}
 use Rattle.gw_owes.specs.declared.terminal.Terminal.{Terminal}
-use Rattle.gw_owes.proofs.HandlingLemmas.{each-handled, enquired-is-ready}
+use Rattle.gw_owes.proofs.HandlingLemmas.{each-handled, reported-leads}
 use Rattle.gw_owes.proofs.SetLemmas.{new-is-there, same-some}
 use Rattle.gw_rules.specs.Lawful.{MayPoll, Begins, IsRead, AllowedTurn, IsCourse, turns_of}
 use Rattle.gw_rules.specs.LinkLaws.{EndsLink, EndsNone}
@@ -75,6 +78,37 @@ enquiring-stays known pt terminal (heard.Declined result_code reported) e = no-t
 enquiring-stays known pt terminal heard.Unclear e = no-true (sym e)
 enquiring-stays known pt terminal heard.Stray e = refl
 
+-- the row of a report that isn't below the least leaves the terminal ready: with something open it resolves that
+module _ (known : Known) (pt : ℕ) (old terminal : Terminal) (report : Report) (found : terminal_at known pt ≡ Some old) where
+  open-ready : (entry : TheEntry) → entry.intent.before ≤ report.trace → GoesOnTo pt (Ready report.trace) (report_of_open known pt terminal report entry).calls (report_of_open known pt terminal report entry)
+  open-ready entry least = by_test (nat_le entry.intent.before report.trace) (le-leb entry.intent.before report.trace least)
+    where
+      row : Bool → Row
+      row test = if test then resolves known pt terminal (Ready report.trace) (outcome_reported entry report known.moment) else terminal_becomes known pt (at_rest terminal (Aside entry.intent.before report.trace)) []
+
+      by_test : (test : Bool) → test ≡ true → GoesOnTo pt (Ready report.trace) (row test).calls (row test)
+      by_test true is = record { terminal = done_with terminal (Ready report.trace); found = new-is-there known.core.terminals pt old (done_with terminal (Ready report.trace)) found; standing_is = refl; calls_are = refl }
+      by_test false is = no-true is
+
+  against-ready : (opened : Option TheEntry) (last : ℕ) → least_against opened last ≤ report.trace → GoesOnTo pt (Ready report.trace) (report_against opened last known pt terminal report).calls (report_against opened last known pt terminal report)
+  against-ready None last least = record {
+    terminal = at_rest terminal (standing_reported last report.trace);
+    found = new-is-there known.core.terminals pt old (at_rest terminal (standing_reported last report.trace)) found;
+    standing_is = ap (λ b. if b then Ready report.trace else Aside last report.trace) (le-leb last report.trace least);
+    calls_are = refl;
+  }
+  against-ready (Some entry) last least = open-ready entry least
+
+-- so a message with such a report does
+report-leaves-ready : (known : Known) (pt : ℕ) (apdu : ApduValue) (terminal : Terminal) (report : Report) → ReportsAt known pt apdu terminal report → least_reported (on_record known.kept terminal.pt.poi) ≤ report.trace
+    → HasStanding (handle_row known pt apdu).core pt (Ready report.trace)
+report-leaves-ready known pt apdu terminal report reports least =
+    let records : OnRecord = on_record known.kept terminal.pt.poi in
+    let taken : Terminal = taking terminal reports.message known.moment in
+    let row : Row = report_row records known pt taken report in
+    let leads = reported-leads known pt (Ready report.trace) row.calls apdu terminal report reports (against-ready known pt terminal taken report reports.found records.opened records.last least) in
+    (leads.terminal, leads.found, leads.standing_is)
+
 enquiring-goes-on : GoesOnIn Enquiring
 enquiring-goes-on = record {
   linked = refl;
@@ -96,24 +130,23 @@ record IsReady (pt moment reported : ℕ) (v : View) : Type 0 where
 abbrev OrOver : Pt → List Record → ℕ → ℕ → ℕ → View → Type 0
 OrOver settings records pt moment reported v = (IsReady pt moment reported v ⊎ Pending (IsReport reported) Enquiring settings records pt moment v) ⊎ (is_dead v.scene.stage ≡ true)
 
--- of the terminal with these settings no key is open on record, and its last trace number isn't above this
-record MayReport (settings : Pt) (records : List Record) (reported : ℕ) : Type 0 where
-  none_open : (on_record records settings.poi).open_before ≡ None
-  least : (on_record records settings.poi).last ≤ reported
+-- by the records the terminal with these settings may report this trace number
+abbrev MayReport : Pt → List Record → ℕ → Type 0
+MayReport settings records reported = least_reported (on_record records settings.poi) ≤ reported
 
 -- with the end of its enquiry it is
 ended-ready : (settings : Pt) (records : List Record) (pt moment reported : ℕ) (w : View) → MayReport settings records reported → Ended (IsReport reported) Enquiring settings records pt moment w → IsReady pt moment reported w
 ended-ready settings records pt moment reported w may e =
+    let report : Report = record { trace = reported; approved = e.means.0; result_code = e.means.1 } in
+    let reports : ReportsAt e.known pt e.apdu e.own report = record { found = e.found; standing_is = e.standing_is; message = e.message; decoded = e.decoded; means = e.means.2 } in
     let own_record : on_record e.known.kept e.own.pt.poi ≡ on_record records settings.poi = ap (λ kept. on_record kept e.own.pt.poi) e.kept_is ∙ ap (λ (p : Pt). on_record records p.poi) e.settings_are in
-    let none_open = ap (λ (r : OnRecord). r.open_before) own_record ∙ may.none_open in
-    let least = subst (λ (r : OnRecord). r.last ≤ reported) (sym own_record) may.least in
-    let ready = enquired-is-ready e.known pt e.apdu e.own e.message reported e.means.0 e.means.1 e.found e.standing_is e.decoded e.means.2 none_open least in
+    let least = subst (λ (r : OnRecord). least_reported r ≤ reported) (sym own_record) may in
     record {
       agrees = e.agrees;
       settled = e.settled;
       stage = e.stage;
       none = e.none;
-      ready = subst (λ c. StandingKept c pt (Ready reported)) (sym e.core_is) (stands-kept (handle_row e.known pt e.apdu).core pt (Ready reported) (ready.terminal, ready.found, ready.standing_is));
+      ready = subst (λ c. StandingKept c pt (Ready reported)) (sym e.core_is) (stands-kept (handle_row e.known pt e.apdu).core pt (Ready reported) (report-leaves-ready e.known pt e.apdu e.own report reports least));
     }
 
 -- and stays so with each item
@@ -238,8 +271,7 @@ over-ready settings records pt moment reported v (inl (inl r)) may =
     (found.0, found.1, ap (λ (t : Terminal). t.standing) found.2 ∙ r.ready.2)
 
 pub report-makes-ready : ReportMakesReady
-report-makes-ready log v moves pt terminal reported e none_open least =
+report-makes-ready log v moves pt terminal reported e least =
     let p = heard-pending (IsReport reported) Enquiring log v moves pt terminal e in
     let moment : ℕ = v.scene.outside.moment in
-    let may : MayReport terminal.pt v.scene.kept reported = record { none_open = none_open; least = least } in
-    over-ready terminal.pt v.scene.kept pt moment reported (view_along v pt e.chunk moves) (moves-over terminal.pt v.scene.kept pt moment reported (after_turn v (HeardPt pt e.chunk)) moves may (inl (inr p)) e.lawful.1 e.round e.lasts) e.may_poll
+    over-ready terminal.pt v.scene.kept pt moment reported (view_along v pt e.chunk moves) (moves-over terminal.pt v.scene.kept pt moment reported (after_turn v (HeardPt pt e.chunk)) moves least (inl (inr p)) e.lawful.1 e.round e.lasts) e.may_poll

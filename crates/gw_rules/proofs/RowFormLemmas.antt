@@ -9,6 +9,7 @@ use Rattle.zvt_talk.specs.Came.{is_taken}
 use Rattle.zvt_talk.specs.declared.meaning.Heard.{Heard}
 use Rattle.zvt_talk.specs.declared.meaning.Heard.TheVariants as heard
 use Rattle.jrn_record.specs.declared.records.Outcome.{Outcome as TheOutcome}
+use Rattle.gw_ledger.specs.declared.entry.Entry.{Entry as TheEntry}
 use Rattle.sale_values.specs.declared.header.Header.{Header}
 use Rattle.sale_values.specs.declared.request.SaleRequest.{SaleRequest}
 use Rattle.sale_values.specs.declared.request.SaleRequest.TheVariants as requests
@@ -17,10 +18,10 @@ use Rattle.gw_owes.specs.Handling.{taking, meaning_at, enquires, registering, en
 use Rattle.gw_owes.specs.Items.{RoundItem, Serve}
 use Rattle.gw_owes.specs.Links.{is_linked}
 use Rattle.gw_owes.specs.ReadAs.{ReadAs, Request, Silent, NoMessage, NoJson}
-use Rattle.gw_owes.specs.Reports.{at_rest, on_record, standing_reported, report_against}
+use Rattle.gw_owes.specs.Reports.{Report, on_record, standing_reported, outcome_reported, report_of_open, report_against}
 use Rattle.gw_owes.specs.Requests.{begun_at, begun_by}
 use Rattle.gw_owes.specs.Row.{Known, Row, owing_nothing}
-use Rattle.gw_owes.specs.Serving.{staying, breaking, stops, resolves, approved_outcome, approved_row, serving_transaction}
+use Rattle.gw_owes.specs.Serving.{at_rest, staying, breaking, stops, resolves, approved_outcome, approved_row, serving_transaction}
 use Rattle.gw_owes.specs.Steps.{StepResult, KeptReply, Fails, Begins, step_result, item_of_result, items_of_result}
 use Rattle.gw_owes.specs.Terminals.{terminal_at, terminal_becomes}
 use Rattle.gw_owes.specs.declared.terminal.Service.{Service}
@@ -58,13 +59,22 @@ module _ (P : Row → Type 0) (known : Known) (number : ℕ) (terminal : Termina
   form-registering heard.Unclear = each.cuts
   form-registering heard.Stray = each.stays
 
-  form-report : (last reported : ℕ) (open_before : Option ℕ) → P (report_against open_before last known number terminal reported)
-  form-report last reported None = each.rests (standing_reported last reported) (by_test (nat_le last reported))
+  -- a report while a payment or a reversal is open
+  form-of-open : (report : Report) (entry : TheEntry) → P (report_of_open known number terminal report entry)
+  form-of-open report entry = by_test (nat_le entry.intent.before report.trace)
     where
-      by_test : (test : Bool) → is_linked (if test then Ready reported else Aside last reported) ≡ true
+      by_test : (test : Bool)
+          → P (if test then resolves known number terminal (Ready report.trace) (outcome_reported entry report known.moment) else terminal_becomes known number (at_rest terminal (Aside entry.intent.before report.trace)) [])
+      by_test true = each.resolves (Ready report.trace) (outcome_reported entry report known.moment) refl
+      by_test false = each.rests (Aside entry.intent.before report.trace) refl
+
+  form-report : (last : ℕ) (report : Report) (opened : Option TheEntry) → P (report_against opened last known number terminal report)
+  form-report last report None = each.rests (standing_reported last report.trace) (by_test (nat_le last report.trace))
+    where
+      by_test : (test : Bool) → is_linked (if test then Ready report.trace else Aside last report.trace) ≡ true
       by_test true = refl
       by_test false = refl
-  form-report last reported (Some before) = each.cuts
+  form-report last report (Some entry) = form-of-open report entry
 
   form-enquiring : (meant : Heard) → P (enquiring known number terminal meant)
   form-enquiring (heard.Begun stop) = each.stays
@@ -74,8 +84,8 @@ module _ (P : Row → Type 0) (known : Known) (number : ℕ) (terminal : Termina
   form-enquiring heard.Seen = each.stays
   form-enquiring (heard.Approved figures) = each.stays
   form-enquiring heard.Done = each.stays
-  form-enquiring (heard.Told reported approved result_code) =
-      form-report (on_record known.kept terminal.pt.poi).last reported (on_record known.kept terminal.pt.poi).open_before
+  form-enquiring (heard.Told trace approved result_code) =
+      form-report (on_record known.kept terminal.pt.poi).last (record { trace = trace; approved = approved; result_code = result_code }) (on_record known.kept terminal.pt.poi).opened
   form-enquiring (heard.Declined result_code reported) = each.cuts
   form-enquiring heard.Unclear = each.cuts
   form-enquiring heard.Stray = each.stays

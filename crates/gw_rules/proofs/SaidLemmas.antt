@@ -13,11 +13,11 @@ use Rattle.zvt_talk.specs.Came.{is_taken}
 use Rattle.gw_owes.specs.Calls.{Sending, Ask, Acknowledge, Refuse, OwedCall, SendTill, LinkPt, WriteBody, WriteGate, WriteFirstGate, Sync, SendPt as OwedSendPt, CutTill as OwedCutTill, CutPt as OwedCutPt}
 use Rattle.gw_owes.specs.Items.{RoundItem, Crowded, Message, Asked, Unframed, Gone, Greet, Handle, Serve, NextWaiting, Oversized, LinkLost, Late, Overdue, Due}
 use Rattle.gw_owes.specs.Links.{is_linked}
-use Rattle.gw_owes.specs.Reports.{on_record}
+use Rattle.gw_owes.specs.Reports.{on_record, least_reported}
 use Rattle.gw_owes.specs.Row.{Known}
-use Rattle.gw_owes.specs.TerminalRows.{terminal_of}
+use Rattle.gw_owes.specs.TerminalRows.{terminal_of, is_link_lost}
 use Rattle.gw_owes.specs.Terminals.{terminal_at}
-use Rattle.gw_owes.specs.Transcript.{Carried, Commanded, Took, commanded, took_decoded, took_of, took_by, is_link_lost, is_number}
+use Rattle.gw_owes.specs.Transcript.{Carried, Commanded, Took, commanded, took_decoded, took_of, took_by, is_number}
 use Rattle.gw_owes.specs.declared.terminal.Terminal.{Terminal}
 use Rattle.gw_rules.specs.CutCauses.{HasSaidApdu}
 use Rattle.gw_rules.specs.Lawful.{IsCourse, turns_of, Stands}
@@ -47,18 +47,18 @@ handled-said : (log : List Turn) (pt : ℕ) (known : Known) (apdu : ApduValue) (
 handled-said log pt known apdu None transcript now said h = h
 handled-said log pt known apdu (Some terminal) transcript now said h = by_linked (is_linked terminal.standing)
   where
-    last : ℕ
-    last = (on_record known.kept terminal.pt.poi).last
+    least : ℕ
+    least = least_reported (on_record known.kept terminal.pt.poi)
 
-    by_taken : (message : MessageValue) → decode_pt_message apdu ≡ Ok message → (taken : Bool) → AreSaid log pt ((if taken then Took message known.moment last ∷ [] else []) ++ transcript)
+    by_taken : (message : MessageValue) → decode_pt_message apdu ≡ Ok message → (taken : Bool) → AreSaid log pt ((if taken then Took message known.moment least ∷ [] else []) ++ transcript)
     by_taken message is true = (record { before = log; rest = []; log_is = sym (append-nil log); moment_is = now; apdu = apdu; said = said; decoded = is }, h)
     by_taken message is false = h
 
-    by_decoded : (decoded : Result MessageValue PtFault) → decode_pt_message apdu ≡ decoded → AreSaid log pt (took_decoded known.moment last decoded ++ transcript)
+    by_decoded : (decoded : Result MessageValue PtFault) → decode_pt_message apdu ≡ decoded → AreSaid log pt (took_decoded known.moment least decoded ++ transcript)
     by_decoded (Ok message) is = by_taken message is (is_taken message)
     by_decoded (Err fault) is = h
 
-    by_linked : (linked : Bool) → AreSaid log pt ((if linked then took_decoded known.moment last (decode_pt_message apdu) else []) ++ transcript)
+    by_linked : (linked : Bool) → AreSaid log pt ((if linked then took_decoded known.moment least (decode_pt_message apdu) else []) ++ transcript)
     by_linked true = by_decoded (decode_pt_message apdu) refl
     by_linked false = h
 

@@ -12,11 +12,11 @@ use Rattle.zvt_talk.specs.Came.{is_taken}
 use Rattle.gw_owes.specs.Calls.{Sending, Ask, Acknowledge, Refuse, sending_bytes, OwedCall, LinkPt, SendPt as OwedSendPt}
 use Rattle.gw_owes.specs.Items.{RoundItem, Crowded, Message, Asked, Unframed, Gone, Greet, Handle, Serve, NextWaiting, Oversized, LinkLost, Late, Overdue, Due}
 use Rattle.gw_owes.specs.Links.{is_linked}
-use Rattle.gw_owes.specs.Reports.{on_record}
+use Rattle.gw_owes.specs.Reports.{on_record, least_reported}
 use Rattle.gw_owes.specs.Row.{Known}
-use Rattle.gw_owes.specs.TerminalRows.{terminal_of}
+use Rattle.gw_owes.specs.TerminalRows.{terminal_of, is_link_lost}
 use Rattle.gw_owes.specs.Terminals.{terminal_at}
-use Rattle.gw_owes.specs.Transcript.{Carried, Took, commanded, took_decoded, took_of, took_by, is_link_lost, is_number}
+use Rattle.gw_owes.specs.Transcript.{Carried, Took, commanded, took_decoded, took_of, took_by, is_number}
 use Rattle.gw_owes.specs.declared.terminal.Terminal.{Terminal}
 use Rattle.gw_rules.specs.Lawful.{first_call, Begins, AllowedTurn, IsCourse, turns_of}
 use Rattle.gw_rules.specs.Scene.{known_in}
@@ -52,7 +52,7 @@ took-none known (Handle number apdu) transcript = by_terminal (terminal_at known
 
     by_terminal : (terminal : Option Terminal) (decoded : Result MessageValue PtFault) → spelled_commands (took_of known terminal decoded ++ transcript) ≡ spelled_commands transcript
     by_terminal None decoded = refl
-    by_terminal (Some terminal) decoded = by_linked (on_record known.kept terminal.pt.poi).last (is_linked terminal.standing) decoded
+    by_terminal (Some terminal) decoded = by_linked (least_reported (on_record known.kept terminal.pt.poi)) (is_linked terminal.standing) decoded
 took-none known (Serve number till header request) transcript = refl
 took-none known (NextWaiting number) transcript = refl
 took-none known (Oversized number) transcript = refl

@@ -36,7 +36,7 @@ use Rattle.sale_msg.specs.Table.{rows_of, part_rows}
 use Rattle.sale_msg.specs.Flaw.{IsMet, AreMet}
 use Rattle.sale_msg.specs.Grammar.{IsTillMessage, HeaderHolds, Asks, parts_of}
 use Rattle.sale_reply.specs.Reply.{message_tree, header_tree, result_tree}
-use Rattle.gw_owes.specs.ReadAs.{IsReadAs, Silent}
+use Rattle.gw_owes.specs.ReadAs.{IsReadAs, Request, Silent}
 use Rattle.gw_owes.specs.Reply.{reply_value_tree, reply_value_bytes}
 use Rattle.gw_rules.specs.Example.{example_setup, few_setup, status_request, status_reply_bytes, silent_message, status_header, status_asked, not_found}
 use Rattle.gw_rules.proofs.StageLemmas.{no-true}
@@ -147,63 +147,56 @@ mutual
       let q = and_parts (is_spellable d value) (have_spellable d more) p.1 in
       (IsUtf8-from_is_utf8 name p.0, spellable-tree d value q.0, spellable-members d more q.1)
 
--- ---- the request and its reply
+-- ---- requests for a status, by their ServiceID and the one that they name
 
-abbrev asked_header : Tree
-asked_header = object
+abbrev asked_header : List ℕ → Tree
+asked_header service = object
     (text_member (codes "ProtocolVersion") (codes "3.0")
     (text_member (codes "MessageClass") (codes "Service")
     (text_member (codes "MessageCategory") (codes "TransactionStatus")
     (text_member (codes "MessageType") (codes "Request")
-    (text_member (codes "ServiceID") (codes "1")
+    (text_member (codes "ServiceID") service
     (text_member (codes "SaleID") (codes "S1")
     (text_member (codes "POIID") (codes "T1") no_members)))))))
 
-abbrev asked_reference : Tree
-asked_reference = object (text_member (codes "ServiceID") (codes "9") no_members)
+abbrev asked_reference : List ℕ → Tree
+asked_reference named = object (text_member (codes "ServiceID") named no_members)
 
-abbrev asked_body : Tree
-asked_body = object
-    (member (codes "MessageHeader") asked_header
-    (member (codes "TransactionStatusRequest") (only (codes "MessageReference") asked_reference) no_members))
+abbrev asked_body : List ℕ → List ℕ → Tree
+asked_body service named = object
+    (member (codes "MessageHeader") (asked_header service)
+    (member (codes "TransactionStatusRequest") (only (codes "MessageReference") (asked_reference named)) no_members))
 
-abbrev asked_tree : Tree
-asked_tree = only (codes "SaleToPOIRequest") asked_body
+abbrev pub asked_tree : List ℕ → List ℕ → Tree
+asked_tree service named = only (codes "SaleToPOIRequest") (asked_body service named)
 
-request-canonical : status_request ≡ canonical asked_tree
-unfolding status_request
-request-canonical = refl
+-- the header of such a request
+abbrev asking_header : List ℕ → Header
+asking_header service = record status_header { service = Some service }
 
-request-spellable : is_spellable 0 asked_tree ≡ true
-unfolding is_utf8 chars encode
-request-spellable = refl
+abbrev asked_for : List ℕ → Reference
+asked_for named = record { service = named; sale = None; poi = None }
 
-request-spelled : Spells asked_tree status_request
-request-spelled = subst (Spells asked_tree) (sym request-canonical) (spellable_written asked_tree (spellable-tree 0 asked_tree request-spellable))
-
-abbrev asked_for : Reference
-asked_for = record { service = codes "9"; sale = None; poi = None }
-
-header-holds : HeaderHolds asked_body status_header
+header-holds : (service named : List ℕ) → HeaderHolds (asked_body service named) (asking_header service)
 unfolding tree_at
-header-holds = record { class = refl; category = refl; message_type = refl; service = refl; device = refl; sale = refl; poi = refl }
+header-holds service named = record { class = refl; category = refl; message_type = refl; service = refl; device = refl; sale = refl; poi = refl }
 
-body-met : AreMet (rows_of categories.TransactionStatus) asked_body
+body-met : (service named : List ℕ) → IsIdent 10 service → AreMet (rows_of categories.TransactionStatus) (asked_body service named)
 unfolding IsMet tree_at
-body-met = (ident-tested 10 (codes "1") refl, (refl, (refl, tt)))
+body-met service named service_is = (service_is, (refl, (refl, tt)))
 
-part-met : All (AreMet (part_rows categories.TransactionStatus)) (parts_of categories.TransactionStatus asked_body)
+part-met : (service named : List ℕ) → IsIdent 10 named → All (AreMet (part_rows categories.TransactionStatus)) (parts_of categories.TransactionStatus (asked_body service named))
 unfolding IsMet tree_at
-part-met = All-from_recursion (AreMet (part_rows categories.TransactionStatus)) (asked_reference ∷ []) ((ident-tested 10 (codes "9") refl, (tt, (tt, tt))), tt)
+part-met service named named_is = All-from_recursion (AreMet (part_rows categories.TransactionStatus)) (asked_reference named ∷ []) ((named_is, (tt, (tt, tt))), tt)
 
-asks-for : Asks asked_body (requests.Status (Some asked_for))
+asks-for : (service named : List ℕ) → Asks (asked_body service named) (requests.Status (Some (asked_for named)))
 unfolding tree_at
-asks-for = (asked_reference, refl, record { service = refl; sale = refl; poi = refl })
+asks-for service named = (asked_reference named, refl, record { service = refl; sale = refl; poi = refl })
 
-request-message : IsTillMessage asked_tree (incoming.Request status_header (requests.Status (Some asked_for)))
+request-message : (service named : List ℕ) → IsIdent 10 service → IsIdent 10 named → IsTillMessage (asked_tree service named) (incoming.Request (asking_header service) (requests.Status (Some (asked_for named))))
 unfolding IsMet tree_at
-request-message = (
-  asked_body,
+request-message service named service_is named_is = (
+  asked_body service named,
   record {
     request_of = record {
       under = refl;
@@ -214,26 +207,42 @@ request-message = (
             (codes "0", refl),
             (
               (Service, refl),
-              (
-                (omega arith, omega arith, letters-tested (codes "TransactionStatus") refl),
-                (inl refl, (ident-tested 10 (codes "1") refl, (tt, (ident-tested 40 (codes "S1") refl, (ident-tested 40 (codes "T1") refl, tt))))),
-              ),
+              ((omega arith, omega arith, letters-tested (codes "TransactionStatus") refl), (inl refl, (service_is, (tt, (ident-tested 40 (codes "S1") refl, (ident-tested 40 (codes "T1") refl, tt)))))),
             ),
           ),
         );
-        values = header-holds;
+        values = header-holds service named;
       };
       message_type = refl;
     };
     category = refl;
-    members = record { members = body-met; parts = part-met };
-    asks = asks-for;
+    members = record { members = body-met service named service_is; parts = part-met service named named_is };
+    asks = asks-for service named;
   },
 )
 
+-- the bytes of its tree are read so
+pub status-read : (service named bytes : List ℕ) → bytes ≡ canonical (asked_tree service named) → is_spellable 0 (asked_tree service named) ≡ true → IsIdent 10 service → IsIdent 10 named
+    → IsReadAs bytes (Request (asking_header service) (requests.Status (Some (asked_for named))))
+status-read service named bytes is spellable service_is named_is = record {
+  tree = asked_tree service named;
+  spelled = subst (Spells (asked_tree service named)) (sym is) (spellable_written (asked_tree service named) (spellable-tree 0 (asked_tree service named) spellable));
+  read = request-message service named service_is named_is;
+}
+
+-- ---- the request and its reply
+
+request-canonical : status_request ≡ canonical (asked_tree (codes "1") (codes "9"))
+unfolding status_request
+request-canonical = refl
+
+request-spellable : is_spellable 0 (asked_tree (codes "1") (codes "9")) ≡ true
+unfolding is_utf8 chars encode
+request-spellable = refl
+
 -- the request is read as it is meant
 pub request-read : IsReadAs status_request status_asked
-request-read = record { tree = asked_tree; spelled = request-spelled; read = request-message }
+request-read = status-read (codes "1") (codes "9") status_request request-canonical request-spellable (ident-tested 10 (codes "1") refl) (ident-tested 10 (codes "9") refl)
 
 reply-canonical : status_reply_bytes ≡ canonical (reply_value_tree not_found)
 unfolding status_reply_bytes message_tree header_tree result_tree

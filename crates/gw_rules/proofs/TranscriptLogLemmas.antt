@@ -29,9 +29,9 @@ use Rattle.gw_owes.specs.Row.{Known, Row, owing}
 use Rattle.gw_owes.specs.Rows.{asked_row, row_of}
 use Rattle.gw_owes.specs.Serving.{reply_to_outcome}
 use Rattle.gw_owes.specs.TerminalLaws.{settings_of, owes_cut}
-use Rattle.gw_owes.specs.TerminalRows.{terminal_of, terminal_row}
+use Rattle.gw_owes.specs.TerminalRows.{terminal_of, terminal_row, is_link_lost}
 use Rattle.gw_owes.specs.Terminals.{terminal_at, registers, reply_calls_to, reply_to_lost, unlinks, link_made, link_lost, forgets_till, core_without}
-use Rattle.gw_owes.specs.Transcript.{Carried, commanded, commanded_by, took_by, transcript_grown, is_link_lost, is_number, FollowsTranscript, EachRowFollowsTranscript}
+use Rattle.gw_owes.specs.Transcript.{Carried, commanded, commanded_by, took_by, transcript_grown, is_number, FollowsTranscript, EachRowFollowsTranscript}
 use Rattle.gw_owes.specs.declared.terminal.Terminal.{Terminal}
 use Rattle.gw_owes.proofs.HandlingLemmas.{by-where, each-terminal, each-linked}
 use Rattle.gw_owes.proofs.PaymentLemmas.{each-served}

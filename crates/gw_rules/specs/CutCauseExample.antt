@@ -6,18 +6,16 @@ use Rattle.zvt_apdu.specs.Grammar.{ApduValue}
 use Rattle.zvt_msg.specs.MessageDecode.{decode_pt_message}
 use Rattle.zvt_msg.specs.declared.fault.PtFault.{PtFault}
 use Rattle.zvt_talk.specs.declared.meaning.Heard.TheVariants as heard
-use Rattle.jrn_record.specs.declared.records.Record.TheVariants.{Intent}
 use Rattle.gw_owes.specs.Handling.{meaning_at}
 use Rattle.gw_owes.specs.Items.{Greet, Handle, Oversized, Late}
 use Rattle.gw_owes.specs.Row.{Known}
 use Rattle.gw_owes.specs.TerminalExample.{ack, abort, completion}
-use Rattle.gw_owes.specs.TerminalLaws.{ReportsWhileOpen, BreaksDialogue, IsLateAt}
+use Rattle.gw_owes.specs.TerminalLaws.{BreaksDialogue, IsLateAt}
 use Rattle.gw_owes.specs.declared.terminal.Standing.TheVariants.{Unlinked}
 use Rattle.gw_rules.specs.CauseExample.{outside_log, outside_course, outside_apdu, too_long_log, too_long_course}
 use Rattle.gw_rules.specs.CutCauses.{HasSaidApdu, HasBegunTooLong, BeginsCut, CutCause, SendFailed, SaidOutside, BegunTooLong, BrokeDialogue, DeadlineCame}
 use Rattle.gw_rules.specs.CutExample.{unacknowledged_done_log}
 use Rattle.gw_rules.specs.Lawful.{IsLawful}
-use Rattle.gw_rules.specs.PaymentLogExample.{logged_intent, open_log, open_course}
 use Rattle.gw_rules.specs.RowExample.{terminal_setup}
 use Rattle.gw_rules.specs.Scene.{known_in}
 use Rattle.gw_rules.specs.TerminalLogExample.{linked_log, linked_course, items_begin, LeavesStanding}
@@ -74,19 +72,6 @@ pub record ExampleDeclinedCut : Type 0 where
   pub declined : meaning_at breaks.terminal breaks.message ≡ heard.Declined 0x6C None
   pub cause : CutCause aborted_log 0
   pub cause_is : cause ≡ BrokeDialogue abort_apdu (known_along aborted_course) said begins breaks
-
--- ---- a key that is open
-
--- a terminal whose payment is open reports its last transaction: it is cut, the key stays open, and it is due five seconds later
-pub record ExampleOpenCut : Type 0 where
-  pub is_cut : LeavesStanding (open_log ++ CutPt 0 ∷ Polled (pos 12) ∷ Stopped ∷ []) (open_course ++ Begin ∷ Make (CutPt 0) ∷ (items_begin 3 ++ Make (Polled (pos 12)) ∷ Make Stopped ∷ [])) (Unlinked (Some 16))
-  pub said : HasSaidApdu open_log 0 completion_apdu
-  pub begins : BeginsCut open_log 0 (Handle 0 completion_apdu) (known_along open_course)
-  pub breaks : BreaksDialogue (known_along open_course) 0 completion_apdu
-  pub reports : ReportsWhileOpen (known_along open_course) breaks.terminal breaks.message
-  pub cause : CutCause open_log 0
-  pub cause_is : cause ≡ BrokeDialogue completion_apdu (known_along open_course) said begins breaks
-  pub kept_is : (view_from at_first open_course).scene.kept ≡ Intent logged_intent ∷ []
 
 -- ---- an APDU outside the grammar
 

@@ -67,7 +67,7 @@ pub data CutCause (log : List Turn) (pt : ℕ) : Type 0 where
   SaidOutside : (apdu : ApduValue) (fault : PtFault) (known : Known) → HasSaidApdu log pt apdu → BeginsCut log pt (Greet pt apdu) known → decode_pt_message apdu ≡ Err fault → CutCause log pt
   -- it has begun an APDU above the limit
   BegunTooLong : (known : Known) → HasBegunTooLong log pt → BeginsCut log pt (Oversized pt) known → CutCause log pt
-  -- it has said a message that leaves its dialogue unclear, declines a registration or an enquiry, or reports while a key of it is open
+  -- it has said a message that leaves its dialogue unclear, or declines a registration or an enquiry
   BrokeDialogue : (apdu : ApduValue) (known : Known) → HasSaidApdu log pt apdu → BeginsCut log pt (Handle pt apdu) known → BreaksDialogue known pt apdu → CutCause log pt
   -- the deadline of its dialogue has come
   DeadlineCame : (known : Known) → BeginsCut log pt (Late pt) known → IsLateAt known pt → CutCause log pt

@@ -1,5 +1,5 @@
 -- Laws of lawful logs on dialogues that end: a registration that is done is followed by the enquiry, and an enquiry that reports the last transaction makes the terminal ready.
-use Rattle.std.specs.Prelude.{◌≡◌, ◌⊎◌, ◌≤◌, ℕ, true, false, List, [], ◌∷◌, ◌++◌, if◌then◌else◌, slice_get, Option, Some, None, Ok}
+use Rattle.std.specs.Prelude.{◌≡◌, ◌⊎◌, ◌≤◌, ℕ, true, false, List, [], ◌∷◌, ◌++◌, if◌then◌else◌, slice_get, Option, Some, Ok}
 use Rattle.gw_base.specs.declared.figures.Figures.{Figures}
 use Rattle.gw_base.specs.declared.setup.Pt.{Pt}
 use Rattle.gw_site.specs.Outside.{outside_of}
@@ -16,7 +16,7 @@ use Rattle.zvt_talk.specs.declared.meaning.Heard.{Heard}
 use Rattle.zvt_talk.specs.declared.meaning.Heard.TheVariants.{Done, Told}
 use Rattle.gw_owes.specs.Core.{Core}
 use Rattle.gw_owes.specs.Handling.{meaning_at, taking, enquiry_command}
-use Rattle.gw_owes.specs.Reports.{on_record}
+use Rattle.gw_owes.specs.Reports.{on_record, least_reported}
 use Rattle.gw_owes.specs.declared.terminal.Standing.{Standing}
 use Rattle.gw_owes.specs.declared.terminal.Standing.TheVariants.{Registering, Enquiring, Ready}
 use Rattle.gw_owes.specs.declared.terminal.Terminal.{Terminal}
@@ -80,8 +80,8 @@ HasStanding core pt standing = (terminal : Terminal) × (slice_get core.terminal
 abbrev pub view_along : View → ℕ → List ℕ → List Move → View
 view_along v pt chunk moves = view_from v (Make (HeardPt pt chunk) ∷ moves)
 
--- a terminal whose enquiry reports a trace number is ready with it when the next poll may come, where on record, as the bytes come, none of its keys is open and its last trace number isn't above that
+-- a terminal whose enquiry reports a trace number is ready with it when the next poll may come, where that is no less than the least which it may report, by the records as the bytes come
 abbrev pub ReportMakesReady : Type 0
 ReportMakesReady =
     (log : List Turn) (v : View) (moves : List Move) (pt : ℕ) (terminal : Terminal) (reported : ℕ) (e : EndsAlong (IsReport reported) log v moves pt terminal Enquiring)
-    → (on_record v.scene.kept terminal.pt.poi).open_before ≡ None → (on_record v.scene.kept terminal.pt.poi).last ≤ reported → HasStanding (view_along v pt e.chunk moves).scene.core pt (Ready reported)
+    → least_reported (on_record v.scene.kept terminal.pt.poi) ≤ reported → HasStanding (view_along v pt e.chunk moves).scene.core pt (Ready reported)

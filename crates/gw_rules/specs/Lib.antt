@@ -24,6 +24,7 @@ pub mod Opening
 pub mod OutsideLaws
 pub mod PaymentLogExample
 pub mod RecordOrder
+pub mod RecoveryLogExample
 pub mod RowExample
 pub mod Scene
 pub mod SilenceLaws

@@ -1,4 +1,4 @@
--- Example logs of a payment, from the start on: from the till's bytes to its reply, and one whose key stays open as the terminal's link is lost. Each is along a course that the checker computes.
+-- Example logs of a payment, from the start on: from the till's bytes to its reply, and one whose key stays open as the terminal's link is lost, until the terminal reports. Each is along a course that the checker computes.
 use Rattle.std.specs.Prelude.{◌≡◌, ℕ, pos, true, List, [], ◌∷◌, ◌++◌, slice_get, Some, None, codes}
 use Rattle.sale_frame.specs.Grammar.{frame}
 use Rattle.gw_site.specs.declared.turn.Turn.{Turn}
@@ -18,6 +18,7 @@ use Rattle.gw_owes.specs.declared.terminal.Standing.TheVariants.{Ready, Serving}
 use Rattle.gw_owes.specs.declared.terminal.Service.TheVariants.{Transaction}
 use Rattle.gw_owes.specs.declared.terminal.Terminal.{Terminal}
 use Rattle.gw_owes.specs.RecordLaws.{HasNoneOpen, IsServedOpen}
+use Rattle.sale_reply.specs.declared.reply.Told.{Told as ResultBody}
 use Rattle.sale_reply.specs.declared.reply.Told.TheVariants.{PaymentApproved}
 use Rattle.gw_base.specs.declared.currency.Currency.TheVariants.{Eur}
 use Rattle.gw_rules.specs.Lawful.{Stands}
@@ -41,15 +42,17 @@ asked_payment = Request (till_header (codes "Payment") (codes "1")) (requests.Pa
 abbrev pub logged_intent : TheIntent
 logged_intent = record (intent_after 0) { moment = pos 3 }
 
--- its Outcome, of the moment 4
-abbrev pub logged_outcome : TheOutcome
-logged_outcome = record { approved = true; slot = 0; number = 123; receipt = 17; amount = 1099; condition = None; moment = pos 4 }
+-- its Outcome, of this moment
+abbrev pub logged_outcome : ℕ → TheOutcome
+logged_outcome moment = record { approved = true; slot = 0; number = 123; receipt = 17; amount = 1099; condition = None; moment = pos moment }
 
--- the reply to it
-abbrev pub logged_reply : ReplyValue
-logged_reply =
-    Finished (paid_header (codes "1"))
-    (PaymentApproved (codes "27908") (codes "2025-03-07T10:11:04+00:00") (record { number = 123; receipt = 17; slot = 0; moment = pos 4 }) 1099 (record { minor = 1099; currency = Eur }))
+-- the result that its till gets
+abbrev pub logged_result : ℕ → ResultBody
+logged_result moment = PaymentApproved (codes "27908") (codes "2025-03-07T10:11:04+00:00") (record { number = 123; receipt = 17; slot = 0; moment = pos moment }) 1099 (record { minor = 1099; currency = Eur })
+
+-- the reply with it
+abbrev pub logged_reply : ℕ → ReplyValue
+logged_reply moment = Finished (paid_header (codes "1")) (logged_result moment)
 
 -- the command of the payment, as it is sent
 abbrev pub authorise_sent : List ℕ
@@ -87,42 +90,48 @@ begun_course =
 -- the terminal acknowledges the payment, reports it as approved, and completes it: the Outcome is kept, and then the till gets its reply
 abbrev pub approved_log : List Turn
 approved_log =
-    Polled (pos 4) ∷ HeardPt 0 (ack ++ approved_status ++ completion) ∷ SentPt 0 ack true ∷ SentPt 0 ack true ∷ (keep_turns 1 (Outcome logged_outcome) ++ SentTill 1 (reply_value_bytes logged_reply) true ∷ Polled (pos 5) ∷ Stopped ∷ [])
+    Polled (pos 4) ∷ HeardPt 0 (ack ++ approved_status ++ completion) ∷ SentPt 0 ack true ∷ SentPt 0 ack true ∷ (keep_turns 1 (Outcome (logged_outcome 4)) ++ SentTill 1 (reply_value_bytes (logged_reply 4)) true ∷ Polled (pos 5) ∷ Stopped ∷ [])
 
 -- its course
 abbrev pub approved_course : List Move
 approved_course =
-    Make (Polled (pos 4)) ∷ Make (HeardPt 0 (ack ++ approved_status ++ completion)) ∷ (items_begin 4 ++ Make (SentPt 0 ack true) ∷ (items_begin 3 ++ Make (SentPt 0 ack true) ∷ Begin ∷ (keep_moves 1 (Outcome logged_outcome) ++ Make (SentTill 1 (reply_value_bytes logged_reply) true) ∷ (items_begin 3 ++ Make (Polled (pos 5)) ∷ Make Stopped ∷ []))))
+    Make (Polled (pos 4)) ∷ Make (HeardPt 0 (ack ++ approved_status ++ completion)) ∷ (items_begin 4 ++ Make (SentPt 0 ack true) ∷ (items_begin 3 ++ Make (SentPt 0 ack true) ∷ Begin ∷ (keep_moves 1 (Outcome (logged_outcome 4)) ++ Make (SentTill 1 (reply_value_bytes (logged_reply 4)) true) ∷ (items_begin 3 ++ Make (Polled (pos 5)) ∷ Make Stopped ∷ []))))
 
 -- the log is lawful; the terminal is ready with the payment's trace number, and both records are kept
 pub record PaymentIsLawful : Type 0 where
   pub leaves : LeavesStanding (ready_none_log ++ begun_log ++ approved_log) (ready_none_course ++ begun_course ++ approved_course) (Ready 123)
-  pub kept_is : (view_from at_first (ready_none_course ++ begun_course ++ approved_course)).scene.kept ≡ Intent logged_intent ∷ Outcome logged_outcome ∷ []
+  pub kept_is : (view_from at_first (ready_none_course ++ begun_course ++ approved_course)).scene.kept ≡ Intent logged_intent ∷ Outcome (logged_outcome 4) ∷ []
 
--- ---- its key stays open
+-- ---- its key stays open until the terminal reports
 
--- The terminal's link is lost as it serves the payment: five seconds later it is linked again, registers and is enquired, and then polled.
+-- The terminal's link is lost as it serves the payment: five seconds later it is linked again, registers and is enquired.
 abbrev pub enquired_again_log : List Turn
 enquired_again_log =
-    Polled (pos 4) ∷ Lost 0 ∷ Polled (pos 9) ∷ Linked 0 ∷ SentPt 0 register_bytes true ∷ Polled (pos 10) ∷ HeardPt 0 (ack ++ completion) ∷ SentPt 0 ack true ∷ SentPt 0 enquiry_sent true ∷ Polled (pos 11) ∷ []
-
--- It reports a last transaction, which is acknowledged.
-abbrev pub reported_log : List Turn
-reported_log = enquired_again_log ++ HeardPt 0 (ack ++ approved_status ++ completion) ∷ SentPt 0 ack true ∷ SentPt 0 ack true ∷ []
-
--- its course, up to where the Completion is handled
-abbrev pub reported_course : List Move
-reported_course =
-    Make (Polled (pos 4)) ∷ Make (Lost 0) ∷ (items_begin 3 ++ Make (Polled (pos 9)) ∷ (items_begin 2 ++ Make (Linked 0) ∷ Make (SentPt 0 register_bytes true) ∷ Make (Polled (pos 10)) ∷ Make (HeardPt 0 (ack ++ completion)) ∷ (items_begin 4 ++ Make (SentPt 0 ack true) ∷ Begin ∷ Make (SentPt 0 enquiry_sent true)
-    ∷ (items_begin 3 ++ Make (Polled (pos 11)) ∷ Make (HeardPt 0 (ack ++ approved_status ++ completion)) ∷ (items_begin 4 ++ Make (SentPt 0 ack true) ∷ (items_begin 3 ++ Make (SentPt 0 ack true) ∷ []))))))
-
--- the log with it
-abbrev pub open_log : List Turn
-open_log = ready_none_log ++ begun_log ++ reported_log
+    Polled (pos 4) ∷ Lost 0 ∷ Polled (pos 9) ∷ Linked 0 ∷ SentPt 0 register_bytes true ∷ Polled (pos 10) ∷ HeardPt 0 (ack ++ completion) ∷ SentPt 0 ack true ∷ SentPt 0 enquiry_sent true ∷ []
 
 -- its course
-abbrev pub open_course : List Move
-open_course = ready_none_course ++ begun_course ++ reported_course
+abbrev pub enquired_again_course : List Move
+enquired_again_course =
+    Make (Polled (pos 4)) ∷ Make (Lost 0) ∷ (items_begin 3 ++ Make (Polled (pos 9)) ∷ (items_begin 2 ++ Make (Linked 0) ∷ Make (SentPt 0 register_bytes true) ∷ Make (Polled (pos 10)) ∷ Make (HeardPt 0 (ack ++ completion)) ∷ (items_begin 4 ++ Make (SentPt 0 ack true) ∷ Begin ∷ Make (SentPt 0 enquiry_sent true) ∷ items_begin 3)))
+
+-- It reports that its last transaction is approved, and this is the payment: the Outcome is kept, and then the till gets its reply.
+abbrev pub resolved_log : List Turn
+resolved_log =
+    Polled (pos 11) ∷ HeardPt 0 (ack ++ approved_status ++ completion) ∷ SentPt 0 ack true ∷ SentPt 0 ack true ∷ (keep_turns 1 (Outcome (logged_outcome 11)) ++ SentTill 1 (reply_value_bytes (logged_reply 11)) true ∷ Polled (pos 12) ∷ Stopped ∷ [])
+
+-- its course
+abbrev pub resolved_course : List Move
+resolved_course =
+    Make (Polled (pos 11)) ∷ Make (HeardPt 0 (ack ++ approved_status ++ completion)) ∷ (items_begin 4 ++ Make (SentPt 0 ack true) ∷ (items_begin 3 ++ Make (SentPt 0 ack true) ∷ Begin ∷ (keep_moves 1 (Outcome (logged_outcome 11)) ++ Make (SentTill 1 (reply_value_bytes (logged_reply 11)) true) ∷ (items_begin 3 ++ Make (Polled (pos 12)) ∷ Make Stopped ∷ []))))
+
+-- the whole course
+abbrev pub lost_and_resolved_course : List Move
+lost_and_resolved_course = ready_none_course ++ begun_course ++ enquired_again_course ++ resolved_course
+
+-- the log is lawful; the terminal is ready with the payment's trace number, and both records are kept
+pub record ResolvedIsLawful : Type 0 where
+  pub leaves : LeavesStanding (ready_none_log ++ begun_log ++ enquired_again_log ++ resolved_log) lost_and_resolved_course (Ready 123)
+  pub kept_is : (view_from at_first lost_and_resolved_course).scene.kept ≡ Intent logged_intent ∷ Outcome (logged_outcome 11) ∷ []
 
 -- ---- what other laws say of them
 
@@ -141,12 +150,12 @@ pub record BegunIsServedOpen : Type 0 where
 
 -- the terminal's messages until the till has its reply
 abbrev pub replied_log : List Turn
-replied_log = Polled (pos 4) ∷ HeardPt 0 (ack ++ approved_status ++ completion) ∷ SentPt 0 ack true ∷ SentPt 0 ack true ∷ (keep_turns 1 (Outcome logged_outcome) ++ SentTill 1 (reply_value_bytes logged_reply) true ∷ [])
+replied_log = Polled (pos 4) ∷ HeardPt 0 (ack ++ approved_status ++ completion) ∷ SentPt 0 ack true ∷ SentPt 0 ack true ∷ (keep_turns 1 (Outcome (logged_outcome 4)) ++ SentTill 1 (reply_value_bytes (logged_reply 4)) true ∷ [])
 
 -- their course
 abbrev pub replied_course : List Move
 replied_course =
-    Make (Polled (pos 4)) ∷ Make (HeardPt 0 (ack ++ approved_status ++ completion)) ∷ (items_begin 4 ++ Make (SentPt 0 ack true) ∷ (items_begin 3 ++ Make (SentPt 0 ack true) ∷ Begin ∷ (keep_moves 1 (Outcome logged_outcome) ++ Make (SentTill 1 (reply_value_bytes logged_reply) true) ∷ [])))
+    Make (Polled (pos 4)) ∷ Make (HeardPt 0 (ack ++ approved_status ++ completion)) ∷ (items_begin 4 ++ Make (SentPt 0 ack true) ∷ (items_begin 3 ++ Make (SentPt 0 ack true) ∷ Begin ∷ (keep_moves 1 (Outcome (logged_outcome 4)) ++ Make (SentTill 1 (reply_value_bytes (logged_reply 4)) true) ∷ [])))
 
 -- the view then
 abbrev pub replied_view : View

@@ -12,9 +12,9 @@ use Rattle.gw_owes.specs.Calls.{Ask, Acknowledge, OwedCall, SendTill, LinkPt, Wr
 use Rattle.gw_owes.specs.Handling.{enquiry_command}
 use Rattle.gw_owes.specs.Items.{RoundItem}
 use Rattle.gw_owes.specs.Row.{Known}
-use Rattle.gw_owes.specs.TerminalRows.{terminal_of}
+use Rattle.gw_owes.specs.TerminalRows.{terminal_of, is_link_lost}
 use Rattle.gw_owes.specs.Terminals.{registration}
-use Rattle.gw_owes.specs.Transcript.{Carried, Commanded, Took, FollowsTranscript, commanded, took_by, is_link_lost, is_number, standing_by}
+use Rattle.gw_owes.specs.Transcript.{Carried, Commanded, Took, FollowsTranscript, commanded, took_by, is_number, standing_by}
 use Rattle.gw_owes.specs.declared.terminal.Standing.TheVariants.{Enquiring}
 use Rattle.gw_owes.specs.declared.terminal.Terminal.{Terminal}
 use Rattle.gw_rules.specs.CutCauses.{HasSaidApdu}
@@ -196,7 +196,7 @@ sent_from pt sent (turn ∷ turns) = sent_from pt (sent_then pt turn sent) turns
 abbrev pub spelled_commands : List Carried → List (List ℕ)
 spelled_commands [] = []
 spelled_commands (Commanded command moment ∷ earlier) = canonical_command command ∷ spelled_commands earlier
-spelled_commands (Took message moment last ∷ earlier) = spelled_commands earlier
+spelled_commands (Took message moment least ∷ earlier) = spelled_commands earlier
 
 -- the commands of the transcript of a terminal that is linked are all that the log says were sent to it since it was linked
 abbrev pub EachCommandWasSent : Type 0
@@ -218,7 +218,7 @@ pub record WasSaid (log : List Turn) (pt : ℕ) (message : MessageValue) (moment
 abbrev pub AreSaid : List Turn → ℕ → List Carried → Type 0
 AreSaid log pt [] = Unit {0}
 AreSaid log pt (Commanded command moment ∷ earlier) = AreSaid log pt earlier
-AreSaid log pt (Took message moment last ∷ earlier) = WasSaid log pt message moment × AreSaid log pt earlier
+AreSaid log pt (Took message moment least ∷ earlier) = WasSaid log pt message moment × AreSaid log pt earlier
 
 -- each message of a terminal's transcript was said by it, in a round at the message's moment
 abbrev pub EachMessageWasSaid : Type 0

@@ -7,7 +7,8 @@ ghost use Rattle.gw_rules.specs.KeptExample.{FlightIsKept, UnsyncedKeepsNone};
 ghost use Rattle.gw_rules.specs.KeptLaws.{EachImageHasKept, EachKeepsFile, EachKeepsJournalFiles, EachRoundHasJournal, EachStartOpensJournal, FullOnlyWithFewerSlots, HandedInKeepsFiles, KeepingKeepsFiles, LongOnlyWithFewerSlots, NeverBad, NeverTruncated, NoneKeptIsLost, OpeningKeepsFiles};
 ghost use Rattle.gw_rules.specs.LedgerRules.{EachFileFolds, EachImageFolds, EachLawfulHasKept, EachLawfulKeepsJournal, LawfulRefusedOnlyWithFewerSlots, RefusedAtLimits, RefusedOnlyWithFewerSlots};
 ghost use Rattle.gw_rules.specs.RecordOrder.{EachItemWasRead, EachLogComesInOrder, EachLogFolds, EachLogImageFolds, EachLogIsInOrder, EachLogLeavesSlots, ReadyHasNoneOpen, ServedIsOpen};
-ghost use Rattle.gw_rules.specs.PaymentLogExample.{BegunIsServedOpen, PaidHasNoneOpen, PaymentIsLawful, PaymentIsSilent};
+ghost use Rattle.gw_rules.specs.PaymentLogExample.{BegunIsServedOpen, PaidHasNoneOpen, PaymentIsLawful, PaymentIsSilent, ResolvedIsLawful};
+ghost use Rattle.gw_rules.specs.RecoveryLogExample.{OpenIsReported, RecoveryIsLawful};
 ghost use Rattle.gw_rules.specs.RowExample.{BothAreItems, ClosedGateDrops, FailedSendCutsLink, FailedSyncCrashes, GateIsInFlight, GoneTillIsForgotten, LinkIsDueAgain, LinkRegisters, LostEndOfDayReplies, LostIsDue, LostTransactionKeepsAsker, OpenGateKeeps, PollBeforeUnframedCut, RowItemsComeFirst, SendingsAreSpelled, StartLeavesFlight, SyncKeeps, UnframedIsLawful, UnlinkedIsLawful, WaitsByDeadline};
 ghost use Rattle.gw_rules.specs.ActExample.{LongerIsRead, NothingBeforeSync, OpeningIsDue, OwedBytesAreSent};
 ghost use Rattle.gw_rules.specs.ActLaws.{OneCallIsDue, OneCallIsOwed, TurnsAreOfSteps};
@@ -15,7 +16,7 @@ ghost use Rattle.gw_rules.specs.AloneExample.{OutsideLeavesOther, TooLongEndsOwn
 ghost use Rattle.gw_rules.specs.CauseExample.{OutsideIsCause, OutsideIsCut, PollBeforeOutsideCut, PollBeforeTooLongCut, SplitReport, TooLongIsCause, TooLongIsCut};
 ghost use Rattle.gw_rules.specs.ChunkExample.{PollBeforeSplitEnquiry, SplitIsEnquired};
 ghost use Rattle.gw_rules.specs.ChunkLaws.{DoneAtOnceIsEnquired};
-ghost use Rattle.gw_rules.specs.CutCauseExample.{ExampleDeclinedCut, ExampleFailedCut, ExampleLateCut, ExampleOpenCut, ExampleOutsideCut, ExampleTooLongCut, ExampleUnclearCut};
+ghost use Rattle.gw_rules.specs.CutCauseExample.{ExampleDeclinedCut, ExampleFailedCut, ExampleLateCut, ExampleOutsideCut, ExampleTooLongCut, ExampleUnclearCut};
 ghost use Rattle.gw_rules.specs.CutCauses.{EachPtCutHasCause, FailedSendCuts};
 ghost use Rattle.gw_rules.specs.DialogueLaws.{DoneRegistrationIsEnquired, ReportMakesReady};
 ghost use Rattle.gw_rules.specs.DoneExample.{ExampleDone, ExampleDoneAtOnce};
@@ -118,9 +119,8 @@ pub fn law_outside_alone()
 
 /// In a lawful log a terminal is cut only for these causes: the turn right before is a send to it that has failed; with the bytes that
 /// began the round it has said an APDU outside the grammar, begun one above the limit, or said a message that leaves its dialogue unclear,
-/// declines its registration or enquiry, or reports its last transaction while a key of it is open; or the deadline of its dialogue has come. Of these four each is an item that begins right
-/// before the cut, and owes it alone. After a send to it that has failed the next turn
-/// cuts it, unless the run ends there.
+/// or declines its registration or enquiry; or the deadline of its dialogue has come. Of these four each is an item that begins right
+/// before the cut, and owes it alone. After a send to it that has failed the next turn cuts it, unless the run ends there.
 pub fn law_cut_causes()
     ensures causes { EachPtCutHasCause }
     ensures failed_send { FailedSendCuts }
@@ -174,8 +174,9 @@ pub fn law_silent_dialogue_cuts()
 
 /// Along each lawful course, a terminal that registers, and with newly heard bytes says APDUs that end its registration as done, is sent its
 /// enquiry before the next poll; and one that is enquired, and so reports a trace number, is ready with that number when the next poll may
-/// come, where on record none of its keys is open and its last trace number isn't above that. So it is unless its link ends before, and
-/// however the bytes split the APDUs.
+/// come, where that is none below the least that it may report: by the records as the bytes come the number before its open payment or
+/// reversal, or its last trace number where it has none. What was open is resolved then, as no key of a terminal that is ready is open, by
+/// `law_records_in_order`. So it is unless its link ends before, and however the bytes split the APDUs.
 pub fn law_dialogue_ends()
     ensures enquired { DoneRegistrationIsEnquired }
     ensures ready { ReportMakesReady }
@@ -183,9 +184,10 @@ pub fn law_dialogue_ends()
 
 /// After each lawful log, each terminal's dialogue, how many Acks and Nacks it awaits, and its standing, but for the moment at which one
 /// that isn't linked is due and the slot of what it serves, are those of a flat list: the commands that were sent to it and the messages
-/// that were taken of it since it was linked, each with the last trace number that the records had of it then. The commands that are owed to it count as sent, after others too; and where its cut is owed nothing is said. Where a call
-/// on the disk has failed, what was owed then counts so, though it is made no more. While it is linked the commands that were sent to it
-/// are all that the log says were sent to it since; and each of the messages it said in some round of the log, at that moment.
+/// that were taken of it since it was linked, each with the least trace number that it might report then, by the records. The commands
+/// that are owed to it count as sent, after others too; and where its cut is owed nothing is said. Where a call on the disk has failed,
+/// what was owed then counts so, though it is made no more. While it is linked the commands that were sent to it are all that the log says
+/// were sent to it since; and each of the messages it said in some round of the log, at that moment.
 pub fn law_standing_transcript()
     ensures logs { EachLogFollowsTranscript }
     ensures owed { ClearOwesItsCalls }
@@ -386,11 +388,10 @@ pub fn law_cause_examples()
 {}
 
 /// For each cause of a cut there is a lawful log after which a terminal is cut for it: a message that leaves its registration unclear,
-/// one that declines it, and a report while a payment of it is open; an APDU outside the grammar, and one above the limit; a deadline; and a send that has failed.
+/// and one that declines it; an APDU outside the grammar, and one above the limit; a deadline; and a send that has failed.
 pub fn law_cut_cause_examples()
     ensures unclear { ExampleUnclearCut }
     ensures declined { ExampleDeclinedCut }
-    ensures open_key { ExampleOpenCut }
     ensures outside { ExampleOutsideCut }
     ensures too_long { ExampleTooLongCut }
     ensures late { ExampleLateCut }
@@ -400,9 +401,15 @@ pub fn law_cut_cause_examples()
 /// A payment, from the bytes of the till that asks for it to the reply: its Intent is kept before its terminal is asked, with the write and
 /// the sync of its body and then those of its gate, and its Outcome is kept so before the till gets its reply. At the end both are kept, and
 /// the terminal is ready with the payment's trace number. Once it is begun it is the terminal's one open key, and once it is paid none is
-/// open. Where the terminal sends nothing, it was silent at its deadline.
+/// open. Where the terminal sends nothing, it was silent at its deadline. Two logs more, of payments that break off. In one the terminal's
+/// link is lost, and the payment stays open until the terminal is linked again and reports: its Outcome is kept then, and the till gets its
+/// reply. In the other the power fails once the command was sent: a TransactionStatus of a later run is replied with `InProgress` before
+/// the terminal reports, and with the success, repeated, after that. As it reports there the payment is open, and it is ready after it.
 pub fn law_payment_logs()
     ensures paid { PaymentIsLawful }
+    ensures resolved { ResolvedIsLawful }
+    ensures recovered { RecoveryIsLawful }
+    ensures reported { OpenIsReported }
     ensures served { BegunIsServedOpen }
     ensures none_open { PaidHasNoneOpen }
     ensures silent { PaymentIsSilent }

@@ -390,7 +390,7 @@ tick
 diagnosis
 > state OK
 
-# A link that is lost leaves it open, and a report of the terminal is unclear then.
+# A link that is lost leaves it open until the terminal reports.
 pt 0 800000
 lost 0
 ~ pt 0 060f00
@@ -400,34 +400,22 @@ at 1741342269
 tick
 > link 0
 > pt 0 out 060006123456ba0978
+at 1741342264
 pt 0 800000
 pt 0 060f00
 > pt 0 out 800000
 > pt 0 out 062003123456
 pt 0 800000
-pt 0 061e0183
-> pt 0 out 800000
-> pt 0 cut
 status 1 3 1
 > fails TransactionStatus 1 3 InProgress
+pt 0 061e0183
+> pt 0 out 800000
+> declined 1 0 1
+> result 1 1 Aborted 000000-0000-0
+status 1 4 1
+> repeats 1 4 1 Aborted 000000-0000-0
 diagnosis
-> state Unreachable
-
-pt 0 800000
-lost 0
-at 1741342269
-tick
-> link 0
-> pt 0 out 060006123456ba0978
-pt 0 800000060f00800000
-> pt 0 out 800000
-> pt 0 out 062003123456
-pt 0 040f102700040000000010990b000123870017060f00
-> pt 0 out 800000
-> pt 0 out 800000
-> pt 0 cut
-status 1 2 1
-> fails TransactionStatus 1 2 InProgress
+> state OK
 
 # An acknowledgement that fails: the message isn't handled, and the rest of the bytes is dropped.
 fail send-pt 0 1

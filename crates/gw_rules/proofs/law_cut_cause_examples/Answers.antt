@@ -1,6 +1,5 @@
 -- Proof of the contract of `law_cut_cause_examples`.
 use Rattle.gw_rules.proofs.CutCauseExampleLemmas.{unclear-cut, declined-cut, outside-cut-cause, too-long-cut-cause, late-cut, failed-cut}
-use Rattle.gw_rules.proofs.PaymentLogLemmas.{open-cut}
 use Rattle.gw_rules.proofs.law_cut_cause_examples.Goals as goal
 
 pub returns-clause-unclear : goal.returns-clause-unclear
@@ -8,9 +7,6 @@ returns-clause-unclear c = unclear-cut
 
 pub returns-clause-declined : goal.returns-clause-declined
 returns-clause-declined c = declined-cut
-
-pub returns-clause-open_key : goal.returns-clause-open_key
-returns-clause-open_key c = open-cut
 
 pub returns-clause-outside : goal.returns-clause-outside
 returns-clause-outside c = outside-cut-cause

@@ -7,6 +7,9 @@ use Rattle.gw_core.proofs.handling.follow.Goals as goal
 pub returns-in-Registering-clause-row : goal.returns-in-Registering-clause-row
 returns-in-Registering-clause-row c = λ setup core. rw c.in-Registering.is (simp (to_z-of_z, c.ranges.now) at (c.registering.ensures.row setup c.args.ledger.now.records core))
 
+pub returns-in-Enquiring-clause-row : goal.returns-in-Enquiring-clause-row
+returns-in-Enquiring-clause-row c = λ setup core. rw c.in-Enquiring.is (simp (to_z-of_z, c.ranges.now) at (c.enquiring.ensures.row setup core))
+
 pub returns-in-Serving-Transaction-default-clause-row : goal.returns-in-Serving-Transaction-default-clause-row
 returns-in-Serving-Transaction-default-clause-row c = λ setup core.
     let served : c.in-Serving-Transaction-default.service ≡ Transaction c.in-Serving-Transaction-default.slot = rw c.in-Serving-Transaction-default.is at c.in-Serving-Transaction-default.service-is in

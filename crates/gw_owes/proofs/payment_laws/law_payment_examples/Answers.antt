@@ -1,5 +1,5 @@
 -- Proof of the contract of `law_payment_examples`.
-use Rattle.gw_owes.proofs.PaymentExampleLemmas.{payment-accepted, payment-begins, command-fails, approved, not-above, unclear-end, report-while-open, declined, second-request, room}
+use Rattle.gw_owes.proofs.PaymentExampleLemmas.{payment-accepted, payment-begins, command-fails, approved, not-above, unclear-end, declined, second-request, room}
 use Rattle.gw_owes.proofs.payment_laws.law_payment_examples.Goals as goal
 
 pub returns-clause-begins : goal.returns-clause-begins
@@ -19,9 +19,6 @@ returns-clause-not_above c = not-above
 
 pub returns-clause-unclear : goal.returns-clause-unclear
 returns-clause-unclear c = unclear-end
-
-pub returns-clause-report : goal.returns-clause-report
-returns-clause-report c = report-while-open
 
 pub returns-clause-declined : goal.returns-clause-declined
 returns-clause-declined c = declined

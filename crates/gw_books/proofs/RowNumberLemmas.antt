@@ -1,0 +1,391 @@
+-- What an item that isn't a message of a terminal's dialogue leaves of trace numbers, and the order of items and links.
+use Rattle.std.proofs.Common.{◌≡◌, ℕ, Bool, true, false, List, [], ◌∷◌, ◌++◌, refl, sym, ◌∙◌, ap, subst, inl, inr, eqb-true, append-nil, eqb, length, Option, Some, None, ◌⊎◌}
+use Rattle.std.proofs.lemmas.Bool.{eqb-false, eqb-true, ne_eqb, or_parts}
+use Rattle.std.specs.Prelude.{◌⊎◌, ◌==◌, slice_get, Option, Some, None, Result, Ok, Err, ◌&&◌, ◌||◌}
+use Rattle.std.specs.List.{list_any}
+use Rattle.gw_base.specs.declared.setup.Pt.{Pt}
+use Rattle.gw_site.specs.declared.turn.Turn.{Turn}
+use Rattle.gw_site.specs.Outside.{is_connected, Connection}
+use Rattle.sale_values.specs.declared.header.Header.{Header}
+use Rattle.sale_values.specs.declared.request.PaymentAsk.{PaymentAsk}
+use Rattle.sale_values.specs.declared.request.SaleRequest.{SaleRequest}
+use Rattle.sale_values.specs.declared.request.SaleRequest.TheVariants as requests
+use Rattle.zvt_apdu.specs.Grammar.{ApduValue}
+use Rattle.zvt_msg.specs.declared.fault.PtFault.{PtFault}
+use Rattle.zvt_msg.specs.Message.{MessageValue, Ack, Nack, Intermediate, Line, Block, Status, Completion, Abort, Other}
+use Rattle.zvt_msg.specs.MessageDecode.{decode_pt_message}
+use Rattle.jrn_record.specs.declared.records.Intent.{Intent as TheIntent}
+use Rattle.jrn_record.specs.declared.records.Record.{Record}
+use Rattle.jrn_record.specs.declared.records.Record.TheVariants.{Intent}
+use Rattle.gw_ledger.specs.Fold.{AreFolded}
+use Rattle.gw_ledger.specs.Keys.{intent_key}
+use Rattle.xlate.specs.Ask.{ask}
+use Rattle.gw_owes.specs.declared.terminal.Standing.{Standing}
+use Rattle.gw_owes.specs.declared.terminal.Standing.TheVariants.{Unlinked, Ready}
+use Rattle.gw_owes.specs.declared.terminal.Terminal.{Terminal}
+use Rattle.gw_owes.specs.Calls.{OwedCall, LinkPt, CutTill, records_kept, SendTill, SendPt, WriteBody, WriteGate, WriteFirstGate, Sync, CutPt, Ask, keep_calls}
+use Rattle.gw_owes.specs.Deadlines.{is_late, is_due, late_row, due_row}
+use Rattle.gw_owes.specs.Greeting.{greeting, sending_calls, greet_decoded}
+use Rattle.gw_owes.specs.Handling.{handle_row}
+use Rattle.gw_owes.specs.Items.{RoundItem, Crowded, Message, Asked, Unframed, Gone, Greet, NextWaiting, Oversized, LinkLost, Late, Overdue, Due, Serve, Handle}
+use Rattle.gw_owes.specs.Links.{cutting}
+use Rattle.gw_owes.specs.Payments.{asked_for, beginning_row, payment_intent, serve_row}
+use Rattle.gw_owes.specs.ReadAs.{ReadAs}
+use Rattle.gw_owes.specs.RecordLaws.{AreRecordsOf, HasNoneOpen, IsReadItem, IsReadRequest}
+use Rattle.gw_owes.specs.Reply.{ReplyValue}
+use Rattle.gw_owes.specs.Requests.{reply_to, begun_by}
+use Rattle.gw_owes.specs.Row.{Known, Row, owing, owing_where, becoming}
+use Rattle.gw_owes.specs.Rows.{asked_row, gone_row, row_of}
+use Rattle.gw_owes.specs.Serving.{reply_to_outcome}
+use Rattle.gw_owes.specs.Terminals.{with_terminal, reply_calls_to, reply_to_lost, unlinked_terminal, unlinks, link_lost}
+use Rattle.gw_owes.proofs.BeginLemmas.{begins-in-keeps, may-begin}
+use Rattle.gw_owes.proofs.HandlingLemmas.{by-where, each-terminal, each-linked}
+use Rattle.gw_owes.proofs.KeepingLemmas.{setting-there}
+use Rattle.gw_owes.proofs.LimitLemmas.{IsPaymentWithin, payment-within}
+use Rattle.gw_owes.proofs.PaymentLemmas.{BeginsAt, each-served}
+use Rattle.gw_owes.proofs.RecordLemmas.{LedgerLaws}
+use Rattle.gw_owes.proofs.SetLemmas.{new-is-there, same-some}
+use Rattle.gw_rules.specs.Lawful.{Begins, may_begin}
+use Rattle.gw_rules.specs.LedgerRules.{ledger_rules}
+use Rattle.gw_rules.specs.RecordOrder.{records_coming}
+use Rattle.gw_rules.specs.Scene.{Scene, known_in, row_at}
+use Rattle.gw_rules.specs.View.{View, Begin, after, begun}
+use Rattle.gw_rules.proofs.KeptFileLemmas.{owned}
+use Rattle.gw_rules.proofs.KeptLawLemmas.{holds}
+use Rattle.gw_rules.proofs.KeptPhaseLemmas.{round-runs}
+use Rattle.gw_rules.proofs.KeptTurnLemmas.{idle-rests, no-more}
+use Rattle.gw_rules.proofs.LinkedLemmas.{round-setup}
+use Rattle.gw_rules.proofs.RecordOrderLemmas.{Ordered, first-was-read, row-is}
+use Rattle.gw_rules.proofs.RowFormLemmas.{form-handled, form-begun}
+use Rattle.gw_rules.proofs.SetupLemmas.{HasSetup}
+use Rattle.gw_rules.proofs.StageLemmas.{no-true}
+use Rattle.gw_books.specs.Books.{BookedEntry, Honest}
+use Rattle.gw_books.specs.Past.{Past, past_after}
+use Rattle.gw_books.proofs.BeginHoldsLemmas.{between-holds, between-numbered}
+use Rattle.gw_books.proofs.Holding.{begun_past, charge_owed, charges_terminal, is_deed, sending_charges, ServeTransactions, IsUnsent, HoldsBetween, deed_owed, is_handle}
+use Rattle.gw_books.proofs.Numbering.{AreLinkedBeforeHearing, AreRecordsNumbered, BeginNumbers, IsQuiet as IsQuietAt, IsReadyNumber, IsStandingNumbered, Numbered, NumberedAfterRow, NumberedBetween, RowHolds, RowNumbers, RowOrders, handles_after_due, is_due_item, link_owed}
+use Rattle.gw_books.proofs.NumberStepLemmas.{standings-set}
+use Rattle.gw_books.proofs.QuietRowLemmas.{IsQuiet, asked-handles-none, gone-calm, lost-unanswered, same-calm, unlinked-calm}
+use Rattle.gw_books.proofs.RecordNumberLemmas.{numbered-with-intent}
+use Rattle.gw_books.proofs.ServeLemmas.{key-unsent}
+
+-- ---- rows that leave each standing, or lose a link
+
+-- a command that may charge a card is a deed
+pub charge-is-deed : (number : ℕ) (calls : List OwedCall) → charge_owed number calls ≡ true → deed_owed calls ≡ true
+charge-is-deed number [] owed = owed
+charge-is-deed number (call ∷ calls) owed = by-call call (charge-is-deed number calls) owed
+  where
+    by-charge : (own charge : Bool) → (charge_owed number calls ≡ true → deed_owed calls ≡ true) → ((own && charge) || charge_owed number calls) ≡ true → (charge || deed_owed calls) ≡ true
+    by-charge own true more owed = refl
+    by-charge true false more owed = more owed
+    by-charge false false more owed = more owed
+
+    by-call : (call : OwedCall) → (charge_owed number calls ≡ true → deed_owed calls ≡ true) → (charges_terminal number call || charge_owed number calls) ≡ true → (is_deed call || deed_owed calls) ≡ true
+    by-call (SendTill till reply) more owed = more owed
+    by-call (SendPt pt sending) more owed = by-charge (pt == number) (sending_charges sending) more owed
+    by-call (LinkPt pt) more owed = more owed
+    by-call (WriteBody slot the_record) more owed = refl
+    by-call (WriteGate slot the_record) more owed = refl
+    by-call WriteFirstGate more owed = refl
+    by-call Sync more owed = more owed
+    by-call (CutTill till) more owed = more owed
+    by-call (CutPt pt) more owed = more owed
+
+-- what a quiet row leaves
+pub quiet-numbers : (known : Known) (past : Past) (book : List BookedEntry) (row : Row) → NumberedBetween known past book → IsQuiet known row → NumberedAfterRow known past book row
+quiet-numbers known past book row n q = record {
+  records = subst (λ (records : List Record). AreRecordsNumbered book past.commands past.place records) (sym (ap (λ l. known.kept ++ l) q.none_kept ∙ append-nil known.kept)) n.records;
+  standings = λ number terminal found.
+      let was = q.calm.was number terminal found in
+      subst (λ (pt : Pt). IsStandingNumbered past.links past.commands past.place book pt.poi terminal.standing) (sym was.pt_is) (calm-numbered past book was.old.pt.poi was.old.standing terminal.standing was.standing_is (n.standings number was.old was.found));
+  asked = λ number terminal found owed. no-true (sym q.no_deed ∙ charge-is-deed number row.calls owed);
+}
+  where
+    calm-numbered : (past : Past) (book : List BookedEntry) (poi : List ℕ) (old new : Standing) → (new ≡ old) ⊎ ((due : Option ℕ) × (new ≡ Unlinked due)) → IsStandingNumbered past.links past.commands past.place book poi old → IsStandingNumbered past.links past.commands past.place book poi new
+    calm-numbered past book poi old new (inl same) is = subst (IsStandingNumbered past.links past.commands past.place book poi) (sym same) is
+    calm-numbered past book poi old new (inr lost) is = subst (IsStandingNumbered past.links past.commands past.place book poi) (sym lost.1) tt
+
+-- a row that owes these calls and changes nothing
+owing-quiet : (known : Known) (calls : List OwedCall) (items : List RoundItem) → records_kept calls ≡ [] → deed_owed calls ≡ false → list_any is_handle items ≡ false → IsQuiet known (record { core = known.core; calls = calls; items = items })
+owing-quiet known calls items none_kept no_deed handles_none = record { calm = same-calm known.core; none_kept = none_kept; no_deed = no_deed; handles_none = handles_none }
+
+pub nothing-quiet : (known : Known) → IsQuiet known (owing known [])
+nothing-quiet known = owing-quiet known [] [] refl refl refl
+
+cut-quiet : (known : Known) (number : ℕ) → IsQuiet known (cutting known number)
+cut-quiet known number = owing-quiet known (CutPt number ∷ []) [] refl refl refl
+
+asked-quiet : (known : Known) (till : ℕ) (as_read : ReadAs) → IsQuiet known (asked_row known till as_read)
+asked-quiet known till as_read = by-reply (reply_to known as_read)
+  where
+    by-reply : (reply : Option ReplyValue) → IsQuiet known (record { core = known.core; calls = reply_calls_to (Some till) reply; items = begun_by known till as_read })
+    by-reply None = owing-quiet known [] (begun_by known till as_read) refl refl (asked-handles-none known till as_read)
+    by-reply (Some reply) = owing-quiet known (reply_calls_to (Some till) (Some reply)) (begun_by known till as_read) refl refl (asked-handles-none known till as_read)
+
+greeted-quiet : (known : Known) (number : ℕ) (message : MessageValue) → IsQuiet known (owing known (sending_calls number (greeting message)))
+greeted-quiet known number Ack = nothing-quiet known
+greeted-quiet known number (Nack error_code) = nothing-quiet known
+greeted-quiet known number (Intermediate intermediate_status) = owing-quiet known _ [] refl refl refl
+greeted-quiet known number (Line text) = owing-quiet known _ [] refl refl refl
+greeted-quiet known number (Block objects) = owing-quiet known _ [] refl refl refl
+greeted-quiet known number (Status fields) = owing-quiet known _ [] refl refl refl
+greeted-quiet known number Completion = owing-quiet known _ [] refl refl refl
+greeted-quiet known number (Abort result_code) = owing-quiet known _ [] refl refl refl
+greeted-quiet known number Other = owing-quiet known _ [] refl refl refl
+
+greet-quiet : (known : Known) (number : ℕ) (decoded : Result MessageValue PtFault) → IsQuiet known (greet_decoded known number decoded)
+greet-quiet known number (Ok message) =
+    each-linked (IsQuiet known) known number (λ terminal. owing known (sending_calls number (greeting message))) (nothing-quiet known) (λ terminal found linked. greeted-quiet known number message)
+greet-quiet known number (Err fault) = each-linked (IsQuiet known) known number (λ terminal. cutting known number) (nothing-quiet known) (λ terminal found linked. cut-quiet known number)
+
+late-quiet : (known : Known) (number : ℕ) → IsQuiet known (late_row known number)
+late-quiet known number =
+    each-terminal (IsQuiet known) known number (λ terminal. owing_where (is_late known.moment terminal.talk) known (cutting known number)) (nothing-quiet known)
+    (λ terminal found. by-where (IsQuiet known) known (cutting known number) (is_late known.moment terminal.talk) (nothing-quiet known) (λ late. cut-quiet known number))
+
+due-quiet : (known : Known) (number : ℕ) → IsQuiet known (due_row known number)
+due-quiet known number =
+    each-terminal (IsQuiet known) known number (λ terminal. owing_where (is_due known.moment terminal.standing) known (owing known (LinkPt number ∷ []))) (nothing-quiet known)
+    (λ terminal found. by-where (IsQuiet known) known (owing known (LinkPt number ∷ [])) (is_due known.moment terminal.standing) (nothing-quiet known) (λ due. owing-quiet known (LinkPt number ∷ []) [] refl refl refl))
+
+lost-quiet : (known : Known) (number : ℕ) → ServeTransactions known.core → IsQuiet known (link_lost known number)
+lost-quiet known number serve = each-terminal (IsQuiet known) known number (unlinks known number) (nothing-quiet known) (λ terminal found.
+    subst (λ (calls : List OwedCall). IsQuiet known (becoming (with_terminal known.core number (unlinked_terminal terminal known.moment)) calls)) (sym (lost-unanswered terminal.asker terminal.standing (serve number terminal found)))
+    (record { calm = unlinked-calm known.core number terminal (unlinked_terminal terminal known.moment) _ found refl refl; none_kept = refl; no_deed = refl; handles_none = refl }))
+
+-- ---- a payment begins
+
+-- the terminal serves what its last trace number and its quiet allow
+begun-numbers : (laws : LedgerLaws) (known : Known) (past : Past) (book : List BookedEntry) (number till : ℕ) (header : Header) (payment : PaymentAsk) (terminal : Terminal) (last : ℕ) → HoldsBetween known past book → NumberedBetween known past book
+    → IsPaymentWithin header payment → BeginsAt known number header payment terminal last → IsUnsent past.commands (intent_key (payment_intent header payment terminal.pt.currency last known.moment)) → terminal.pt.poi ≡ header.poi
+    → NumberedAfterRow known past book (beginning_row known number till terminal last (payment_intent header payment terminal.pt.currency last known.moment))
+begun-numbers laws known past book number till header payment terminal last between n asks at unsent names = record {
+  records = numbered-with-intent laws known.kept intent folded book past.commands past.place n.records (subst (λ (poi : List ℕ). IsReadyNumber book past.commands poi past.place last) names ready) unsent;
+  standings = standings-set past book known.core number terminal new at.found (λ other one apart found. n.standings other one found) tt;
+  asked = λ other one found owed. by-number other one found owed (eqb other number) refl;
+}
+  where
+    intent : TheIntent
+    intent = payment_intent header payment terminal.pt.currency last known.moment
+
+    new : Terminal
+    new = asked_for known till terminal last intent
+
+    -- the records are folded with the Intent
+    folded : AreFolded (known.kept ++ Intent intent ∷ [])
+    folded =
+        let has : HasNoneOpen known.kept terminal.pt.poi last = subst (AreRecordsOf known.kept terminal.pt.poi) at.standing_is (between.in_order.terminals number terminal at.found).records in
+        let may = may-begin known header (requests.Payment payment) (Some (record { number = number; terminal = terminal })) at.begins_is in
+        ((begins-in-keeps laws known between.in_order number till header payment asks terminal at.found names may (Ready last) has).uncut refl).folded
+
+    ready : IsReadyNumber book past.commands terminal.pt.poi past.place last
+    ready = subst (IsStandingNumbered past.links past.commands past.place book terminal.pt.poi) at.standing_is (n.standings number terminal at.found)
+
+    by-number : (other : ℕ) (one : Terminal) → slice_get (with_terminal known.core number new).terminals other ≡ Some one
+        → charge_owed other (keep_calls (length known.kept) (Intent intent) ++ SendPt number (Ask (ask intent None terminal.pt)) ∷ []) ≡ true → (b : Bool) → eqb other number ≡ b → IsQuietAt book past.commands one.pt.poi past.place
+    by-number other one found owed true is =
+        let there : slice_get (with_terminal known.core number new).terminals number ≡ Some one = subst (λ (at : ℕ). slice_get (with_terminal known.core number new).terminals at ≡ Some one) (eqb-true other number is) found in
+        subst (λ (t : Terminal). IsQuietAt book past.commands t.pt.poi past.place) (same-some new one (sym (new-is-there known.core.terminals number terminal new at.found) ∙ there)) ready.quiet
+    by-number other one found owed false is =
+        let apart : (number == other) ≡ false = ne_eqb number other (λ same. eqb-false other number is (sym same)) in
+        no-true (sym (ap (λ (b : Bool). (b && sending_charges (Ask (ask intent None terminal.pt))) || false) apart) ∙ owed)
+
+-- what a row leaves, with the past before its item
+abbrev RowLeaves : RoundItem → Type 0
+RowLeaves item =
+    (scene : Scene) (tills : List Connection) (known : Known) (past : Past) (book : List BookedEntry) → scene.core ≡ known.core → HoldsBetween known past book → NumberedBetween known past book
+    → (is_handle item ≡ true → AreLinkedBeforeHearing past) → IsReadItem known.setup item → Honest (begun_past scene past item) book → NumberedAfterRow known past book (row_of tills known item)
+
+-- its item changes nothing of what numbers are about
+pub numbers-begun : (scene : Scene) (known : Known) (past : Past) (book : List BookedEntry) (item : RoundItem) (row : Row) → NumberedAfterRow known past book row → NumberedAfterRow known (begun_past scene past item) book row
+numbers-begun scene known past book item row r = record { records = r.records; standings = r.standings; asked = r.asked }
+
+serve-numbers : (laws : LedgerLaws) (number till : ℕ) (header : Header) (request : SaleRequest) → RowLeaves (Serve number till header request)
+serve-numbers laws number till header request scene tills known past book same between n linked read honest =
+    each-served (NumberedAfterRow known past book) known number till header request (quiet-numbers known past book (owing known []) n (nothing-quiet known))
+    (λ payment terminal last is at.
+    let asked : IsReadRequest known.setup number header (requests.Payment payment) = subst (λ (r : SaleRequest). IsReadRequest known.setup number header r) is read in
+    let asks : IsPaymentWithin header payment = payment-within header payment asked.read in
+    let names : terminal.pt.poi ≡ header.poi =
+    asked.names terminal.pt (subst (λ (pts : List Pt). slice_get pts number ≡ Some terminal.pt) between.in_order.of_setup.settings (setting-there known.core.terminals number terminal at.found)) in
+    begun-numbers laws known past book number till header payment terminal last between n asks at (key-unsent laws scene known past book between number till header request payment asks terminal last at) names)
+
+-- each item but a message of a terminal's dialogue
+row-leaves : (laws : LedgerLaws) (item : RoundItem) → is_handle item ≡ false → RowLeaves item
+row-leaves laws (Crowded till) other scene tills known past book same between n linked read honest = quiet-numbers known past book _ n (owing-quiet known (CutTill till ∷ []) [] refl refl refl)
+row-leaves laws (Message till bytes) other scene tills known past book same between n linked read honest = quiet-numbers known past book _ n (nothing-quiet known)
+row-leaves laws (Asked till as_read) other scene tills known past book same between n linked read honest =
+    by-where (λ (row : Row). NumberedAfterRow known past book row) known (asked_row known till as_read) (is_connected tills till) (quiet-numbers known past book (owing known []) n (nothing-quiet known))
+    (λ there. quiet-numbers known past book (asked_row known till as_read) n (asked-quiet known till as_read))
+row-leaves laws (Unframed till) other scene tills known past book same between n linked read honest =
+    by-where (λ (row : Row). NumberedAfterRow known past book row) known (owing known (CutTill till ∷ [])) (is_connected tills till) (quiet-numbers known past book (owing known []) n (nothing-quiet known))
+    (λ there. quiet-numbers known past book (owing known (CutTill till ∷ [])) n (owing-quiet known (CutTill till ∷ []) [] refl refl refl))
+row-leaves laws (Gone till) other scene tills known past book same between n linked read honest =
+    quiet-numbers known past book (gone_row known till) n (record { calm = gone-calm known.core till; none_kept = refl; no_deed = refl; handles_none = refl })
+row-leaves laws (Greet number apdu) other scene tills known past book same between n linked read honest = quiet-numbers known past book _ n (greet-quiet known number (decode_pt_message apdu))
+row-leaves laws (Handle number apdu) other scene tills known past book same between n linked read honest = no-true (sym other)
+row-leaves laws (Serve number till header request) other scene tills known past book same between n linked read honest =
+    serve-numbers laws number till header request scene tills known past book same between n linked read honest
+row-leaves laws (NextWaiting number) other scene tills known past book same between n linked read honest = quiet-numbers known past book _ n (nothing-quiet known)
+row-leaves laws (Oversized number) other scene tills known past book same between n linked read honest =
+    quiet-numbers known past book _ n (each-linked (IsQuiet known) known number (λ terminal. cutting known number) (nothing-quiet known) (λ terminal found is_linked. cut-quiet known number))
+row-leaves laws (LinkLost number) other scene tills known past book same between n linked read honest = quiet-numbers known past book _ n (lost-quiet known number between.transactions)
+row-leaves laws (Late number) other scene tills known past book same between n linked read honest = quiet-numbers known past book _ n (late-quiet known number)
+row-leaves laws (Overdue key) other scene tills known past book same between n linked read honest = quiet-numbers known past book _ n (nothing-quiet known)
+row-leaves laws (Due number) other scene tills known past book same between n linked read honest = quiet-numbers known past book _ n (due-quiet known number)
+
+-- and with the past as its item has begun
+pub row-numbers : (laws : LedgerLaws) (item : RoundItem) → is_handle item ≡ false → RowNumbers item
+row-numbers laws item other scene tills known past book same between n linked read honest =
+    numbers-begun scene known past book item (row_of tills known item) (row-leaves laws item other scene tills known past book same between n linked read honest)
+
+-- ---- the order of items and links
+
+-- the row owes no link and brings no item
+record IsOrderly (row : Row) : Type 0 where
+  unlinked : link_owed row.calls ≡ false
+  no_items : row.items ≡ []
+
+of-orderly : (tills : List Connection) (known : Known) (item : RoundItem) → IsOrderly (row_of tills known item) → RowOrders tills known item
+of-orderly tills known item is = record { links = λ owed. no-true (sym is.unlinked ∙ owed); items = ap (list_any is_due_item) is.no_items; none = λ due. is.no_items }
+
+replies-unlinked : (asker : Option ℕ) (reply : Option ReplyValue) → link_owed (reply_calls_to asker reply) ≡ false
+replies-unlinked None reply = refl
+replies-unlinked (Some till) None = refl
+replies-unlinked (Some till) (Some reply) = refl
+
+greeting-unlinked : (known : Known) (number : ℕ) (message : MessageValue) → IsOrderly (owing known (sending_calls number (greeting message)))
+greeting-unlinked known number Ack = record { unlinked = refl; no_items = refl }
+greeting-unlinked known number (Nack error_code) = record { unlinked = refl; no_items = refl }
+greeting-unlinked known number (Intermediate intermediate_status) = record { unlinked = refl; no_items = refl }
+greeting-unlinked known number (Line text) = record { unlinked = refl; no_items = refl }
+greeting-unlinked known number (Block objects) = record { unlinked = refl; no_items = refl }
+greeting-unlinked known number (Status fields) = record { unlinked = refl; no_items = refl }
+greeting-unlinked known number Completion = record { unlinked = refl; no_items = refl }
+greeting-unlinked known number (Abort result_code) = record { unlinked = refl; no_items = refl }
+greeting-unlinked known number Other = record { unlinked = refl; no_items = refl }
+
+greet-orderly : (known : Known) (number : ℕ) (decoded : Result MessageValue PtFault) → IsOrderly (greet_decoded known number decoded)
+greet-orderly known number (Ok message) =
+    each-linked IsOrderly known number (λ terminal. owing known (sending_calls number (greeting message))) (record { unlinked = refl; no_items = refl }) (λ terminal found is_linked. greeting-unlinked known number message)
+greet-orderly known number (Err fault) =
+    each-linked IsOrderly known number (λ terminal. cutting known number) (record { unlinked = refl; no_items = refl }) (λ terminal found is_linked. record { unlinked = refl; no_items = refl })
+
+handle-orderly : (known : Known) (number : ℕ) (apdu : ApduValue) → IsOrderly (handle_row known number apdu)
+handle-orderly known number apdu = form-handled IsOrderly known number apdu (record { unlinked = refl; no_items = refl }) (λ terminal message found is_linked is taken. record {
+  nothing = record { unlinked = refl; no_items = refl };
+  stays = record { unlinked = refl; no_items = refl };
+  cuts = record { unlinked = refl; no_items = refl };
+  stops = record { unlinked = refl; no_items = refl };
+  enquires = record { unlinked = refl; no_items = refl };
+  rests = λ standing stands. record { unlinked = refl; no_items = refl };
+  resolves = λ standing outcome stands. record { unlinked = replies-unlinked terminal.asker (reply_to_outcome known.kept outcome.slot outcome); no_items = refl };
+})
+
+serve-orderly : (known : Known) (number till : ℕ) (header : Header) (request : SaleRequest) → IsOrderly (serve_row known number till header request)
+serve-orderly known number till header request = each-served IsOrderly known number till header request (record { unlinked = refl; no_items = refl }) (λ payment terminal last is at. record { unlinked = refl; no_items = refl })
+
+late-orderly : (known : Known) (number : ℕ) → IsOrderly (late_row known number)
+late-orderly known number =
+    each-terminal IsOrderly known number (λ terminal. owing_where (is_late known.moment terminal.talk) known (cutting known number)) (record { unlinked = refl; no_items = refl })
+    (λ terminal found. by-where IsOrderly known (cutting known number) (is_late known.moment terminal.talk) (record { unlinked = refl; no_items = refl }) (λ late. record { unlinked = refl; no_items = refl }))
+
+lost-orderly : (known : Known) (number : ℕ) → IsOrderly (link_lost known number)
+lost-orderly known number =
+    each-terminal IsOrderly known number (unlinks known number) (record { unlinked = refl; no_items = refl }) (λ terminal found. record { unlinked = replies-unlinked terminal.asker (reply_to_lost terminal.standing); no_items = refl })
+
+due-brings-none : (known : Known) (number : ℕ) → (due_row known number).items ≡ []
+due-brings-none known number =
+    each-terminal (λ (row : Row). row.items ≡ []) known number (λ terminal. owing_where (is_due known.moment terminal.standing) known (owing known (LinkPt number ∷ []))) refl
+    (λ terminal found. by-where (λ (row : Row). row.items ≡ []) known (owing known (LinkPt number ∷ [])) (is_due known.moment terminal.standing) refl (λ due. refl))
+
+pub row-orders : (tills : List Connection) (known : Known) (item : RoundItem) → RowOrders tills known item
+row-orders tills known (Crowded till) = of-orderly tills known (Crowded till) (record { unlinked = refl; no_items = refl })
+row-orders tills known (Message till bytes) = of-orderly tills known (Message till bytes) (record { unlinked = refl; no_items = refl })
+row-orders tills known (Asked till as_read) = record {
+  links = λ owed. no-true (sym (by-where (λ (row : Row). link_owed row.calls ≡ false) known (asked_row known till as_read) (is_connected tills till) refl (λ there. replies-unlinked (Some till) (reply_to known as_read))) ∙ owed);
+  items = by-where (λ (row : Row). list_any is_due_item row.items ≡ false) known (asked_row known till as_read) (is_connected tills till) refl
+      (λ there. form-begun (λ (items : List RoundItem). list_any is_due_item items ≡ false) known till refl as_read (λ number header request is. refl));
+  none = λ due. no-true due;
+}
+row-orders tills known (Unframed till) = of-orderly tills known (Unframed till)
+    (by-where IsOrderly known (owing known (CutTill till ∷ [])) (is_connected tills till) (record { unlinked = refl; no_items = refl }) (λ there. record { unlinked = refl; no_items = refl }))
+row-orders tills known (Gone till) = of-orderly tills known (Gone till) (record { unlinked = refl; no_items = refl })
+row-orders tills known (Greet number apdu) = of-orderly tills known (Greet number apdu) (greet-orderly known number (decode_pt_message apdu))
+row-orders tills known (Handle number apdu) = of-orderly tills known (Handle number apdu) (handle-orderly known number apdu)
+row-orders tills known (Serve number till header request) = of-orderly tills known (Serve number till header request) (serve-orderly known number till header request)
+row-orders tills known (NextWaiting number) = of-orderly tills known (NextWaiting number) (record { unlinked = refl; no_items = refl })
+row-orders tills known (Oversized number) = of-orderly tills known (Oversized number)
+    (each-linked IsOrderly known number (λ terminal. cutting known number) (record { unlinked = refl; no_items = refl }) (λ terminal found is_linked. record { unlinked = refl; no_items = refl }))
+row-orders tills known (LinkLost number) = of-orderly tills known (LinkLost number) (lost-orderly known number)
+row-orders tills known (Late number) = of-orderly tills known (Late number) (late-orderly known number)
+row-orders tills known (Overdue key) = of-orderly tills known (Overdue key) (record { unlinked = refl; no_items = refl })
+row-orders tills known (Due number) = record { links = λ owed. refl; items = ap (list_any is_due_item) (due-brings-none known number); none = λ due. due-brings-none known number }
+
+-- ---- an item begins
+
+-- none of the first list passes
+any-after : (test : RoundItem → Bool) (first second : List RoundItem) → list_any test first ≡ false → list_any test (first ++ second) ≡ list_any test second
+any-after test [] second none = refl
+any-after test (item ∷ first) second none =
+    let parts = or_parts (test item) (list_any test first) none in
+    ap (λ (b : Bool). b || list_any test (first ++ second)) parts.0 ∙ any-after test first second parts.1
+
+-- with items that may link nothing before them, items are ordered as they were
+orders-after : (first second : List RoundItem) → list_any is_due_item first ≡ false → handles_after_due (first ++ second) ≡ handles_after_due second
+orders-after [] second none = refl
+orders-after (item ∷ first) second none =
+    let parts = or_parts (is_due_item item) (list_any is_due_item first) none in
+    ap (λ (b : Bool). (b && list_any is_handle (first ++ second)) || handles_after_due (first ++ second)) parts.0 ∙ orders-after first second parts.1
+
+-- what a row leaves holds along the course
+row-numbered : (log : List Turn) (v : View) (past : Past) (book : List BookedEntry) (item : RoundItem) (rest : List RoundItem) (row : Row) → Ordered log v → Begins v → Numbered v past book → (k : HasSetup v.scene) → v.items ≡ item ∷ rest
+    → row_of v.scene.outside.tills (known_in v.scene k.setup) item ≡ row → list_any is_handle row.items ≡ false → NumberedAfterRow (known_in v.scene k.setup) (begun_past v.scene past item) book row
+    → Numbered (begun v.scene row rest) (begun_past v.scene past item) book
+row-numbered log v past book item rest row o b n k e is handles_none r =
+    let none : v.scene.flight ≡ None = (idle-rests (owned ledger_rules) log v (holds ledger_rules log v o.keeps) (round-runs v.scene.stage b.idle.round) b.idle.calls).is_open.no_flight in
+    let coming : records_coming (begun v.scene row rest) ≡ v.scene.kept ++ records_kept row.calls = ap (λ l. l ++ records_kept row.calls) (no-more v.scene.kept v.scene.flight none) in
+    let orders : RowOrders v.scene.outside.tills (known_in v.scene k.setup) item = row-orders v.scene.outside.tills (known_in v.scene k.setup) item in
+    let no_dues : list_any is_due_item row.items ≡ false = ap (λ (row : Row). list_any is_due_item row.items) (sym is) ∙ orders.items in
+    let ordered : ((is_due_item item && list_any is_handle rest) || handles_after_due rest) ≡ false = sym (ap handles_after_due e) ∙ n.ordered in
+    let parts = or_parts (is_due_item item && list_any is_handle rest) (handles_after_due rest) ordered in
+    let handles : list_any is_handle (row.items ++ rest) ≡ list_any is_handle rest = any-after is_handle row.items rest handles_none in
+    record {
+      kept = n.kept;
+      coming = subst (λ (records : List Record). AreRecordsNumbered book past.commands past.place records) (sym coming) r.records;
+      standings = r.standings;
+      asked = r.asked;
+      made = n.made;
+      ordered = orders-after row.items rest no_dues ∙ parts.1;
+      linking = λ owed. handles ∙ after-due (is_due_item item) (orders.links (ap (λ (row : Row). link_owed row.calls) is ∙ owed)) parts.0;
+      linked = λ some. n.linked (ap (list_any is_handle) e ∙ or-right (is_handle item) (list_any is_handle rest) (sym handles ∙ some));
+    }
+  where
+    or-right : (one other : Bool) → other ≡ true → (one || other) ≡ true
+    or-right true other is = refl
+    or-right false other is = is
+
+    after-due : (due : Bool) → due ≡ true → (due && list_any is_handle rest) ≡ false → list_any is_handle rest ≡ false
+    after-due true is none = none
+    after-due false is none = no-true is
+
+-- where each row keeps what holds, so does the beginning of an item
+pub begin-numbers : ((item : RoundItem) → RowHolds item) → ((item : RoundItem) → RowNumbers item) → BeginNumbers
+begin-numbers holding rows log v past book o b h n honest = by_items v.items refl
+  where
+    by_items : (items : List RoundItem) → v.items ≡ items → Numbered (after v Begin) (past_after v past Begin) book
+    by_items [] e = no-true (sym (ap (may_begin v.scene) e) ∙ b.first)
+    by_items (item ∷ rest) e =
+        let k = round-setup v o.agrees.run b.idle.round in
+        let known : Known = known_in v.scene k.setup in
+        let book_honest : Honest (begun_past v.scene past item) book = subst (λ (items : List RoundItem). Honest (past_after (record v { items = items }) past Begin) book) e honest in
+        let between = between-holds log v past book o b h k in
+        let numbered = between-numbered v past book n k.setup in
+        let linked : is_handle item ≡ true → AreLinkedBeforeHearing past = (λ handles. n.linked (ap (list_any is_handle) e ∙ ap (λ (b : Bool). b || list_any is_handle rest) handles)) in
+        let read = first-was-read log v item rest o k e in
+        let held = holding item v.scene v.scene.outside.tills known past book refl between numbered linked read book_honest in
+        let r = rows item v.scene v.scene.outside.tills known past book refl between numbered linked read book_honest in
+        subst (λ (items : List RoundItem). Numbered (after (record v { items = items }) Begin) (past_after (record v { items = items }) past Begin) book) (sym e)
+        (row-numbered log v past book item rest (row_at v.scene item) o b n k e (sym (row-is v.scene k item)) (ap (λ (row : Row). list_any is_handle row.items) (row-is v.scene k item) ∙ held.handles_none)
+        (subst (NumberedAfterRow known (begun_past v.scene past item) book) (sym (row-is v.scene k item)) r))
