@@ -2,6 +2,8 @@
 #![tactic(auto)]
 
 #[cfg(test)]
+mod abort_tests;
+#[cfg(test)]
 mod dialogue_tests;
 #[cfg(test)]
 mod message_tests;
@@ -15,6 +17,8 @@ mod payment_tests;
 mod recovery_tests;
 #[cfg(test)]
 mod replay;
+#[cfg(test)]
+mod reversal_tests;
 #[cfg(test)]
 mod script_tests;
 #[cfg(test)]

@@ -135,7 +135,7 @@ fn check_runs(
 }
 
 /// Plays a row.
-fn check_row(rt: &impl Abort, alloc: Global, row: &str) -> Result<(), Fail> {
+pub(crate) fn check_row(rt: &impl Abort, alloc: Global, row: &str) -> Result<(), Fail> {
     let mut script = String::new(alloc);
     let mut log = String::new(alloc);
     let mut words = String::new(alloc);

@@ -1,13 +1,16 @@
-//! Lines of payments, in the tables of rows: what a till asks, which records are kept, and what the till gets.
+//! Lines of payments, reversals and aborts, in the tables of rows: what a till asks, which records are kept, and what the till gets.
 //!
-//! The payments are those of till S1 at terminal T1, in euros, at 2025-03-07T10:11:04Z. A ServiceID and a slot are one digit.
-//! - `pay TILL SERVICE AMOUNT` is a payment, and `status TILL SERVICE REFERENCE` asks what became of it;
+//! They are those of till S1 at terminal T1, in euros, at 2025-03-07T10:11:04Z. A ServiceID and a slot are one digit.
+//! - `pay TILL SERVICE AMOUNT` is a payment, `reverse TILL SERVICE TRANSACTION` the reversal of what has this TransactionID, and
+//!   `reverse_amount TILL SERVICE TRANSACTION AMOUNT` the same of this amount; `status TILL SERVICE REFERENCE` asks what became of one;
+//! - `abort TILL SERVICE REFERENCE` is an Abort, and `> rejected TILL DETAILS` the event that rejects it;
 //! - `> intent SLOT SERVICE AMOUNT BEFORE` keeps its Intent: the amount is in minor units, and BEFORE is the trace number before;
+//! - `> reversal SLOT SERVICE AMOUNT BEFORE ORIGINAL` keeps the Intent of a reversal, where ORIGINAL is the slot of the payment's Intent;
 //! - `> approved SLOT OF TRACE RECEIPT AMOUNT` and `> declined SLOT OF REASON` keep its Outcome, where OF is the slot of the Intent;
 //! - `> first ..` before the words of such a line is the first write for it alone;
-//! - `> result TILL SERVICE RESULT TRANSACTION AMOUNT` is the reply once it has ended: RESULT is `Success`, `Partial` or the condition
-//!   of a failure, which has no amount;
-//! - `> repeats TILL SERVICE REFERENCE RESULT TRANSACTION AMOUNT` is the reply to `status` that repeats it;
+//! - `> result TILL SERVICE RESULT TRANSACTION AMOUNT` is the reply to a payment once it has ended, and `> reversed ..` with the same
+//!   words that to a reversal: RESULT is `Success`, `Partial` or the condition of a failure, which has no amount;
+//! - `> repeats TILL SERVICE REFERENCE RESULT TRANSACTION AMOUNT` and `> repeats_reversed ..` are the reply to `status` that repeats it;
 //! - `> fails CATEGORY TILL SERVICE CONDITION` is any other failure.
 use crate::tables::{halves, push_form};
 use std::alloc::{AllocError, Global};
@@ -20,7 +23,32 @@ const PAYMENT: &str =
     {\"SaleTransactionID\":{\"TransactionID\":\"27908\",\"TimeStamp\":\"2025-03-07T10:11:04+00:00\"}},\"PaymentTransaction\":\
     {\"AmountsReq\":{\"Currency\":\"EUR\",\"RequestedAmount\":%}}}}}\n";
 
-/// The question what became of a payment: its ServiceID, and the payment's.
+/// A reversal: its ServiceID and the TransactionID of the payment.
+const REVERSAL: &str =
+    "{\"SaleToPOIRequest\":{\"MessageHeader\":{\"ProtocolVersion\":\"3.0\",\"MessageClass\":\"Service\",\"MessageCategory\":\"Reversal\",\
+    \"MessageType\":\"Request\",\"ServiceID\":\"%\",\"SaleID\":\"S1\",\"POIID\":\"T1\"},\"ReversalRequest\":\
+    {\"OriginalPOITransaction\":{\"POITransactionID\":{\"TransactionID\":\"%\"}},\"ReversalReason\":\"MerchantCancel\"}}}\n";
+
+/// The same, and the amount.
+const REVERSAL_OF_AMOUNT: &str =
+    "{\"SaleToPOIRequest\":{\"MessageHeader\":{\"ProtocolVersion\":\"3.0\",\"MessageClass\":\"Service\",\"MessageCategory\":\"Reversal\",\
+    \"MessageType\":\"Request\",\"ServiceID\":\"%\",\"SaleID\":\"S1\",\"POIID\":\"T1\"},\"ReversalRequest\":\
+    {\"OriginalPOITransaction\":{\"POITransactionID\":{\"TransactionID\":\"%\"}},\"ReversalReason\":\"MerchantCancel\",\
+    \"ReversedAmount\":%}}}\n";
+
+/// An Abort: its ServiceID, and that of the request that it is to stop.
+const ABORT: &str =
+    "{\"SaleToPOIRequest\":{\"MessageHeader\":{\"ProtocolVersion\":\"3.0\",\"MessageClass\":\"Service\",\"MessageCategory\":\"Abort\",\
+    \"MessageType\":\"Request\",\"ServiceID\":\"%\",\"SaleID\":\"S1\",\"POIID\":\"T1\"},\"AbortRequest\":\
+    {\"MessageReference\":{\"ServiceID\":\"%\"}}}}\n";
+
+/// The line of the event that rejects an Abort: the till and the details.
+const REJECTED: &str =
+    "till % out '{\"SaleToPOIRequest\":{\"MessageHeader\":{\"ProtocolVersion\":\"3.0\",\"MessageClass\":\"Event\",\
+    \"MessageCategory\":\"Event\",\"MessageType\":\"Notification\",\"SaleID\":\"S1\",\"POIID\":\"T1\"},\
+    \"EventNotification\":{\"TimeStamp\":\"2025-03-07T10:11:04Z\",\"EventToNotify\":\"Reject\",\"EventDetails\":\"%\"}}}\n";
+
+/// The question what became of a request: its ServiceID, and the request's.
 const STATUS: &str =
     "{\"SaleToPOIRequest\":{\"MessageHeader\":{\"ProtocolVersion\":\"3.0\",\"MessageClass\":\"Service\",\
     \"MessageCategory\":\"TransactionStatus\",\"MessageType\":\"Request\",\"ServiceID\":\"%\",\"SaleID\":\"S1\",\"POIID\":\"T1\"},\
@@ -43,11 +71,25 @@ const DECLINED: &str =
     \"TimeStamp\":\"2025-03-07T10:11:04+00:00\"}},\"POIData\":{\"POITransactionID\":{\"TransactionID\":\"%\",\
     \"TimeStamp\":\"2025-03-07T10:11:04Z\"}}}";
 
-/// The fields of an Intent and the gate after it, in hexadecimal and with their sizes: the digit of its ServiceID, its amount, and
+/// A reversal that is approved: its result, its transaction and its amount.
+const REVERSED: &str =
+    "{\"Response\":{\"Result\":\"%\"},\"POIData\":{\"POITransactionID\":{\"TransactionID\":\"%\",\
+    \"TimeStamp\":\"2025-03-07T10:11:04Z\"}},\"ReversedAmount\":%}";
+
+/// A reversal that is declined: its condition and its transaction.
+const NOT_REVERSED: &str =
+    "{\"Response\":{\"Result\":\"Failure\",\"ErrorCondition\":\"%\"},\"POIData\":{\"POITransactionID\":\
+    {\"TransactionID\":\"%\",\"TimeStamp\":\"2025-03-07T10:11:04Z\"}}}";
+
+/// The fields of the Intent of a payment and the gate after it, in hexadecimal and with their sizes: the digit of its ServiceID, its amount, and
 /// the trace number before. Zeros come after a field, and before one that begins with `<`.
 const INTENT: &str =
     "0101 2;025331 41;025431 41;013% 11;053237393038 81;19323032352d30332d30375431303a31313a30342b30303a3030 36;<% 6;0978 2;<% 3;\
     ffffffff 4;0000000067cac638 8; 21";
+
+/// The same of the Intent of a reversal: the digit of its ServiceID, its amount, the trace number before, and the slot of the payment.
+const REVERSAL_INTENT: &str =
+    "0102 2;025331 41;025431 41;013% 11; 81; 36;<% 6;0978 2;<% 3;<% 4;0000000067cac638 8; 21";
 
 /// The same of an Outcome that approves: the slot of its Intent, the trace number, the receipt number and the amount.
 const APPROVAL: &str = "0201 2;<% 4;<% 3;<% 2;<% 6; 1;0000000067cac638 8; 230";
@@ -101,7 +143,9 @@ fn places(slot: &str) -> (&'static str, &'static str) {
         "1" => ("256", "257"),
         "2" => ("512", "513"),
         "3" => ("768", "769"),
-        _ => ("1024", "1025"),
+        "4" => ("1024", "1025"),
+        "5" => ("1280", "1281"),
+        _ => ("1536", "1537"),
     }
 }
 
@@ -129,6 +173,7 @@ fn push_first(alloc: Global, log: &mut String, word: &str, record: &str) -> Resu
     let (_, body) = places(slot);
     match word {
         "intent" => push_body(alloc, log, body, INTENT, words),
+        "reversal" => push_body(alloc, log, body, REVERSAL_INTENT, words),
         "approved" => push_body(alloc, log, body, APPROVAL, words),
         _ => push_body(alloc, log, body, DECLINE, words),
     }
@@ -155,34 +200,46 @@ fn push_header(
     push_form(log, ",\"%Response\":", &[category])
 }
 
-/// Appends the body of the reply to a payment that has ended.
-fn push_end(log: &mut String, end: &str) -> Result<(), AllocError> {
-    let (word, _) = halves(end);
-    match word {
-        "Success" | "Partial" => push_words(log, APPROVED, end),
-        _ => push_words(log, DECLINED, end),
+/// The form of the body of the reply to a request of this category that has ended, by the word of its result.
+fn form_of_end(category: &str, word: &str) -> &'static str {
+    let is_done = word == "Success" || word == "Partial";
+    match category {
+        "Reversal" if is_done => REVERSED,
+        "Reversal" => NOT_REVERSED,
+        _ if is_done => APPROVED,
+        _ => DECLINED,
     }
 }
 
-/// Appends the reply to a payment that has ended.
-fn push_ended(log: &mut String, reply: &str) -> Result<(), AllocError> {
+/// Appends the body of that reply.
+fn push_end(log: &mut String, category: &str, end: &str) -> Result<(), AllocError> {
+    let (word, _) = halves(end);
+    push_words(log, form_of_end(category, word), end)
+}
+
+/// Appends the reply to it.
+fn push_ended(log: &mut String, category: &str, reply: &str) -> Result<(), AllocError> {
     let (till, rest) = halves(reply);
     let (service, end) = halves(rest);
-    push_header(log, "Payment", till, service)?;
-    push_end(log, end)?;
+    push_header(log, category, till, service)?;
+    push_end(log, category, end)?;
     log.push_str("}}\n")
 }
 
 /// Appends the reply that repeats it.
-fn push_repeated(log: &mut String, reply: &str) -> Result<(), AllocError> {
+fn push_repeated(log: &mut String, category: &str, reply: &str) -> Result<(), AllocError> {
     let (till, rest) = halves(reply);
     let (service, repeated) = halves(rest);
     let (reference, end) = halves(repeated);
     push_header(log, "TransactionStatus", till, service)?;
     log.push_str("{\"Response\":{\"Result\":\"Success\"},\"RepeatedMessageResponse\":")?;
-    push_form(log, HEADER, &["Payment", reference])?;
-    log.push_str(",\"RepeatedResponseMessageBody\":{\"PaymentResponse\":")?;
-    push_end(log, end)?;
+    push_form(log, HEADER, &[category, reference])?;
+    push_form(
+        log,
+        ",\"RepeatedResponseMessageBody\":{\"%Response\":",
+        &[category],
+    )?;
+    push_end(log, category, end)?;
     log.push_str("}}}}}\n")
 }
 
@@ -199,15 +256,24 @@ fn push_failure(log: &mut String, reply: &str) -> Result<(), AllocError> {
     )
 }
 
-/// Appends the message of a line that asks for a payment or for what became of it, without the line's till.
+/// Appends the event that rejects an Abort.
+fn push_rejected(log: &mut String, event: &str) -> Result<(), AllocError> {
+    let (till, details) = halves(event);
+    push_form(log, REJECTED, &[till, details])
+}
+
+/// Appends the message of a line that asks for a payment, a reversal, an Abort or what became of one, without the line's till.
 pub(crate) fn push_asked(text: &mut String, word: &str, words: &str) -> Result<(), AllocError> {
     match word {
         "pay" => push_words(text, PAYMENT, words),
+        "reverse" => push_words(text, REVERSAL, words),
+        "reverse_amount" => push_words(text, REVERSAL_OF_AMOUNT, words),
+        "abort" => push_words(text, ABORT, words),
         _ => push_words(text, STATUS, words),
     }
 }
 
-/// Appends a line of the log that isn't of payments alone as it is, and another as its word says.
+/// Appends a line of the log as its word says, and as it is where it has none of these words.
 pub(crate) fn push_paid(alloc: Global, log: &mut String, line: &str) -> Result<(), Fail> {
     let (word, rest) = halves(line);
     match word {
@@ -215,9 +281,12 @@ pub(crate) fn push_paid(alloc: Global, log: &mut String, line: &str) -> Result<(
             let (record_word, record) = halves(rest);
             push_first(alloc, log, record_word, record)?;
         }
-        "intent" | "approved" | "declined" => push_kept(alloc, log, word, rest)?,
-        "result" => push_ended(log, rest)?,
-        "repeats" => push_repeated(log, rest)?,
+        "intent" | "reversal" | "approved" | "declined" => push_kept(alloc, log, word, rest)?,
+        "result" => push_ended(log, "Payment", rest)?,
+        "reversed" => push_ended(log, "Reversal", rest)?,
+        "repeats" => push_repeated(log, "Payment", rest)?,
+        "repeats_reversed" => push_repeated(log, "Reversal", rest)?,
+        "rejected" => push_rejected(log, rest)?,
         "fails" => push_failure(log, rest)?,
         _ => push_form(log, "%\n", &[line])?,
     }

@@ -163,6 +163,7 @@ ask TransactionStatus {}
 > fails TransactionStatus 1 1 InProgress
 ask Abort {"MessageReference":{"ServiceID":"1"}}
 pt 0 800000040f102700040000000010990b000123870017060f00
+> pt 0 out 06b000
 > pt 0 out 800000
 > pt 0 out 800000
 > approved 1 0 123 17 1099

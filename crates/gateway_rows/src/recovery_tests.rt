@@ -1,5 +1,5 @@
-//! Power failures in a payment, after each call in turn: whatever the power leaves of the file, the terminal plays on, and what tills
-//! get in the end agrees with its book.
+//! Power failures in a payment, in a reversal and in a payment that is aborted, after each call in turn: whatever the power leaves of the
+//! file, the terminal plays on, and what tills get in the end agrees with its book.
 //!
 //! The terminal is a played one. A script is played from its start, again and again, each time with what the terminal has sent at the log of
 //! the time before. No line of a script is taken before the first poll of a run, so the power fails in no opening here; `opening_tests` has
@@ -43,29 +43,141 @@ const MOST_CALLS: u64 = 40;
 /// What a power failure leaves.
 const IMAGES: [&str; 3] = ["old", "new", "junk a5"];
 
-/// What the terminal does at a payment, and after how many calls the power no longer fails before its end.
-struct Payment {
+/// What a till asks for while the power fails, and once it is there again.
+struct Request {
+    /// The word of its line, its ServiceID, and what comes after that.
+    word: &'static str,
+    service: &'static str,
+    content: &'static str,
+    /// How its command begins in the log.
+    command: &'static str,
+    /// The words of its reply and of the one that repeats it.
+    reply: &'static str,
+    repeated: &'static str,
+    /// What these say where the terminal has booked it, and the transaction that they name where it hasn't.
+    done: &'static str,
+    undone: &'static str,
+    is_reversal: bool,
+}
+
+/// A payment of 10.99, the first one of the terminal.
+const PAYMENT: Request = Request {
+    word: "pay",
+    service: "1",
+    content: "10.99",
+    command: "pt 0 out 0601",
+    reply: "result",
+    repeated: "repeats",
+    done: "Success 000001-0001-0 10.99",
+    undone: "000000-0000-0",
+    is_reversal: false,
+};
+
+/// Its reversal.
+const REVERSAL: Request = Request {
+    word: "reverse",
+    service: "2",
+    content: "000001-0001-0",
+    command: "pt 0 out 0630",
+    reply: "reversed",
+    repeated: "repeats_reversed",
+    done: "Success 000002-0002-2 10.99",
+    undone: "000000-0000-2",
+    is_reversal: true,
+};
+
+/// A request in which the power fails.
+struct Case {
+    /// What the terminal does at its first payment.
     play: Play,
+    /// What a till has asked for before.
+    before: &'static str,
+    request: Request,
+    /// What comes right after the request, and what comes later where the power hasn't failed by then.
+    after: &'static str,
+    later: &'static str,
+    /// How many stops are sent where the power doesn't fail.
+    stops: usize,
+    /// After how many calls the power no longer fails before its end.
     whole: u64,
 }
 
 /// Four calls keep the Intent; then the command, two acknowledgements, four calls for the Outcome, and the reply.
-const APPROVED: Payment = Payment {
+const APPROVED: Case = Case {
     play: Play::Approve,
+    before: "",
+    request: PAYMENT,
+    after: "",
+    later: "",
+    stops: 0,
     whole: 13,
 };
 
 /// The same with one acknowledgement.
-const DECLINED: Payment = Payment {
+const DECLINED: Case = Case {
     play: Play::Decline(0x6C),
+    before: "",
+    request: PAYMENT,
+    after: "",
+    later: "",
+    stops: 0,
     whole: 12,
 };
 
 /// The Intent and the command; then the link, the registration, its acknowledgement, the enquiry, two acknowledgements, the Outcome, and
 /// the reply.
-const CUT_AFTER_BOOK: Payment = Payment {
+const CUT_AFTER_BOOK: Case = Case {
     play: Play::CutAfterBook,
+    before: "",
+    request: PAYMENT,
+    after: "",
+    later: "",
+    stops: 0,
     whole: 17,
+};
+
+/// The calls of a payment that is approved.
+const REVERSED: Case = Case {
+    play: Play::Approve,
+    before: "pay 1 1 10.99",
+    request: REVERSAL,
+    after: "",
+    later: "",
+    stops: 0,
+    whole: 13,
+};
+
+/// The connection is lost once the reversal is booked: the calls of a payment whose connection is cut then.
+const REVERSAL_LOST: Case = Case {
+    play: Play::Approve,
+    before: "pay 1 1 10.99",
+    request: REVERSAL,
+    after: "\nlost 0",
+    later: "at 1741342269\ntick\nat 1741342264",
+    stops: 0,
+    whole: 17,
+};
+
+/// The stop is one call more. It comes too late.
+const ABORTED_TOO_LATE: Case = Case {
+    play: Play::Approve,
+    before: "",
+    request: PAYMENT,
+    after: "\nabort 1 7 1",
+    later: "",
+    stops: 1,
+    whole: 14,
+};
+
+/// The terminal stops.
+const ABORTED: Case = Case {
+    play: Play::Decline(0x6C),
+    before: "",
+    request: PAYMENT,
+    after: "\nabort 1 7 1",
+    later: "",
+    stops: 1,
+    whole: 13,
 };
 
 /// A script, and the terminal whose part it has.
@@ -180,22 +292,28 @@ impl Trial {
         Err(Fail::from("the terminal sends more and more"))
     }
 
-    /// Another till connects. Once the terminal is ready, it asks what became of the payment, asks for it again, and asks once more
-    /// what became of it. How many commands had been sent before that.
-    fn recover(&mut self, alloc: Global, till: u64) -> Result<usize, Fail> {
+    /// Another till connects. Once the terminal is ready, it asks what became of the request, sends it again, and asks once more what
+    /// became of it. How many commands had been sent before that.
+    fn recover(&mut self, alloc: Global, request: &Request, till: u64) -> Result<usize, Fail> {
+        let (word, service, content) = (request.word, request.service, request.content);
         self.go_on(alloc, &format!(in alloc; "open {till}")?)?;
-        let commands = self.commands();
+        let commands = self.commands(request);
         self.go_on(
             alloc,
-            &format!(in alloc; "status {till} 2 1\npay {till} 1 10.99")?,
+            &format!(in alloc; "status {till} 8 {service}\n{word} {till} {service} {content}")?,
         )?;
-        self.go_on(alloc, &format!(in alloc; "status {till} 3 1")?)?;
+        self.go_on(alloc, &format!(in alloc; "status {till} 9 {service}")?)?;
         Ok(commands)
     }
 
-    /// How often the payment was sent to the terminal.
-    fn commands(&self) -> usize {
-        self.log.matches("pt 0 out 0601").count()
+    /// How often the request was sent to the terminal.
+    fn commands(&self, request: &Request) -> usize {
+        self.log.matches(request.command).count()
+    }
+
+    /// How often a stop was sent to it.
+    fn stops(&self) -> usize {
+        self.log.matches("pt 0 out 06b000").count()
     }
 
     /// How often the power has failed.
@@ -203,12 +321,18 @@ impl Trial {
         self.log.matches("\npower ").count()
     }
 
-    /// How often the terminal has booked the payment.
-    fn booked(&self) -> usize {
-        self.terminal.book().as_slice().len()
+    /// How often the terminal has booked the request.
+    fn booked(&self, request: &Request) -> usize {
+        let mut count: usize = 0;
+        for entry in self.terminal.book().as_slice() {
+            if entry.reversal == request.is_reversal {
+                count = count.saturating_add(1);
+            }
+        }
+        count
     }
 
-    /// Whether the log has a line of a payment.
+    /// Whether the log has this line.
     fn has(&self, alloc: Global, line: &str) -> Result<bool, Fail> {
         let mut wanted = String::new(alloc);
         push_paid(alloc, &mut wanted, line)?;
@@ -216,15 +340,13 @@ impl Trial {
     }
 
     /// Whether the log has a line that begins so, and ends as the terminal's book says.
-    fn agrees(&self, alloc: Global, line: &str) -> Result<bool, Fail> {
-        if self.booked() > 0 {
-            return self.has(
-                alloc,
-                &format!(in alloc; "{line} Success 000001-0001-0 10.99")?,
-            );
+    fn agrees(&self, alloc: Global, request: &Request, line: &str) -> Result<bool, Fail> {
+        let (done, undone) = (request.done, request.undone);
+        if self.booked(request) > 0 {
+            return self.has(alloc, &format!(in alloc; "{line} {done}")?);
         }
-        let declined = self.has(alloc, &format!(in alloc; "{line} Cancel 000000-0000-0")?)?;
-        Ok(declined || self.has(alloc, &format!(in alloc; "{line} Aborted 000000-0000-0")?)?)
+        let declined = self.has(alloc, &format!(in alloc; "{line} Cancel {undone}")?)?;
+        Ok(declined || self.has(alloc, &format!(in alloc; "{line} Aborted {undone}")?)?)
     }
 }
 
@@ -239,24 +361,39 @@ fn trial_of(rt: &impl Abort, alloc: Global, script: &str, play: Play) -> Result<
     })
 }
 
-/// Another till gets what the terminal's book says. The payment was sent and booked once at most: a repeat sends it only where it was not
-/// found, and then it had not been sent.
-fn check_end(rt: &impl Abort, alloc: Global, trial: &mut Trial, till: u64) -> Result<(), Fail> {
-    let before = trial.recover(alloc, till)?;
+/// Another till gets what the terminal's book says. The request was sent and booked once at most, and no stop was sent for another: a repeat
+/// sends the request only where it was not found, and then it had not been sent. Whether it was not found.
+fn check_end(
+    rt: &impl Abort,
+    alloc: Global,
+    trial: &mut Trial,
+    case: &Case,
+    till: u64,
+) -> Result<bool, Fail> {
+    let request = &case.request;
+    let (service, reply, repeated) = (request.service, request.reply, request.repeated);
+    let before = trial.recover(alloc, request, till)?;
     let unknown = trial.has(
         alloc,
-        &format!(in alloc; "fails TransactionStatus {till} 2 NotFound")?,
+        &format!(in alloc; "fails TransactionStatus {till} 8 NotFound")?,
     )?;
-    let first = trial.agrees(alloc, &format!(in alloc; "repeats {till} 2 1")?)?;
-    let again = trial.agrees(alloc, &format!(in alloc; "result {till} 1")?)?;
-    let last = trial.agrees(alloc, &format!(in alloc; "repeats {till} 3 1")?)?;
+    let first = format!(in alloc; "{repeated} {till} 8 {service}")?;
+    let again = format!(in alloc; "{reply} {till} {service}")?;
+    let last = format!(in alloc; "{repeated} {till} 9 {service}")?;
+    let first_agrees = trial.agrees(alloc, request, &first)?;
+    let again_agrees = trial.agrees(alloc, request, &again)?;
+    let last_agrees = trial.agrees(alloc, request, &last)?;
     let log = trial.log.as_str();
-    assert!(rt; first != unknown, "the first status: {log}");
-    assert!(rt; again && last, "the reply and the last status: {log}");
+    assert!(rt; first_agrees != unknown, "the first status: {log}");
+    assert!(rt;
+        again_agrees && last_agrees,
+        "the reply and the last status: {log}"
+    );
     let wanted = if unknown { (0, 1) } else { (before, before) };
-    assert_eq!(rt; (before, trial.commands()), wanted, "{log}");
-    assert!(rt; before <= 1 && trial.booked() <= 1, "once: {log}");
-    Ok(())
+    assert_eq!(rt; (before, trial.commands(request)), wanted, "{log}");
+    assert!(rt; before <= 1 && trial.booked(request) <= 1, "once: {log}");
+    assert!(rt; trial.stops() <= case.stops, "stops: {log}");
+    Ok(unknown)
 }
 
 /// The power, which fails in this script, fails again after each call of the run that comes next, until it no longer does.
@@ -264,49 +401,73 @@ fn check_next(
     rt: &impl Abort,
     alloc: Global,
     script: &str,
-    play: Play,
+    case: &Case,
     image: &str,
 ) -> Result<(), Fail> {
     for calls in 0..MOST_CALLS {
-        let mut trial = trial_of(rt, alloc, script, play)?;
+        let mut trial = trial_of(rt, alloc, script, case.play)?;
         trial.go_on(alloc, &format!(in alloc; "power {calls} {image}")?)?;
-        trial.recover(alloc, 2)?;
+        trial.recover(alloc, &case.request, 2)?;
         if trial.failures() < 2 {
             assert!(rt; calls > FEWEST_CALLS, "after {calls} calls of {script}");
             return Ok(());
         }
-        check_end(rt, alloc, &mut trial, 3)?;
+        check_end(rt, alloc, &mut trial, case, 3)?;
     }
     Err(Fail::from("the power fails again and again"))
 }
 
-/// The power fails after so many calls of a payment, and then once more or not.
+/// The script of a case, in which the power fails after so many calls of the request.
+fn failing_trial(
+    rt: &impl Abort,
+    alloc: Global,
+    case: &Case,
+    calls: u64,
+    image: &str,
+) -> Result<Trial, Fail> {
+    let request = &case.request;
+    let (word, service, content) = (request.word, request.service, request.content);
+    let after = case.after;
+    let mut trial = trial_of(rt, alloc, READY, case.play)?;
+    trial.go_on(alloc, case.before)?;
+    trial.go_on(
+        alloc,
+        &format!(in alloc; "power {calls} {image}\n{word} 1 {service} {content}{after}")?,
+    )?;
+    if trial.failures() == 0 {
+        trial.go_on(alloc, case.later)?;
+    }
+    Ok(trial)
+}
+
+/// The power fails after so many calls of a request, and then once more or not. A payment that was stopped isn't said to be cancelled.
 fn check_failure(
     rt: &impl Abort,
     alloc: Global,
-    payment: &Payment,
+    case: &Case,
     calls: u64,
     image: &str,
 ) -> Result<(), Fail> {
-    let mut trial = trial_of(rt, alloc, READY, payment.play)?;
-    let lines = format!(in alloc; "power {calls} {image}\npay 1 1 10.99")?;
-    trial.go_on(alloc, &lines)?;
-    if calls == payment.whole {
-        assert_eq!(rt; trial.failures(), 0, "after {lines}");
+    let mut trial = failing_trial(rt, alloc, case, calls, image)?;
+    let script = trial.script.clone()?;
+    if calls == case.whole {
+        assert_eq!(rt; trial.failures(), 0, "of {script}");
+        assert_eq!(rt; trial.stops(), case.stops, "of {script}");
         return Ok(());
     }
-    assert_eq!(rt; trial.failures(), 1, "after {lines}");
-    let script = trial.script.clone()?;
-    check_end(rt, alloc, &mut trial, 2)?;
-    check_next(rt, alloc, &script, payment.play, "old")?;
-    check_next(rt, alloc, &script, payment.play, "new")
+    assert_eq!(rt; trial.failures(), 1, "of {script}");
+    let unknown = check_end(rt, alloc, &mut trial, case, 2)?;
+    let is_cancelled = trial.log.contains("\"Cancel\"");
+    assert!(rt; unknown || case.stops == 0 || !is_cancelled, "of {script}");
+    check_next(rt, alloc, &script, case, "old")?;
+    check_next(rt, alloc, &script, case, "new")
 }
 
-/// The power fails after each call of a payment, until it no longer does, and leaves each image.
-fn check_payment(rt: &impl Abort, alloc: Global, payment: &Payment) -> Result<(), Fail> {
+/// The power fails after each call of a request, until it no longer does, and leaves each image.
+fn check_case(rt: &impl Abort, alloc: Global, case: &Case) -> Result<(), Fail> {
     for image in IMAGES {
-        for calls in 0..=payment.whole {
-            check_failure(rt, alloc, payment, calls, image)?;
+        for calls in 0..=case.whole {
+            check_failure(rt, alloc, case, calls, image)?;
         }
     }
     Ok(())
@@ -314,15 +475,27 @@ fn check_payment(rt: &impl Abort, alloc: Global, payment: &Payment) -> Result<()
 
 #[test]
 fn an_approved_payment(rt: HostRuntime) -> Result<(), Fail> {
-    check_payment(&rt, rt.alloc(), &APPROVED)
+    check_case(&rt, rt.alloc(), &APPROVED)
 }
 
 #[test]
 fn a_declined_payment(rt: HostRuntime) -> Result<(), Fail> {
-    check_payment(&rt, rt.alloc(), &DECLINED)
+    check_case(&rt, rt.alloc(), &DECLINED)
 }
 
 #[test]
 fn a_booked_payment_that_is_cut(rt: HostRuntime) -> Result<(), Fail> {
-    check_payment(&rt, rt.alloc(), &CUT_AFTER_BOOK)
+    check_case(&rt, rt.alloc(), &CUT_AFTER_BOOK)
+}
+
+#[test]
+fn a_reversal(rt: HostRuntime) -> Result<(), Fail> {
+    check_case(&rt, rt.alloc(), &REVERSED)?;
+    check_case(&rt, rt.alloc(), &REVERSAL_LOST)
+}
+
+#[test]
+fn an_aborted_payment(rt: HostRuntime) -> Result<(), Fail> {
+    check_case(&rt, rt.alloc(), &ABORTED_TOO_LATE)?;
+    check_case(&rt, rt.alloc(), &ABORTED)
 }

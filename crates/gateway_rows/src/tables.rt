@@ -8,7 +8,7 @@
 //! - `> reject SALE POI DETAILS` is the event that rejects a message;
 //! - `> start` is a start, and the opening of the journal on no file, and `> restart` the same on one with records.
 //!
-//! `payment_lines` has those of payments.
+//! `payment_lines` has those of payments, reversals and aborts.
 use crate::payment_lines::{push_asked, push_paid};
 use crate::replay::check;
 use std::alloc::{AllocError, Global};
@@ -65,7 +65,7 @@ fn asking_till(line: &str) -> Option<&str> {
     let (first, _) = halves(rest);
     match word {
         "ask" => Some("1"),
-        "pay" | "status" => Some(first),
+        "pay" | "reverse" | "reverse_amount" | "abort" | "status" => Some(first),
         _ => None,
     }
 }
@@ -93,6 +93,10 @@ pub(crate) fn push_played(script: &mut String, line: &str) -> Result<(), AllocEr
 
 /// Appends what the log has of the event of a line, where it polls.
 fn push_event(log: &mut String, now: &str, line: &str) -> Result<(), AllocError> {
+    if let Some(till) = asking_till(line) {
+        push_form(log, "at %\ntill % in '", &[now, till])?;
+        return push_message(log, line);
+    }
     let (word, rest) = halves(line);
     let (number, bytes) = halves(rest);
     match word {
@@ -100,14 +104,6 @@ fn push_event(log: &mut String, now: &str, line: &str) -> Result<(), AllocError>
         "open" | "close" | "lost" => push_form(log, "at %\n%\n", &[now, line]),
         "till" | "pt" => push_form(log, "at %\n% % in %\n", &[now, word, number, bytes]),
         "say" => push_form(log, "at %\ntill % in '%\n", &[now, number, bytes]),
-        "ask" => {
-            push_form(log, "at %\ntill 1 in '", &[now])?;
-            push_message(log, line)
-        }
-        "pay" | "status" => {
-            push_form(log, "at %\ntill % in '", &[now, number])?;
-            push_message(log, line)
-        }
         _ => Ok(()),
     }
 }

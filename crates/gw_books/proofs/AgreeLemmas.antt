@@ -2,21 +2,29 @@
 use Rattle.std.proofs.Common.{◌≡◌, ◌∙◌, ℕ, Bool, true, false, List, [], ◌∷◌, refl, sym, ap, subst, inl, inr, arith, le-leb, eqb-true, eq-eqb, leb-true}
 use Rattle.std.proofs.lemmas.Bool.{and_from, and_parts, false_from_ne_true, not_from_false}
 use Rattle.std.proofs.lemmas.List.Elements.{All-from_recursion}
-use Rattle.std.specs.Prelude.{◌==◌, nat_lt, nat_le, ◌&&◌, ◌||◌, not, is_some, bytes_eq, codes, All, Option, Some, None, option_to_list, option_and_then}
+use Rattle.std.proofs.lemmas.Option.{same_Some}
+use Rattle.std.specs.Prelude.{◌==◌, nat_lt, nat_le, ◌&&◌, ◌||◌, not, if◌then◌else◌, is_some, bytes_eq, codes, All, Option, Some, None, option_to_list, option_and_then}
 use Rattle.std.specs.List.{AllByRecursion, list_any, list_all}
 use Rattle.gw_base.specs.Transaction.{transaction_text}
 use Rattle.gw_base.specs.declared.key.Key.{Key}
 use Rattle.json_text.specs.Tree.{Tree}
 use Rattle.sale_values.specs.Money.{money_text}
+use Rattle.jrn_record.specs.declared.records.Deal.{Deal}
+use Rattle.jrn_record.specs.declared.records.Deal.TheVariants.{Payment, Reversal}
+use Rattle.jrn_record.specs.declared.records.Intent.{Intent as TheIntent}
 use Rattle.jrn_record.specs.declared.records.Record.{Record}
+use Rattle.gw_ledger.specs.Fold.{AreFolded}
 use Rattle.gw_ledger.specs.Keys.{intent_key, is_key, same_key, slot_of}
-use Rattle.gw_ledger.specs.Slots.{is_open}
+use Rattle.gw_ledger.specs.Slots.{asks_payment, intent_at, is_open}
+use Rattle.xlate.specs.Reply.{deal_category}
+use Rattle.gw_owes.proofs.RecordLemmas.{LedgerLaws, intent-stays}
 use Rattle.gw_books.specs.Past.{SentCommand, SentReply, Past}
 use Rattle.gw_books.specs.Books.{BookedEntry, is_cause, is_caused, is_caused_by, have_one_cause, comes_before, is_ordered}
 use Rattle.gw_books.specs.Said.{Said, all_said, IsFramed}
-use Rattle.gw_books.specs.Agrees.{EachSaid, entry_key, key_at_place, key_meant, is_transaction, is_success, fails_with, is_approved_entry, is_entry_said, is_unresolved, names_entry, success_agrees, refusal_agrees, unaccepted_agrees, not_found_agrees, in_progress_agrees}
-use Rattle.gw_books.proofs.Holding.{AreFalling, AreKeyed, BearsOut, HasApprovedEntry, HoldsAgrees, IsApprovalTrue, IsDeclineTrue, IsSaidTrue, IsSentTrue, SaysSuccess, sent_with}
+use Rattle.gw_books.specs.Agrees.{EachSaid, entry_key, key_at_place, key_meant, is_transaction, is_success, fails_with, is_approved_entry, is_entry_said, is_of_category, is_unresolved, names_entry, success_agrees, refusal_agrees, unaccepted_agrees, not_found_agrees, in_progress_agrees}
+use Rattle.gw_books.proofs.Holding.{AreFalling, AreKeyed, BearsOut, HasApprovedEntry, HoldsAgrees, IsApprovalTrue, IsDeclineTrue, IsFirstOf, IsSaidTrue, IsSentTrue, SaysSuccess, sent_with}
 use Rattle.gw_books.proofs.KeyedLemmas.{AreApart, apart-distinct, caused-for, is-key-is, is-key-itself, key-sent, sent-below, sent-same}
+use Rattle.gw_books.proofs.RecordMoreLemmas.{own-slot}
 use Rattle.gw_books.proofs.ListLemmas.{In, all-in, all-from, any-in, any-from, none-from, bytes-are, bytes-itself}
 
 -- ---- commands
@@ -34,14 +42,20 @@ sent-apart place (command ∷ commands) falling once = (
 
 -- ---- entries
 
--- an entry whose cause was sent is of the command's terminal
-pub caused-poi : (past : Past) (entry : BookedEntry) (command : SentCommand) → AreFalling past.place past.commands → In command past.commands → entry.cause ≡ Some command.place
-    → is_caused past entry entry.cause ≡ true → command.poi ≡ entry.poi
-caused-poi past entry command falling within e caused =
+-- what is asked and what is booked are of one kind
+one-kind : (asked booked : Bool) → (if asked then booked else not booked) ≡ true → booked ≡ asked
+one-kind true booked e = e
+one-kind false true e = absurd cc
+one-kind false false e = refl
+
+-- an entry whose cause was sent is of the command's terminal, and a reversal where the command is one
+caused-as : (past : Past) (entry : BookedEntry) (command : SentCommand) → AreFalling past.place past.commands → In command past.commands → entry.cause ≡ Some command.place
+    → is_caused past entry entry.cause ≡ true → (command.poi ≡ entry.poi) × (entry.reversal ≡ command.reversal)
+caused-as past entry command falling within e caused =
     let f = subst (λ cause. is_caused past entry cause ≡ true) e caused in
     by (nat_le past.place command.place) refl (and_parts (nat_lt command.place entry.place) _ f).1
   where
-    by : (b : Bool) → nat_le past.place command.place ≡ b → (b || list_any (is_cause entry command.place) past.commands) ≡ true → command.poi ≡ entry.poi
+    by : (b : Bool) → nat_le past.place command.place ≡ b → (b || list_any (is_cause entry command.place) past.commands) ≡ true → (command.poi ≡ entry.poi) × (entry.reversal ≡ command.reversal)
     by true t g =
         let h = sent-below past.place past.commands falling command within in
         let k = leb-true past.place command.place t in
@@ -52,7 +66,30 @@ caused-poi past entry command falling within e caused =
         let q = and_parts some.0.whole (bytes_eq some.0.poi entry.poi && _) p.1 in
         let r = and_parts (bytes_eq some.0.poi entry.poi) _ q.1 in
         let same = sent-same past.place past.commands falling some.0 command some.1 within (eqb-true some.0.place command.place p.0) in
-        ap (λ (one : SentCommand). one.poi) (sym same) ∙ bytes-are some.0.poi entry.poi r.0
+        (ap (λ (one : SentCommand). one.poi) (sym same) ∙ bytes-are some.0.poi entry.poi r.0, one-kind some.0.reversal entry.reversal r.1 ∙ ap (λ (one : SentCommand). one.reversal) same)
+
+pub caused-poi : (past : Past) (entry : BookedEntry) (command : SentCommand) → AreFalling past.place past.commands → In command past.commands → entry.cause ≡ Some command.place
+    → is_caused past entry entry.cause ≡ true → command.poi ≡ entry.poi
+caused-poi past entry command falling within e caused = (caused-as past entry command falling within e caused).0
+
+-- a command that was sent for the key of an Intent is a reversal where that asks for one
+pub command-kind : LedgerLaws → (kept : List Record) → AreFolded kept → (place : ℕ) (commands : List SentCommand) → AreKeyed kept place commands → (command : SentCommand) → In command commands
+    → (slot : ℕ) (intent : TheIntent) → intent_at kept slot ≡ Some intent → command.key ≡ Some (intent_key intent) → command.reversal ≡ not (asks_payment intent.what)
+command-kind laws kept folded place commands keyed command within slot intent intent_is key_is =
+    let own = keyed.accepted command within in
+    let asked = own.asked in
+    let key : intent_key asked.intent ≡ intent_key intent = asked.own ∙ same_Some own.key (intent_key intent) (sym own.key_is ∙ key_is) in
+    let slots : asked.slot ≡ slot =
+    same_Some asked.slot slot (sym (own-slot laws kept asked.slot asked.intent folded asked.intent_is) ∙ ap (slot_of kept) key ∙ own-slot laws kept slot intent folded intent_is) in
+    let one : asked.intent ≡ intent = same_Some asked.intent intent (sym asked.intent_is ∙ ap (intent_at kept) slots ∙ intent_is) in
+    asked.kind ∙ ap (λ (i : TheIntent). not (asks_payment i.what)) one
+
+-- and so is the entry that it caused
+pub entry-kind : LedgerLaws → (kept : List Record) → AreFolded kept → (past : Past) → AreKeyed kept past.place past.commands → (entry : BookedEntry) → is_caused past entry entry.cause ≡ true
+    → (command : SentCommand) → In command past.commands → entry.cause ≡ Some command.place → (slot : ℕ) (intent : TheIntent) → intent_at kept slot ≡ Some intent → command.key ≡ Some (intent_key intent)
+    → entry.reversal ≡ not (asks_payment intent.what)
+entry-kind laws kept folded past keyed entry caused command within cause_is slot intent intent_is key_is =
+    (caused-as past entry command keyed.falling within cause_is caused).1 ∙ command-kind laws kept folded past.place past.commands keyed command within slot intent intent_is key_is
 
 -- entries of one cause have it
 one-cause : (one other : BookedEntry) (place : ℕ) → one.cause ≡ Some place → other.cause ≡ Some place → have_one_cause one other ≡ true
@@ -83,7 +120,7 @@ two-booked kept past keyed one other key first second before e f =
     let other_poi = caused-poi past other a.command keyed.falling a.sent cause second in
     no-cause one other (sym poi ∙ other_poi) before (one-cause one other a.command.place a.cause_is cause)
 
-booked-apart : (kept : List Record) (past : Past) → AreKeyed kept past.place past.commands → (book : List BookedEntry) → list_all (λ (entry : BookedEntry). is_caused past entry entry.cause) book ≡ true
+pub booked-apart : (kept : List Record) (past : Past) → AreKeyed kept past.place past.commands → (book : List BookedEntry) → list_all (λ (entry : BookedEntry). is_caused past entry entry.cause) book ≡ true
     → is_ordered book ≡ true → AreApart (entry_key past) book
 booked-apart kept past keyed [] caused ordered = tt
 booked-apart kept past keyed (entry ∷ book) caused ordered =
@@ -104,12 +141,12 @@ all-of {A} P list each = All-from_recursion P list (by-recursion list each)
     by-recursion (x ∷ list) each = (each x (inl refl), by-recursion list (λ y within. each y (inr within)))
 
 each-said : (agrees : Past → List BookedEntry → SentReply → Said → Bool) (past : Past) (book : List BookedEntry)
-    → ((reply : SentReply) → IsSentTrue past.commands book reply → (said : Said) → IsSaidTrue reply.kept reply.occasion said → agrees past book reply said ≡ true)
+    → ((reply : SentReply) → In reply past.replies → IsSentTrue past.commands book reply → (said : Said) → IsSaidTrue reply.kept reply.occasion said → agrees past book reply said ≡ true)
     → ((reply : SentReply) → In reply past.replies → IsSentTrue past.commands book reply) → EachSaid agrees past book
 each-said agrees past book each true-replies =
     all-of (λ (reply : SentReply). (message : Tree) → IsFramed reply.bytes message → list_all (agrees past book reply) (all_said message) ≡ true) past.replies (λ reply within message framed.
     let sent = true-replies reply within in
-    all-from (agrees past book reply) (all_said message) (λ said says. each reply sent said (sent.says message framed said says)))
+    all-from (agrees past book reply) (all_said message) (λ said says. each reply within sent said (sent.says message framed said says)))
 
 -- where a test implies something, it fails or that holds
 unless : (test other : Bool) → (test ≡ true → other ≡ true) → (not test || other) ≡ true
@@ -125,10 +162,16 @@ approved-for past falling command sent key key_is entry caused approved =
     let own : entry_key past entry ≡ Some key = ap (option_and_then (key_at_place past.commands)) caused ∙ (key-sent past.place past.commands falling command sent ∙ key_is) in
     and_from entry.approved (is_key key (entry_key past entry)) approved (is-key-itself key (entry_key past entry) own)
 
+-- what is booked as it was asked is of the category that is said
+of-category : (what : Deal) (reversal : Bool) (category : List ℕ) → category ≡ deal_category what → reversal ≡ not (asks_payment what) → (if bytes_eq category (codes "Reversal") then reversal else not reversal) ≡ true
+of-category Payment reversal category c r = rw (c, r) refl
+of-category Reversal reversal category c r = rw (c, r) refl
+
 -- the entry that bears a success out is the one that is said
 entry-said : (past : Past) (book : List BookedEntry) (reply : SentReply) (said : Said) → AreFalling past.place past.commands → (command : SentCommand) → In command past.commands
-    → (says : SaysSuccess reply.kept said) → command.key ≡ Some (intent_key says.says.intent) → (has : HasApprovedEntry book reply.place command says.says.outcome) → is_entry_said past reply said has.entry ≡ true
-entry-said past book reply said falling command sent says key has =
+    → (says : SaysSuccess reply.kept said) → command.key ≡ Some (intent_key says.says.intent) → (has : HasApprovedEntry book reply.place command says.says.outcome)
+    → (let entry = has.entry in entry.reversal ≡ not (asks_payment says.says.intent.what)) → is_entry_said past reply said has.entry ≡ true
+entry-said past book reply said falling command sent says key has kind =
     let entry = has.entry in
     let outcome = says.says.outcome in
     let approved : is_approved_entry past said.key entry ≡ true = approved-for past falling command sent said.key (key ∙ ap Some (sym says.says.key_is)) entry has.caused has.approved in
@@ -140,18 +183,24 @@ entry-said past book reply said falling command sent says key has =
     let units : said.amount ≡ money_text entry.amount = says.amount_is ∙ ap money_text (sym has.amount) in
     let amount : bytes_eq said.amount (money_text entry.amount) ≡ true = subst (λ t. bytes_eq said.amount t ≡ true) units (bytes-itself said.amount) in
     and_from (is_approved_entry past said.key entry) _ approved
+    (and_from (is_of_category said entry) _ (of-category says.says.intent.what entry.reversal said.category says.says.category_is kind)
     (and_from (nat_le entry.place reply.place) _ (le-leb entry.place reply.place has.placed)
-    (and_from (names_entry reply.kept said.key said.transaction entry) (bytes_eq said.amount (money_text entry.amount)) names amount))
+    (and_from (names_entry reply.kept said.key said.transaction entry) (bytes_eq said.amount (money_text entry.amount)) names amount)))
 
-success-said : (kept : List Record) (past : Past) (book : List BookedEntry) → AreKeyed kept past.place past.commands
-    → (reply : SentReply) → IsSentTrue past.commands book reply → (said : Said) → IsSaidTrue reply.kept reply.occasion said → success_agrees past book reply said ≡ true
-success-said kept past book keyed reply sent said truth =
+success-said : LedgerLaws → (kept : List Record) → AreFolded kept → (past : Past) (book : List BookedEntry) → AreKeyed kept past.place past.commands
+    → list_all (λ (entry : BookedEntry). is_caused past entry entry.cause) book ≡ true → ((reply : SentReply) → In reply past.replies → IsFirstOf reply.kept kept) → (reply : SentReply) → In reply past.replies → IsSentTrue past.commands book reply → (said : Said) → IsSaidTrue reply.kept reply.occasion said → success_agrees past book reply said ≡ true
+success-said laws kept folded past book keyed caused replied reply within sent said truth =
     unless (is_transaction said && is_success said) (list_any (is_entry_said past reply said) book) (λ t.
     let says = truth.success t in
     let is : IsApprovalTrue past.commands book reply.place (intent_key says.says.intent) says.says.outcome =
     subst (λ b. BearsOut b past.commands book reply.place (intent_key says.says.intent) says.says.outcome) says.says.approved_is
     (sent.outcomes says.says.at says.says.outcome says.says.intent says.says.found says.says.intent_is) in
-    any-from (is_entry_said past reply said) book is.booked.entry is.booked.within (entry-said past book reply said keyed.falling is.command is.sent says is.key_is is.booked))
+    let first = replied reply within in
+    let there : intent_at kept says.says.outcome.slot ≡ Some says.says.intent =
+    subst (λ records. intent_at records says.says.outcome.slot ≡ Some says.says.intent) (sym first.1) (intent-stays reply.kept first.0 says.says.outcome.slot says.says.intent says.says.intent_is) in
+    let booked = all-in (λ (entry : BookedEntry). is_caused past entry entry.cause) book caused is.booked.entry is.booked.within in
+    let kind = entry-kind laws kept folded past keyed is.booked.entry booked is.command is.sent is.booked.caused says.says.outcome.slot says.says.intent there is.key_is in
+    any-from (is_entry_said past reply said) book is.booked.entry is.booked.within (entry-said past book reply said keyed.falling is.command is.sent says is.key_is is.booked kind))
 
 -- ---- a refusal
 
@@ -169,8 +218,8 @@ none-approved past book key none =
     not_from_false (list_any (is_approved_entry past key) book)
     (none-from (is_approved_entry past key) book (λ entry within. false_from_ne_true (is_approved_entry past key entry) (not-approved past book key none entry within)))
 
-refusal-said : (past : Past) (book : List BookedEntry) → (reply : SentReply) → IsSentTrue past.commands book reply → (said : Said) → IsSaidTrue reply.kept reply.occasion said → refusal_agrees past book reply said ≡ true
-refusal-said past book reply sent said truth =
+refusal-said : (past : Past) (book : List BookedEntry) → (reply : SentReply) → In reply past.replies → IsSentTrue past.commands book reply → (said : Said) → IsSaidTrue reply.kept reply.occasion said → refusal_agrees past book reply said ≡ true
+refusal-said past book reply within sent said truth =
     unless (is_transaction said && (not (is_success said) && said.has_poi_data)) (not (list_any (is_approved_entry past said.key) book)) (λ t.
     let says = truth.refusal t in
     let none : IsDeclineTrue past.commands book (intent_key says.intent) =
@@ -199,16 +248,16 @@ progress-said past book reply said truth = by (fails_with (codes "InProgress") s
 
 -- ---- agreement
 
-pub holds-agrees : HoldsAgrees
-holds-agrees v past book holds honest = record {
+pub holds-agrees : LedgerLaws → HoldsAgrees
+holds-agrees laws v past book folded holds honest = record {
   keyed = all-from (λ (command : SentCommand). is_some command.key) past.commands (λ command within. ap is_some (holds.commands.accepted command within).key_is);
   sent_once = apart-distinct (λ (command : SentCommand). command.key) past.commands (sent-apart past.place past.commands holds.commands.falling holds.commands.once);
   booked_once = apart-distinct (entry_key past) book (booked-apart v.scene.kept past holds.commands book honest.caused honest.ordered);
-  success = each-said success_agrees past book (success-said v.scene.kept past book holds.commands) holds.replies;
+  success = each-said success_agrees past book (success-said laws v.scene.kept folded past book holds.commands honest.caused holds.replied) holds.replies;
   refusal = each-said refusal_agrees past book (refusal-said past book) holds.replies;
-  unaccepted = each-said unaccepted_agrees past book (λ reply sent said truth. truth.unaccepted) holds.replies;
-  not_found = each-said not_found_agrees past book (λ reply sent said truth. truth.not_found) holds.replies;
-  in_progress = each-said in_progress_agrees past book (λ reply sent said truth. progress-said past book reply said truth) holds.replies;
+  unaccepted = each-said unaccepted_agrees past book (λ reply within sent said truth. truth.unaccepted) holds.replies;
+  not_found = each-said not_found_agrees past book (λ reply within sent said truth. truth.not_found) holds.replies;
+  in_progress = each-said in_progress_agrees past book (λ reply within sent said truth. progress-said past book reply said truth) holds.replies;
   resolved = holds.polls;
   inside = holds.deeds;
 }

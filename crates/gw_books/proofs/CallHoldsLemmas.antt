@@ -20,7 +20,7 @@ use Rattle.jrn_record.specs.declared.records.Record.{Record}
 use Rattle.gw_ledger.specs.declared.entry.Entry.{Entry}
 use Rattle.gw_ledger.specs.Fold.{AreFolded}
 use Rattle.gw_ledger.specs.Keys.{intent_key}
-use Rattle.gw_ledger.specs.Slots.{intent_at}
+use Rattle.gw_ledger.specs.Slots.{asks_payment, intent_at}
 use Rattle.gw_owes.specs.Calls.{Sending, Ask, Acknowledge, Refuse, sending_bytes, OwedCall, SendTill, SendPt, LinkPt, CutTill as OwedCutTill, CutPt as OwedCutPt}
 use Rattle.gw_owes.specs.Core.{Core}
 use Rattle.gw_owes.specs.Dialogues.{AllHaveDialogues, HasItsDialogue}
@@ -57,13 +57,13 @@ use Rattle.gw_books.specs.Agrees.{is_accepted, is_inside, is_report}
 use Rattle.gw_books.specs.Books.{BookedEntry}
 use Rattle.gw_books.specs.Past.{Occasion, SentCommand, MadeLink, HeardEnd, SentReply, Past, poi_of_number, open_key, is_of_instruction, may_charge, waiting_keys, with_reply, with_sent_command}
 use Rattle.gw_books.specs.Said.{Said, all_said, IsFramed}
-use Rattle.gw_books.proofs.Holding.{AreOutcomesTrue, AreKeyed, HasAcceptedKey, IsFirstOf, IsUnsent, IsSaidTrue, IsSentTrue, IsToBeAsked, IsReplySound, IsSendingSound, AreCallsSound, sending_charges, charge_owed, charges_terminal, deed_owed, IsServingSound, ServesTransaction, ServeTransactions, is_report_after, IsOfTerminal, IsLinkSound, TurnHolds, Holds}
+use Rattle.gw_books.proofs.Holding.{AreOutcomesTrue, AreKeyed, HasAcceptedKey, IsAskedAs, IsFirstOf, IsUnsent, IsSaidTrue, IsSentTrue, IsToBeAsked, IsReplySound, IsSendingSound, AreCallsSound, sending_charges, charge_owed, charges_terminal, deed_owed, IsServingSound, ServesTransaction, ServeTransactions, is_report_after, IsOfTerminal, IsLinkSound, TurnHolds, Holds}
 use Rattle.gw_books.proofs.LastCallLemmas.{IsLast, is-last, last-cuts, last-charges, same-coming, link-rests, terminal-stays, rest-sound, past_then, holds-on, keyed-later}
 use Rattle.gw_books.proofs.ListLemmas.{In, any-in, bytes-are, bytes-itself, filter-in}
 use Rattle.gw_books.proofs.RecordMoreLemmas.{IsUnended, accepted-intent, first-itself, outcomes-later, outcomes-sent, unended-first}
 use Rattle.gw_books.proofs.RecordNumberLemmas.{open-key-unended}
 use Rattle.gw_books.proofs.SentBytesLemmas.{sent-says}
-use Rattle.gw_books.proofs.SentCommandLemmas.{charging, charged}
+use Rattle.gw_books.proofs.SentCommandLemmas.{charging, charged, reversing, sending_reverses}
 
 -- ---- what is owed after a call
 
@@ -238,8 +238,8 @@ apart-pois log v k one other t u o differs found there = by_test (bytes_eq t.pt.
 -- a command that may charge a card asks for an Intent for whose key none was sent
 pub to-be-asked : (records : List Record) (core : Core) (commands : List SentCommand) (number : ℕ) (sending : Sending) → sending_charges sending ≡ true → IsSendingSound records core commands number sending → IsToBeAsked records core commands number
 to-be-asked records core commands number (Ask (command.Register password config_byte currency)) e sound = no-true e
-to-be-asked records core commands number (Ask (command.Authorise amount currency)) e sound = sound
-to-be-asked records core commands number (Ask (command.Reverse password receipt)) e sound = absurd sound
+to-be-asked records core commands number (Ask (command.Authorise amount currency)) e sound = sound.0
+to-be-asked records core commands number (Ask (command.Reverse password receipt)) e sound = sound.0
 to-be-asked records core commands number (Ask (command.EndOfDay password)) e sound = no-true e
 to-be-asked records core commands number (Ask (command.Enquire password)) e sound = no-true e
 to-be-asked records core commands number (Ask command.Stop) e sound = no-true e
@@ -247,12 +247,32 @@ to-be-asked records core commands number (Ask (command.Show lines)) e sound = no
 to-be-asked records core commands number Acknowledge e sound = no-true e
 to-be-asked records core commands number Refuse e sound = no-true e
 
+-- it asks for a reversal exactly where the Intent does
+asked-kind : (records : List Record) (core : Core) (commands : List SentCommand) (number : ℕ) (sending : Sending) (e : sending_charges sending ≡ true) (sound : IsSendingSound records core commands number sending)
+    → sending_reverses sending ≡ not (asks_payment (to-be-asked records core commands number sending e sound).intent.what)
+unfolding to-be-asked
+asked-kind records core commands number (Ask (command.Register password config_byte currency)) e sound = no-true e
+asked-kind records core commands number (Ask (command.Authorise amount currency)) e sound = sym (ap (λ what. not (asks_payment what)) sound.1)
+asked-kind records core commands number (Ask (command.Reverse password receipt)) e sound = sym (ap (λ what. not (asks_payment what)) sound.1)
+asked-kind records core commands number (Ask (command.EndOfDay password)) e sound = no-true e
+asked-kind records core commands number (Ask (command.Enquire password)) e sound = no-true e
+asked-kind records core commands number (Ask command.Stop) e sound = no-true e
+asked-kind records core commands number (Ask (command.Show lines)) e sound = no-true e
+asked-kind records core commands number Acknowledge e sound = no-true e
+asked-kind records core commands number Refuse e sound = no-true e
+
 -- one more command, for a key for which none was sent
-keyed-sent : (kept : List Record) (sent : SentCommand) (commands : List SentCommand) (key : Key) → AreKeyed kept sent.place commands → sent.key ≡ Some key → is_accepted kept key ≡ true → IsUnsent commands key → AreKeyed kept (sent.place + 1) (sent ∷ commands)
-keyed-sent kept sent commands key k is accepted unsent = record { falling = (omega arith, k.falling); accepted = each; once = once }
+keyed-sent : (kept : List Record) (sent : SentCommand) (commands : List SentCommand) (key : Key) → AreKeyed kept sent.place commands → sent.key ≡ Some key → is_accepted kept key ≡ true → IsAskedAs kept key sent.reversal → IsUnsent commands key
+    → AreKeyed kept (sent.place + 1) (sent ∷ commands)
+keyed-sent kept sent commands key k is accepted asked unsent = record { falling = (omega arith, k.falling); accepted = each; once = once }
   where
     each : (one : SentCommand) → In one (sent ∷ commands) → HasAcceptedKey kept one
-    each one (inl same) = record { key = key; key_is = ap (λ (c : SentCommand). c.key) same ∙ is; accepted = accepted }
+    each one (inl same) = record {
+      key = key;
+      key_is = ap (λ (c : SentCommand). c.key) same ∙ is;
+      accepted = accepted;
+      asked = subst (λ (c : SentCommand). IsAskedAs kept key c.reversal) (sym same) asked;
+    }
     each one (inr within) = k.accepted one within
 
     own : (one : SentCommand) (other : Key) → one ≡ sent → one.key ≡ Some other → other ≡ key
@@ -330,7 +350,7 @@ module _ (laws : LedgerLaws) (log : List Turn) (v : View) (past : Past) (book : 
         kept = refl;
         coming = same-coming v w call last quiet.spares refl refl;
         items = refl;
-        commands = keyed-sent v.scene.kept sent past.commands (intent_key asked.intent) h.commands key_is accepted asked.unsent;
+        commands = keyed-sent v.scene.kept sent past.commands (intent_key asked.intent) h.commands key_is accepted asked_as asked.unsent;
         outcomes = outcomes-sent sent past.commands book (past.place + 1) (records_coming v) (intent_key asked.intent) key_is (subst (λ records. IsUnended records (intent_key asked.intent)) (sym last.now) unended)
             (outcomes-then v past book h);
         calls = quiet.sound (records_coming v) v.scene.core (sent ∷ past.commands) past.occasion;
@@ -369,8 +389,11 @@ module _ (laws : LedgerLaws) (log : List Turn) (v : View) (past : Past) (book : 
       owed : deed_owed v.calls ≡ true
       owed = ap deed_owed last.calls_are ∙ ap (λ (b : Bool). b || false) charges_card
 
+      sound : IsSendingSound (records_coming v) v.scene.core past.commands pt sending
+      sound = (subst (λ l. AreCallsSound (records_coming v) v.scene.core past.commands past.occasion l) last.calls_are h.calls).0
+
       asked : IsToBeAsked (records_coming v) v.scene.core past.commands pt
-      asked = to-be-asked (records_coming v) v.scene.core past.commands pt sending charges_card (subst (λ l. AreCallsSound (records_coming v) v.scene.core past.commands past.occasion l) last.calls_are h.calls).0
+      asked = to-be-asked (records_coming v) v.scene.core past.commands pt sending charges_card sound
 
       poi_is : poi_of_number v.scene pt ≡ asked.terminal.pt.poi
       poi_is = ap (λ (t : Option Terminal). unwrap_or (option_map (λ (terminal : Terminal). terminal.pt.poi) t) []) asked.found
@@ -397,6 +420,15 @@ module _ (laws : LedgerLaws) (log : List Turn) (v : View) (past : Past) (book : 
 
       unended_then : (reply : SentReply) → IsFirstOf reply.kept v.scene.kept → IsUnended reply.kept (intent_key asked.intent)
       unended_then reply first_kept = unended-first reply.kept first_kept.0 (intent_key asked.intent) (subst (λ records. IsUnended records (intent_key asked.intent)) first_kept.1 unended)
+
+      asked_as : IsAskedAs v.scene.kept (intent_key asked.intent) sent.reversal
+      asked_as = record {
+        slot = asked.slot;
+        intent = asked.intent;
+        intent_is = intent_kept;
+        own = refl;
+        kind = reversing sending bytes first charge ∙ asked-kind (records_coming v) v.scene.core past.commands pt sending charges_card sound;
+      }
 
       accepted : is_accepted v.scene.kept (intent_key asked.intent) ≡ true
       accepted = accepted-intent laws v.scene.kept asked.slot asked.intent kept_folds intent_kept

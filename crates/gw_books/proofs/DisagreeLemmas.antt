@@ -51,7 +51,7 @@ not-true test f e = no-false (sym f ∙ e)
 -- ---- commands
 
 -- along a course with this past, an honest book that doesn't agree breaks it
-breaks-by : (course : List Move) (past : Past) (book : List BookedEntry) → past_of course ≡ past → Honest past book → ¬ Agrees past book → BreaksAgreement course book
+pub breaks-by : (course : List Move) (past : Past) (book : List BookedEntry) → past_of course ≡ past → Honest past book → ¬ Agrees past book → BreaksAgreement course book
 breaks-by course past book e honest disagrees = record { honest = subst (λ (one : Past). Honest one book) (sym e) honest; disagrees = λ agrees. disagrees (subst (λ (one : Past). Agrees one book) e agrees) }
 
 -- what an honest book breaks is the lean course of no log
@@ -97,7 +97,7 @@ keyless-disagrees = breaks-by (opened_moves ++ Make (SentPt 0 authorise true) �
 -- ---- replies
 
 -- what the last reply says doesn't agree
-last-refused : (agrees : Agreement) (past : Past) (book : List BookedEntry) (sent : SentReply) (rest : List SentReply) (message : Tree) → past.replies ≡ sent ∷ rest → IsFramed sent.bytes message
+pub last-refused : (agrees : Agreement) (past : Past) (book : List BookedEntry) (sent : SentReply) (rest : List SentReply) (message : Tree) → past.replies ≡ sent ∷ rest → IsFramed sent.bytes message
     → list_all (agrees past book sent) (all_said message) ≡ false → EachSaid agrees past book → ⊥
 last-refused agrees past book sent rest message e framed f each =
     not-true (list_all (agrees past book sent) (all_said message)) f

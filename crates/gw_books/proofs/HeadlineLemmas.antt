@@ -4,10 +4,12 @@ use Rattle.gw_site.specs.declared.turn.Turn.{Turn}
 use Rattle.gw_site.specs.declared.turn.Turn.TheVariants.{Start, OpenFailed, Polled, Opened, HeardTill, Closed, HeardPt, Lost, Stopped, Linked, LinkFailed, SentTill, SentPt, CutTill, CutPt, Wrote, Synced, DiskFailed, Crash}
 use Rattle.gw_owes.specs.Items.{RoundItem, Crowded, Message, Asked, Unframed, Gone, Greet, Handle, Serve, NextWaiting, Oversized, LinkLost, Late, Overdue, Due}
 use Rattle.gw_owes.proofs.RecordLemmas.{LedgerLaws}
+use Rattle.gw_ledger.specs.Fold.{AreFolded}
+use Rattle.gw_rules.specs.Laws.{IsLeanCourse}
 use Rattle.gw_rules.specs.Lawful.{IsCourse}
 use Rattle.gw_rules.specs.View.{View, Move, Begin, Read, Make, after, view_from, at_first}
 use Rattle.gw_rules.proofs.PrefixLemmas.{prefix-lawful}
-use Rattle.gw_rules.proofs.RecordOrderLemmas.{Ordered, begin-ordered, read-ordered, turn-ordered, first-ordered}
+use Rattle.gw_rules.proofs.RecordOrderLemmas.{Ordered, begin-ordered, each-log-folds, read-ordered, turn-ordered, first-ordered}
 use Rattle.gw_rules.proofs.RecordRowLemmas.{OrderLaws}
 use Rattle.gw_books.specs.Past.{Past, no_past, past_after, past_from, past_of}
 use Rattle.gw_books.specs.Books.{BookedEntry, Honest}
@@ -114,6 +116,10 @@ module _ (orders : OrderLaws) (laws : LedgerLaws) (book : List BookedEntry) wher
   pub holds-along : (moves : List Move) → IsCourse at_first moves → Honest (past_of moves) book → HoldsNumbered (view_from at_first moves) (past_of moves) book
   holds-along moves lawful honest = course-both [] at_first no_past moves first-ordered lawful (first-holds book) (first-numbered book) honest
 
+-- the records that are kept after a lean course may come each after those before it
+pub lean-folds : OrderLaws → (log : List Turn) (moves : List Move) → IsLeanCourse log moves → AreFolded (view_from at_first moves).scene.kept
+lean-folds orders log moves lean = (each-log-folds orders log (view_from at_first moves) (record { course = moves; log_is = lean.turns_are; lawful = lean.lawful; view_is = refl })).kept
+
 -- ---- the headline
 
 pub headline : OrderLaws → LedgerLaws → HonestAgrees
@@ -123,7 +129,7 @@ headline orders laws log past book has honest = subst (λ (p : Past). Agrees p b
     own = subst (λ (p : Past). Honest p book) has.past_is honest
 
     agrees : Agrees (past_of has.moves) book
-    agrees = holds-agrees (view_from at_first has.moves) (past_of has.moves) book (holds-along orders laws book has.moves has.lean.lawful own).holds own
+    agrees = holds-agrees laws (view_from at_first has.moves) (past_of has.moves) book (lean-folds orders log has.moves has.lean) (holds-along orders laws book has.moves has.lean.lawful own).holds own
 
 -- so it is of each prefix of a lawful log
 pub each-log-agrees : OrderLaws → LedgerLaws → EachLogAgrees

@@ -10,13 +10,17 @@ use Rattle.json_text.specs.Tree.{Tree}
 use Rattle.sale_values.specs.Money.{money_text}
 use Rattle.zvt_msg.specs.declared.command.Command.{Command}
 use Rattle.zvt_msg.specs.declared.command.Command.TheVariants as command
+use Rattle.jrn_record.specs.declared.records.Deal.{Deal}
+use Rattle.jrn_record.specs.declared.records.Deal.TheVariants as deals
 use Rattle.jrn_record.specs.declared.records.Intent.{Intent as TheIntent}
 use Rattle.jrn_record.specs.declared.records.Outcome.{Outcome as TheOutcome}
 use Rattle.jrn_record.specs.declared.records.Record.{Record}
 use Rattle.jrn_record.specs.declared.records.Record.TheVariants.{Outcome}
 use Rattle.gw_ledger.specs.Accounts.{open_slot}
+use Rattle.gw_ledger.specs.Fold.{AreFolded}
 use Rattle.gw_ledger.specs.Keys.{intent_key, slot_of}
-use Rattle.gw_ledger.specs.Slots.{intent_at}
+use Rattle.gw_ledger.specs.Slots.{asks_payment, intent_at}
+use Rattle.xlate.specs.Reply.{deal_category}
 use Rattle.gw_owes.specs.declared.terminal.Service.TheVariants.{Transaction, EndOfDay, Display}
 use Rattle.gw_owes.specs.declared.terminal.Standing.{Standing}
 use Rattle.gw_owes.specs.declared.terminal.Standing.TheVariants.{Unlinked, Registering, Enquiring, Ready, Serving, Aside}
@@ -92,11 +96,20 @@ abbrev pub AreFalling : ℕ → List SentCommand → Type 0
 AreFalling place [] = Unit {0}
 AreFalling place (command ∷ commands) = (command.place < place) × AreFalling command.place commands
 
--- the command has a key whose Intent is kept
+-- the Intent of this key asks for a reversal, or for a payment
+pub record IsAskedAs (kept : List Record) (key : Key) (reversal : Bool) : Type 0 where
+  pub slot : ℕ
+  pub intent : TheIntent
+  pub intent_is : intent_at kept slot ≡ Some intent
+  pub own : intent_key intent ≡ key
+  pub kind : reversal ≡ not (asks_payment intent.what)
+
+-- the command has a key whose Intent is kept, and is a reversal where that asks for one
 pub record HasAcceptedKey (kept : List Record) (command : SentCommand) : Type 0 where
   pub key : Key
   pub key_is : command.key ≡ Some key
   pub accepted : is_accepted kept key ≡ true
+  pub asked : IsAskedAs kept key command.reversal
 
 -- each command has such a key, and no two have the same one
 pub record AreKeyed (kept : List Record) (place : ℕ) (commands : List SentCommand) : Type 0 where
@@ -125,6 +138,7 @@ pub record SaysOutcome (records : List Record) (said : Said) (approved : Bool) :
   pub intent_is : intent_at records outcome.slot ≡ Some intent
   pub approved_is : outcome.approved ≡ approved
   pub key_is : said.key ≡ intent_key intent
+  pub category_is : said.category ≡ deal_category intent.what
 
 -- a success has the numbers and the amount of its key's approved Outcome
 pub record SaysSuccess (records : List Record) (said : Said) : Type 0 where
@@ -176,11 +190,15 @@ pub record IsToBeAsked (records : List Record) (core : Core) (commands : List Se
   pub intent_is : intent_at records slot ≡ Some intent
   pub unsent : IsUnsent commands (intent_key intent)
 
--- a command that may charge a card is sent for such an Intent; no reversal is
+-- and the Intent asks for this
+abbrev pub IsToBeAskedFor : Deal → List Record → Core → List SentCommand → ℕ → Type 0
+IsToBeAskedFor what records core commands number = (asked : IsToBeAsked records core commands number) × (asked.intent.what ≡ what)
+
+-- a command that may charge a card is sent for the Intent of a payment, and one that reverses a charge for that of a reversal
 abbrev pub IsCommandSound : List Record → Core → List SentCommand → ℕ → Command → Type 0
 IsCommandSound records core commands number (command.Register password config_byte currency) = Unit {0}
-IsCommandSound records core commands number (command.Authorise amount currency) = IsToBeAsked records core commands number
-IsCommandSound records core commands number (command.Reverse password receipt) = ⊥
+IsCommandSound records core commands number (command.Authorise amount currency) = IsToBeAskedFor deals.Payment records core commands number
+IsCommandSound records core commands number (command.Reverse password receipt) = IsToBeAskedFor deals.Reversal records core commands number
 IsCommandSound records core commands number (command.EndOfDay password) = Unit {0}
 IsCommandSound records core commands number (command.Enquire password) = Unit {0}
 IsCommandSound records core commands number command.Stop = Unit {0}
@@ -412,4 +430,4 @@ HonestBefore = (v : View) (past : Past) (move : Move) (book : List BookedEntry) 
 
 -- what holds gives agreement
 abbrev pub HoldsAgrees : Type 0
-HoldsAgrees = (v : View) (past : Past) (book : List BookedEntry) → Holds v past book → Honest past book → Agrees past book
+HoldsAgrees = (v : View) (past : Past) (book : List BookedEntry) → AreFolded v.scene.kept → Holds v past book → Honest past book → Agrees past book

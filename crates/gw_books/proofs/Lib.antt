@@ -33,6 +33,9 @@ pub mod ReplyTruthLemmas
 pub mod ReportLemmas
 pub mod RecoveryExampleLemmas
 pub mod RecoveryLemmas
+pub mod ReversalExampleLemmas
+pub mod ReversalTextLemmas
+pub mod ReversedOnceLemmas
 pub mod RoundExampleLemmas
 pub mod RoundLemmas
 pub mod RowNumberLemmas

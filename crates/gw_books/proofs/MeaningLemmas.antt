@@ -8,7 +8,7 @@ use Rattle.gw_base.specs.declared.figures.Figures.{Figures}
 use Rattle.zvt_bmp.specs.declared.fields.Fields.{Fields}
 use Rattle.zvt_msg.specs.Message.{MessageValue, Ack, Nack, Intermediate, Line, Block, Status, Completion, Abort, Other}
 use Rattle.zvt_talk.specs.declared.dialogue_kind.DialogueKind.{DialogueKind}
-use Rattle.zvt_talk.specs.declared.dialogue_kind.DialogueKind.TheVariants.{Registration, Payment}
+use Rattle.zvt_talk.specs.declared.dialogue_kind.DialogueKind.TheVariants.{Registration, Enquiry, Payment, Reversal, EndOfDay as EndOfDayDialogue, Display as DisplayDialogue}
 use Rattle.zvt_talk.specs.declared.meaning.Heard.{Heard}
 use Rattle.zvt_talk.specs.declared.meaning.Heard.TheVariants as heard
 use Rattle.zvt_talk.specs.declared.phase.Phase.{Phase}
@@ -22,7 +22,7 @@ use Rattle.gw_owes.specs.declared.terminal.Service.TheVariants.{Transaction, End
 use Rattle.gw_owes.specs.declared.terminal.Standing.{Standing}
 use Rattle.gw_owes.specs.declared.terminal.Standing.TheVariants.{Unlinked, Registering, Enquiring, Ready, Serving, Aside}
 use Rattle.gw_owes.specs.declared.terminal.Terminal.{Terminal}
-use Rattle.gw_owes.specs.Dialogues.{IsDialogueOf, RunsDialogue, RunsNone}
+use Rattle.gw_owes.specs.Dialogues.{IsDialogueOf, RunsTransaction, runs_transaction}
 use Rattle.gw_owes.specs.Handling.{meaning_at, meaning_for, taken_as}
 use Rattle.gw_books.specs.Agrees.{is_report}
 use Rattle.gw_books.specs.Past.{Ending, Approved, Declined, HeardEnd, Past, ending_at, ending_with, ends_by}
@@ -124,26 +124,61 @@ payment-no-report none (Begun stop_sent statuses) (Abort (Some result_code)) =
 payment-no-report none (Begun stop_sent statuses) Other = λ as_report. as_report
 payment-no-report none (Ended stop_sent) message = λ as_report. as_report
 
+-- a message means the same of a reversal
+as-of-payment : (none : ℕ) (phase : Phase) (message : MessageValue) → meaning_in_phase Reversal none phase message ≡ meaning_in_phase Payment none phase message
+as-of-payment none (Asked stop_wished) Ack = refl
+as-of-payment none (Asked stop_wished) (Nack error_code) = refl
+as-of-payment none (Asked stop_wished) (Intermediate intermediate_status) = refl
+as-of-payment none (Asked stop_wished) (Line text) = refl
+as-of-payment none (Asked stop_wished) (Block objects) = refl
+as-of-payment none (Asked stop_wished) (Status fields) = refl
+as-of-payment none (Asked stop_wished) Completion = refl
+as-of-payment none (Asked stop_wished) (Abort result_code) = refl
+as-of-payment none (Asked stop_wished) Other = refl
+as-of-payment none (Begun stop_sent statuses) Ack = refl
+as-of-payment none (Begun stop_sent statuses) (Nack error_code) = refl
+as-of-payment none (Begun stop_sent statuses) (Intermediate intermediate_status) = refl
+as-of-payment none (Begun stop_sent statuses) (Line text) = refl
+as-of-payment none (Begun stop_sent statuses) (Block objects) = refl
+as-of-payment none (Begun stop_sent statuses) (Status fields) = refl
+as-of-payment none (Begun stop_sent statuses) Completion = refl
+as-of-payment none (Begun stop_sent statuses) (Abort None) = refl
+as-of-payment none (Begun stop_sent statuses) (Abort (Some result_code)) = refl
+as-of-payment none (Begun stop_sent statuses) Other = refl
+as-of-payment none (Ended stop_sent) message = refl
+
+-- so no payment and no reversal has such a report
+transactions-no-report : (dialogue_kind : DialogueKind) → runs_transaction dialogue_kind ≡ true → (none : ℕ) (phase : Phase) (message : MessageValue) → IsNoReport (meaning_in_phase dialogue_kind none phase message)
+transactions-no-report Registration is none phase message = absurd cc
+transactions-no-report Enquiry is none phase message = absurd cc
+transactions-no-report Payment is none phase message = payment-no-report none phase message
+transactions-no-report Reversal is none phase message = λ as_report. payment-no-report none phase message (subst IsReport (as-of-payment none phase message) as_report)
+transactions-no-report EndOfDayDialogue is none phase message = absurd cc
+transactions-no-report DisplayDialogue is none phase message = absurd cc
+
 -- ---- only an enquiry does
 
-runs-no-report : (dialogue_kind : DialogueKind) (terminal : Terminal) (message : MessageValue) (runs : RunsDialogue dialogue_kind terminal.talk terminal.awaited)
+runs-no-report : (dialogue_kind : DialogueKind) (terminal : Terminal) (message : MessageValue) (facts : TalkFacts) → terminal.talk ≡ Some facts → facts.dialogue_kind ≡ dialogue_kind
     → ((none : ℕ) (phase : Phase) (one : MessageValue) → IsNoReport (meaning_in_phase dialogue_kind none phase one)) → IsNoReport (meaning_at terminal message)
-runs-no-report dialogue_kind terminal message runs never as_report =
-    let means : meaning_at terminal message ≡ meaning_in_phase dialogue_kind runs.facts.none runs.facts.phase (taken_as terminal.awaited message) =
-    ap (λ (talk : Option TalkFacts). meaning_for talk (taken_as terminal.awaited message)) runs.talk_is
-    ∙ ap (λ (k : DialogueKind). meaning_in_phase k runs.facts.none runs.facts.phase (taken_as terminal.awaited message)) runs.kind_is in
-    never runs.facts.none runs.facts.phase (taken_as terminal.awaited message) (subst IsReport means as_report)
+runs-no-report dialogue_kind terminal message facts talk_is kind_is never as_report =
+    let means : meaning_at terminal message ≡ meaning_in_phase dialogue_kind facts.none facts.phase (taken_as terminal.awaited message) =
+    ap (λ (talk : Option TalkFacts). meaning_for talk (taken_as terminal.awaited message)) talk_is
+    ∙ ap (λ (k : DialogueKind). meaning_in_phase k facts.none facts.phase (taken_as terminal.awaited message)) kind_is in
+    never facts.none facts.phase (taken_as terminal.awaited message) (subst IsReport means as_report)
 
-none-no-report : (terminal : Terminal) (message : MessageValue) → RunsNone terminal.talk terminal.awaited → IsNoReport (meaning_at terminal message)
-none-no-report terminal message runs as_report = subst IsReport (ap (λ (talk : Option TalkFacts). meaning_for talk (taken_as terminal.awaited message)) runs.none) as_report
+serves-no-report : (terminal : Terminal) (message : MessageValue) → RunsTransaction terminal.talk terminal.awaited → IsNoReport (meaning_at terminal message)
+serves-no-report terminal message runs = runs-no-report runs.facts.dialogue_kind terminal message runs.facts runs.talk_is refl (transactions-no-report runs.facts.dialogue_kind runs.kind_is)
+
+none-no-report : (terminal : Terminal) (message : MessageValue) → terminal.talk ≡ None → IsNoReport (meaning_at terminal message)
+none-no-report terminal message none as_report = subst IsReport (ap (λ (talk : Option TalkFacts). meaning_for talk (taken_as terminal.awaited message)) none) as_report
 
 -- only a terminal that is enquired reports
 pub report-enquires : (terminal : Terminal) (message : MessageValue) (standing : Standing) → IsDialogueOf standing terminal.talk terminal.awaited → standing ≢ Enquiring → IsNoReport (meaning_at terminal message)
-report-enquires terminal message (Unlinked due) runs apart = none-no-report terminal message runs
-report-enquires terminal message Registering runs apart = runs-no-report Registration terminal message runs registration-no-report
+report-enquires terminal message (Unlinked due) runs apart = none-no-report terminal message runs.none
+report-enquires terminal message Registering runs apart = runs-no-report Registration terminal message runs.facts runs.talk_is runs.kind_is registration-no-report
 report-enquires terminal message Enquiring runs apart = absurd (apart refl)
 report-enquires terminal message (Ready last) runs apart = none-no-report terminal message runs
-report-enquires terminal message (Serving (Transaction slot) last) runs apart = runs-no-report Payment terminal message runs payment-no-report
+report-enquires terminal message (Serving (Transaction slot) last) runs apart = serves-no-report terminal message runs
 report-enquires terminal message (Serving (EndOfDay header period) last) runs apart = absurd runs
 report-enquires terminal message (Serving (Display header outputs) last) runs apart = absurd runs
 report-enquires terminal message (Aside before reported) runs apart = none-no-report terminal message runs

@@ -43,7 +43,7 @@ are_distinct [] = true
 are_distinct (name ∷ names) = lacks_name name names && are_distinct names
 
 abbrev mutual
-  is_spellable : ℕ → Tree → Bool
+  pub is_spellable : ℕ → Tree → Bool
   is_spellable d null = false
   is_spellable d (boolean b) = false
   is_spellable d (number text) = bytes_eq text (codes "10.99")
@@ -76,7 +76,7 @@ amount-number = inl (record {
 })
 
 mutual
-  spellable-tree : (d : ℕ) (tree : Tree) → is_spellable d tree ≡ true → IsSpellableAt d tree
+  pub spellable-tree : (d : ℕ) (tree : Tree) → is_spellable d tree ≡ true → IsSpellableAt d tree
   spellable-tree d null e = tt
   spellable-tree d (boolean b) e = tt
   spellable-tree d (number text) e = subst IsNumberText (sym ((bytes_eq-Decides text (codes "10.99")).0 e)) amount-number

@@ -7,11 +7,11 @@ use Rattle.gw_base.specs.declared.setup.Pt.{Pt}
 use Rattle.gw_site.specs.Outside.{is_connected}
 use Rattle.sale_values.specs.declared.header.Header.{Header}
 use Rattle.sale_values.specs.declared.request.SaleRequest.{SaleRequest}
-use Rattle.sale_values.specs.declared.request.SaleRequest.TheVariants as requests
 use Rattle.zvt_apdu.specs.Grammar.{ApduValue}
 use Rattle.zvt_msg.specs.declared.fault.PtFault.{PtFault}
 use Rattle.zvt_msg.specs.Message.{MessageValue, Ack, Nack, Intermediate, Line, Block, Status, Completion, Abort, Other}
 use Rattle.zvt_msg.specs.MessageDecode.{decode_pt_message}
+use Rattle.zvt_talk.specs.Talk.{TalkFacts}
 use Rattle.jrn_record.specs.declared.records.Record.{Record}
 use Rattle.gw_owes.specs.declared.terminal.Service.TheVariants.{Transaction, EndOfDay, Display}
 use Rattle.gw_owes.specs.declared.terminal.Standing.{Standing}
@@ -20,23 +20,24 @@ use Rattle.gw_owes.specs.declared.terminal.Terminal.{Terminal}
 use Rattle.gw_owes.specs.Calls.{OwedCall, LinkPt, CutTill, records_kept}
 use Rattle.gw_owes.specs.Core.{Core}
 use Rattle.gw_owes.specs.Deadlines.{is_late, is_due}
-use Rattle.gw_owes.specs.Diagnosis.{NamedTerminal, named_terminal}
 use Rattle.gw_owes.specs.Greeting.{greeting, sending_calls, greet_decoded}
 use Rattle.gw_owes.specs.Items.{RoundItem, Crowded, Message, Asked, Unframed, Gone, Greet, NextWaiting, Oversized, LinkLost, Late, Overdue, Due}
 use Rattle.gw_owes.specs.Links.{cutting}
 use Rattle.gw_owes.specs.ReadAs.{ReadAs, Request, Silent, NoMessage, NoJson}
 use Rattle.gw_owes.specs.RecordLaws.{IsReadFromTill}
 use Rattle.gw_owes.specs.Reply.{ReplyValue}
-use Rattle.gw_owes.specs.Requests.{reply_to, begun_at, begun_by}
+use Rattle.gw_owes.specs.Requests.{reply_to, begun_by}
 use Rattle.gw_owes.specs.Row.{Known, Row, owing, owing_where, becoming}
 use Rattle.gw_owes.specs.Rows.{asked_row, gone_row}
-use Rattle.gw_owes.specs.Steps.{StepResult, KeptReply, Fails, Begins, items_of_result, step_result}
-use Rattle.gw_owes.specs.Terminals.{with_terminal, reply_calls_to, reply_to_lost, unlinked_terminal, unlinks, forgets_till, core_without}
+use Rattle.gw_owes.specs.Stops.{wishing}
+use Rattle.gw_owes.specs.Terminals.{terminal_becomes, with_terminal, reply_calls_to, reply_to_lost, unlinked_terminal, unlinks, forgets_till, core_without}
 use Rattle.gw_owes.proofs.HandlingLemmas.{by-where, each-terminal, each-linked}
+use Rattle.gw_owes.proofs.PaymentLemmas.{StopsAt}
 use Rattle.gw_owes.proofs.RecordLemmas.{LedgerLaws}
 use Rattle.gw_owes.proofs.SetLemmas.{new-is-there, others-stay, same-some}
 use Rattle.gw_rules.specs.Scene.{Scene}
 use Rattle.gw_rules.proofs.LinkStateLemmas.{apart}
+use Rattle.gw_rules.proofs.RowFormLemmas.{form-begun}
 use Rattle.gw_rules.proofs.StageLemmas.{no-true}
 use Rattle.gw_rules.proofs.TranscriptLogLemmas.{image-there, there-image}
 use Rattle.gw_books.specs.Past.{Occasion, OfNothing, SentCommand, MadeLink, HeardEnd, Past, occasion_read, ends_of}
@@ -86,9 +87,9 @@ gone-calm core till = record {
         let same : forgets_till till there.0 ≡ terminal = same-some (forgets_till till there.0) terminal (sym (there-image (forgets_till till) core.terminals number there.0 there.1) ∙ found) in
         record { old = there.0; found = there.1; pt_is = sym (ap (λ (t : Terminal). t.pt) same); standing_is = inl (sym (ap (λ (t : Terminal). t.standing) same)) }
 
--- where a terminal loses its link
-pub unlinked-calm : (core : Core) (number : ℕ) (old new : Terminal) (due : Option ℕ) → slice_get core.terminals number ≡ Some old → new.pt ≡ old.pt → new.standing ≡ Unlinked due → IsCalm core (with_terminal core number new)
-unlinked-calm core number old new due found settings standing = record {
+-- where a terminal stays in its standing, or loses its link
+becomes-calm : (core : Core) (number : ℕ) (old new : Terminal) → slice_get core.terminals number ≡ Some old → new.pt ≡ old.pt → (new.standing ≡ old.standing) ⊎ ((due : Option ℕ) × (new.standing ≡ Unlinked due)) → IsCalm core (with_terminal core number new)
+becomes-calm core number old new found settings standing = record {
   was = λ other terminal there. was_there other terminal there (other == number) refl;
   stays = λ other terminal there. still_there other terminal there (other == number) refl;
 }
@@ -104,7 +105,7 @@ unlinked-calm core number old new due found settings standing = record {
           old = old;
           found = ap (slice_get core.terminals) same ∙ found;
           pt_is = sym (ap (λ (t : Terminal). t.pt) is) ∙ settings;
-          standing_is = inr (due, sym (ap (λ (t : Terminal). t.standing) is) ∙ standing);
+          standing_is = subst (λ (t : Terminal). (t.standing ≡ old.standing) ⊎ ((due : Option ℕ) × (t.standing ≡ Unlinked due))) is standing;
         }
     was_there other terminal there false e =
         record { old = terminal; found = sym (others-stay core.terminals number other new (apart other number e)) ∙ there; pt_is = refl; standing_is = inl refl }
@@ -115,6 +116,10 @@ unlinked-calm core number old new due found settings standing = record {
         let is : old ≡ terminal = same-some old terminal (sym found ∙ sym (ap (slice_get core.terminals) same) ∙ there) in
         record { new = new; found = is_new other same; pt_is = settings ∙ ap (λ (t : Terminal). t.pt) is }
     still_there other terminal there false e = record { new = terminal; found = others-stay core.terminals number other new (apart other number e) ∙ there; pt_is = refl }
+
+-- where it loses its link
+pub unlinked-calm : (core : Core) (number : ℕ) (old new : Terminal) (due : Option ℕ) → slice_get core.terminals number ≡ Some old → new.pt ≡ old.pt → new.standing ≡ Unlinked due → IsCalm core (with_terminal core number new)
+unlinked-calm core number old new due found settings standing = becomes-calm core number old new found settings (inr (due, standing))
 
 -- ---- rows that leave them so
 
@@ -174,6 +179,12 @@ quiet-holds known past book occasion row h q calls =
       resolved = λ reported. inr (rest.resolved reported);
     }
 
+-- what is served is to be stopped, and goes on being served
+pub stopped-quiet : (known : Known) (number : ℕ) (header : Header) (request : SaleRequest) (terminal : Terminal) (talk : TalkFacts) (awaited : ℕ) (calls : List OwedCall) → StopsAt known number header request terminal talk → records_kept calls ≡ [] → deed_owed calls ≡ false
+    → IsQuiet known (terminal_becomes known number (record (wishing terminal talk) { awaited = awaited }) calls)
+stopped-quiet known number header request terminal talk awaited calls at none_kept no_deed =
+    record { calm = becomes-calm known.core number terminal (record (wishing terminal talk) { awaited = awaited }) at.found refl (inl refl); none_kept = none_kept; no_deed = no_deed; handles_none = refl }
+
 -- a row that owes these calls and changes nothing
 pub owing-holds : (known : Known) (past : Past) (book : List BookedEntry) (occasion : Occasion) (calls : List OwedCall) (items : List RoundItem) → HoldsBetween known past book → records_kept calls ≡ [] → deed_owed calls ≡ false
     → list_any is_handle items ≡ false → AreCallsSound known.kept known.core past.commands occasion calls → HoldsAfterRow known (record past { occasion = occasion }) book (record { core = known.core; calls = calls; items = items })
@@ -202,29 +213,8 @@ gone-holds till scene tills known past book core h numbered linked read honest =
     quiet-holds known past book OfNothing (gone_row known till) h (record { calm = gone-calm known.core till; none_kept = refl; no_deed = refl; handles_none = refl }) tt
 
 -- what a till's message begins is no more than Serve
-serves-at-most : (till : ℕ) (header : Header) (request : SaleRequest) (named : Option NamedTerminal) (result : StepResult) → list_any is_handle (items_of_result till header request named result) ≡ false
-serves-at-most till header request None result = refl
-serves-at-most till header request (Some named) KeptReply = refl
-serves-at-most till header request (Some named) (Fails condition) = refl
-serves-at-most till header request (Some named) Begins = refl
-
-begun-handles-none : (named : Option NamedTerminal) (known : Known) (till : ℕ) (header : Header) (request : SaleRequest) → list_any is_handle (begun_at named known till header request) ≡ false
-begun-handles-none named known till header requests.Login = refl
-begun-handles-none named known till header requests.Logout = refl
-begun-handles-none named known till header (requests.Payment ask) = serves-at-most till header (requests.Payment ask) named (step_result known header (requests.Payment ask) named)
-begun-handles-none named known till header (requests.Reversal ask) = serves-at-most till header (requests.Reversal ask) named (step_result known header (requests.Reversal ask) named)
-begun-handles-none named known till header (requests.Abort reference) = refl
-begun-handles-none named known till header (requests.Status reference) = refl
-begun-handles-none named known till header (requests.Reconciliation period) = serves-at-most till header (requests.Reconciliation period) named (step_result known header (requests.Reconciliation period) named)
-begun-handles-none named known till header (requests.Display outputs) = refl
-begun-handles-none named known till header (requests.Print qualifier) = refl
-begun-handles-none named known till header requests.Diagnosis = refl
-
 pub asked-handles-none : (known : Known) (till : ℕ) (as_read : ReadAs) → list_any is_handle (begun_by known till as_read) ≡ false
-asked-handles-none known till (Request header request) = begun-handles-none (named_terminal known.core header.poi) known till header request
-asked-handles-none known till Silent = refl
-asked-handles-none known till (NoMessage fault) = refl
-asked-handles-none known till (NoJson fault) = refl
+asked-handles-none known till as_read = form-begun (λ items. list_any is_handle items ≡ false) known till refl as_read (λ number header request is. refl)
 
 -- a till's message ends no dialogue
 pub asked-ends-none : (scene : Scene) (past : Past) (as_read : ReadAs) → ends_of scene past (occasion_read as_read) ≡ []

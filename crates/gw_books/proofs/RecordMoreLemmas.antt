@@ -32,7 +32,7 @@ use Rattle.gw_owes.proofs.RecordLemmas.{LedgerLaws, account-more, entry-parts, i
 use Rattle.gw_books.specs.Agrees.{is_accepted}
 use Rattle.gw_books.specs.Books.{BookedEntry}
 use Rattle.gw_books.specs.Past.{SentCommand, MadeLink}
-use Rattle.gw_books.proofs.Holding.{AreOutcomesTrue, BearsOut, IsDeclineTrue, IsFirstOf, IsOutcomeTrue, IsResolvedOn, IsServingSound}
+use Rattle.gw_books.proofs.Holding.{AreOutcomesTrue, BearsOut, IsAskedAs, IsDeclineTrue, IsFirstOf, IsOutcomeTrue, IsResolvedOn, IsServingSound}
 
 -- ---- the slot of a key
 
@@ -159,6 +159,16 @@ accepted-more laws records next key folded accepted =
     let parts = accepted-parts records key accepted in
     subst (λ (k : Key). is_accepted (records ++ next ∷ []) k ≡ true) parts.key_is
     (accepted-intent laws (records ++ next ∷ []) parts.slot parts.intent folded (intent-stays records (next ∷ []) parts.slot parts.intent parts.intent_is))
+
+-- what an Intent asks stays with more records
+pub asked-first : (kept more : List Record) (key : Key) (reversal : Bool) → IsFirstOf kept more → IsAskedAs kept key reversal → IsAskedAs more key reversal
+asked-first kept more key reversal first asked = record {
+  slot = asked.slot;
+  intent = asked.intent;
+  intent_is = subst (λ records. intent_at records asked.slot ≡ Some asked.intent) (sym first.1) (intent-stays kept first.0 asked.slot asked.intent asked.intent_is);
+  own = asked.own;
+  kind = asked.kind;
+}
 
 -- ---- Outcomes that are true
 

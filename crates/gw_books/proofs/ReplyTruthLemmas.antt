@@ -139,15 +139,17 @@ pub other-kind-true : (records : List Record) (occasion : Occasion) (header : He
     → IsSaidTrue records occasion (plain_said header (Some condition))
 other-kind-true records occasion header condition idle apart = idle-true records occasion header condition idle (kind-agrees records occasion header condition apart)
 
--- that of a key which was not accepted
-pub unknown-true : (records : List Record) (occasion : Occasion) (header : Header) (condition : Condition) → IsIdle condition → is_accepted records (header_key header) ≡ false
-    → IsSaidTrue records occasion (plain_said header (Some condition))
-unknown-true records occasion header condition idle lacks =
+-- that of a key which was not accepted, where the reply is about that key
+pub unknown-true : (records : List Record) (occasion : Occasion) (header : Header) (condition : Condition) → bytes_eq (name_of condition) (codes "InProgress") ≡ false
+    → key_meant records (header_key header) occasion ≡ Some (header_key header) → is_accepted records (header_key header) ≡ false → IsSaidTrue records occasion (plain_said header (Some condition))
+unknown-true records occasion header condition idle meant lacks =
     let said : Said = plain_said header (Some condition) in
     let other : Bool = fails_with (codes "NotAllowed") said && has_other_content records (header_key header) occasion in
     let none : (not (is_accepted records (header_key header)) || other) ≡ true = or_left (not (is_accepted records (header_key header))) other (ap not lacks) in
     let format : (fails_with (codes "MessageFormat") said || (not (is_accepted records (header_key header)) || other)) ≡ true = or_right (fails_with (codes "MessageFormat") said) _ none in
-    idle-true records occasion header condition idle (or_right (not (is_transaction said && true)) _ (or_right (fails_with (codes "InProgress") said) _ format))
+    failed-true records occasion header condition (or_right (not (is_transaction said && true)) _ (or_right (fails_with (codes "InProgress") said) _ format))
+    (or_right _ _ (ap (λ (key : Option Key). not (list_any (is_accepted records) (option_to_list key))) meant ∙ ap (λ (b : Bool). not (b || false)) lacks))
+    (passes (bytes_eq (name_of condition) (codes "InProgress")) _ idle)
 
 -- that of a body of another form
 pub malformed-true : (records : List Record) (occasion : Occasion) (header : Header) → IsSaidTrue records occasion (plain_said header (Some MessageFormat))
@@ -184,15 +186,15 @@ not-found-true records occasion header apart none = failed-true records occasion
 -- ---- an Outcome
 
 -- the entry has this Outcome in the records
-record HasOutcome (records : List Record) (entry : TheEntry) (outcome : TheOutcome) : Type 0 where
-  at : ℕ
-  found : slice_get records at ≡ Some (Outcome outcome)
-  intent_is : intent_at records entry.slot ≡ Some entry.intent
-  slot_is : outcome.slot ≡ entry.slot
-  key_slot : slot_of records (intent_key entry.intent) ≡ Some entry.slot
-  within : IsOutcome outcome
+pub record HasOutcome (records : List Record) (entry : TheEntry) (outcome : TheOutcome) : Type 0 where
+  pub at : ℕ
+  pub found : slice_get records at ≡ Some (Outcome outcome)
+  pub intent_is : intent_at records entry.slot ≡ Some entry.intent
+  pub slot_is : outcome.slot ≡ entry.slot
+  pub key_slot : slot_of records (intent_key entry.intent) ≡ Some entry.slot
+  pub within : IsOutcome outcome
 
-module _ (records : List Record) (entry : TheEntry) (outcome : TheOutcome) (has : HasOutcome records entry outcome) (said : Said) (key_is : said.key ≡ intent_key entry.intent) where
+module _ (records : List Record) (entry : TheEntry) (outcome : TheOutcome) (has : HasOutcome records entry outcome) (said : Said) (key_is : said.key ≡ intent_key entry.intent) (category_is : said.category ≡ deal_category entry.intent.what) where
   says-outcome : (approved : Bool) → outcome.approved ≡ approved → SaysOutcome records said approved
   says-outcome approved is = record {
     at = has.at;
@@ -202,6 +204,7 @@ module _ (records : List Record) (entry : TheEntry) (outcome : TheOutcome) (has 
     intent_is = ap (intent_at records) has.slot_is ∙ has.intent_is;
     approved_is = is;
     key_is = key_is;
+    category_is = category_is;
   }
 
   says-success : outcome.approved ≡ true → said.transaction ≡ transaction_text outcome.number outcome.receipt entry.slot → said.amount ≡ money_text outcome.amount → SaysSuccess records said
@@ -290,56 +293,56 @@ module _ (records : List Record) (occasion : Occasion) (entry : TheEntry) (outco
   abbrev said_of_entry : List ℕ → ResultBody → Said
   said_of_entry category body = finished_said (reply_header category entry.intent.sale entry.intent.poi entry.intent.service) body
 
-  payment-approved : (transaction stamp : List ℕ) → outcome.approved ≡ true
+  payment-approved : (transaction stamp : List ℕ) → entry.intent.what ≡ Payment → outcome.approved ≡ true
       → IsSaidTrue records occasion (said_of_entry (codes "Payment") (PaymentApproved transaction stamp (transaction_mark entry.slot outcome) entry.intent.amount (money_of entry.intent outcome)))
-  payment-approved transaction stamp is =
+  payment-approved transaction stamp what is =
       let said : Said = said_of_entry (codes "Payment") (PaymentApproved transaction stamp (transaction_mark entry.slot outcome) entry.intent.amount (money_of entry.intent outcome)) in
       unfailed-true records occasion said (paid-unfailed entry.intent.amount outcome.amount)
-      (and_right (is_transaction said) (not (is_success said)) (paid-succeeds entry.intent.amount outcome.amount)) (λ both. says-success records entry outcome has said refl is refl refl)
+      (and_right (is_transaction said) (not (is_success said)) (paid-succeeds entry.intent.amount outcome.amount)) (λ both. says-success records entry outcome has said refl (sym (ap deal_category what)) is refl refl)
 
-  reversal-approved : outcome.approved ≡ true
+  reversal-approved : entry.intent.what ≡ Reversal → outcome.approved ≡ true
       → IsSaidTrue records occasion (said_of_entry (codes "Reversal") (ReversalApproved (transaction_mark entry.slot outcome) (money_of entry.intent outcome)))
-  reversal-approved is =
+  reversal-approved what is =
       let said : Said = said_of_entry (codes "Reversal") (ReversalApproved (transaction_mark entry.slot outcome) (money_of entry.intent outcome)) in
-      unfailed-true records occasion said refl refl (λ both. says-success records entry outcome has said refl is refl refl)
+      unfailed-true records occasion said refl refl (λ both. says-success records entry outcome has said refl (sym (ap deal_category what)) is refl refl)
 
   reason-within : (reason : Condition) → outcome.approved ≡ false → outcome.condition ≡ Some reason → bytes_eq (name_of reason) (codes "InProgress") ≡ false
   reason-within reason is there =
       reason-idle reason (subst (HasReason false) there (subst (λ (approved : Bool). HasReason approved outcome.condition) is has.within.condition))
 
-  payment-declined : (transaction stamp : List ℕ) (reason : Condition) → outcome.approved ≡ false → outcome.condition ≡ Some reason
+  payment-declined : (transaction stamp : List ℕ) (reason : Condition) → entry.intent.what ≡ Payment → outcome.approved ≡ false → outcome.condition ≡ Some reason
       → IsSaidTrue records occasion (said_of_entry (codes "Payment") (PaymentDeclined transaction stamp (transaction_mark entry.slot outcome) reason))
-  payment-declined transaction stamp reason is there =
+  payment-declined transaction stamp reason what is there =
       let said : Said = said_of_entry (codes "Payment") (PaymentDeclined transaction stamp (transaction_mark entry.slot outcome) reason) in
-      declined-true records occasion said refl refl refl (reason-within reason is there) (says-outcome records entry outcome has said refl false is)
+      declined-true records occasion said refl refl refl (reason-within reason is there) (says-outcome records entry outcome has said refl (sym (ap deal_category what)) false is)
 
-  reversal-declined : (reason : Condition) → outcome.approved ≡ false → outcome.condition ≡ Some reason
+  reversal-declined : (reason : Condition) → entry.intent.what ≡ Reversal → outcome.approved ≡ false → outcome.condition ≡ Some reason
       → IsSaidTrue records occasion (said_of_entry (codes "Reversal") (ReversalDeclined (transaction_mark entry.slot outcome) reason))
-  reversal-declined reason is there =
+  reversal-declined reason what is there =
       let said : Said = said_of_entry (codes "Reversal") (ReversalDeclined (transaction_mark entry.slot outcome) reason) in
-      declined-true records occasion said refl refl refl (reason-within reason is there) (says-outcome records entry outcome has said refl false is)
+      declined-true records occasion said refl refl refl (reason-within reason is there) (says-outcome records entry outcome has said refl (sym (ap deal_category what)) false is)
 
-  body-true : (what : Deal) (approved : Bool) (body : ResultBody) → outcome.approved ≡ approved → entry_body what approved entry.slot entry.intent outcome ≡ Some body
+  body-true : (what : Deal) (approved : Bool) (body : ResultBody) → entry.intent.what ≡ what → outcome.approved ≡ approved → entry_body what approved entry.slot entry.intent outcome ≡ Some body
       → IsSaidTrue records occasion (said_of_entry (deal_category what) body)
-  body-true Payment true body is made =
+  body-true Payment true body what is made =
       let texts = texts-are entry.intent (λ transaction stamp. PaymentApproved transaction stamp (transaction_mark entry.slot outcome) entry.intent.amount (money_of entry.intent outcome)) body made in
-      subst (λ (result : ResultBody). IsSaidTrue records occasion (said_of_entry (codes "Payment") result)) texts.is (payment-approved texts.transaction texts.stamp is)
-  body-true Payment false body is made =
+      subst (λ (result : ResultBody). IsSaidTrue records occasion (said_of_entry (codes "Payment") result)) texts.is (payment-approved texts.transaction texts.stamp what is)
+  body-true Payment false body what is made =
       let reason = reason-is outcome (λ reason. with_texts entry.intent (λ transaction stamp. PaymentDeclined transaction stamp (transaction_mark entry.slot outcome) reason)) body made in
       let texts = texts-are entry.intent (λ transaction stamp. PaymentDeclined transaction stamp (transaction_mark entry.slot outcome) reason.reason) body reason.is in
       subst (λ (result : ResultBody). IsSaidTrue records occasion (said_of_entry (codes "Payment") result)) texts.is
-      (payment-declined texts.transaction texts.stamp reason.reason is reason.reason_is)
-  body-true Reversal true body is made =
+      (payment-declined texts.transaction texts.stamp reason.reason what is reason.reason_is)
+  body-true Reversal true body what is made =
       subst (λ (result : ResultBody). IsSaidTrue records occasion (said_of_entry (codes "Reversal") result))
-      (same_Some (ReversalApproved (transaction_mark entry.slot outcome) (money_of entry.intent outcome)) body made) (reversal-approved is)
-  body-true Reversal false body is made =
+      (same_Some (ReversalApproved (transaction_mark entry.slot outcome) (money_of entry.intent outcome)) body made) (reversal-approved what is)
+  body-true Reversal false body what is made =
       let reason = reason-is outcome (λ reason. Some (ReversalDeclined (transaction_mark entry.slot outcome) reason)) body made in
       subst (λ (result : ResultBody). IsSaidTrue records occasion (said_of_entry (codes "Reversal") result))
-      (same_Some (ReversalDeclined (transaction_mark entry.slot outcome) reason.reason) body reason.is) (reversal-declined reason.reason is reason.reason_is)
+      (same_Some (ReversalDeclined (transaction_mark entry.slot outcome) reason.reason) body reason.is) (reversal-declined reason.reason what is reason.reason_is)
 
   -- what the result body of the Outcome says is true
   entry-true : (body : ResultBody) → outcome_body entry outcome ≡ Some body → IsSaidTrue records occasion (finished_said (header_of (Entry entry)) body)
-  entry-true body made = body-true entry.intent.what outcome.approved body refl made
+  entry-true body made = body-true entry.intent.what outcome.approved body refl refl made
 
 -- ---- the reply to an Outcome
 
@@ -540,7 +543,7 @@ no-result entry within = by-result entry.result within.result
 
 module _ (laws : LedgerLaws) (records : List Record) (folded : AreFolded records) where
   -- the Outcome of an entry is in the records
-  has-outcome : (slot : ℕ) (entry : TheEntry) (outcome : TheOutcome) → entry_at records slot ≡ Some entry → entry.result ≡ Some outcome → HasOutcome records entry outcome
+  pub has-outcome : (slot : ℕ) (entry : TheEntry) (outcome : TheOutcome) → entry_at records slot ≡ Some entry → entry.result ≡ Some outcome → HasOutcome records entry outcome
   has-outcome slot entry outcome is result = by-ended (ended_at records slot) refl (result-of records slot entry is ∙ result)
     where
       by-ended : (ended : Option ℕ) → ended_at records slot ≡ ended → option_and_then (outcome_at records) ended ≡ Some outcome → HasOutcome records entry outcome

@@ -1,4 +1,4 @@
--- What a round has done of a payment: what is owed is done before the next poll may come, and so a payment that begins is asked, and its end is said.
+-- What a round has done of a payment, a reversal or an Abort: what is owed is done before the next poll may come, and so what begins is asked, what is stopped is sent the stop, and an end is said.
 use Rattle.std.proofs.Common.{◌≡◌, ◌∙◌, ℕ, zero, suc, ◌+◌, Bool, true, false, List, [], ◌∷◌, ◌++◌, refl, sym, ap, subst, arith, inl, inr, append-nil}
 use Rattle.std.proofs.lemmas.List.Elements.{All-head, All-tail}
 use Rattle.std.proofs.lemmas.Option.{same_Some}
@@ -10,15 +10,20 @@ use Rattle.gw_site.specs.Sorts.{AreOfRound, is_sort_of_round, sort_of}
 use Rattle.gw_site.specs.declared.turn.Turn.{Turn}
 use Rattle.gw_site.specs.declared.turn.Turn.TheVariants.{Start, OpenFailed, Polled, Opened, HeardTill, Closed, HeardPt, Lost, Stopped, Linked, LinkFailed, SentTill, SentPt, CutTill, CutPt, Wrote, Synced, DiskFailed, Crash}
 use Rattle.sale_values.specs.declared.header.Header.{Header}
-use Rattle.sale_values.specs.declared.request.PaymentAsk.{PaymentAsk}
+use Rattle.sale_values.specs.declared.request.Reference.{Reference}
+use Rattle.sale_values.specs.declared.request.ReversalAsk.{ReversalAsk}
+use Rattle.sale_values.specs.declared.request.SaleRequest.{SaleRequest}
 use Rattle.sale_values.specs.declared.request.SaleRequest.TheVariants as requests
+use Rattle.sale_values.specs.Key.{key_of}
 use Rattle.sale_reply.specs.declared.reply.Told.{Told as ResultBody}
-use Rattle.sale_reply.specs.declared.reply.Told.TheVariants.{PaymentApproved, PaymentDeclined}
+use Rattle.sale_reply.specs.declared.reply.Told.TheVariants.{PaymentApproved, PaymentDeclined, ReversalDeclined}
 use Rattle.zvt_apdu.specs.Grammar.{ApduValue}
+use Rattle.zvt_talk.specs.Talk.{TalkFacts}
+use Rattle.zvt_talk.specs.TalkSteps.{may_send_stop}
 use Rattle.zvt_talk.specs.declared.meaning.Heard.{Heard}
 use Rattle.jrn_record.specs.Limits.{HasTillText, IsIntent, IsRecord}
 use Rattle.jrn_record.specs.declared.records.Deal.{Deal}
-use Rattle.jrn_record.specs.declared.records.Deal.TheVariants.{Payment}
+use Rattle.jrn_record.specs.declared.records.Deal.TheVariants.{Payment, Reversal}
 use Rattle.jrn_record.specs.declared.records.Intent.{Intent as TheIntent}
 use Rattle.jrn_record.specs.declared.records.Outcome.{Outcome as TheOutcome}
 use Rattle.jrn_record.specs.declared.records.Record.{Record}
@@ -31,21 +36,26 @@ use Rattle.gw_ledger.specs.Slots.{as_intent, entry_at, intent_at}
 use Rattle.xlate.specs.Reply.{entry_body, header_of, money_of, outcome_body, transaction_mark, with_texts}
 use Rattle.gw_owes.specs.declared.terminal.Standing.TheVariants.{Ready}
 use Rattle.gw_owes.specs.declared.terminal.Terminal.{Terminal}
+use Rattle.gw_owes.specs.AbortLaws.{ServedIsToStop}
 use Rattle.gw_owes.specs.Calls.{OwedCall, SendTill, SendPt, LinkPt, WriteBody, WriteGate, WriteFirstGate, Sync, write_turn, CutTill as OwedCutTill, CutPt as OwedCutPt}
 use Rattle.gw_owes.specs.Core.{Core}
-use Rattle.gw_owes.specs.Diagnosis.{NamedTerminal, named_from, named_terminal}
+use Rattle.gw_owes.specs.Diagnosis.{NamedTerminal, named_from}
 use Rattle.gw_owes.specs.Handling.{handle_row}
 use Rattle.gw_owes.specs.Items.{RoundItem, Message, Asked, Handle, Serve}
 use Rattle.gw_owes.specs.KeptReplies.{kept_reply}
 use Rattle.gw_owes.specs.Laws.{ends_in_one}
-use Rattle.gw_owes.specs.PaymentLaws.{ApprovalIsKept, DeclineIsKept, EachAcceptedBegins, EachBegunIsServed, MeansAt, outcome_calls}
+use Rattle.gw_owes.specs.PaymentLaws.{ApprovalIsKept, BeginsThere, DeclineIsKept, EachAcceptedBegins, EachBegunIsServed, MeansAt, outcome_calls}
+use Rattle.gw_owes.specs.Payments.{begins_asking, begins_in, begins_request, beginning_row, is_beginning, reversal_asking, serve_row}
 use Rattle.gw_owes.specs.ReadAs.{IsReadAs, ReadAs, Request}
 use Rattle.gw_owes.specs.RecordLaws.{AreRecordsOf, IsInOrder, IsServedOpen}
 use Rattle.gw_owes.specs.Reply.{ReplyValue, Finished}
+use Rattle.gw_owes.specs.Reversals.{original_of, reversal_intent}
 use Rattle.gw_owes.specs.Row.{Known, Row, owing_where}
 use Rattle.gw_owes.specs.Rows.{asked_row, row_of}
-use Rattle.gw_owes.specs.Serving.{reply_to_outcome}
-use Rattle.gw_owes.specs.Steps.{Begins, step_result}
+use Rattle.gw_owes.specs.Serving.{reply_to_outcome, staying, stops}
+use Rattle.gw_owes.specs.Steps.{StepResult, Begins, step_result}
+use Rattle.gw_owes.specs.Stops.{serves_key, stop_row, stops_key, wishes_stop, wishing}
+use Rattle.gw_owes.specs.Terminals.{of_terminal, terminal_at}
 use Rattle.gw_owes.proofs.ReadLemmas.{reads-one}
 use Rattle.gw_owes.proofs.RecordLemmas.{entry-parts, open_entry_of}
 use Rattle.gw_owes.proofs.RowEndLemmas.{rows-end}
@@ -61,7 +71,8 @@ use Rattle.gw_rules.proofs.RecordOrderLemmas.{between-items, log-ordered}
 use Rattle.gw_rules.proofs.RecordRowLemmas.{OrderLaws}
 use Rattle.gw_rules.proofs.SetupLemmas.{HasSetup, setup-within-limits}
 use Rattle.gw_rules.proofs.StageLemmas.{handling-not-polled, no-call, no-true}
-use Rattle.gw_books.specs.RoundLaws.{ApprovalIsSaid, BeginWith, ComesNext, DeclineIsSaid, EndsRound, IsKeptAndAsked, IsKeptAndSaid, IsMadeIn, IsSending, OwedIsDone, PaymentIsAsked}
+use Rattle.gw_books.specs.ReversalLaws.{ReversalIsAsked, StopIsSent}
+use Rattle.gw_books.specs.RoundLaws.{ApprovalIsSaid, BeginWith, ComesNext, DeclineIsSaid, EndsRound, IsKeptAndSaid, IsMadeIn, IsSending, OwedIsDone, PaymentIsAsked}
 
 -- ---- the rest of a round
 
@@ -266,7 +277,7 @@ message-read v setup till bytes (Read as_read ∷ moves) n there g =
     }
 message-read v setup till bytes (Make turn ∷ moves) n there g = no-turn v turn (Message till bytes) n.rest n.stage n.calls n.items g.lawful.0 g.round.0
 
--- ---- a payment is asked
+-- ---- a request is served
 
 record IsThere (from : ℕ) (terminals : List Terminal) (named : NamedTerminal) : Type 0 where
   at : ℕ
@@ -295,22 +306,20 @@ named-at poi terminals named is =
     let at : named.number ≡ there.at = omega arith in
     ap (slice_get terminals) at ∙ there.found
 
-module _ (begins : EachAcceptedBegins) (serves : EachBegunIsServed) (v : View) (setup : Setup) (till : ℕ) (header : Header) (payment : PaymentAsk) (named : NamedTerminal) (last : ℕ) where
+module _ (v : View) (setup : Setup) (till : ℕ) (header : Header) (request : SaleRequest) (number : ℕ) where
   abbrev asked : ReadAs
-  asked = Request header (requests.Payment payment)
+  asked = Request header request
 
   abbrev known : Known
   known = known_in v.scene setup
 
   abbrev served : RoundItem
-  served = Serve named.number till header (requests.Payment payment)
+  served = Serve number till header request
 
   -- once it is read, it begins, and then it is served
-  asked-on : (bytes : List ℕ) (moves : List Move) → (next : ComesNext v setup (Message till bytes)) → is_connected v.scene.outside.tills till ≡ true → named_terminal v.scene.core header.poi ≡ Some named
-      → named.terminal.standing ≡ Ready last → step_result known header (requests.Payment payment) (Some named) ≡ Begins → GoesOn moves (read_view v till asked next.rest) → IsKeptAndAsked v header payment named last (turns_of moves)
-  asked-on bytes moves next there named_is ready result on =
-      let b = begins v.scene.outside.tills known till header payment named there named_is result in
-      let s = serves v.scene.outside.tills known till header payment named.number named.terminal last (named-at header.poi v.scene.core.terminals named named_is) ready result in
+  asked-on : (bytes : List ℕ) (moves : List Move) → (next : ComesNext v setup (Message till bytes)) → is_connected v.scene.outside.tills till ≡ true → BeginsThere till header request number (row_of v.scene.outside.tills known (Asked till asked))
+      → GoesOn moves (read_view v till asked next.rest) → BeginWith (row_of v.scene.outside.tills known served).calls (turns_of moves)
+  asked-on bytes moves next there b on =
       let first : View = read_view v till asked next.rest in
       let comes : ComesNext first setup (Asked till asked) = record { setup_is = next.setup_is; stage = ap busy next.stage; calls = refl; rest = next.rest; items = refl } in
       let second : View = next_begun first setup (Asked till asked) next.rest in
@@ -320,21 +329,59 @@ module _ (begins : EachAcceptedBegins) (serves : EachBegunIsServed) (v : View) (
       let done = item-done second setup served on_then.more comes_then refl on_then.goes in
       let core_is : (row_of v.scene.outside.tills known (Asked till asked)).core ≡ v.scene.core = ap (λ (test : Bool). (owing_where test known (asked_row known till asked)).core) there in
       let same : known_in second.scene setup ≡ known = ap (λ (c : Core). record { setup = setup; core = c; kept = v.scene.kept; moment = v.scene.outside.moment }) core_is in
-      record {
-        intent = s.intent;
-        says = s.says;
-        done = subst (λ calls. BeginWith calls (turns_of moves)) s.goes_on.calls_are
-            (subst (λ (k : Known). BeginWith (row_of v.scene.outside.tills k served).calls (turns_of moves)) same
-            (subst (BeginWith (next_row second setup served).calls) (sym (on.turns_are ∙ on_then.turns_are)) done));
-      }
+      subst (λ (k : Known). BeginWith (row_of v.scene.outside.tills k served).calls (turns_of moves)) same (subst (BeginWith (next_row second setup served).calls) (sym (on.turns_are ∙ on_then.turns_are)) done)
+
+-- a request of a till that is there, which begins at a terminal, is served there before the next poll
+request-is-served : (log : List Turn) (v : View) (moves : List Move) (setup : Setup) (till : ℕ) (bytes : List ℕ) (header : Header) (request : SaleRequest) (number : ℕ) → EndsRound log v moves → ComesNext v setup (Message till bytes) → is_connected v.scene.outside.tills till ≡ true
+    → IsReadAs bytes (Request header request) → BeginsThere till header request number (row_of v.scene.outside.tills (known_in v.scene setup) (Asked till (Request header request)))
+    → BeginWith (row_of v.scene.outside.tills (known_in v.scene setup) (Serve number till header request)).calls (turns_of moves)
+request-is-served log v moves setup till bytes header request number ends next there reads begins =
+    let r = message-read v setup till bytes moves next there (goes-of log v moves ends) in
+    let one : r.as_read ≡ Request header request = reads-one bytes r.as_read (Request header request) r.reads reads in
+    asked-on v setup till header request number bytes moves next there begins (subst (λ (as_read : ReadAs). GoesOn moves (read_view v till as_read next.rest)) one r.on)
 
 pub payment-is-asked : EachAcceptedBegins → EachBegunIsServed → PaymentIsAsked
 payment-is-asked begins serves log v moves setup till bytes header payment named last ends next there reads named_is ready result =
-    let r = message-read v setup till bytes moves next there (goes-of log v moves ends) in
-    let one : r.as_read ≡ Request header (requests.Payment payment) = reads-one bytes r.as_read (Request header (requests.Payment payment)) r.reads reads in
-    asked-on begins serves v setup till header payment named last bytes moves next there named_is ready result (subst (λ (as_read : ReadAs). GoesOn moves (read_view v till as_read next.rest)) one r.on)
+    let known : Known = known_in v.scene setup in
+    let b = begins v.scene.outside.tills known till header (requests.Payment payment) named there named_is refl result in
+    let s = serves v.scene.outside.tills known till header payment named.number named.terminal last (named-at header.poi v.scene.core.terminals named named_is) ready result in
+    record {
+      intent = s.intent;
+      says = s.says;
+      done = subst (λ calls. BeginWith calls (turns_of moves)) s.goes_on.calls_are (request-is-served log v moves setup till bytes header (requests.Payment payment) named.number ends next there reads b);
+    }
 
--- ---- the end of a payment is said
+-- what a reversal owes that begins
+reversal-row : (known : Known) (number till : ℕ) (header : Header) (reversal : ReversalAsk) (terminal : Terminal) (last : ℕ) (original : TheEntry) → terminal_at known number ≡ Some terminal → terminal.standing ≡ Ready last
+    → step_result known header (requests.Reversal reversal) (Some (record { number = number; terminal = terminal })) ≡ Begins → original_of known.kept header.poi reversal ≡ Some original
+    → serve_row known number till header (requests.Reversal reversal) ≡ beginning_row known number till terminal last (reversal_intent header original last known.moment) (Some original)
+reversal-row known number till header reversal terminal last original found ready result named =
+    ap (of_terminal known (begins_request known number till header (requests.Reversal reversal))) found
+    ∙ ap (λ (given : StepResult). owing_where (is_beginning given) known (begins_in known number till header (requests.Reversal reversal) terminal terminal.standing)) result
+    ∙ ap (begins_in known number till header (requests.Reversal reversal) terminal) ready ∙ ap (λ (found : Option TheEntry). begins_asking known number till terminal last (option_map (reversal_asking known header last) found)) named
+
+pub reversal-is-asked : EachAcceptedBegins → ReversalIsAsked
+reversal-is-asked begins log v moves setup till bytes header reversal original named last ends next there reads named_is ready result original_is =
+    let known : Known = known_in v.scene setup in
+    let b = begins v.scene.outside.tills known till header (requests.Reversal reversal) named there named_is refl result in
+    let row = reversal-row known named.number till header reversal named.terminal last original (named-at header.poi v.scene.core.terminals named named_is) ready result original_is in
+    subst (λ (r : Row). BeginWith r.calls (turns_of moves)) row (request-is-served log v moves setup till bytes header (requests.Reversal reversal) named.number ends next there reads b)
+
+-- what an Abort owes of what is served, whose dialogue is begun, and in which no stop was sent
+sent-row : (known : Known) (number : ℕ) (header : Header) (reference : Reference) (terminal : Terminal) (talk : TalkFacts) → terminal_at known number ≡ Some terminal → serves_key known.kept (key_of header reference) terminal ≡ true
+    → terminal.talk ≡ Some talk → may_send_stop talk.phase ≡ true → stop_row known number header reference ≡ stops known number (wishing terminal talk)
+sent-row known number header reference terminal talk found serves talk_is may =
+    ap (of_terminal known (stops_key known number (key_of header reference))) found ∙ ap (λ (test : Bool). owing_where test known (wishes_stop known number terminal terminal.talk)) serves ∙ ap (wishes_stop known number terminal) talk_is
+    ∙ ap (λ (test : Bool). if test then stops known number (wishing terminal talk) else staying known number (wishing terminal talk)) may
+
+pub stop-is-sent : ServedIsToStop → StopIsSent
+stop-is-sent stopped log v moves setup till bytes header reference named talk ends next there reads named_is serves talk_is may =
+    let known : Known = known_in v.scene setup in
+    let b = stopped v.scene.outside.tills known till header reference named there named_is serves in
+    let row = sent-row known named.number header reference named.terminal talk (named-at (key_of header reference).poi v.scene.core.terminals named named_is) serves talk_is may in
+    subst (λ (r : Row). BeginWith r.calls (turns_of moves)) row (request-is-served log v moves setup till bytes header (requests.Abort reference) named.number ends next there reads (record { items_are = b.0; no_reply = b.1 }))
+
+-- ---- the end of a payment or a reversal is said
 
 -- the entry of what is served
 served-entry : (kept : List Record) (poi : List ℕ) (last slot : ℕ) → (has : IsServedOpen kept poi last slot) → entry_at kept slot ≡ Some (open_entry_of slot has.intent)
@@ -383,20 +430,39 @@ record HasBody (intent : TheIntent) (outcome : TheOutcome) : Type 0 where
   body : ResultBody
   body_is : outcome_body (open_entry_of outcome.slot intent) outcome ≡ Some body
 
-approved-body : (intent : TheIntent) (outcome : TheOutcome) → intent.what ≡ Payment → outcome.approved ≡ true → HasTexts intent → HasBody intent outcome
-approved-body intent outcome what approved texts = record {
-  body = _;
-  body_is = ap (λ (w : Deal). entry_body w outcome.approved outcome.slot intent outcome) what ∙ ap (λ (b : Bool). entry_body Payment b outcome.slot intent outcome) approved
-      ∙ texts-body intent (λ transaction stamp. PaymentApproved transaction stamp (transaction_mark outcome.slot outcome) intent.amount (money_of intent outcome)) texts;
-}
+approved-body : (intent : TheIntent) (outcome : TheOutcome) → IsIntent intent → outcome.approved ≡ true → HasBody intent outcome
+approved-body intent outcome within approved = by-what intent.what refl
+  where
+    by-what : (what : Deal) → intent.what ≡ what → HasBody intent outcome
+    by-what Payment is =
+        let texts : HasTexts intent = texts-of intent within is in
+        record {
+          body = _;
+          body_is = ap (λ (w : Deal). entry_body w outcome.approved outcome.slot intent outcome) is ∙ ap (λ (b : Bool). entry_body Payment b outcome.slot intent outcome) approved
+              ∙ texts-body intent (λ transaction stamp. PaymentApproved transaction stamp (transaction_mark outcome.slot outcome) intent.amount (money_of intent outcome)) texts;
+        }
+    by-what Reversal is = record {
+      body = _;
+      body_is = ap (λ (w : Deal). entry_body w outcome.approved outcome.slot intent outcome) is ∙ ap (λ (b : Bool). entry_body Reversal b outcome.slot intent outcome) approved;
+    }
 
-declined-body : (intent : TheIntent) (outcome : TheOutcome) (reason : Condition) → intent.what ≡ Payment → outcome.approved ≡ false → outcome.condition ≡ Some reason → HasTexts intent → HasBody intent outcome
-declined-body intent outcome reason what declined condition texts = record {
-  body = _;
-  body_is = ap (λ (w : Deal). entry_body w outcome.approved outcome.slot intent outcome) what ∙ ap (λ (b : Bool). entry_body Payment b outcome.slot intent outcome) declined
-      ∙ ap (option_and_then (λ stated. with_texts intent (λ transaction stamp. PaymentDeclined transaction stamp (transaction_mark outcome.slot outcome) stated))) condition
-      ∙ texts-body intent (λ transaction stamp. PaymentDeclined transaction stamp (transaction_mark outcome.slot outcome) reason) texts;
-}
+declined-body : (intent : TheIntent) (outcome : TheOutcome) (reason : Condition) → IsIntent intent → outcome.approved ≡ false → outcome.condition ≡ Some reason → HasBody intent outcome
+declined-body intent outcome reason within declined condition = by-what intent.what refl
+  where
+    by-what : (what : Deal) → intent.what ≡ what → HasBody intent outcome
+    by-what Payment is =
+        let texts : HasTexts intent = texts-of intent within is in
+        record {
+          body = _;
+          body_is = ap (λ (w : Deal). entry_body w outcome.approved outcome.slot intent outcome) is ∙ ap (λ (b : Bool). entry_body Payment b outcome.slot intent outcome) declined
+              ∙ ap (option_and_then (λ stated. with_texts intent (λ transaction stamp. PaymentDeclined transaction stamp (transaction_mark outcome.slot outcome) stated))) condition
+              ∙ texts-body intent (λ transaction stamp. PaymentDeclined transaction stamp (transaction_mark outcome.slot outcome) reason) texts;
+        }
+    by-what Reversal is = record {
+      body = _;
+      body_is = ap (λ (w : Deal). entry_body w outcome.approved outcome.slot intent outcome) is ∙ ap (λ (b : Bool). entry_body Reversal b outcome.slot intent outcome) declined
+          ∙ ap (option_and_then (λ stated. Some (ReversalDeclined (transaction_mark outcome.slot outcome) stated))) condition;
+    }
 
 -- an Outcome that a message of a terminal brings is kept, and its reply said
 pub outcome-is-said : (log : List Turn) (v : View) (moves : List Move) (setup : Setup) (number : ℕ) (apdu : ApduValue) (terminal : Terminal) (outcome : TheOutcome) (reply : ReplyValue) → EndsRound log v moves
@@ -411,23 +477,23 @@ outcome-is-said log v moves setup number apdu terminal outcome reply ends next c
 -- what a message of a terminal ends is kept and said
 end-is-said : OrderLaws → (log : List Turn) (v : View) (moves : List Move) (setup : Setup) (number : ℕ) (apdu : ApduValue) (terminal : Terminal) (last : ℕ) (meant : Heard) (outcome : TheOutcome) → EndsRound log v moves → ComesNext v setup (Handle number apdu)
     → MeansAt (known_in v.scene setup) number apdu terminal outcome.slot last meant → (handle_row (known_in v.scene setup) number apdu).calls ≡ outcome_calls (known_in v.scene setup) terminal outcome
-    → ((intent : TheIntent) → intent.what ≡ Payment → HasTexts intent → HasBody intent outcome) → IsKeptAndSaid v setup terminal outcome (turns_of moves)
+    → ((intent : TheIntent) → IsIntent intent → HasBody intent outcome) → IsKeptAndSaid v setup terminal outcome (turns_of moves)
 end-is-said laws log v moves setup number apdu terminal last meant outcome ends next means calls bodies =
     let k : HasSetup v.scene = record { setup = setup; setup_is = next.setup_is; within = setup-within-limits log v setup ends.before next.setup_is } in
     let order : IsInOrder (known_in v.scene setup) = between-items log v (log-ordered laws log v ends.before) k (ap is_running next.stage) next.calls in
     let has : IsServedOpen v.scene.kept terminal.pt.poi last outcome.slot = subst (AreRecordsOf v.scene.kept terminal.pt.poi) means.standing_is (order.terminals number terminal means.found).records in
     let there : entry_at v.scene.kept outcome.slot ≡ Some (open_entry_of outcome.slot has.intent) = served-entry v.scene.kept terminal.pt.poi last outcome.slot has in
     let within : IsIntent has.intent = intent-limits v.scene.kept outcome.slot has.intent order.folded (entry-parts v.scene.kept outcome.slot (open_entry_of outcome.slot has.intent) there).1 in
-    let said : HasBody has.intent outcome = bodies has.intent has.what (texts-of has.intent within has.what) in
+    let said : HasBody has.intent outcome = bodies has.intent within in
     let ended : TheEntry = record (open_entry_of outcome.slot has.intent) { result = Some outcome } in
     outcome-is-said log v moves setup number apdu terminal outcome (Finished (header_of (Entry ended)) said.body) ends next calls
     (ap (option_and_then (λ (entry : TheEntry). kept_reply (Entry (record entry { result = Some outcome })))) there ∙ ap (option_map (Finished (header_of (Entry ended)))) said.body_is)
 
 pub approval-is-said : OrderLaws → ApprovalIsKept → ApprovalIsSaid
 approval-is-said laws kept log v moves setup number apdu terminal slot last figures ends next means above =
-    end-is-said laws log v moves setup number apdu terminal last _ _ ends next means (kept (known_in v.scene setup) number apdu terminal slot last figures means above).calls_are (λ intent what texts. approved-body intent _ what refl texts)
+    end-is-said laws log v moves setup number apdu terminal last _ _ ends next means (kept (known_in v.scene setup) number apdu terminal slot last figures means above).calls_are (λ intent within. approved-body intent _ within refl)
 
 pub decline-is-said : OrderLaws → DeclineIsKept → DeclineIsSaid
 decline-is-said laws kept log v moves setup number apdu terminal slot last result_code reported ends next means =
     end-is-said laws log v moves setup number apdu terminal last _ _ ends next means (kept (known_in v.scene setup) number apdu terminal slot last result_code reported means).calls_are
-    (λ intent what texts. declined-body intent _ _ what refl refl texts)
+    (λ intent within. declined-body intent _ _ within refl refl)

@@ -1,16 +1,15 @@
 -- What an item that isn't a message of a terminal's dialogue leaves of trace numbers, and the order of items and links.
 use Rattle.std.proofs.Common.{◌≡◌, ℕ, Bool, true, false, List, [], ◌∷◌, ◌++◌, refl, sym, ◌∙◌, ap, subst, inl, inr, eqb-true, append-nil, eqb, length, Option, Some, None, ◌⊎◌}
 use Rattle.std.proofs.lemmas.Bool.{eqb-false, eqb-true, ne_eqb, or_parts}
-use Rattle.std.specs.Prelude.{◌⊎◌, ◌==◌, slice_get, Option, Some, None, Result, Ok, Err, ◌&&◌, ◌||◌}
+use Rattle.std.specs.Prelude.{◌⊎◌, ◌+◌, ◌==◌, slice_get, Option, Some, None, Result, Ok, Err, ◌&&◌, ◌||◌}
 use Rattle.std.specs.List.{list_any}
 use Rattle.gw_base.specs.declared.setup.Pt.{Pt}
 use Rattle.gw_site.specs.declared.turn.Turn.{Turn}
 use Rattle.gw_site.specs.Outside.{is_connected, Connection}
 use Rattle.sale_values.specs.declared.header.Header.{Header}
-use Rattle.sale_values.specs.declared.request.PaymentAsk.{PaymentAsk}
 use Rattle.sale_values.specs.declared.request.SaleRequest.{SaleRequest}
-use Rattle.sale_values.specs.declared.request.SaleRequest.TheVariants as requests
 use Rattle.zvt_apdu.specs.Grammar.{ApduValue}
+use Rattle.zvt_msg.specs.declared.command.Command.TheVariants as commands
 use Rattle.zvt_msg.specs.declared.fault.PtFault.{PtFault}
 use Rattle.zvt_msg.specs.Message.{MessageValue, Ack, Nack, Intermediate, Line, Block, Status, Completion, Abort, Other}
 use Rattle.zvt_msg.specs.MessageDecode.{decode_pt_message}
@@ -21,7 +20,7 @@ use Rattle.gw_ledger.specs.Fold.{AreFolded}
 use Rattle.gw_ledger.specs.Keys.{intent_key}
 use Rattle.xlate.specs.Ask.{ask}
 use Rattle.gw_owes.specs.declared.terminal.Standing.{Standing}
-use Rattle.gw_owes.specs.declared.terminal.Standing.TheVariants.{Unlinked, Ready}
+use Rattle.gw_owes.specs.declared.terminal.Standing.TheVariants.{Unlinked}
 use Rattle.gw_owes.specs.declared.terminal.Terminal.{Terminal}
 use Rattle.gw_owes.specs.Calls.{OwedCall, LinkPt, CutTill, records_kept, SendTill, SendPt, WriteBody, WriteGate, WriteFirstGate, Sync, CutPt, Ask, keep_calls}
 use Rattle.gw_owes.specs.Deadlines.{is_late, is_due, late_row, due_row}
@@ -29,19 +28,18 @@ use Rattle.gw_owes.specs.Greeting.{greeting, sending_calls, greet_decoded}
 use Rattle.gw_owes.specs.Handling.{handle_row}
 use Rattle.gw_owes.specs.Items.{RoundItem, Crowded, Message, Asked, Unframed, Gone, Greet, NextWaiting, Oversized, LinkLost, Late, Overdue, Due, Serve, Handle}
 use Rattle.gw_owes.specs.Links.{cutting}
-use Rattle.gw_owes.specs.Payments.{asked_for, beginning_row, payment_intent, serve_row}
+use Rattle.gw_owes.specs.Payments.{Asking, asked_for, beginning_row, serve_row}
 use Rattle.gw_owes.specs.ReadAs.{ReadAs}
-use Rattle.gw_owes.specs.RecordLaws.{AreRecordsOf, HasNoneOpen, IsReadItem, IsReadRequest}
+use Rattle.gw_owes.specs.RecordLaws.{IsReadItem}
 use Rattle.gw_owes.specs.Reply.{ReplyValue}
 use Rattle.gw_owes.specs.Requests.{reply_to, begun_by}
 use Rattle.gw_owes.specs.Row.{Known, Row, owing, owing_where, becoming}
 use Rattle.gw_owes.specs.Rows.{asked_row, gone_row, row_of}
-use Rattle.gw_owes.specs.Serving.{reply_to_outcome}
+use Rattle.gw_owes.specs.Serving.{reply_to_outcome, staying, stops}
+use Rattle.gw_owes.specs.Stops.{wishing}
 use Rattle.gw_owes.specs.Terminals.{with_terminal, reply_calls_to, reply_to_lost, unlinked_terminal, unlinks, link_lost}
-use Rattle.gw_owes.proofs.BeginLemmas.{begins-in-keeps, may-begin}
+use Rattle.gw_owes.proofs.BeginLemmas.{IsAskedAnew, begins-anew, begins-keeps}
 use Rattle.gw_owes.proofs.HandlingLemmas.{by-where, each-terminal, each-linked}
-use Rattle.gw_owes.proofs.KeepingLemmas.{setting-there}
-use Rattle.gw_owes.proofs.LimitLemmas.{IsPaymentWithin, payment-within}
 use Rattle.gw_owes.proofs.PaymentLemmas.{BeginsAt, each-served}
 use Rattle.gw_owes.proofs.RecordLemmas.{LedgerLaws}
 use Rattle.gw_owes.proofs.SetLemmas.{new-is-there, same-some}
@@ -62,10 +60,10 @@ use Rattle.gw_rules.proofs.StageLemmas.{no-true}
 use Rattle.gw_books.specs.Books.{BookedEntry, Honest}
 use Rattle.gw_books.specs.Past.{Past, past_after}
 use Rattle.gw_books.proofs.BeginHoldsLemmas.{between-holds, between-numbered}
-use Rattle.gw_books.proofs.Holding.{begun_past, charge_owed, charges_terminal, is_deed, sending_charges, ServeTransactions, IsUnsent, HoldsBetween, deed_owed, is_handle}
+use Rattle.gw_books.proofs.Holding.{begun_past, charge_owed, charges_terminal, is_deed, sending_charges, ServeTransactions, HoldsBetween, deed_owed, is_handle}
 use Rattle.gw_books.proofs.Numbering.{AreLinkedBeforeHearing, AreRecordsNumbered, BeginNumbers, IsQuiet as IsQuietAt, IsReadyNumber, IsStandingNumbered, Numbered, NumberedAfterRow, NumberedBetween, RowHolds, RowNumbers, RowOrders, handles_after_due, is_due_item, link_owed}
 use Rattle.gw_books.proofs.NumberStepLemmas.{standings-set}
-use Rattle.gw_books.proofs.QuietRowLemmas.{IsQuiet, asked-handles-none, gone-calm, lost-unanswered, same-calm, unlinked-calm}
+use Rattle.gw_books.proofs.QuietRowLemmas.{IsQuiet, asked-handles-none, gone-calm, lost-unanswered, same-calm, stopped-quiet, unlinked-calm}
 use Rattle.gw_books.proofs.RecordNumberLemmas.{numbered-with-intent}
 use Rattle.gw_books.proofs.ServeLemmas.{key-unsent}
 
@@ -154,42 +152,41 @@ lost-quiet known number serve = each-terminal (IsQuiet known) known number (unli
     subst (λ (calls : List OwedCall). IsQuiet known (becoming (with_terminal known.core number (unlinked_terminal terminal known.moment)) calls)) (sym (lost-unanswered terminal.asker terminal.standing (serve number terminal found)))
     (record { calm = unlinked-calm known.core number terminal (unlinked_terminal terminal known.moment) _ found refl refl; none_kept = refl; no_deed = refl; handles_none = refl }))
 
--- ---- a payment begins
+-- ---- a payment or a reversal begins
 
 -- the terminal serves what its last trace number and its quiet allow
-begun-numbers : (laws : LedgerLaws) (known : Known) (past : Past) (book : List BookedEntry) (number till : ℕ) (header : Header) (payment : PaymentAsk) (terminal : Terminal) (last : ℕ) → HoldsBetween known past book → NumberedBetween known past book
-    → IsPaymentWithin header payment → BeginsAt known number header payment terminal last → IsUnsent past.commands (intent_key (payment_intent header payment terminal.pt.currency last known.moment)) → terminal.pt.poi ≡ header.poi
-    → NumberedAfterRow known past book (beginning_row known number till terminal last (payment_intent header payment terminal.pt.currency last known.moment))
-begun-numbers laws known past book number till header payment terminal last between n asks at unsent names = record {
-  records = numbered-with-intent laws known.kept intent folded book past.commands past.place n.records (subst (λ (poi : List ℕ). IsReadyNumber book past.commands poi past.place last) names ready) unsent;
+begun-numbers : (laws : LedgerLaws) (known : Known) (past : Past) (book : List BookedEntry) (number till : ℕ) (header : Header) (request : SaleRequest) (terminal : Terminal) (last : ℕ) (asking : Asking) → HoldsBetween known past book → NumberedBetween known past book
+    → BeginsAt known number header request terminal last asking → IsAskedAnew known header terminal last asking → NumberedAfterRow known past book (beginning_row known number till terminal last asking.intent asking.original)
+begun-numbers laws known past book number till header request terminal last asking between n at anew = record {
+  records = numbered-with-intent laws known.kept intent folded book past.commands past.place n.records before (key-unsent known past book between (intent_key intent) anew.unknown);
   standings = standings-set past book known.core number terminal new at.found (λ other one apart found. n.standings other one found) tt;
   asked = λ other one found owed. by-number other one found owed (eqb other number) refl;
 }
   where
     intent : TheIntent
-    intent = payment_intent header payment terminal.pt.currency last known.moment
+    intent = asking.intent
 
     new : Terminal
-    new = asked_for known till terminal last intent
+    new = asked_for known till terminal last intent asking.original
 
     -- the records are folded with the Intent
     folded : AreFolded (known.kept ++ Intent intent ∷ [])
-    folded =
-        let has : HasNoneOpen known.kept terminal.pt.poi last = subst (AreRecordsOf known.kept terminal.pt.poi) at.standing_is (between.in_order.terminals number terminal at.found).records in
-        let may = may-begin known header (requests.Payment payment) (Some (record { number = number; terminal = terminal })) at.begins_is in
-        ((begins-in-keeps laws known between.in_order number till header payment asks terminal at.found names may (Ready last) has).uncut refl).folded
+    folded = ((begins-keeps laws known between.in_order number till header terminal last asking at.found at.standing_is anew).uncut refl).folded
 
     ready : IsReadyNumber book past.commands terminal.pt.poi past.place last
     ready = subst (IsStandingNumbered past.links past.commands past.place book terminal.pt.poi) at.standing_is (n.standings number terminal at.found)
 
+    before : IsReadyNumber book past.commands intent.poi past.place intent.before
+    before = subst (λ (poi : List ℕ). IsReadyNumber book past.commands poi past.place intent.before) (sym anew.poi_is) (subst (IsReadyNumber book past.commands terminal.pt.poi past.place) (sym anew.before_is) ready)
+
     by-number : (other : ℕ) (one : Terminal) → slice_get (with_terminal known.core number new).terminals other ≡ Some one
-        → charge_owed other (keep_calls (length known.kept) (Intent intent) ++ SendPt number (Ask (ask intent None terminal.pt)) ∷ []) ≡ true → (b : Bool) → eqb other number ≡ b → IsQuietAt book past.commands one.pt.poi past.place
+        → charge_owed other (keep_calls (length known.kept) (Intent intent) ++ SendPt number (Ask (ask intent asking.original terminal.pt)) ∷ []) ≡ true → (b : Bool) → eqb other number ≡ b → IsQuietAt book past.commands one.pt.poi past.place
     by-number other one found owed true is =
         let there : slice_get (with_terminal known.core number new).terminals number ≡ Some one = subst (λ (at : ℕ). slice_get (with_terminal known.core number new).terminals at ≡ Some one) (eqb-true other number is) found in
         subst (λ (t : Terminal). IsQuietAt book past.commands t.pt.poi past.place) (same-some new one (sym (new-is-there known.core.terminals number terminal new at.found) ∙ there)) ready.quiet
     by-number other one found owed false is =
         let apart : (number == other) ≡ false = ne_eqb number other (λ same. eqb-false other number is (sym same)) in
-        no-true (sym (ap (λ (b : Bool). (b && sending_charges (Ask (ask intent None terminal.pt))) || false) apart) ∙ owed)
+        no-true (sym (ap (λ (b : Bool). (b && sending_charges (Ask (ask intent asking.original terminal.pt))) || false) apart) ∙ owed)
 
 -- what a row leaves, with the past before its item
 abbrev RowLeaves : RoundItem → Type 0
@@ -204,12 +201,10 @@ numbers-begun scene known past book item row r = record { records = r.records; s
 serve-numbers : (laws : LedgerLaws) (number till : ℕ) (header : Header) (request : SaleRequest) → RowLeaves (Serve number till header request)
 serve-numbers laws number till header request scene tills known past book same between n linked read honest =
     each-served (NumberedAfterRow known past book) known number till header request (quiet-numbers known past book (owing known []) n (nothing-quiet known))
-    (λ payment terminal last is at.
-    let asked : IsReadRequest known.setup number header (requests.Payment payment) = subst (λ (r : SaleRequest). IsReadRequest known.setup number header r) is read in
-    let asks : IsPaymentWithin header payment = payment-within header payment asked.read in
-    let names : terminal.pt.poi ≡ header.poi =
-    asked.names terminal.pt (subst (λ (pts : List Pt). slice_get pts number ≡ Some terminal.pt) between.in_order.of_setup.settings (setting-there known.core.terminals number terminal at.found)) in
-    begun-numbers laws known past book number till header payment terminal last between n asks at (key-unsent laws scene known past book between number till header request payment asks terminal last at) names)
+    (λ terminal last asking at. begun-numbers laws known past book number till header request terminal last asking between n at (begins-anew laws known between.in_order number till header request terminal last asking read at))
+    (λ terminal talk at may.
+    quiet-numbers known past book (stops known number (wishing terminal talk)) n (stopped-quiet known number header request terminal talk (terminal.awaited + 1) (SendPt number (Ask commands.Stop) ∷ []) at refl refl))
+    (λ terminal talk at may. quiet-numbers known past book (staying known number (wishing terminal talk)) n (stopped-quiet known number header request terminal talk terminal.awaited [] at refl refl))
 
 -- each item but a message of a terminal's dialogue
 row-leaves : (laws : LedgerLaws) (item : RoundItem) → is_handle item ≡ false → RowLeaves item
@@ -284,7 +279,9 @@ handle-orderly known number apdu = form-handled IsOrderly known number apdu (rec
 })
 
 serve-orderly : (known : Known) (number till : ℕ) (header : Header) (request : SaleRequest) → IsOrderly (serve_row known number till header request)
-serve-orderly known number till header request = each-served IsOrderly known number till header request (record { unlinked = refl; no_items = refl }) (λ payment terminal last is at. record { unlinked = refl; no_items = refl })
+serve-orderly known number till header request =
+    each-served IsOrderly known number till header request (record { unlinked = refl; no_items = refl }) (λ terminal last asking at. record { unlinked = refl; no_items = refl }) (λ terminal talk at may. record { unlinked = refl; no_items = refl })
+    (λ terminal talk at may. record { unlinked = refl; no_items = refl })
 
 late-orderly : (known : Known) (number : ℕ) → IsOrderly (late_row known number)
 late-orderly known number =

@@ -279,7 +279,8 @@ row-within laws tills known setup (Gone till) order serve read = record { transa
 row-within laws tills known setup (Greet number apdu) order serve read = greet-within known serve number (decode_pt_message apdu)
 row-within laws tills known setup (Handle number apdu) order serve read = handled-within laws known order serve number (decode_pt_message apdu)
 row-within laws tills known setup (Serve number till header request) order serve read =
-    each-served LeavesWithin known number till header request (nothing-within known serve) (λ payment terminal last is at. becomes-within known serve number _ _ tt (tt, (tt, (tt, (tt, (tt, tt))))))
+    each-served LeavesWithin known number till header request (nothing-within known serve) (λ terminal last asking at. becomes-within known serve number _ _ tt (tt, (tt, (tt, (tt, (tt, tt))))))
+    (λ terminal talk at may. becomes-within known serve number _ _ (serve number terminal at.found) (tt, tt)) (λ terminal talk at may. becomes-within known serve number _ _ (serve number terminal at.found) tt)
 row-within laws tills known setup (NextWaiting number) order serve read = nothing-within known serve
 row-within laws tills known setup (Oversized number) order serve read =
     each-linked LeavesWithin known number (λ terminal. cutting known number) (nothing-within known serve) (λ terminal found linked. cut-within known serve number)

@@ -12,6 +12,7 @@ use Rattle.json_text.specs.Tree.{Tree}
 use Rattle.sale_values.specs.Key.{key_of}
 use Rattle.sale_values.specs.declared.fault.SaleFault.{SaleFault}
 use Rattle.sale_values.specs.declared.fault.SaleFault.TheVariants.{NoHeader, Missing, Wrong, Unserved}
+use Rattle.gw_base.specs.Condition.{name_of}
 use Rattle.sale_values.specs.declared.header.Header.{Header}
 use Rattle.sale_values.specs.declared.request.Output.{Output}
 use Rattle.sale_values.specs.declared.request.Reference.{Reference}
@@ -97,10 +98,10 @@ fault-true records name moment message (Unserved header) faulty =
 
 -- ---- steps
 
--- a result that says nothing of what the records have
+-- a result that doesn't say that a key is in progress
 abbrev IsIdleResult : StepResult → Type 0
 IsIdleResult KeptReply = ⊥
-IsIdleResult (Fails condition) = IsIdle condition
+IsIdleResult (Fails condition) = bytes_eq (name_of condition) (codes "InProgress") ≡ false
 IsIdleResult Begins = Unit {0}
 
 -- each step that applies has such a result
@@ -119,13 +120,13 @@ first-idle otherwise (step ∷ steps) last idle = by-test step.applies refl (fir
 
 -- where the key isn't on record
 none-idle : (known : Known) (header : Header) (request : SaleRequest) (named : Option NamedTerminal) → IsIdleResult (first_result (Fails Busy) (steps known header request None named))
-none-idle known header request named = first-idle (Fails Busy) (steps known header request None named) (refl, refl) (
+none-idle known header request named = first-idle (Fails Busy) (steps known header request None named) refl (
   λ applies. absurd cc,
   (
     λ applies. absurd cc,
     (
       λ applies. absurd cc,
-      (λ applies. (refl, refl), (λ applies. (refl, refl), (λ applies. (refl, refl), (λ applies. (refl, refl), (λ applies. (refl, refl), (λ applies. (refl, refl), (λ applies. tt, tt))))))),
+      (λ applies. refl, (λ applies. refl, (λ applies. refl, (λ applies. refl, (λ applies. refl, (λ applies. refl, (λ applies. refl, (λ applies. refl, (λ applies. tt, tt))))))))),
     ),
   ),
 )
@@ -146,13 +147,13 @@ module _ (laws : LedgerLaws) (known : Known) (folded : AreFolded known.kept) (he
     found-is : found_for known.kept header ≡ found_of known.kept (header_key header)
     found-is = ap (option_and_then (found_of known.kept)) (own-key-is header service service_is)
 
-    -- a result that says nothing of what the records have
+    -- a result that doesn't say that the key is in progress
     idle-reply : found_of known.kept (header_key header) ≡ None → (result : StepResult) → IsIdleResult result → reply_of_result known.kept header result ≡ Some reply
         → IsReplyTrue known.kept (OfRequest header request) reply
     idle-reply none KeptReply idle is = absurd idle
     idle-reply none (Fails condition) idle is = reply-is known.kept (OfRequest header request) (failure_reply header condition) reply
         (failure-true known.kept (OfRequest header request) header condition
-        (unknown-true known.kept (OfRequest header request) (header_of_reply header) condition idle (unknown-accepted known.kept (header_key header) none))) is
+        (unknown-true known.kept (OfRequest header request) (header_of_reply header) condition idle (about (header_key header)) (unknown-accepted known.kept (header_key header) none))) is
     idle-reply none Begins idle is = absurd cc
 
     -- the key is on record

@@ -19,7 +19,7 @@ use Rattle.gw_rules.specs.View.{View, Move, Begin, Read, Make, after, at_first}
 use Rattle.gw_books.specs.Past.{SentReply, Past, no_past, poi_of_number, may_charge, with_sent_command, waiting_keys, with_turn, past_after, past_from, past_of}
 use Rattle.gw_books.specs.Books.{BookedEntry, Honest}
 use Rattle.gw_books.specs.Said.{Said, all_said, IsFramed}
-use Rattle.gw_books.specs.Agrees.{EachSaid, entry_key, is_transaction, is_success, is_failure, is_approved_entry, is_entry_said, names_entry, success_agrees, refusal_agrees}
+use Rattle.gw_books.specs.Agrees.{EachSaid, entry_key, is_transaction, is_success, is_failure, is_approved_entry, is_entry_said, is_of_category, names_entry, success_agrees, refusal_agrees}
 use Rattle.gw_books.specs.Headline.{HasPast, HonestAgrees}
 use Rattle.gw_books.specs.Example.{success_reply, paid_course, paid_past, paid_entry, refusal_reply, refused_course, refused_past}
 use Rattle.gw_books.specs.TillLaws.{IsSaidTo, IsBooked, SuccessIsBooked, RefusedIsNeverCharged, paid_said, PaidIsSaid, refused_said, declined_entry, RefusedIsSaid}
@@ -36,7 +36,7 @@ at-in (y ∷ list) zero x e = let same : x ≡ y = cc in inl same
 at-in (y ∷ list) (suc at) x e = inr (at-in list at x e)
 
 -- what is in a list is at a place of it
-in-at : {A : Type 0} (list : List A) (x : A) → In x list → (at : ℕ) × (slice_get list at ≡ Some x)
+pub in-at : {A : Type 0} (list : List A) (x : A) → In x list → (at : ℕ) × (slice_get list at ≡ Some x)
 in-at [] x within = absurd within
 in-at (y ∷ list) x (inl same) = (zero, ap Some (sym same))
 in-at (y ∷ list) x (inr within) = let found = in-at list x within in (suc found.0, found.1)
@@ -150,8 +150,9 @@ so-agrees false other t e = absurd (cc)
 -- the entry of a success
 entry-booked : (past : Past) (book : List BookedEntry) (before : List Turn) (reply : SentReply) (said : Said) (entry : BookedEntry) → reply.place ≡ length before → In entry book → is_entry_said past reply said entry ≡ true → IsBooked past book before said
 entry-booked past book before reply said entry placed within e =
-    let parts = and_parts (is_approved_entry past said.key entry) (nat_le entry.place reply.place && (names_entry reply.kept said.key said.transaction entry && bytes_eq said.amount (money_text entry.amount))) e in
-    let approval = and_parts entry.approved (is_key said.key (entry_key past entry)) parts.0 in
+    let whole = and_parts (is_approved_entry past said.key entry) (is_of_category said entry && (nat_le entry.place reply.place && (names_entry reply.kept said.key said.transaction entry && bytes_eq said.amount (money_text entry.amount)))) e in
+    let parts = and_parts (is_of_category said entry) (nat_le entry.place reply.place && (names_entry reply.kept said.key said.transaction entry && bytes_eq said.amount (money_text entry.amount))) whole.1 in
+    let approval = and_parts entry.approved (is_key said.key (entry_key past entry)) whole.0 in
     let timely = and_parts (nat_le entry.place reply.place) (names_entry reply.kept said.key said.transaction entry && bytes_eq said.amount (money_text entry.amount)) parts.1 in
     let numbers = and_parts (names_entry reply.kept said.key said.transaction entry) (bytes_eq said.amount (money_text entry.amount)) timely.1 in
     let early = leb-true entry.place reply.place timely.0 in
@@ -163,6 +164,7 @@ entry-booked past book before reply said entry placed within e =
       found = found.1;
       key_is = approval.1;
       approved = approval.0;
+      category = parts.0;
       placed = omega (arith, early, placed);
       amount = bytes-are said.amount (money_text entry.amount) numbers.1;
       slot = named.0;
@@ -215,7 +217,7 @@ paid-reply-says = record {
 
 paid-booked : IsBooked paid_past (paid_entry ∷ []) (take 31 (turns_of paid_course)) paid_said
 unfolding digits transaction_text money_text
-paid-booked = record { at = 0; entry = paid_entry; found = refl; key_is = refl; approved = refl; placed = omega arith; amount = refl; slot = 0; transaction = refl }
+paid-booked = record { at = 0; entry = paid_entry; found = refl; key_is = refl; approved = refl; category = refl; placed = omega arith; amount = refl; slot = 0; transaction = refl }
 
 pub paid-is-said : PaidIsSaid
 unfolding paid-reply-says

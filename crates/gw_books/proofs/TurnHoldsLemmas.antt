@@ -48,7 +48,7 @@ use Rattle.gw_books.specs.Books.{BookedEntry}
 use Rattle.gw_books.specs.Agrees.{is_accepted, is_report, is_report_on, is_resolved_on, report_resolves, is_inside}
 use Rattle.gw_books.proofs.Holding.{AreOutcomesTrue, AreFalling, AreKeyed, IsFirstOf, AreCallsSound, charges_terminal, charge_owed, is_deed, deed_owed, IsServingSound, ServesTransaction, ServeTransactions, is_report_after, IsResolvedOn, IsLinkSound, is_handle, Holds, TurnHolds}
 use Rattle.gw_books.proofs.ListLemmas.{In, all-from, any-from, any-in, filter-in}
-use Rattle.gw_books.proofs.RecordMoreLemmas.{accepted-more, first-itself, first-of-first, outcomes-of-first, outcomes-later}
+use Rattle.gw_books.proofs.RecordMoreLemmas.{accepted-more, asked-first, first-itself, first-of-first, outcomes-of-first, outcomes-later}
 
 -- ---- commands
 
@@ -56,11 +56,11 @@ falling-later : (place : ℕ) (commands : List SentCommand) → AreFalling place
 falling-later place [] falling = tt
 falling-later place (command ∷ commands) falling = (omega (arith, falling.0), falling.1)
 
--- one turn later, with records that have the Intents of those before, the commands are keyed still
-keyed-later : (kept more : List Record) (place : ℕ) (commands : List SentCommand) → ((key : Key) → is_accepted kept key ≡ true → is_accepted more key ≡ true) → AreKeyed kept place commands → AreKeyed more (place + 1) commands
-keyed-later kept more place commands stays keyed = record {
+-- one turn later, with records more, the commands are keyed still
+keyed-later : (kept more : List Record) (place : ℕ) (commands : List SentCommand) → ((key : Key) → is_accepted kept key ≡ true → is_accepted more key ≡ true) → IsFirstOf kept more → AreKeyed kept place commands → AreKeyed more (place + 1) commands
+keyed-later kept more place commands stays first keyed = record {
   falling = falling-later place commands keyed.falling;
-  accepted = λ command sent. let own = keyed.accepted command sent in record { key = own.key; key_is = own.key_is; accepted = stays own.key own.accepted };
+  accepted = λ command sent. let own = keyed.accepted command sent in record { key = own.key; key_is = own.key_is; accepted = stays own.key own.accepted; asked = asked-first kept more own.key command.reversal first own.asked };
   once = keyed.once;
 }
 
@@ -282,7 +282,7 @@ goes-on : (v w : View) (past : Past) (occasion : Occasion) (heard : ℕ) (lastin
 goes-on v w past occasion heard lasting polls deeds book h l = record {
   heard = l.heard_most;
   ended = λ end within. omega (arith, h.ended end within, l.heard_least);
-  commands = keyed-later v.scene.kept w.scene.kept past.place past.commands l.kept h.commands;
+  commands = keyed-later v.scene.kept w.scene.kept past.place past.commands l.kept l.kept_first h.commands;
   outcomes = outcomes-later past.commands book past.place (past.place + 1) (records_coming w) (omega arith) (subst (λ records. AreOutcomesTrue past.commands book past.place records) (sym l.coming) h.outcomes);
   calls = subst (λ records. AreCallsSound records w.scene.core past.commands occasion w.calls) (sym l.coming) (subst (λ (core : Core). AreCallsSound (records_coming v) core past.commands occasion w.calls) (sym l.core) l.calls);
   serving = λ clear number terminal found no_charge no_cut.
@@ -513,7 +513,7 @@ drops-hold : (v w : View) (past : Past) (occasion : Occasion) (lasting : List Ma
 drops-hold v w past occasion lasting book h d = record {
   heard = omega (arith, h.heard);
   ended = h.ended;
-  commands = keyed-later v.scene.kept w.scene.kept past.place past.commands d.kept h.commands;
+  commands = keyed-later v.scene.kept w.scene.kept past.place past.commands d.kept d.kept_first h.commands;
   outcomes = outcomes-later past.commands book past.place (past.place + 1) (records_coming w) (omega arith)
       (outcomes-of-first past.commands book past.place (records_coming w) d.more (subst (λ records. AreOutcomesTrue past.commands book past.place records) d.first h.outcomes));
   calls = d.calls;

@@ -1,5 +1,5 @@
 -- What was done, and what tills were sent, against the book.
-use Rattle.std.specs.Prelude.{◌≡◌, ℕ, Bool, true, false, nat_lt, nat_le, ◌&&◌, ◌||◌, ◌==◌, not, is_some, bytes_eq, codes, All, List, [], ◌∷◌, map, find, Option, Some, None}
+use Rattle.std.specs.Prelude.{◌≡◌, ℕ, Bool, true, false, nat_lt, nat_le, ◌&&◌, ◌||◌, ◌==◌, not, is_some, bytes_eq, codes, if◌then◌else◌, All, List, [], ◌∷◌, map, find, Option, Some, None}
 use Rattle.std.specs.List.{list_any, list_all}
 use Rattle.std.specs.Option.{option_and_then, option_map, option_to_list}
 use Rattle.gw_base.specs.Transaction.{transaction_text}
@@ -65,10 +65,15 @@ is_approved_entry past key entry = entry.approved && is_key key (entry_key past 
 abbrev pub names_entry : List Record → Key → List ℕ → BookedEntry → Bool
 names_entry kept key text entry = list_any (λ slot. bytes_eq text (transaction_text entry.number entry.receipt slot)) (option_to_list (slot_of kept key))
 
--- the entry is the approved one of what is said, is placed before the reply, and has the numbers and the amount that are said
+-- the entry is a reversal where it is said of one, and a payment where it is said of anything else
+abbrev pub is_of_category : Said → BookedEntry → Bool
+is_of_category said entry = if bytes_eq said.category (codes "Reversal") then entry.reversal else not entry.reversal
+
+-- the entry is the approved one of what is said, is of its category, is placed before the reply, and has the numbers and the amount that are said
 abbrev pub is_entry_said : Past → SentReply → Said → BookedEntry → Bool
 is_entry_said past reply said entry =
-    is_approved_entry past said.key entry && (nat_le entry.place reply.place && (names_entry reply.kept said.key said.transaction entry && bytes_eq said.amount (money_text entry.amount)))
+    is_approved_entry past said.key entry
+    && (is_of_category said entry && (nat_le entry.place reply.place && (names_entry reply.kept said.key said.transaction entry && bytes_eq said.amount (money_text entry.amount))))
 
 -- a success of a payment or a reversal has its entry
 abbrev pub success_agrees : Past → List BookedEntry → SentReply → Said → Bool

@@ -9,6 +9,8 @@ pub mod PastLaws
 pub mod RecoveryExample
 pub mod RecoveryLaws
 pub mod RepeatLaws
+pub mod ReversalExample
+pub mod ReversalLaws
 pub mod RoundLaws
 pub mod Said
 pub mod SaidLaws

@@ -1,4 +1,4 @@
--- What is done of a payment before the next poll may come.
+-- What is done before the next poll may come: of a payment that begins, and of a payment or a reversal that is approved or declined.
 use Rattle.std.specs.Prelude.{◌≡◌, ◌⊎◌, ◌<◌, ℕ, pos, Bool, true, false, List, [], ◌∷◌, ◌++◌, length, Option, Some, None}
 use Rattle.gw_bytes.specs.Bytes.{IsPrefix}
 use Rattle.gw_base.specs.Currency.{currency_number}
@@ -97,7 +97,7 @@ pub record IsKeptAndSaid (v : View) (setup : Setup) (terminal : Terminal) (outco
   pub reply_is : reply_to_outcome v.scene.kept outcome.slot outcome ≡ Some reply
   pub done : BeginWith (outcome_calls (known_in v.scene setup) terminal outcome) turns
 
--- an approval with a trace number above the one before is kept, with its figures, and said before the next poll
+-- an approval of a payment or a reversal with a trace number above the one before is kept, with its figures, and said before the next poll
 abbrev pub ApprovalIsSaid : Type 0
 ApprovalIsSaid =
     (log : List Turn) (v : View) (moves : List Move) (setup : Setup) (number : ℕ) (apdu : ApduValue) (terminal : Terminal) (slot last : ℕ) (figures : Figures) → EndsRound log v moves → ComesNext v setup (Handle number apdu)

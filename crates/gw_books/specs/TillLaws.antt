@@ -10,7 +10,7 @@ use Rattle.gw_rules.specs.Lawful.{turns_of}
 use Rattle.gw_books.specs.Past.{Past}
 use Rattle.gw_books.specs.Books.{BookedEntry, Honest}
 use Rattle.gw_books.specs.Said.{Said, all_said, IsFramed}
-use Rattle.gw_books.specs.Agrees.{entry_key, is_transaction, is_success, is_failure}
+use Rattle.gw_books.specs.Agrees.{entry_key, is_of_category, is_transaction, is_success, is_failure}
 use Rattle.gw_books.specs.Headline.{HasPast}
 use Rattle.gw_books.specs.Example.{payment_key, paid_course, paid_past, paid_entry, refused_course, refused_past}
 
@@ -26,13 +26,14 @@ pub record IsSaidTo (log : List Turn) (till : ℕ) (said : Said) : Type 0 where
   pub at : ℕ
   pub says : slice_get (all_said message) at ≡ Some said
 
--- the book has an approved entry of the key that is said, with the amount that is said, and the number and the receipt in its TransactionID; it was booked before the turn after these, in which it is said. Of the slot in that text nothing is said.
+-- the book has an approved entry of the key that is said, a reversal where it is said of one, with the amount that is said, and the number and the receipt in its TransactionID; it was booked before the turn after these, in which it is said. Of the slot in that text nothing is said.
 pub record IsBooked (past : Past) (book : List BookedEntry) (before : List Turn) (said : Said) : Type 0 where
   pub at : ℕ
   pub entry : BookedEntry
   pub found : slice_get book at ≡ Some entry
   pub key_is : is_key said.key (entry_key past entry) ≡ true
   pub approved : entry.approved ≡ true
+  pub category : is_of_category said entry ≡ true
   pub placed : entry.place ≤ length before
   pub amount : said.amount ≡ money_text entry.amount
   pub slot : ℕ

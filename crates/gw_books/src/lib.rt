@@ -8,6 +8,8 @@ ghost use Rattle.gw_books.specs.PastLaws.{EachHasOnePast, EachLogAgrees, HonestF
 ghost use Rattle.gw_books.specs.RecoveryExample.{AsideIsNotHonest, RecoveredIsRepeated, RecoveredIsResolved, RecoveredIsSaid, UnperformedIsResolved};
 ghost use Rattle.gw_books.specs.RecoveryLaws.{EachOutcomeIsTrue, HonestSetsNoneAside, ReportIsSaid, ReportedIsResolved, SaidAsKept};
 ghost use Rattle.gw_books.specs.RepeatLaws.{FinishedStays, FirstReplyIsKept, PaidStays};
+ghost use Rattle.gw_books.specs.ReversalExample.{AbortedRoundIsStopped, ReversalIsNoPayment, ReversalRoundIsAsked, ReversedAgrees, ReversedHasPast, ReversedIsBooked};
+ghost use Rattle.gw_books.specs.ReversalLaws.{EntryIsAsAsked, OnlyPaidIsReversed, ReversalIsAsked, BookedReversedOnce, StopIsSent};
 ghost use Rattle.gw_books.specs.RoundLaws.{ApprovalIsSaid, DeclineIsSaid, OwedIsDone, PaymentIsAsked};
 ghost use Rattle.gw_books.specs.SaidLaws.{EachReplyIsFramed, EachReplySays, EachSentIsFramed, OneMessageIsFramed};
 ghost use Rattle.gw_books.specs.TillLaws.{PaidIsSaid, RefusedIsNeverCharged, RefusedIsSaid, SuccessIsBooked};
@@ -70,6 +72,7 @@ pub fn law_sent()
     gw_ledger::law_next();
     gw_ledger::law_open();
     gw_ledger::law_within();
+    gw_ledger::law_named();
     gw_ledger::law_fits();
 }
 
@@ -83,14 +86,15 @@ pub fn law_kept_replies()
     gw_ledger::law_next();
     gw_ledger::law_open();
     gw_ledger::law_within();
+    gw_ledger::law_named();
     gw_ledger::law_fits();
 }
 
 /// What a round has done of a payment before the next poll may come. Whatever is owed is done by then, in its order and before anything
 /// else: a send that fails counts as made, also one of no byte. So a payment that comes to the last of its steps at a terminal that is
-/// ready is kept and asked, and the approval or the decline of one is kept, and said to the till that asked, where it is there: each
-/// after its record is synced. What these ask holds along the courses of the examples: where the till's request is heard, where the
-/// Completion is acknowledged, and where the Abort is.
+/// ready is kept and asked, and the approval or the decline of a payment or a reversal is kept, and said to the till that asked, where it
+/// is there: each after its record is synced. What these ask holds along the courses of the examples: where the till's request is heard,
+/// where the Completion is acknowledged, and where the terminal's abort is.
 pub fn law_rounds()
     ensures done { OwedIsDone }
     ensures asked { PaymentIsAsked }
@@ -105,6 +109,45 @@ pub fn law_rounds()
     gw_owes::law_payment_ends();
 }
 
+/// What a round has done of a reversal or an Abort before the next poll may come. A reversal that comes to the last of its steps at a
+/// terminal that is ready has its Intent kept, with the amount and the currency of its original, and then the terminal is asked to
+/// reverse the original's receipt. An Abort of what a terminal serves is sent on as a stop, where the dialogue is begun and none was sent
+/// in it. What these ask holds along the courses of the examples.
+pub fn law_reversal_rounds()
+    ensures asked { ReversalIsAsked }
+    ensures stopped { StopIsSent }
+    ensures example { ReversalRoundIsAsked }
+    ensures stopped_example { AbortedRoundIsStopped }
+{
+    gw_owes::law_payment_begins();
+    gw_owes::law_aborts();
+}
+
+/// A payment is reversed at most once, whatever tills ask and wherever the power fails: in a book that is honest for a lawful log no two
+/// approved entries are of commands that were sent in the log for reversals of one payment (an entry of a command that is sent after the
+/// log's end is judged along the longer log). A reversal is kept only of a payment that the book has as approved, and its Intent has the
+/// amount of that entry. An entry whose command was sent in the log is a reversal exactly where what was asked under its key is one; a
+/// success of a payment doesn't agree with a reversal. In the example a payment is approved and then reversed, and the book with both
+/// entries is honest and agrees. Of which transaction the terminal has reversed, and of the amount that it has booked for that, nothing
+/// is said.
+pub fn law_reversed_once()
+    ensures once { BookedReversedOnce }
+    ensures paid { OnlyPaidIsReversed }
+    ensures entries { EntryIsAsAsked }
+    ensures past { ReversedHasPast }
+    ensures agrees { ReversedAgrees }
+    ensures example { ReversedIsBooked }
+    ensures other { ReversalIsNoPayment }
+{
+    gw_owes::law_records();
+    gw_ledger::law_next();
+    gw_ledger::law_open();
+    gw_ledger::law_within();
+    gw_ledger::law_named();
+    gw_ledger::law_fits();
+    gw_ledger::law_reversed_once();
+}
+
 /// What has happened along a lawful log is one past. A book that is honest for it is honest for that of each prefix of the log.
 pub fn law_past()
     ensures one { EachHasOnePast }
@@ -112,7 +155,7 @@ pub fn law_past()
 {}
 
 /// What a till may rely on to which the end of a payment or a reversal was said, wherever the books of the terminals are honest: a success
-/// is an approved entry of its key, with its amount, its number and its receipt, which was booked before it was said; a failure with the
+/// is an approved entry of its key and its kind, with its amount, its number and its receipt, which was booked before it was said; a failure with the
 /// mark of a transaction has no approved entry of its key in the whole book, and so never will have one (an entry of a command that is
 /// sent after the log's end is judged along the longer log). In the examples the one is said, and the other where a declined entry of its
 /// key is booked.
@@ -154,13 +197,14 @@ pub fn law_recovery()
     gw_ledger::law_next();
     gw_ledger::law_open();
     gw_ledger::law_within();
+    gw_ledger::law_named();
     gw_ledger::law_fits();
 }
 
 /// The headline. Along each lawful log, with power failures, records in flight, enquiries and all terminals, each book that is honest
 /// agrees with what was done and what tills were sent: each command that may charge a card was sent for a key of its own, and no two
-/// entries are of one key; a success is an approved entry of its key, with its numbers and its amount, which was booked before it was
-/// said; of the key of a refusal with the mark of a transaction no entry is approved, and none ever will be; what is said not to be
+/// entries are of one key; a success is an approved entry of its key, a payment or a reversal as it says, with its numbers and its amount,
+/// which was booked before it was said; of the key of a refusal with the mark of a transaction no entry is approved, and none ever will be; what is said not to be
 /// accepted, but with `MessageFormat` or with `NotAllowed` to other content, has no Intent, and neither has what is said not to be found;
 /// what is said to be in progress is unresolved; at a poll, where a terminal's link lasts whose enquiry has reported, no key is open that
 /// was open as the link was made; and what is outside the grammars changes no book. So it is of each prefix of the log. A course along
@@ -174,5 +218,6 @@ pub fn law_headline()
     gw_ledger::law_next();
     gw_ledger::law_open();
     gw_ledger::law_within();
+    gw_ledger::law_named();
     gw_ledger::law_fits();
 }

@@ -1,75 +1,59 @@
--- A payment that begins: its terminal is ready, its Intent may be kept next, and what is wanted is what its row says.
-use Rattle.std.proofs.Common.{◌≡◌, ◌≤◌, ◌+◌, append-nil, ℕ, zero, suc, Bool, true, false, ◌&&◌, List, [], ◌∷◌, ◌++◌, append_assoc, length, is_some, not, refl, sym, ◌∙◌, ap, subst, arith}
-use Rattle.std.specs.Prelude.{All, IsTrue, if◌then◌else◌, slice_get, pos, Option, Some}
+-- A request that begins: its terminal has what it needs, its Intent may be kept next, and what is wanted is what its row says.
+use Rattle.std.proofs.Common.{◌≡◌, ◌<◌, ◌≤◌, ◌+◌, append-nil, ℕ, zero, suc, Bool, true, false, ◌&&◌, List, [], ◌∷◌, ◌++◌, append_assoc, length, is_some, not, refl, sym, ◌∙◌, ap, subst, arith}
+use Rattle.std.specs.Prelude.{All, IfSome, IsTrue, slice_get, pos, Option, Some, None, option_map}
 use Rattle.std.proofs.lemmas.Bool.{ltb-false}
 use Rattle.std.proofs.lemmas.List.Elements.{All-nil, All-cons}
 use Rattle.std.proofs.lemmas.Option.{same_Some}
 use Rattle.gw_base.specs.Moment.{IsMoment}
 use Rattle.gw_base.specs.Setup.{IsPt, IsSetup}
-use Rattle.gw_base.specs.declared.condition.Condition.TheVariants.{Busy, InProgress, NotAllowed, UnavailableDevice, UnavailableService}
 use Rattle.gw_base.specs.declared.setup.Pt.{Pt}
 use Rattle.gw_base.specs.declared.setup.Setup.{Setup}
-use Rattle.jrn_record.specs.Limits.{IsRecord}
+use Rattle.jrn_record.specs.Limits.{IsOutcome, IsRecord}
+use Rattle.jrn_record.specs.declared.records.Intent.{Intent as TheIntent}
+use Rattle.jrn_record.specs.declared.records.Outcome.{Outcome as TheOutcome}
 use Rattle.jrn_record.specs.declared.records.Record.{Record}
 use Rattle.jrn_record.specs.declared.records.Record.TheVariants.{Intent}
+use Rattle.gw_ledger.specs.declared.entry.Entry.{Entry as TheEntry}
+use Rattle.gw_ledger.specs.Accounts.{is_settled}
 use Rattle.gw_ledger.specs.Fold.{AreFolded, FitBy, fits}
+use Rattle.gw_ledger.specs.Laws.{EntriesAreWithin, NamedIsEntry}
+use Rattle.gw_ledger.specs.Slots.{asks_payment, is_reversed}
 use Rattle.gw_ledger.specs.Sums.{open_count_of}
+use Rattle.gw_ledger.specs.Transaction.{named_of}
+use Rattle.sale_values.specs.Key.{key_of}
 use Rattle.sale_values.specs.declared.header.Header.{Header}
 use Rattle.sale_values.specs.declared.request.PaymentAsk.{PaymentAsk}
+use Rattle.sale_values.specs.declared.request.Reference.{Reference}
+use Rattle.sale_values.specs.declared.request.ReversalAsk.{ReversalAsk}
 use Rattle.sale_values.specs.declared.request.SaleRequest.{SaleRequest}
 use Rattle.sale_values.specs.declared.request.SaleRequest.TheVariants as requests
+use Rattle.xlate.specs.Ask.{IsApproval, IsOriginalWithinLimits}
 use Rattle.gw_owes.specs.Calls.{records_kept}
+use Rattle.gw_owes.specs.Content.{is_same_amount}
 use Rattle.gw_owes.specs.Core.{Core as CoreValue, no_core}
-use Rattle.gw_owes.specs.Diagnosis.{NamedTerminal}
+use Rattle.gw_owes.specs.Diagnosis.{named_terminal}
 use Rattle.gw_owes.specs.Items.{Serve}
-use Rattle.gw_owes.specs.KeptReplies.{found_for}
-use Rattle.gw_owes.specs.Payments.{beginning_row, begins_in, begins_payment, is_beginning, payment_intent, serve_row}
+use Rattle.gw_owes.specs.Payments.{Asking, asking_of, beginning_row, begins_asking, begins_in, begins_request, is_beginning, payment_asking, payment_intent, reversal_asking, serve_row}
 use Rattle.gw_owes.specs.ReadAs.{Request}
-use Rattle.gw_owes.specs.RecordLaws.{AreTerminalsInOrder, EachRowKeepsInOrder, IsInOrder, IsReadFromTill, IsTerminalInOrder}
+use Rattle.gw_owes.specs.RecordLaws.{AreTerminalsInOrder, EachRowKeepsInOrder, IsInOrder, IsReadFromTill, IsTerminalInOrder, poi_asked}
+use Rattle.gw_owes.specs.Requests.{begun_by}
+use Rattle.gw_owes.specs.Reversals.{is_irreversible, is_whole_of, may_be_reversed, original_of, reversal_intent}
 use Rattle.gw_owes.specs.Row.{Known, Row, owing_where}
-use Rattle.gw_owes.specs.Steps.{StepResult, KeptReply, Fails, Begins, step_result, asks_other_currency, has_reply, is_ready, is_ready_standing, is_repeated, is_unavailable, is_unserved, is_used_up, lacks_room}
+use Rattle.gw_owes.specs.Steps.{StepResult, Begins, is_ready_standing, service_items, step_result}
+use Rattle.gw_owes.specs.Stops.{serves_key, stop_items, stops_key, wishes_stop}
 use Rattle.gw_owes.specs.TerminalLaws.{owes_cut}
 use Rattle.gw_owes.specs.Terminals.{of_terminal, with_terminal}
-use Rattle.gw_owes.specs.declared.terminal.Standing.TheVariants.{Ready}
+use Rattle.gw_owes.specs.declared.terminal.Standing.{Standing}
+use Rattle.gw_owes.specs.declared.terminal.Standing.TheVariants.{Unlinked, Registering, Enquiring, Ready, Serving, Aside}
 use Rattle.gw_owes.specs.declared.terminal.Terminal.{Terminal}
+use Rattle.gw_owes.proofs.PaymentLemmas.{PassesSteps, passes-steps}
+use Rattle.gw_core.specs.Beginning.{MayBegin, MayPay, MayReverse, begun_row}
 use Rattle.gw_core.specs.IsRow.{IsRow, MayBeKept, known_with}
 use Rattle.gw_core.specs.ReplyOf.{BeginsAt, IsKnownAt}
 use Rattle.gw_core.specs.declared.act.Acts.{Acts}
 use Rattle.gw_core.specs.declared.gateway.Gateway.{Gateway}
-use Rattle.gw_core.proofs.NamedLemmas.{named-poi, named-there}
-
--- ---- the steps
-
--- where the steps say that a service begins, there is room, and the terminal is ready
-room-and-ready : (a b c d e f g h i j : Bool)
-    → (if a then KeptReply else if b then Fails InProgress else if c then Fails NotAllowed else if d then Fails UnavailableDevice else if e then Fails UnavailableService
-    else if f then Fails NotAllowed else if g then Fails UnavailableService else if h then Fails UnavailableService else if i then Fails UnavailableDevice else if j then Begins else Fails Busy) ≡ Begins
-    → (h ≡ false) × (j ≡ true)
-room-and-ready true b c d e f g h i j is = absurd cc
-room-and-ready false true c d e f g h i j is = absurd cc
-room-and-ready false false true d e f g h i j is = absurd cc
-room-and-ready false false false true e f g h i j is = absurd cc
-room-and-ready false false false false true f g h i j is = absurd cc
-room-and-ready false false false false false true g h i j is = absurd cc
-room-and-ready false false false false false false true h i j is = absurd cc
-room-and-ready false false false false false false false true i j is = absurd cc
-room-and-ready false false false false false false false false true j is = absurd cc
-room-and-ready false false false false false false false false false false is = absurd cc
-room-and-ready false false false false false false false false false true is = (refl, refl)
-
--- there is room, and the terminal is ready
-pub record MayBegin (known : Known) (terminal : Terminal) : Type 0 where
-  pub room : length known.kept + (open_count_of known.kept + 2) ≤ known.setup.slots
-  pub ready : is_ready_standing terminal.standing ≡ true
-
-pub may-begin : (known : Known) (header : Header) (request : SaleRequest) (number : ℕ) (terminal : Terminal) → step_result known header request (Some (record { number = number; terminal = terminal })) ≡ Begins
-    → MayBegin known terminal
-may-begin known header request number terminal is =
-    let named : Option NamedTerminal = Some (record { number = number; terminal = terminal }) in
-    let found = found_for known.kept header in
-    let both = room-and-ready (is_repeated known.kept request found && has_reply found) (is_repeated known.kept request found) (is_some found)
-    (not (is_some named)) (is_unserved request) (asks_other_currency request named) (is_used_up known.kept header.poi named) (lacks_room known.setup.slots known.kept) (is_unavailable named) (is_ready named) is in
-    record { room = ltb-false known.setup.slots (length known.kept + (open_count_of known.kept + 2)) both.0; ready = both.1 }
+use Rattle.gw_core.proofs.BegunLemmas.{ServesNamed, StopsNamed, serves-named, stops-named}
+use Rattle.gw_core.proofs.NamedLemmas.{named-poi, named-there, there-within}
 
 -- ---- records
 
@@ -86,6 +70,86 @@ last-within (first ∷ kept) the_record each = last-within kept the_record (λ k
 pub may-be-kept : (kept : List Record) (the_record : Record) → AreFolded (kept ++ the_record ∷ []) → MayBeKept kept the_record
 may-be-kept kept the_record folded = record { within = last-within kept the_record folded.within; fitting = last-fits [] kept the_record folded.fit }
 
+-- ---- the row of a beginning
+
+-- a terminal that is ready begins what is asked for, where the steps say so
+begins-asked : (known : Known) (number till : ℕ) (header : Header) (request : SaleRequest) (terminal : Terminal) (last : ℕ) (asking : Asking)
+    → step_result known header request (Some (record { number = number; terminal = terminal })) ≡ Begins → terminal.standing ≡ Ready last → asking_of known header request terminal last ≡ Some asking
+    → begins_request known number till header request terminal ≡ beginning_row known number till terminal last asking.intent asking.original
+begins-asked known number till header request terminal last asking begin ready asks =
+    ap (λ (result : StepResult). owing_where (is_beginning result) known (begins_in known number till header request terminal terminal.standing)) begin
+    ∙ ap (begins_in known number till header request terminal) ready
+    ∙ ap (begins_asking known number till terminal last) asks
+
+-- a payment at a terminal that is ready
+pub payment-begins : (known : Known) (pt till : ℕ) (header : Header) (payment : PaymentAsk) (terminal : Terminal) (last : ℕ) (intent : TheIntent) → terminal.standing ≡ Ready last
+    → intent ≡ payment_intent header payment terminal.pt.currency last known.moment
+    → beginning_row known pt till terminal intent.before intent None ≡ begins_in known pt till header (requests.Payment payment) terminal terminal.standing
+payment-begins known pt till header payment terminal last intent ready intent_is =
+    ap (λ (i : TheIntent). beginning_row known pt till terminal i.before i None) intent_is ∙ sym (ap (begins_in known pt till header (requests.Payment payment) terminal) ready)
+
+-- a reversal there, whose original is this
+pub reversal-begins : (known : Known) (pt till : ℕ) (header : Header) (reversal : ReversalAsk) (terminal : Terminal) (last : ℕ) (intent : TheIntent) (original : TheEntry) → terminal.standing ≡ Ready last
+    → original_of known.kept header.poi reversal ≡ Some original → intent ≡ reversal_intent header original last known.moment
+    → beginning_row known pt till terminal intent.before intent (Some original) ≡ begins_in known pt till header (requests.Reversal reversal) terminal terminal.standing
+reversal-begins known pt till header reversal terminal last intent original ready named intent_is =
+    ap (λ (i : TheIntent). beginning_row known pt till terminal i.before i (Some original)) intent_is
+    ∙ sym (ap (begins_in known pt till header (requests.Reversal reversal) terminal) ready ∙ ap (λ (o : Option TheEntry). begins_asking known pt till terminal last (option_map (reversal_asking known header last) o)) named)
+
+-- a ready standing has its last trace number
+pub record IsReady (standing : Standing) : Type 0 where
+  pub last : ℕ
+  pub ready : standing ≡ Ready last
+
+pub ready-last : (standing : Standing) → is_ready_standing standing ≡ true → IsReady standing
+ready-last (Unlinked due) is = absurd cc
+ready-last Registering is = absurd cc
+ready-last Enquiring is = absurd cc
+ready-last (Ready last) is = record { last = last; ready = refl }
+ready-last (Serving service last) is = absurd cc
+ready-last (Aside before reported) is = absurd cc
+
+-- ---- the original of a reversal
+
+-- there is an entry
+record IsThere (found : Option TheEntry) : Type 0 where
+  entry : TheEntry
+  is : found ≡ Some entry
+
+some-there : (found : Option TheEntry) → not (is_some found) ≡ false → IsThere found
+some-there None none = absurd cc
+some-there (Some entry) none = record { entry = entry; is = refl }
+
+both-hold : (a b : Bool) → (a && b) ≡ true → a ≡ true
+both-hold true b is = refl
+both-hold false b is = absurd cc
+
+second-holds : (a b : Bool) → (a && b) ≡ true → b ≡ true
+second-holds true b is = is
+second-holds false b is = absurd cc
+
+not-false : (a : Bool) → not a ≡ false → a ≡ true
+not-false true is = refl
+not-false false is = absurd cc
+
+whole-approved : (amount : Option ℕ) (result : Option TheOutcome) → is_whole_of amount result ≡ true → IsApproval result
+whole-approved amount None whole = absurd cc
+whole-approved amount (Some outcome) whole = both-hold outcome.approved (is_same_amount amount outcome.amount) whole
+
+-- one that is named lies within its limits
+pub named-within : (records : List Record) (poi text : List ℕ) (entry : TheEntry) → NamedIsEntry → EntriesAreWithin → AreFolded records → named_of records poi text ≡ Some entry → IsOriginalWithinLimits (Some entry)
+named-within records poi text entry names within folded named = λ outcome result.
+    let of_entry = (within records folded).0 entry.slot entry (names records poi text entry named).0 in
+    subst (λ (o : Option TheOutcome). IfSome o IsOutcome) result of_entry.result
+
+-- one that may be reversed is approved
+reversible-approved : (kept : List Record) (reversal : ReversalAsk) (entry : TheEntry) → is_irreversible kept reversal (Some entry) ≡ false → IsApproval entry.result
+reversible-approved kept reversal entry reversible =
+    let may = not-false (may_be_reversed kept reversal entry) reversible in
+    whole-approved reversal.amount entry.result
+    (second-holds (asks_payment entry.intent.what) (is_whole_of reversal.amount entry.result)
+    (both-hold (asks_payment entry.intent.what && is_whole_of reversal.amount entry.result) (not (is_reversed kept entry.slot) && not (is_settled kept entry.slot)) may))
+
 -- ---- the Intent
 
 -- a gateway with this terminal alone
@@ -97,79 +161,174 @@ with_one kept terminal slots moment = record {
   moment = moment;
 }
 
-module _ (kept : List Record) (terminal : Terminal) (slots moment : ℕ) where
-  one-setup : IsPt terminal.pt → 2 ≤ slots → slots ≤ 1000000 → IsSetup (with_one kept terminal slots moment).setup
-  one-setup settings least greatest = record {
+-- the terminal alone, in a gateway whose records are in order
+pub record IsAlone (kept : List Record) (terminal : Terminal) (slots moment : ℕ) : Type 0 where
+  pub rows : EachRowKeepsInOrder
+  pub folded : AreFolded kept
+  pub settings : IsPt terminal.pt
+  pub order : IsTerminalInOrder kept terminal
+  pub greatest : slots ≤ 1000000
+  pub at : IsMoment (pos moment)
+
+module _ (kept : List Record) (terminal : Terminal) (slots moment : ℕ) (is : IsAlone kept terminal slots moment) where
+  one-setup : 2 ≤ slots → IsSetup (with_one kept terminal slots moment).setup
+  one-setup least = let settings = is.settings in record {
     name = settings.poi;
     line = omega arith;
     wait = (omega arith, omega arith);
-    slots = (least, greatest);
+    slots = (least, is.greatest);
     count = omega arith;
     each = All-cons IsPt terminal.pt [] settings (All-nil IsPt);
     distinct = (All-nil _, tt);
   }
 
-  one-in-order : IsTerminalInOrder kept terminal → AreTerminalsInOrder kept (with_one kept terminal slots moment).core
-  one-in-order order zero one found = subst (IsTerminalInOrder kept) (same_Some terminal one found) order
-  one-in-order order (suc number) one found = absurd cc
+  one-in-order : AreTerminalsInOrder kept (with_one kept terminal slots moment).core
+  one-in-order zero one found = subst (IsTerminalInOrder kept) (same_Some terminal one found) is.order
+  one-in-order (suc number) one found = absurd cc
 
   -- what such a gateway knows is in order, where there is room
-  one-known : AreFolded kept → IsPt terminal.pt → IsTerminalInOrder kept terminal → length kept + (open_count_of kept + 2) ≤ slots → slots ≤ 1000000 → IsMoment (pos moment) → IsInOrder (with_one kept terminal slots moment)
-  one-known folded settings order room greatest at = record {
-    folded = folded;
+  one-known : length kept + (open_count_of kept + 2) ≤ slots → IsInOrder (with_one kept terminal slots moment)
+  one-known room = record {
+    folded = is.folded;
     room = omega arith;
-    of_setup = record { within = one-setup settings (omega arith) greatest; settings = refl };
-    moment = at;
-    terminals = one-in-order order;
+    of_setup = record { within = one-setup (omega arith); settings = refl };
+    moment = is.at;
+    terminals = one-in-order;
   }
 
-  -- where its terminal is ready, and the steps say that a payment begins, that begins
-  one-begins : (header : Header) (payment : PaymentAsk) → step_result (with_one kept terminal slots moment) header (requests.Payment payment) (Some (record { number = 0; terminal = terminal })) ≡ Begins → (last : ℕ) → terminal.standing ≡ Ready last
-      → serve_row (with_one kept terminal slots moment) 0 0 header (requests.Payment payment) ≡ beginning_row (with_one kept terminal slots moment) 0 0 terminal last (payment_intent header payment terminal.pt.currency last moment)
-  one-begins header payment begin last ready =
-      ap (λ (result : StepResult). owing_where (is_beginning result) (with_one kept terminal slots moment) (begins_in (with_one kept terminal slots moment) 0 0 header payment terminal terminal.standing)) begin
-      ∙ ap (begins_in (with_one kept terminal slots moment) 0 0 header payment terminal) ready
-
-  -- so the Intent of a payment that begins may be kept next
-  pub intent-kept : EachRowKeepsInOrder → AreFolded kept → IsPt terminal.pt → IsTerminalInOrder kept terminal → slots ≤ 1000000 → IsMoment (pos moment) → (header : Header) (payment : PaymentAsk)
-      → step_result (with_one kept terminal slots moment) header (requests.Payment payment) (Some (record { number = 0; terminal = terminal })) ≡ Begins
-      → IsReadFromTill (Request header (requests.Payment payment)) → terminal.pt.poi ≡ header.poi → (last : ℕ) → terminal.standing ≡ Ready last
-      → MayBeKept kept (Intent (payment_intent header payment terminal.pt.currency last moment))
-  intent-kept rows folded settings order greatest at header payment begin read names last ready =
-      let row = one-begins header payment begin last ready in
-      let may = may-begin (with_one kept terminal slots moment) header (requests.Payment payment) 0 terminal begin in
-      let keeps = rows (with_one kept terminal slots moment) (Serve 0 0 header (requests.Payment payment)) (one-known folded settings order may.room greatest at)
+  -- the Intent of what begins may be kept next
+  asking-kept : (header : Header) (request : SaleRequest) (last : ℕ) (asking : Asking) → length kept + (open_count_of kept + 2) ≤ slots → IsReadFromTill (Request header request) → terminal.pt.poi ≡ poi_asked header request
+      → serve_row (with_one kept terminal slots moment) 0 0 header request ≡ beginning_row (with_one kept terminal slots moment) 0 0 terminal last asking.intent asking.original → MayBeKept kept (Intent asking.intent)
+  asking-kept header request last asking room read names row =
+      let rows = is.rows in
+      let keeps = rows (with_one kept terminal slots moment) (Serve 0 0 header request) (one-known room)
       (record { read = read; names = λ pt found. ap (λ (p : Pt). p.poi) (sym (same_Some terminal.pt pt found)) ∙ names }) (ap (λ (r : Row). owes_cut r.calls) row) in
-      may-be-kept kept (Intent (payment_intent header payment terminal.pt.currency last moment)) (subst (λ (r : Row). AreFolded (kept ++ records_kept r.calls)) row keeps.folded)
+      may-be-kept kept (Intent asking.intent) (subst (λ (r : Row). AreFolded (kept ++ records_kept r.calls)) row keeps.folded)
+
+  -- what the steps of a request that begins give
+  passed : (header : Header) (request : SaleRequest) → step_result (with_one kept terminal slots moment) header request (Some (record { number = 0; terminal = terminal })) ≡ Begins
+      → PassesSteps (with_one kept terminal slots moment) header request (Some (record { number = 0; terminal = terminal }))
+  passed header request begin = passes-steps (with_one kept terminal slots moment) header request (Some (record { number = 0; terminal = terminal })) (ap is_beginning begin)
+
+  -- a payment that the steps begin may be paid
+  may-pay : (header : Header) (payment : PaymentAsk) → step_result (with_one kept terminal slots moment) header (requests.Payment payment) (Some (record { number = 0; terminal = terminal })) ≡ Begins
+      → IsReadFromTill (Request header (requests.Payment payment)) → terminal.pt.poi ≡ header.poi → MayPay kept moment header payment terminal
+  may-pay header payment begin read names =
+      let passes = passed header (requests.Payment payment) begin in
+      let is_ready = ready-last terminal.standing passes.ready in
+      let known : Known = with_one kept terminal slots moment in
+      let asking : Asking = payment_asking known header payment terminal is_ready.last in
+      record {
+        last = is_ready.last;
+        ready = is_ready.ready;
+        next = asking-kept header (requests.Payment payment) is_ready.last asking (ltb-false slots (length kept + (open_count_of kept + 2)) passes.room) read names
+            (begins-asked known 0 0 header (requests.Payment payment) terminal is_ready.last asking begin is_ready.ready refl);
+      }
+
+  -- a reversal that the steps begin may be made
+  may-reverse : (header : Header) (reversal : ReversalAsk) → step_result (with_one kept terminal slots moment) header (requests.Reversal reversal) (Some (record { number = 0; terminal = terminal })) ≡ Begins
+      → IsReadFromTill (Request header (requests.Reversal reversal)) → terminal.pt.poi ≡ header.poi → MayReverse kept moment header reversal terminal
+  may-reverse header reversal begin read names =
+      let passes = passed header (requests.Reversal reversal) begin in
+      let is_ready = ready-last terminal.standing passes.ready in
+      let original = some-there (original_of kept header.poi reversal) passes.original in
+      let known : Known = with_one kept terminal slots moment in
+      let asking : Asking = reversal_asking known header is_ready.last original.entry in
+      record {
+        last = is_ready.last;
+        ready = is_ready.ready;
+        original = original.entry;
+        named = original.is;
+        approved = reversible-approved kept reversal original.entry (subst (λ (o : Option TheEntry). is_irreversible kept reversal o ≡ false) original.is passes.reversible);
+        next = asking-kept header (requests.Reversal reversal) is_ready.last asking (ltb-false slots (length kept + (open_count_of kept + 2)) passes.room) read names
+            (begins-asked known 0 0 header (requests.Reversal reversal) terminal is_ready.last asking begin is_ready.ready (ap (option_map (reversal_asking known header is_ready.last)) original.is));
+      }
 
 -- ---- what begins at a terminal
+
+-- what is known says that the service begins at the terminal of this number, which has the POIID of the request
+record ServiceBegins (known : Known) (pt : ℕ) (header : Header) (request : SaleRequest) (terminal : Terminal) : Type 0 where
+  poi : terminal.pt.poi ≡ header.poi
+  begins : step_result known header request (Some (record { number = pt; terminal = terminal })) ≡ Begins
+
+service-begins : (known : Known) (pt : ℕ) (header : Header) (request : SaleRequest) (terminal : Terminal) → slice_get known.core.terminals pt ≡ Some terminal
+    → service_items known 0 header request (named_terminal known.core header.poi) ≡ Serve pt 0 header request ∷ [] → ServiceBegins known pt header request terminal
+service-begins known pt header request terminal found begun =
+    let serves : ServesNamed header header request request pt (named_terminal known.core header.poi) (step_result known header request (named_terminal known.core header.poi)) =
+    serves-named 0 pt header header request request (named_terminal known.core header.poi) (step_result known header request (named_terminal known.core header.poi)) begun in
+    let same : serves.terminal ≡ terminal = same_Some serves.terminal terminal (sym (named-there known.core header.poi pt serves.terminal serves.named_is) ∙ found) in
+    record {
+      poi = subst (λ (t : Terminal). t.pt.poi ≡ header.poi) same (named-poi known.core header.poi pt serves.terminal serves.named_is);
+      begins = subst (λ (t : Terminal). step_result known header request (Some (record { number = pt; terminal = t })) ≡ Begins) same
+          (ap (step_result known header request) (sym serves.named_is) ∙ serves.result_is);
+    }
+
+-- what is known says that the terminal of this number serves the key that an Abort names
+key-served : (known : Known) (pt : ℕ) (header : Header) (reference : Reference) (terminal : Terminal) → slice_get known.core.terminals pt ≡ Some terminal
+    → stop_items known 0 header reference ≡ Serve pt 0 header (requests.Abort reference) ∷ [] → serves_key known.kept (key_of header reference) terminal ≡ true
+key-served known pt header reference terminal found begun =
+    let key = key_of header reference in
+    let stops : StopsNamed known.kept header header reference (requests.Abort reference) pt (named_terminal known.core key.poi) =
+    stops-named known 0 pt header header reference (requests.Abort reference) (named_terminal known.core key.poi) begun in
+    let same : stops.terminal ≡ terminal = same_Some stops.terminal terminal (sym (named-there known.core key.poi pt stops.terminal stops.named_is) ∙ found) in
+    subst (λ (t : Terminal). serves_key known.kept key t ≡ true) same stops.serves
+
+-- the terminal at which a service begins is there
+service-there : (known : Known) (pt : ℕ) (header : Header) (request : SaleRequest) → service_items known 0 header request (named_terminal known.core header.poi) ≡ Serve pt 0 header request ∷ [] → pt < length known.core.terminals
+service-there known pt header request begun =
+    let serves = serves-named 0 pt header header request request (named_terminal known.core header.poi) (step_result known header request (named_terminal known.core header.poi)) begun in
+    there-within known.core.terminals pt serves.terminal (named-there known.core header.poi pt serves.terminal serves.named_is)
+
+-- and so is every terminal at which a request begins
+begun-there : (known : Known) (pt : ℕ) (header : Header) (request : SaleRequest) → begun_by known 0 (Request header request) ≡ Serve pt 0 header request ∷ [] → pt < length known.core.terminals
+begun-there known pt header requests.Login begun = absurd cc
+begun-there known pt header requests.Logout begun = absurd cc
+begun-there known pt header (requests.Payment payment) begun = service-there known pt header (requests.Payment payment) begun
+begun-there known pt header (requests.Reversal reversal) begun = service-there known pt header (requests.Reversal reversal) begun
+begun-there known pt header (requests.Abort reference) begun =
+    let key = key_of header reference in
+    let stops = stops-named known 0 pt header header reference (requests.Abort reference) (named_terminal known.core key.poi) begun in
+    there-within known.core.terminals pt stops.terminal (named-there known.core key.poi pt stops.terminal stops.named_is)
+begun-there known pt header (requests.Status reference) begun = absurd cc
+begun-there known pt header (requests.Reconciliation period) begun = service-there known pt header (requests.Reconciliation period) begun
+begun-there known pt header (requests.Display outputs) begun = absurd cc
+begun-there known pt header (requests.Print qualifier) begun = absurd cc
+begun-there known pt header requests.Diagnosis begun = absurd cc
 
 -- a gateway that remembers and keeps this
 abbrev known_kept : Gateway → List Record → CoreValue → ℕ → Known
 known_kept gateway kept core moment =
     known_with (record { name = gateway.name; listen = []; journal = []; line = 0; wait = 0; slots = gateway.slots; terminals = [] }) kept core moment
 
-module _ (gateway : Gateway) (kept : List Record) (core : CoreValue) (moment pt : ℕ) (header : Header) (payment : PaymentAsk) (at : BeginsAt gateway kept core moment pt header payment) where
-  begins-kept : step_result (known_kept gateway kept core moment) header (requests.Payment payment) (Some (record { number = pt; terminal = at.terminal })) ≡ Begins
-  begins-kept = at.begins (known_kept gateway kept core moment) (record { name_is = refl; slots_is = refl; kept_is = refl; core_is = refl; moment_is = refl })
+module _ (gateway : Gateway) (kept : List Record) (core : CoreValue) (moment pt : ℕ) (header : Header) where
+  begins-own : (request : SaleRequest) → BeginsAt gateway kept core moment pt header request → begun_by (known_kept gateway kept core moment) 0 (Request header request) ≡ Serve pt 0 header request ∷ []
+  begins-own request at = at.begins (known_kept gateway kept core moment) (record { name_is = refl; slots_is = refl; kept_is = refl; core_is = refl; moment_is = refl }) 0
 
-  -- the terminal is the one of this number
-  pub begins-there : (terminal : Terminal) → slice_get core.terminals pt ≡ Some terminal → at.terminal ≡ terminal
-  begins-there terminal found = same_Some at.terminal terminal (sym (named-there core header.poi pt at.terminal at.named) ∙ found)
+  -- the terminal is there
+  pub begins-within : (request : SaleRequest) → BeginsAt gateway kept core moment pt header request → pt < length core.terminals
+  begins-within request at = begun-there (known_kept gateway kept core moment) pt header request (begins-own request at)
 
-  -- it is ready
-  pub begins-ready : (terminal : Terminal) → slice_get core.terminals pt ≡ Some terminal → is_ready_standing terminal.standing ≡ true
-  begins-ready terminal found =
-      subst (λ (t : Terminal). is_ready_standing t.standing ≡ true) (begins-there terminal found) (may-begin (known_kept gateway kept core moment) header (requests.Payment payment) pt at.terminal begins-kept).ready
-
-  -- its Intent may be kept next
-  pub begins-fits : EachRowKeepsInOrder → AreFolded kept → AreTerminalsInOrder kept core → gateway.slots ≤ 1000000 → IsMoment (pos moment) → (terminal : Terminal) → slice_get core.terminals pt ≡ Some terminal → IsPt terminal.pt
-      → (last : ℕ) → terminal.standing ≡ Ready last → MayBeKept kept (Intent (payment_intent header payment terminal.pt.currency last moment))
-  begins-fits rows folded order greatest moment_is terminal found settings last ready =
-      let same = begins-there terminal found in
-      intent-kept kept terminal gateway.slots moment rows folded settings (order pt terminal found) greatest moment_is header payment
-      (subst (λ (t : Terminal). step_result (known_kept gateway kept core moment) header (requests.Payment payment) (Some (record { number = pt; terminal = t })) ≡ Begins) same begins-kept) at.read
-      (subst (λ (t : Terminal). t.pt.poi ≡ header.poi) same (named-poi core header.poi pt at.terminal at.named)) last ready
+  -- it has what it needs for what begins
+  pub begins-may : (request : SaleRequest) → BeginsAt gateway kept core moment pt header request → (terminal : Terminal) → slice_get core.terminals pt ≡ Some terminal → IsAlone kept terminal gateway.slots moment
+      → MayBegin kept moment header request terminal
+  begins-may requests.Login at terminal found alone = let begun = begins-own requests.Login at in absurd cc
+  begins-may requests.Logout at terminal found alone = let begun = begins-own requests.Logout at in absurd cc
+  begins-may (requests.Payment payment) at terminal found alone =
+      let begin = service-begins (known_kept gateway kept core moment) pt header (requests.Payment payment) terminal found (begins-own (requests.Payment payment) at) in
+      may-pay kept terminal gateway.slots moment alone header payment begin.begins at.read begin.poi
+  begins-may (requests.Reversal reversal) at terminal found alone =
+      let begin = service-begins (known_kept gateway kept core moment) pt header (requests.Reversal reversal) terminal found (begins-own (requests.Reversal reversal) at) in
+      may-reverse kept terminal gateway.slots moment alone header reversal begin.begins at.read begin.poi
+  begins-may (requests.Abort reference) at terminal found alone = tt
+  begins-may (requests.Status reference) at terminal found alone = let begun = begins-own (requests.Status reference) at in absurd cc
+  begins-may (requests.Reconciliation period) at terminal found alone =
+      let begin = service-begins (known_kept gateway kept core moment) pt header (requests.Reconciliation period) terminal found (begins-own (requests.Reconciliation period) at) in
+      let passes = passes-steps (known_kept gateway kept core moment) header (requests.Reconciliation period) (Some (record { number = pt; terminal = terminal })) (ap is_beginning begin.begins) in
+      let served = passes.served in
+      absurd cc
+  begins-may (requests.Display outputs) at terminal found alone = let begun = begins-own (requests.Display outputs) at in absurd cc
+  begins-may (requests.Print qualifier) at terminal found alone = let begun = begins-own (requests.Print qualifier) at in absurd cc
+  begins-may requests.Diagnosis at terminal found alone = let begun = begins-own requests.Diagnosis at in absurd cc
 
   -- what is known is this, beside the setup
   known-is : (known : Known) → IsKnownAt gateway kept core moment known → known_with known.setup kept core moment ≡ known
@@ -178,17 +337,38 @@ module _ (gateway : Gateway) (kept : List Record) (core : CoreValue) (moment pt 
       ∙ ap (λ (records : List Record). known_with known.setup records known.core moment) (sym is.kept_is)
       ∙ ap (λ (m : ℕ). known_with known.setup known.kept known.core m) (sym is.moment_is)
 
-  -- what a terminal that is ready begins is what the row says
-  pub begins-row : (till : ℕ) (terminal new : Terminal) (acts : Acts) → slice_get core.terminals pt ≡ Some terminal
-      → ((setup : Setup) → IsRow kept (begins_in (known_with setup kept core moment) pt till header payment terminal terminal.standing) (with_terminal core pt new) acts)
-      → (known : Known) → IsKnownAt gateway kept core moment known → IsRow kept (serve_row known pt till header (requests.Payment payment)) (with_terminal core pt new) acts
-  begins-row till terminal new acts found begun known is =
+  -- at the terminal that is there, the row of a service that begins is that of what begins there
+  service-row : (known : Known) (till : ℕ) (request : SaleRequest) (terminal : Terminal) → slice_get known.core.terminals pt ≡ Some terminal
+      → service_items known 0 header request (named_terminal known.core header.poi) ≡ Serve pt 0 header request ∷ []
+      → of_terminal known (begins_request known pt till header request) (slice_get known.core.terminals pt) ≡ begins_in known pt till header request terminal terminal.standing
+  service-row known till request terminal found begun =
+      let begin = service-begins known pt header request terminal found begun in
+      ap (of_terminal known (begins_request known pt till header request)) found
+      ∙ ap (λ (result : StepResult). owing_where (is_beginning result) known (begins_in known pt till header request terminal terminal.standing)) begin.begins
+
+  -- and so it is of each request that begins
+  begun-is : (known : Known) (till : ℕ) (request : SaleRequest) (terminal : Terminal) → slice_get known.core.terminals pt ≡ Some terminal
+      → begun_by known 0 (Request header request) ≡ Serve pt 0 header request ∷ [] → serve_row known pt till header request ≡ begun_row known pt till header terminal request
+  begun-is known till requests.Login terminal found begun = refl
+  begun-is known till requests.Logout terminal found begun = refl
+  begun-is known till (requests.Payment payment) terminal found begun = service-row known till (requests.Payment payment) terminal found begun
+  begun-is known till (requests.Reversal reversal) terminal found begun = service-row known till (requests.Reversal reversal) terminal found begun
+  begun-is known till (requests.Abort reference) terminal found begun =
+      let serves = key-served known pt header reference terminal found begun in
+      ap (of_terminal known (stops_key known pt (key_of header reference))) found
+      ∙ ap (λ (test : Bool). owing_where test known (wishes_stop known pt terminal terminal.talk)) serves
+  begun-is known till (requests.Status reference) terminal found begun = refl
+  begun-is known till (requests.Reconciliation period) terminal found begun = refl
+  begun-is known till (requests.Display outputs) terminal found begun = refl
+  begun-is known till (requests.Print qualifier) terminal found begun = refl
+  begun-is known till requests.Diagnosis terminal found begun = refl
+
+  -- what the terminal begins is what the row says
+  pub begins-row : (request : SaleRequest) → BeginsAt gateway kept core moment pt header request → (till : ℕ) (terminal new : Terminal) (acts : Acts) → slice_get core.terminals pt ≡ Some terminal
+      → ((setup : Setup) → IsRow kept (begun_row (known_with setup kept core moment) pt till header terminal request) (with_terminal core pt new) acts)
+      → (known : Known) → IsKnownAt gateway kept core moment known → IsRow kept (serve_row known pt till header request) (with_terminal core pt new) acts
+  begins-row request at till terminal new acts found begun known is =
       let own : Known = known_with known.setup kept core moment in
-      let begin : step_result own header (requests.Payment payment) (Some (record { number = pt; terminal = terminal })) ≡ Begins =
-      subst (λ (t : Terminal). step_result own header (requests.Payment payment) (Some (record { number = pt; terminal = t })) ≡ Begins) (begins-there terminal found)
-      (at.begins own (record { name_is = is.name_is; slots_is = is.slots_is; kept_is = refl; core_is = refl; moment_is = refl })) in
-      let row : serve_row own pt till header (requests.Payment payment) ≡ begins_in own pt till header payment terminal terminal.standing =
-      ap (of_terminal own (begins_payment own pt till header payment)) found
-      ∙ ap (λ (result : StepResult). owing_where (is_beginning result) own (begins_in own pt till header payment terminal terminal.standing)) begin in
-      subst (λ (k : Known). IsRow kept (serve_row k pt till header (requests.Payment payment)) (with_terminal core pt new) acts) (known-is known is)
+      let row = begun-is own till request terminal found (at.begins own (record { name_is = is.name_is; slots_is = is.slots_is; kept_is = refl; core_is = refl; moment_is = refl }) 0) in
+      subst (λ (k : Known). IsRow kept (serve_row k pt till header request) (with_terminal core pt new) acts) (known-is known is)
       (subst (λ (r : Row). IsRow kept r (with_terminal core pt new) acts) (sym row) (begun known.setup))

@@ -1,12 +1,10 @@
 -- What a terminal becomes, and what the core remembers then.
-use Rattle.std.proofs.Common.{◌≡◌, ◌<◌, ◌≤◌, ◌^◌, ℕ, zero, suc, List, [], ◌∷◌, refl, sym, ◌∙◌, ap, subst, arith, Bool, true, false}
+use Rattle.std.proofs.Common.{◌≡◌, ◌<◌, ◌≤◌, ◌+◌, ◌*◌, ◌^◌, ℕ, zero, suc, List, [], ◌∷◌, refl, sym, ◌∙◌, ap, subst, arith, Bool, true, false}
 use Rattle.std.specs.Prelude.{pos, set, slice_get, length, get_or, Option, Some, None}
 use Rattle.std.specs.Option.{option_map}
 use Rattle.std.proofs.lemmas.Option.{slice_get_read}
 use Rattle.zvt_msg.specs.Message.{MessageValue, Ack, Nack, Intermediate, Line, Block, Status, Completion, Abort, Other}
 use Rattle.zvt_talk.specs.declared.meaning.Heard.{Heard}
-use Rattle.zvt_talk.specs.declared.phase.Phase.{Phase}
-use Rattle.zvt_talk.specs.declared.phase.Phase.TheVariants.{Asked, Begun, Ended}
 use Rattle.zvt_talk.specs.Came.{is_taken}
 use Rattle.zvt_talk.specs.Talk.{TalkFacts}
 use Rattle.zvt_talk.specs.TalkSteps.{next_talk}
@@ -19,8 +17,8 @@ use Rattle.gw_owes.specs.Row.{Known, Row, owing_nothing, owing_where}
 use Rattle.gw_owes.specs.Terminals.{with_terminal}
 use Rattle.gw_owes.specs.Links.{is_linked}
 use Rattle.gw_owes.specs.Handling.{awaited_after, taken_as, meaning_at, taking, consequence, handle_message, handled_row}
-use Rattle.gw_owes.specs.Dialogues.{AwaitedIn, IsDialogueOf, HasItsDialogue}
-use Rattle.gw_owes.specs.RecordLaws.{AreRecordsOf}
+use Rattle.gw_owes.specs.Dialogues.{IsDialogueOf, HasItsDialogue}
+use Rattle.gw_owes.specs.RecordLaws.{AreRecordsOf, IsTerminalInOrder, commands_left}
 use Rattle.gw_core.specs.declared.act.Acts.{Acts}
 use Rattle.gw_core.specs.IsRow.{IsRow, ServesNoOther, alone}
 
@@ -43,27 +41,18 @@ no-more Completion awaited = omega arith
 no-more (Abort result_code) awaited = omega arith
 no-more Other awaited = omega arith
 
-one-in : (phase : Phase) (awaited : ℕ) → AwaitedIn phase awaited → awaited ≤ 1
-one-in (Asked stop_wished) awaited e = let is : awaited ≡ 1 = e.1 in omega arith
-one-in (Begun stop_sent statuses) awaited e = let is : awaited ≡ 0 = e.1 in omega arith
-one-in (Ended stop_sent) awaited e = absurd e
+-- of a terminal that is in order few are awaited, since its gateway has few records
+pub few-in-order : (kept : List Record) (terminal : Terminal) → IsTerminalInOrder kept terminal → length kept ≤ 1000000 → terminal.awaited < 2 ^ 31
+few-in-order kept terminal order records =
+    let few : terminal.awaited + commands_left terminal.standing terminal.talk ≤ 2 * length kept + 2 = order.few in
+    omega arith
 
-one-of : (standing : Standing) (talk : Option TalkFacts) (awaited : ℕ) → IsDialogueOf standing talk awaited → awaited ≤ 1
-one-of (Unlinked due) talk awaited d = let e : awaited ≡ 0 = d.awaited_is in omega arith
-one-of Registering talk awaited d = one-in d.facts.phase awaited d.awaited_is
-one-of Enquiring talk awaited d = one-in d.facts.phase awaited d.awaited_is
-one-of (Ready last) talk awaited d = let e : awaited ≡ 0 = d.awaited_is in omega arith
-one-of (Serving (Transaction slot) last) talk awaited d = one-in d.facts.phase awaited d.awaited_is
-one-of (Serving (EndOfDay header period) last) talk awaited d = absurd d
-one-of (Serving (Display header outputs) last) talk awaited d = absurd d
-one-of (Aside before reported) talk awaited d = let e : awaited ≡ 0 = d.awaited_is in omega arith
-
--- so there is room for one more
-pub few : (terminal after : Terminal) (message : MessageValue) (moment : ℕ) → HasItsDialogue terminal → after ≡ taking terminal message moment → after.awaited < 2 ^ 31
-few terminal after message moment has is =
+-- so there is room for one more, also after a message
+pub few : (kept : List Record) (terminal after : Terminal) (message : MessageValue) (moment : ℕ) → IsTerminalInOrder kept terminal → length kept ≤ 1000000 → after ≡ taking terminal message moment → after.awaited < 2 ^ 31
+few kept terminal after message moment order records is =
     let e : after.awaited ≡ awaited_after message terminal.awaited = ap (λ (t : Terminal). t.awaited) is in
     let l : awaited_after message terminal.awaited ≤ terminal.awaited = no-more message terminal.awaited in
-    let o : terminal.awaited ≤ 1 = one-of terminal.standing terminal.talk terminal.awaited has in
+    let o : terminal.awaited < 2 ^ 31 = few-in-order kept terminal order records in
     omega arith
 
 -- ---- what it has taken changes neither its standing nor its settings
@@ -100,7 +89,7 @@ set-same (first ∷ rest) zero one found = ap (λ t. t ∷ rest) (some-same one 
 set-same (first ∷ rest) (suc at) one found = ap (λ l. first ∷ l) (set-same rest at one found)
 
 -- nothing is owed, and the terminal stays as it is
-unchanged : (known : Known) (pt : ℕ) (terminal : Terminal) → slice_get known.core.terminals pt ≡ Some terminal → IsRow known.kept (owing_nothing known) (with_terminal known.core pt terminal) (alone None)
+pub unchanged : (known : Known) (pt : ℕ) (terminal : Terminal) → slice_get known.core.terminals pt ≡ Some terminal → IsRow known.kept (owing_nothing known) (with_terminal known.core pt terminal) (alone None)
 unchanged known pt terminal found = record {
   core_is = ap (λ (terminals : List Terminal). record known.core { terminals = terminals }) (set-same known.core.terminals pt terminal found);
   calls_are = refl;

@@ -1,5 +1,6 @@
 -- The lemmas of what a till gets for each message, and of what the core wants done.
 pub mod BeginLemmas
+pub mod BegunLemmas
 pub mod CoreLemmas
 pub mod HandlingLemmas
 pub mod KeptLemmas
@@ -9,3 +10,4 @@ pub mod ReplyLemmas
 pub mod ReportLemmas
 pub mod ServingLemmas
 pub mod StepLemmas
+pub mod StopLemmas

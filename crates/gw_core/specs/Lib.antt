@@ -1,3 +1,4 @@
 -- The definitions of what a till gets for each message, and of what the core wants done.
+pub mod Beginning
 pub mod IsRow
 pub mod ReplyOf

@@ -1,11 +1,11 @@
--- What the code gives to a till's message, beside what is owed: its reply, or a payment that begins.
-use Rattle.std.specs.Prelude.{◌≡◌, ◌≤◌, ℕ, List, [], ◌∷◌, length, Option, Some, None, IfSome, Result, Ok, Err}
+-- What the code gives to a till's message, beside what is owed: its reply, or a request that begins.
+use Rattle.std.specs.Prelude.{◌≡◌, ◌≤◌, ℕ, true, false, List, [], ◌∷◌, length, Option, Some, None, IfSome, Result, Ok, Err}
 use Rattle.gw_base.specs.declared.condition.Condition.{Condition}
 use Rattle.gw_base.specs.declared.condition.Condition.TheVariants.{Busy}
+use Rattle.gw_base.specs.declared.key.Key.{Key}
 use Rattle.jrn_record.specs.declared.records.Record.{Record}
 use Rattle.gw_ledger.specs.declared.entry.Found.{Found}
 use Rattle.sale_values.specs.declared.header.Header.{Header}
-use Rattle.sale_values.specs.declared.request.PaymentAsk.{PaymentAsk}
 use Rattle.sale_values.specs.declared.request.SaleRequest.{SaleRequest}
 use Rattle.sale_values.specs.declared.request.SaleRequest.TheVariants.{Login, Logout, Payment, Reversal, Abort, Status, Reconciliation, Display, Print, Diagnosis}
 use Rattle.sale_reply.specs.declared.reply.SaleReply.{SaleReply}
@@ -16,13 +16,14 @@ use Rattle.gw_owes.specs.Reply.{ReplyValue, reply_value_tree}
 use Rattle.gw_owes.specs.ReadAs.{ReadAs, IsReadAs, Request}
 use Rattle.gw_owes.specs.Core.{Core as CoreValue}
 use Rattle.gw_owes.specs.declared.terminal.Terminal.{Terminal}
-use Rattle.gw_owes.specs.Diagnosis.{NamedTerminal, named_terminal}
+use Rattle.gw_owes.specs.Diagnosis.{NamedTerminal}
 use Rattle.gw_owes.specs.Items.{RoundItem, Serve}
 use Rattle.gw_owes.specs.RecordLaws.{IsReadFromTill}
 use Rattle.gw_owes.specs.Row.{Known, Row}
 use Rattle.gw_owes.specs.Rows.{asked_row}
 use Rattle.gw_owes.specs.Requests.{reply_to, begun_by}
-use Rattle.gw_owes.specs.Steps.{StepResult, Fails, Begins, step_result, first_result, service_items, service_reply, steps}
+use Rattle.gw_owes.specs.Steps.{StepResult, Fails, Begins, first_result, service_items, service_reply, steps}
+use Rattle.gw_owes.specs.Stops.{serves_key}
 use Rattle.gw_core.specs.declared.gateway.Gateway.{Gateway}
 use Rattle.gw_core.specs.declared.till.Given.{Given}
 use Rattle.gw_core.specs.declared.till.Given.TheVariants as given
@@ -54,13 +55,13 @@ pub record IsKnownAt (gateway : Gateway) (kept : List Record) (core : CoreValue)
 abbrev pub reply_given : Given → Option SaleReply
 reply_given given.Nothing = None
 reply_given (given.Reply reply) = Some reply
-reply_given (given.Begins pt header payment) = None
+reply_given (given.Begins pt header request) = None
 
--- what a round handles next for what is given to this till: where a payment begins, its terminal begins to serve it
+-- what a round handles next for what is given to this till: where a request begins, its terminal begins to serve it
 abbrev pub items_given : ℕ → Given → List RoundItem
 items_given till given.Nothing = []
 items_given till (given.Reply reply) = []
-items_given till (given.Begins pt header payment) = Serve pt till header (Payment payment) ∷ []
+items_given till (given.Begins pt header request) = Serve pt till header request ∷ []
 
 -- what is given is the reply to what was read, or else what that begins
 pub record IsGivenFor (known : Known) (as_read : ReadAs) (wanted : Given) : Type 0 where
@@ -98,18 +99,16 @@ pub record IsAskedRow (gateway : Gateway) (kept : List Record) (core : CoreValue
 abbrev pub IsGivenWithinLimits : Given → Type 0
 IsGivenWithinLimits wanted = IfSome (reply_given wanted) IsWithinLimits
 
--- a payment begins at the terminal of this number: it was read from a till's bytes, its POIID names the terminal, and the steps say so, whatever else is in the setup of such a gateway
-pub record BeginsAt (gateway : Gateway) (kept : List Record) (core : CoreValue) (moment pt : ℕ) (header : Header) (payment : PaymentAsk) : Type 0 where
-  pub read : IsReadFromTill (Request header (Payment payment))
-  pub terminal : Terminal
-  pub named : named_terminal core header.poi ≡ Some (record { number = pt; terminal = terminal })
-  pub begins : (known : Known) → IsKnownAt gateway kept core moment known → step_result known header (Payment payment) (Some (record { number = pt; terminal = terminal })) ≡ Begins
+-- a request begins at the terminal of this number: it was read from a till's bytes, and it brings just this, whatever else is in the setup of such a gateway
+pub record BeginsAt (gateway : Gateway) (kept : List Record) (core : CoreValue) (moment pt : ℕ) (header : Header) (request : SaleRequest) : Type 0 where
+  pub read : IsReadFromTill (Request header request)
+  pub begins : (known : Known) → IsKnownAt gateway kept core moment known → (till : ℕ) → begun_by known till (Request header request) ≡ Serve pt till header request ∷ []
 
--- where a payment is given, it begins
+-- where it is given that a request begins, it does
 abbrev pub IsGivenToBegin : Gateway → List Record → CoreValue → ℕ → Given → Type 0
 IsGivenToBegin gateway kept core moment given.Nothing = Unit {0}
 IsGivenToBegin gateway kept core moment (given.Reply reply) = Unit {0}
-IsGivenToBegin gateway kept core moment (given.Begins pt header payment) = BeginsAt gateway kept core moment pt header payment
+IsGivenToBegin gateway kept core moment (given.Begins pt header request) = BeginsAt gateway kept core moment pt header request
 
 -- ---- inner
 
@@ -126,6 +125,13 @@ refused_or_begun (Some condition) = Fails condition
 abbrev pub IsBegunOrRefused : Option NamedTerminal → StepResult → Result ℕ Condition → Type 0
 IsBegunOrRefused named result (Ok pt) = ((terminal : Terminal) × (named ≡ Some (record { number = pt; terminal = terminal }))) × (result ≡ Begins)
 IsBegunOrRefused named result (Err condition) = result ≡ Fails condition
+
+-- Inner: the terminal of this number is the one that is named, and serves the payment or the reversal of this key; or none that is named does
+abbrev pub IsServedBy : List Record → Key → Option NamedTerminal → Option ℕ → Type 0
+IsServedBy kept key None None = Unit {0}
+IsServedBy kept key None (Some pt) = ⊥
+IsServedBy kept key (Some named) None = serves_key kept key named.terminal ≡ false
+IsServedBy kept key (Some named) (Some pt) = (named.number ≡ pt) × (serves_key kept key named.terminal ≡ true)
 
 -- Inner: what is given is the reply of the steps, or else what they begin
 pub record IsGivenByService (known : Known) (header : Header) (request : SaleRequest) (named : Option NamedTerminal) (wanted : Given) : Type 0 where

@@ -1,23 +1,29 @@
-//! A payment begins: its Intent is kept, and then its terminal is asked.
-ghost use Rattle.std.specs.Prelude.{◌≡◌, ◌<◌, ◌^◌, ℕ, true, List, IfSome};
+//! A request begins at its terminal: the Intent of a payment or a reversal is kept, and then the terminal is asked; at an Abort it is to stop
+//! what it serves.
+ghost use Rattle.std.specs.Prelude.{◌≡◌, ◌<◌, ◌^◌, true, IfSome, Some, slice_get};
+ghost use Rattle.std.specs.Option.{option_copied};
 ghost use Rattle.gw_base.specs.Moment.{IsMoment, moment_of};
 ghost use Rattle.gw_base.specs.Setup.{IsPt};
 ghost use Rattle.gw_base.specs.declared.setup.Setup.{Setup};
 ghost use Rattle.jrn_record.specs.Limits.{IsIntent};
-ghost use Rattle.jrn_record.specs.declared.records.Record.{Record as TheRecord};
+ghost use Rattle.sale_values.specs.declared.request.SaleRequest.TheVariants.{Payment, Reversal};
+ghost use Rattle.xlate.specs.Ask.{HasItsOriginal, IsOriginalWithinLimits};
 ghost use Rattle.gw_owes.specs.Core.{Core as CoreValue};
-ghost use Rattle.gw_owes.specs.Payments.{begins_in, payment_intent};
+ghost use Rattle.gw_owes.specs.Payments.{beginning_row, begins_in, payment_intent};
 ghost use Rattle.gw_owes.specs.Steps.{is_ready_standing};
 ghost use Rattle.gw_owes.specs.Terminals.{with_terminal};
+ghost use Rattle.gw_core.specs.Beginning.{MayBegin, MayPay, MayReverse, begun_row};
 ghost use Rattle.gw_core.specs.IsRow.{IsRow, IsWantedAt, MayBeKept, ServesNoOther, known_with};
 
 use crate::act::Acts;
 use crate::handling::ask;
+use crate::reversals::{original_of, reversal_intent};
+use crate::stops::wish_stop;
 use gw_base::Currency;
-use gw_ledger::Ledger;
+use gw_ledger::{Entry, Ledger, law_named, law_within};
 use gw_owes::{Service, Standing, Terminal};
 use jrn_record::{Deal, Intent, Record};
-use sale_msg::{Header, PaymentAsk};
+use sale_msg::{Header, PaymentAsk, ReversalAsk, SaleRequest};
 use xlate::{command_of, law_commands};
 
 /// The last trace number of a terminal that is ready.
@@ -63,36 +69,35 @@ fn payment_intent(
     }
 }
 
-/// A terminal that is ready begins to serve a payment for this till.
-pub(crate) fn begin_payment(
+/// A terminal is asked for what an Intent says, which is kept first, and serves it for this till.
+fn begin_asking(
     terminal: &mut Terminal,
     ledger: &Ledger,
     pt: u16,
     till: u64,
-    header: &Header,
-    payment: &PaymentAsk,
+    intent: Intent,
+    original: Option<&Entry>,
     now: i64,
 ) -> Acts
     requires moment { IsMoment now }
     requires few { terminal.old.awaited < 2 ^ 31 }
     requires settings { IsPt terminal.old.pt }
-    requires ready { is_ready_standing terminal.old.standing ≡ true }
-    requires kept { (last : ℕ) → terminal.old.standing ≡ Standing.Ready last
-        → MayBeKept ledger.now.records (Record.Intent (payment_intent header.now payment.now terminal.old.pt.currency last (moment_of now))) }
+    requires kept { MayBeKept ledger.now.records (Record.Intent intent) }
+    requires original { HasItsOriginal intent.what intent.original (option_copied original) }
+    requires limits { IsOriginalWithinLimits (option_copied original) }
     ensures row { (setup : Setup) (core : CoreValue)
-        → IsRow ledger.now.records (begins_in (known_with setup ledger.now.records core (moment_of now)) pt till header.now payment.now terminal.old terminal.old.standing) (with_terminal core pt terminal.new) result }
+        → IsRow ledger.now.records (beginning_row (known_with setup ledger.now.records core (moment_of now)) pt till terminal.old intent.before intent (option_copied original.entry)) (with_terminal core pt terminal.new) result }
     ensures kept { IfSome result.keep (MayBeKept ledger.now.records) }
     ensures wanted { IfSome result.act (IsWantedAt pt) }
     ensures settings { terminal.new.pt ≡ terminal.old.pt }
     ensures others { ServesNoOther terminal.new.standing }
 {
     law_commands();
-    let last = last_number(&terminal.standing);
-    let intent = payment_intent(header, payment, terminal.pt.currency, last, now);
-    let command = command_of(&intent, None, &terminal.pt);
+    let command = command_of(&intent, original, &terminal.pt);
     let service = Service::Transaction {
         slot: ledger.records(),
     };
+    let last = intent.before;
     let act = ask(
         terminal,
         pt,
@@ -104,5 +109,102 @@ pub(crate) fn begin_payment(
     Acts {
         keep: Some(Record::Intent(intent)),
         act: Some(act),
+    }
+}
+
+/// A terminal that is ready begins to serve a payment for this till.
+fn begin_payment(
+    terminal: &mut Terminal,
+    ledger: &Ledger,
+    pt: u16,
+    till: u64,
+    header: &Header,
+    payment: &PaymentAsk,
+    now: i64,
+) -> Acts
+    requires moment { IsMoment now }
+    requires few { terminal.old.awaited < 2 ^ 31 }
+    requires settings { IsPt terminal.old.pt }
+    requires begins { MayPay ledger.now.records (moment_of now) header.now payment.now terminal.old }
+    ensures row { (setup : Setup) (core : CoreValue)
+        → IsRow ledger.now.records (begins_in (known_with setup ledger.now.records core (moment_of now)) pt till header.now (Payment payment.now) terminal.old terminal.old.standing) (with_terminal core pt terminal.new) result }
+    ensures kept { IfSome result.keep (MayBeKept ledger.now.records) }
+    ensures wanted { IfSome result.act (IsWantedAt pt) }
+    ensures settings { terminal.new.pt ≡ terminal.old.pt }
+    ensures others { ServesNoOther terminal.new.standing }
+{
+    let last = last_number(&terminal.standing);
+    let intent = payment_intent(header, payment, terminal.pt.currency, last, now);
+    begin_asking(terminal, ledger, pt, till, intent, None, now)
+}
+
+/// A terminal that is ready begins to serve a reversal for this till.
+fn begin_reversal(
+    terminal: &mut Terminal,
+    ledger: &Ledger,
+    pt: u16,
+    till: u64,
+    header: &Header,
+    reversal: &ReversalAsk,
+    now: i64,
+) -> Acts
+    requires moment { IsMoment now }
+    requires few { terminal.old.awaited < 2 ^ 31 }
+    requires settings { IsPt terminal.old.pt }
+    requires begins { MayReverse ledger.now.records (moment_of now) header.now reversal.now terminal.old }
+    ensures row { (setup : Setup) (core : CoreValue)
+        → IsRow ledger.now.records (begins_in (known_with setup ledger.now.records core (moment_of now)) pt till header.now (Reversal reversal.now) terminal.old terminal.old.standing) (with_terminal core pt terminal.new) result }
+    ensures kept { IfSome result.keep (MayBeKept ledger.now.records) }
+    ensures wanted { IfSome result.act (IsWantedAt pt) }
+    ensures settings { terminal.new.pt ≡ terminal.old.pt }
+    ensures others { ServesNoOther terminal.new.standing }
+{
+    ledger.law_folded();
+    law_named();
+    law_within();
+    let last = last_number(&terminal.standing);
+    let original = match original_of(ledger, &header.poi, reversal) {
+        Some(original) => original,
+        // The steps have found it.
+        None => unreachable!(),
+    };
+    let intent = reversal_intent(header, &original, last, now);
+    begin_asking(terminal, ledger, pt, till, intent, Some(&original), now)
+}
+
+/// A terminal begins what a request of this till asks for.
+pub(crate) fn begin_request(
+    terminal: &mut Terminal,
+    ledger: &Ledger,
+    pt: u16,
+    till: u64,
+    header: &Header,
+    request: &SaleRequest,
+    now: i64,
+) -> Acts
+    requires moment { IsMoment now }
+    requires few { terminal.old.awaited < 2 ^ 31 }
+    requires settings { IsPt terminal.old.pt }
+    requires others { ServesNoOther terminal.old.standing }
+    requires begins { MayBegin ledger.now.records (moment_of now) header.now request.now terminal.old }
+    ensures row { (setup : Setup) (core : CoreValue) → slice_get core.terminals pt ≡ Some terminal.old
+        → IsRow ledger.now.records (begun_row (known_with setup ledger.now.records core (moment_of now)) pt till header.now terminal.old request.now) (with_terminal core pt terminal.new) result }
+    ensures kept { IfSome result.keep (MayBeKept ledger.now.records) }
+    ensures wanted { IfSome result.act (IsWantedAt pt) }
+    ensures settings { terminal.new.pt ≡ terminal.old.pt }
+    ensures others { ServesNoOther terminal.new.standing }
+{
+    match request {
+        SaleRequest::Payment(payment) => {
+            begin_payment(terminal, ledger, pt, till, header, payment, now)
+        }
+        SaleRequest::Reversal(reversal) => {
+            begin_reversal(terminal, ledger, pt, till, header, reversal, now)
+        }
+        SaleRequest::Abort(_) => Acts {
+            keep: None,
+            act: wish_stop(terminal, pt),
+        },
+        _ => unreachable!(),
     }
 }

@@ -28,7 +28,7 @@ fn is_same_payment(ask: &PaymentAsk, intent: &Intent) -> bool
 }
 
 /// Whether the amount is that of the reversal; an absent one means the original's, which the Intent has.
-fn is_same_amount(reversed: Option<u64>, amount: u64) -> bool
+pub(crate) fn is_same_amount(reversed: Option<u64>, amount: u64) -> bool
     ensures { result ≡ is_same_amount reversed amount }
 {
     match reversed {

@@ -1,5 +1,5 @@
 //! What a message of a terminal means in each of its standings, and what follows from it.
-ghost use Rattle.std.specs.Prelude.{◌≡◌, ◌≢◌, ◌<◌, ◌^◌, ℕ, pos, true, List, IfSome, IsTrue, Some, option_map, slice_get};
+ghost use Rattle.std.specs.Prelude.{◌≡◌, ◌≢◌, ◌<◌, ◌^◌, pos, true, List, IfSome, IsTrue, Some, option_map, slice_get};
 ghost use Rattle.gw_base.specs.Moment.{IsMoment, moment_of};
 ghost use Rattle.gw_base.specs.Setup.{IsPt};
 ghost use Rattle.gw_base.specs.declared.setup.Setup.{Setup};
@@ -244,6 +244,7 @@ pub(crate) fn handle(
     if !is_taken(message) {
         return Acts::none();
     }
+    ledger.law_few();
     let heard = take(terminal, message, now);
     follow(terminal, ledger, pt, heard, now)
 }

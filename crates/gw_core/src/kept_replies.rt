@@ -15,7 +15,7 @@ use sale_reply::SaleReply;
 use xlate::reply_of;
 
 /// What the records have under a key.
-fn find(ledger: &Ledger, key: &Key) -> Option<Found>
+pub(crate) fn find(ledger: &Ledger, key: &Key) -> Option<Found>
     ensures found { result ≡ found_of ledger.now.records key.now }
     ensures within { IfSome result IsFoundWithin }
 {

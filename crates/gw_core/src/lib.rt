@@ -9,8 +9,10 @@ mod handling;
 mod kept_replies;
 mod refusal;
 mod reports;
+mod reversals;
 mod serving;
 mod steps;
+mod stops;
 mod terminals;
 mod till;
 

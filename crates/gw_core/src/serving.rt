@@ -1,4 +1,4 @@
-//! What a message means for a payment that a terminal serves: its end is kept, and then its till gets the reply.
+//! What a message means for a payment or a reversal that a terminal serves: its end is kept, and then its till gets the reply.
 ghost use Rattle.std.specs.Prelude.{◌≡◌, ◌<◌, ◌≤◌, ◌^◌, ◌++◌, ℕ, List, IfSome, IsTrue};
 ghost use Rattle.gw_base.specs.Moment.{IsMoment, moment_of};
 ghost use Rattle.gw_base.specs.declared.setup.Setup.{Setup};
@@ -149,7 +149,7 @@ pub(crate) fn resolve(
     }
 }
 
-/// A payment is approved. A trace number that isn't above the number before is not believed.
+/// A payment or a reversal is approved. A trace number that isn't above the number before is not believed.
 fn approved(
     terminal: &mut Terminal,
     ledger: &Ledger,
@@ -197,7 +197,7 @@ fn last_after_decline(last: u32, reported: Option<u32>) -> u32
     }
 }
 
-/// A payment is declined.
+/// A payment or a reversal is declined.
 fn declined(
     terminal: &mut Terminal,
     ledger: &Ledger,
@@ -226,7 +226,7 @@ fn declined(
 }
 
 /// A stop that was wished is sent, and the dialogue goes on.
-fn stop(terminal: &mut Terminal, pt: u16) -> Option<Act>
+pub(crate) fn stop(terminal: &mut Terminal, pt: u16) -> Option<Act>
     requires few { terminal.old.awaited < 2 ^ 31 }
     ensures row { (setup : Setup) (kept : List TheRecord) (core : CoreValue) (moment : ℕ)
         → IsRow kept (stops (known_with setup kept core moment) pt terminal.old) (with_terminal core pt terminal.new) (alone result) }
@@ -238,7 +238,7 @@ fn stop(terminal: &mut Terminal, pt: u16) -> Option<Act>
     Some(Act::SendPt(pt, Command::Stop))
 }
 
-/// What follows in a payment.
+/// What follows in a payment or a reversal.
 pub(crate) fn serving_transaction(
     terminal: &mut Terminal,
     ledger: &Ledger,

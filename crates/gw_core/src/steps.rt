@@ -1,17 +1,17 @@
 //! The steps of a Payment, a Reversal and a Reconciliation: the first that applies replies.
-ghost use Rattle.std.specs.Prelude.{◌≡◌, ◌∷◌, [], ℕ, false, None, Option, IfOk};
+ghost use Rattle.std.specs.Prelude.{◌≡◌, ℕ, false, None, Option};
 ghost use Rattle.gw_ledger.specs.Laws.{IsFoundWithin};
 ghost use Rattle.gw_owes.specs.Diagnosis.{NamedTerminal, named_terminal};
-ghost use Rattle.gw_owes.specs.Items.{Serve};
 ghost use Rattle.gw_owes.specs.KeptReplies.{found_for};
 ghost use Rattle.gw_owes.specs.Row.{Known};
 ghost use Rattle.gw_owes.specs.Steps.{asks_other_currency, is_last_of, is_out_of_service, is_ready_standing, is_unserved, is_used_up, lacks_room, reply_of_result};
-ghost use Rattle.gw_core.specs.ReplyOf.{AreSameReplies, IsBegunOrRefused, IsGivenByService, items_given, refused_or_begun, reply_given, result_by};
+ghost use Rattle.gw_core.specs.ReplyOf.{AreSameReplies, IsBegunOrRefused, IsGivenByService, refused_or_begun, result_by};
 
 use crate::content::{has_same_content, is_normal};
 use crate::gateway::Gateway;
 use crate::kept_replies::{found_for, kept_reply};
 use crate::refusal::refused;
+use crate::reversals::{names_irreversible, names_none};
 use crate::terminals::Core;
 use crate::till::Given;
 use gw_base::{Condition, Ident};
@@ -21,15 +21,15 @@ use gw_owes::{Standing, Terminal, law_on_record};
 use sale_msg::{Header, SaleRequest};
 use sale_reply::SaleReply;
 
-/// Whether the service isn't there: a payment whose type isn't `Normal`, and each request that isn't a payment.
+/// Whether the service isn't there: a payment whose type isn't `Normal`, and each request that is neither a payment nor a reversal.
 fn is_unserved(request: &SaleRequest) -> bool
     ensures { result ≡ is_unserved request.now }
 {
     match request {
         SaleRequest::Payment(ask) => !is_normal(&ask.kind),
+        SaleRequest::Reversal(_) => false,
         SaleRequest::Login
         | SaleRequest::Logout
-        | SaleRequest::Reversal(_)
         | SaleRequest::Abort(_)
         | SaleRequest::Status(_)
         | SaleRequest::Reconciliation(_)
@@ -119,14 +119,19 @@ fn refused_at(
     request: &SaleRequest,
     terminal: &Terminal,
 ) -> Option<Condition>
-    ensures steps { (known : Known) → known.kept ≡ ledger.now.records → known.setup.slots ≡ gateway.now.slots → (number : ℕ)
+    ensures { (known : Known) → known.kept ≡ ledger.now.records → known.setup.slots ≡ gateway.now.slots → (number : ℕ)
         → result_by known header.now request.now None (Some (record { number = number; terminal = terminal.now })) ≡ refused_or_begun result }
-    ensures served { result ≡ None → is_unserved request.now ≡ false }
 {
     if is_unserved(request) {
         return Some(Condition::UnavailableService);
     }
     if asks_other_currency(request, terminal) {
+        return Some(Condition::NotAllowed);
+    }
+    if names_none(ledger, &header.poi, request) {
+        return Some(Condition::NotFound);
+    }
+    if names_irreversible(ledger, &header.poi, request) {
         return Some(Condition::NotAllowed);
     }
     if is_used_up(ledger, &header.poi, terminal) {
@@ -153,9 +158,8 @@ fn begun_or_refused(
     header: &Header,
     request: &SaleRequest,
 ) -> Result<u16, Condition>
-    ensures steps { (known : Known) → known.kept ≡ ledger.now.records → known.setup.slots ≡ gateway.now.slots
+    ensures { (known : Known) → known.kept ≡ ledger.now.records → known.setup.slots ≡ gateway.now.slots
         → IsBegunOrRefused (named_terminal core.now header.now.poi) (result_by known header.now request.now None (named_terminal core.now header.now.poi)) result }
-    ensures served { IfOk result (λ pt. is_unserved request.now ≡ false) }
 {
     match core.named(&header.poi) {
         None => Err(Condition::UnavailableDevice),
@@ -186,22 +190,6 @@ fn recorded_reply(
     }
 }
 
-/// The payment begins at this terminal.
-fn begun(pt: u16, header: Header, request: SaleRequest) -> Given
-    requires { is_unserved request ≡ false }
-    ensures reply { reply_given result ≡ None }
-    ensures items { (till : ℕ) → items_given till result ≡ Serve pt till header request ∷ [] }
-{
-    match request {
-        SaleRequest::Payment(payment) => Given::Begins {
-            pt,
-            header,
-            payment,
-        },
-        _ => unreachable!(),
-    }
-}
-
 /// What a Payment, a Reversal or a Reconciliation gets: its reply, or that it begins.
 pub(crate) fn service(
     core: &Core,
@@ -218,7 +206,11 @@ pub(crate) fn service(
         return Given::Reply(recorded_reply(ledger, &header, &request, &found));
     }
     match begun_or_refused(core, gateway, ledger, &header, &request) {
-        Ok(pt) => begun(pt, header, request),
+        Ok(pt) => Given::Begins {
+            pt,
+            header,
+            request,
+        },
         Err(condition) => Given::Reply(refused(&header, condition)),
     }
 }

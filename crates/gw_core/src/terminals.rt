@@ -4,7 +4,6 @@ ghost use Rattle.gw_base.specs.Setup.{IsSetup};
 ghost use Rattle.gw_base.specs.Moment.{moment_of};
 ghost use Rattle.gw_base.specs.declared.setup.Setup.{Setup};
 ghost use Rattle.jrn_record.specs.declared.records.Record.{Record};
-ghost use Rattle.sale_values.specs.declared.request.SaleRequest.TheVariants.{Payment};
 ghost use Rattle.zvt_msg.specs.Message.{value_of};
 ghost use Rattle.gw_owes.specs.declared.terminal.Terminal.{Terminal as TheTerminal};
 ghost use Rattle.gw_owes.specs.Core.{new_core, new_terminal};
@@ -22,13 +21,13 @@ ghost use Rattle.gw_core.specs.IsRow.{IsRow, IsWantedAt, MayBeKept, ServesNoOthe
 ghost use Rattle.gw_core.specs.ReplyOf.{BeginsAt, IsKnownAt};
 
 use crate::act::{Act, Acts};
-use crate::beginning::begin_payment;
+use crate::beginning::begin_request;
 use crate::gateway::Gateway;
 use crate::handling::{ask, handle, is_linked};
 use gw_base::{Ident, Pt, Setup, to_moment};
 use gw_ledger::Ledger;
 use gw_owes::{Standing, Terminal, law_records};
-use sale_msg::{Header, PaymentAsk};
+use sale_msg::{Header, SaleRequest};
 use sale_reply::GlobalStatus;
 use std::alloc::{AllocError, Global};
 use std::marker::Model;
@@ -244,7 +243,8 @@ impl Core {
         handle(terminal, ledger, pt, message, now)
     }
 
-    /// The terminal begins to serve a payment for this till: its Intent is kept, and then the terminal is asked.
+    /// The terminal begins what a request of this till asks for: the Intent of a payment or a reversal is kept, and then the terminal is
+    /// asked; at an Abort it is to stop what it serves.
     pub fn begin(
         &mut self,
         gateway: &Gateway,
@@ -252,29 +252,30 @@ impl Core {
         pt: u16,
         till: u64,
         header: &Header,
-        payment: &PaymentAsk,
+        request: &SaleRequest,
         now: i64,
     ) -> Acts
         requires there { pt < length self.old.terminals }
         requires dialogue { IfSome (slice_get self.old.terminals pt) HasItsDialogue }
         requires order { AreTerminalsInOrder ledger.now.records self.old }
         requires slots { gateway.now.slots ≤ 1000000 }
-        requires begins { BeginsAt gateway.now ledger.now.records self.old (moment_of now) pt header.now payment.now }
+        requires begins { BeginsAt gateway.now ledger.now.records self.old (moment_of now) pt header.now request.now }
         ensures row { (known : Known) → IsKnownAt gateway.now ledger.now.records self.old (moment_of now) known
-            → IsRow ledger.now.records (serve_row known pt till header.now (Payment payment.now)) self.new result }
+            → IsRow ledger.now.records (serve_row known pt till header.now request.now) self.new result }
         ensures kept { IfSome result.keep (MayBeKept ledger.now.records) }
         ensures wanted { IfSome result.act (IsWantedAt pt) }
         ensures others { IfSome (slice_get self.new.terminals pt) (λ (terminal : TheTerminal). ServesNoOther terminal.standing) }
     {
         ledger.law_folded();
+        ledger.law_few();
         law_records();
         let now = to_moment(now);
         let terminal = &mut self.terminals[usize::from(pt)];
-        begin_payment(terminal, ledger, pt, till, header, payment, now)
+        begin_request(terminal, ledger, pt, till, header, request, now)
     }
 
-    /// A link is made, or isn't there: it could not be made, or is lost. The till of a payment that the terminal serves is still
-    /// remembered, and is sent nothing.
+    /// A link is made, or isn't there: it could not be made, or is lost. The till of a payment or a reversal that the terminal serves is
+    /// still remembered, and is sent nothing.
     pub fn on_link(&mut self, pt: u16, up: bool, now: i64) -> Option<Act>
         requires there { pt < length self.old.terminals }
         requires others { IfSome (slice_get self.old.terminals pt) (λ (terminal : TheTerminal). ServesNoOther terminal.standing) }

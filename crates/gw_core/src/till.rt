@@ -3,13 +3,14 @@ ghost use Rattle.std.specs.Prelude.{◌≡◌, ℕ, List, [], IfOk};
 ghost use Rattle.gw_base.specs.Moment.{moment_of};
 ghost use Rattle.json_text.specs.Grammar.{Spells};
 ghost use Rattle.json_text.specs.ValueOf.{value_of};
+ghost use Rattle.sale_values.specs.declared.request.SaleRequest.TheVariants.{Abort};
 ghost use Rattle.sale_reply.specs.declared.reply.Detail.TheVariants.{Json as JsonDetail};
 ghost use Rattle.sale_reply.specs.Limits.{HasUnlimitedParts, IsWithinLimits};
 ghost use Rattle.gw_owes.specs.KeptReplies.{is_open_key};
 ghost use Rattle.gw_owes.specs.Row.{Known};
 ghost use Rattle.gw_owes.specs.Diagnosis.{diagnosis_reply, named_terminal};
 ghost use Rattle.gw_owes.specs.Replies.{reply_to_fault as reply_owed_to_fault, reject_event};
-ghost use Rattle.gw_owes.specs.Requests.{abort_reply, request_reply, unserved_for};
+ghost use Rattle.gw_owes.specs.Requests.{abort_reply, unserved_for};
 ghost use Rattle.gw_owes.specs.ReadAs.{Request};
 ghost use Rattle.gw_core.specs.ReplyOf.{IsSameReply, AreSameReplies, IsAskedRow, IsGivenFor, IsGivenToBegin, IsKnownAt, IsReplyTo, HasFewOutputs, IsGivenWithinLimits, items_given, reply_given};
 
@@ -20,13 +21,12 @@ use crate::refusal::{
     reply_header,
 };
 use crate::steps::service;
+use crate::stops::serving_terminal;
 use crate::terminals::Core;
 use gw_base::{Condition, Ident};
 use gw_ledger::Ledger;
 use json_text::{Json, JsonFault, ReadError};
-use sale_msg::{
-    Header, Incoming, MessageError, PaymentAsk, Reference, SaleFault, SaleRequest, read_message,
-};
+use sale_msg::{Header, Incoming, MessageError, Reference, SaleFault, SaleRequest, read_message};
 use sale_reply::{Detail, SaleReply, is_within_limits};
 use std::alloc::{AllocError, Global};
 
@@ -37,11 +37,11 @@ pub enum Given {
     Nothing,
     /// The till is sent this.
     Reply(SaleReply<'static>),
-    /// The terminal of this number begins to serve this payment; there is no reply yet.
+    /// The terminal of this number begins to serve this request, or is to stop what it serves; there is no reply yet.
     Begins {
         pt: u16,
         header: Header,
-        payment: PaymentAsk,
+        request: SaleRequest,
     },
 }
 
@@ -79,7 +79,7 @@ fn diagnosed(core: &Core, header: &Header) -> SaleReply<'static>
     }
 }
 
-/// The reply to an Abort: a key that is open gets nothing.
+/// The reply to an Abort: one of a key that is open gets none, and another is rejected.
 fn abort_reply(
     ledger: &Ledger,
     now: i64,
@@ -94,7 +94,27 @@ fn abort_reply(
     Some(reject(&header.sale, &header.poi, now, Detail::Abort))
 }
 
-/// What a request gets: its reply, or a payment that begins. No payment waits.
+/// What an Abort gets: where a terminal serves the key that it names, that is to stop; else its reply.
+fn given_to_abort(
+    core: &Core,
+    ledger: &Ledger,
+    now: i64,
+    header: Header,
+    reference: Reference,
+) -> Given
+    ensures { (known : Known) → known.kept ≡ ledger.now.records → known.core ≡ core.now → known.moment ≡ moment_of now → IsGivenFor known (Request header (Abort reference)) result }
+{
+    match serving_terminal(core, ledger, &reference.key(&header)) {
+        Some(pt) => Given::Begins {
+            pt,
+            header,
+            request: SaleRequest::Abort(reference),
+        },
+        None => replied(abort_reply(ledger, now, &header, &reference)),
+    }
+}
+
+/// What a request gets: its reply, or else it begins at a terminal. No request waits.
 fn asked(
     alloc: Global,
     core: &Core,
@@ -115,7 +135,7 @@ fn asked(
             let found = found_by_status(ledger, &header, &reference);
             Ok(Given::Reply(status_reply(&header, &found)))
         }
-        SaleRequest::Abort(reference) => Ok(replied(abort_reply(ledger, now, &header, &reference))),
+        SaleRequest::Abort(reference) => Ok(given_to_abort(core, ledger, now, header, reference)),
         SaleRequest::Diagnosis => Ok(Given::Reply(diagnosed(core, &header))),
         SaleRequest::Login | SaleRequest::Logout => {
             Ok(Given::Reply(refused(&header, unserved_for(core, &header))))
@@ -205,8 +225,8 @@ fn given_to_message(
 }
 
 impl Core {
-    /// What a message of a till wants done, by what the records have: its reply, where there is one, or a payment that begins. A
-    /// reply is to be sent to that till, whichever it is.
+    /// What a message of a till wants done, by what the records have: its reply, where there is one, or the request begins at a
+    /// terminal. A reply is to be sent to that till, whichever it is.
     ///
     /// The message is that of a frame, without its length.
     pub fn on_till(

@@ -1,11 +1,11 @@
 -- What is known of a scene in a round, and items that begin.
-use Rattle.std.proofs.Common.{◌≡◌, ℕ, ◌+◌, ◌<◌, List, [], ◌∷◌, ◌++◌, length, refl, sym, ◌∙◌, ap, arith, length-append, subst, append_assoc}
-use Rattle.std.specs.Prelude.{map, Option, Some, None, Result, Ok, Err, IsErr, ◌==◌, ◌≢◌, if◌then◌else◌, Bool, true, false}
+use Rattle.std.proofs.Common.{◌≡◌, ℕ, List, [], ◌∷◌, ◌++◌, refl, sym, ◌∙◌, ap, subst, append_assoc}
+use Rattle.std.specs.Prelude.{map, Some, ◌==◌, if◌then◌else◌, Bool, true, false}
 use Rattle.gw_site.specs.Outside.{Outside, Connection, outside_after, is_connected, without}
 use Rattle.gw_site.specs.declared.turn.Turn.{Turn}
 use Rattle.gw_site.specs.declared.turn.Turn.TheVariants.{SentTill, CutTill as TillCut}
 use Rattle.gw_site.specs.Observed.{Observed}
-use Rattle.sale_frame.specs.Decode.{decode_frames, DecodedFrames}
+use Rattle.sale_frame.specs.Decode.{DecodedFrames}
 use Rattle.gw_owes.specs.Calls.{OwedCall, CutTill}
 use Rattle.gw_owes.specs.Core.{Core}
 use Rattle.gw_owes.specs.Events.{decoded_items, has_bad_length}
@@ -18,7 +18,7 @@ use Rattle.gw_rules.specs.Stage.{Stage, Resting, Opening, Looking, AtPoll, Handl
 use Rattle.gw_rules.specs.View.{View, called, begun, at_first, at_item, till_cut}
 use Rattle.gw_rules.specs.Lawful.{Stands, may_begin}
 use Rattle.gw_rules.specs.Triple.{Extends, Triple, Owing}
-use Rattle.gw_rules.proofs.TripleLemmas.{triple-refl, triple-then, triple-after, triple-before, triple-frame, triple-some, begin-triple}
+use Rattle.gw_rules.proofs.TripleLemmas.{triple-refl, triple-then, triple-after, triple-before, triple-some, begin-triple}
 use Rattle.gw_dispatch.specs.Round.{IsIn, InRound, Pending, with_core}
 
 -- what is known once this till is gone

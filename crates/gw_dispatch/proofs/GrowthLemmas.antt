@@ -1,21 +1,21 @@
 -- What calls add to the log: those that aren't on the disk leave a journal standing, and one part of a log follows another.
-use Rattle.std.proofs.Common.{◌≡◌, ◌≢◌, ◌≤◌, ◌<◌, ℕ, ◌+◌, ◌*◌, List, [], ◌∷◌, ◌++◌, length, get_or, refl, sym, ◌∙◌, ap, subst, arith, append-nil, inl, inr}
+use Rattle.std.proofs.Common.{◌≡◌, ◌≤◌, ◌<◌, ℕ, ◌*◌, List, [], ◌∷◌, ◌++◌, length, get_or, refl, sym, ◌∙◌, ap, subst, arith, append-nil}
 use Rattle.std.proofs.lemmas.List.{append_assoc}
 use Rattle.std.specs.Prelude.{Bool, true, false, Option, Some, None, Result, Ok, Err}
 use Rattle.gw_site.specs.Failures.{HasCause, Rose}
-use Rattle.gw_site.specs.Observed.{Observed, Grows, IfObserved, Added}
-use Rattle.gw_site.specs.Outside.{Outside, outside_after, outside_from, outside_of}
+use Rattle.gw_site.specs.Observed.{Observed, Grows, IfObserved}
+use Rattle.gw_site.specs.Outside.{Outside, outside_from, outside_of}
 use Rattle.gw_site.specs.Turns.{IsTurn, LinkTurns, PolledTurns, SentPtTurns, SentTillTurns, event_turns}
 use Rattle.gw_site.specs.declared.site.Polled.{Polled}
 use Rattle.gw_site.specs.declared.site.What.{What}
 use Rattle.gw_site.specs.declared.site.What.TheVariants as whats
 use Rattle.gw_site.specs.declared.turn.Turn.{Turn}
-use Rattle.gw_site.specs.declared.turn.Turn.TheVariants.{CutPt, CutTill, SentPt, SentTill, Linked, LinkFailed, Polled as PolledTurn, Opened, HeardTill, Closed, HeardPt, Lost, Stopped}
+use Rattle.gw_site.specs.declared.turn.Turn.TheVariants.{CutPt, CutTill, SentPt, SentTill, Polled as PolledTurn}
 use Rattle.gw_site.proofs.OutsideLemmas.{outside_of-append}
-use Rattle.jrn_log.specs.Journal.{IsAtRest, AreKept, JournalValue, StandsFor}
+use Rattle.jrn_log.specs.Journal.{IsAtRest, JournalValue, StandsFor}
 use Rattle.jrn_log.specs.Slots.{AreSlots}
 use Rattle.jrn_log.proofs.SequenceLemmas.{added_whole}
-use Rattle.gw_dispatch.specs.Growth.{EndsInFailure, HasGoneOn, GoesOnBesideDisk, GoesOnFrom, HasBroken}
+use Rattle.gw_dispatch.specs.Growth.{HasGoneOn, GoesOnBesideDisk, GoesOnFrom, HasBroken}
 
 -- ---- logs
 

@@ -1,5 +1,5 @@
 -- A terminal's message that was acknowledged or refused: what it has to be kept is kept, and then its call is made.
-use Rattle.std.proofs.Common.{◌≡◌, ◌≢◌, ◌⊎◌, ◌<◌, ◌≤◌, ◌+◌, ℕ, List, [], ◌∷◌, ◌++◌, length, refl, sym, ◌∙◌, ap, subst, arith, append-nil, length-append, inl, inr}
+use Rattle.std.proofs.Common.{◌≡◌, ◌⊎◌, ◌≤◌, ◌+◌, ℕ, List, [], ◌∷◌, ◌++◌, length, refl, sym, ◌∙◌, ap, subst, arith, append-nil, length-append, inl, inr}
 use Rattle.std.specs.Option.{option_map}
 use Rattle.std.specs.Prelude.{ℤ, pos, Bool, true, false, slice_get, Option, Some, None, Result, Ok, Err, IfSome, map, option_to_list}
 use Rattle.std.proofs.lemmas.Int.{ints}
@@ -9,7 +9,7 @@ use Rattle.gw_base.specs.Moment.{IsMoment, last_moment, moment_of}
 use Rattle.gw_base.specs.declared.setup.Setup.{Setup}
 use Rattle.gw_base.proofs.MomentLemmas.{moment_of_bound}
 use Rattle.gw_site.specs.Observed.{Observed}
-use Rattle.gw_site.specs.Outside.{Outside, Connection, outside_after}
+use Rattle.gw_site.specs.Outside.{Outside, outside_after}
 use Rattle.gw_site.specs.declared.turn.Turn.TheVariants.{SentTill, CutTill as TillCut}
 use Rattle.jrn_record.specs.declared.records.Outcome.{Outcome as TheOutcome}
 use Rattle.jrn_record.specs.declared.records.Record.{Record}
@@ -32,7 +32,7 @@ use Rattle.gw_owes.specs.PaymentLaws.{EachRecordIsOfAnEnd}
 use Rattle.gw_owes.specs.RecordLaws.{AreTerminalsInOrder, AreOthersInOrder, EachCutKeepsInOrder, EachRowKeepsInOrder, IsInOrder}
 use Rattle.gw_owes.specs.Reply.{ReplyValue, reply_value_bytes, reply_value_tree}
 use Rattle.gw_owes.specs.Reports.{outcome_reported}
-use Rattle.gw_owes.specs.Row.{Known, Row, becoming}
+use Rattle.gw_owes.specs.Row.{Row, becoming}
 use Rattle.gw_owes.specs.TerminalLaws.{ChangesTerminalAlone, owes_cut, settings_of}
 use Rattle.gw_owes.specs.Terminals.{core_without, forgets_till}
 use Rattle.gw_owes.specs.declared.terminal.Terminal.{Terminal}

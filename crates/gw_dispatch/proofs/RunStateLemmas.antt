@@ -4,13 +4,11 @@ use Rattle.std.specs.Prelude.{map, Option, Some, None, slice_get}
 use Rattle.std.specs.Option.{option_map}
 use Rattle.std.proofs.lemmas.List.{length-map}
 use Rattle.std.proofs.lemmas.Option.{slice_get-map}
-use Rattle.gw_base.specs.declared.setup.Pt.{Pt}
 use Rattle.gw_site.specs.Observed.{Observed}
 use Rattle.jrn_record.specs.declared.records.Record.{Record}
 use Rattle.gw_owes.specs.Core.{Core}
 use Rattle.gw_owes.specs.Dialogues.{AllHaveDialogues, HasItsDialogue}
-use Rattle.gw_owes.specs.RecordLaws.{AreTerminalsInOrder, IsTerminalInOrder}
-use Rattle.gw_owes.specs.TerminalLaws.{settings_of}
+use Rattle.gw_owes.specs.RecordLaws.{IsTerminalInOrder}
 use Rattle.gw_owes.specs.Terminals.{core_without, forgets_till}
 use Rattle.gw_owes.specs.declared.terminal.Terminal.{Terminal}
 use Rattle.gw_core.specs.declared.gateway.Gateway.{Gateway}
@@ -55,7 +53,7 @@ module _ (till : ℕ) where
   pub forgets-order : (core : Core) → StaysInOrder core (core_without core till)
   forgets-order core = record {
     settings = settings-forgotten core.terminals;
-    order = λ kept order. each-forgotten (IsTerminalInOrder kept) (λ terminal h. record { records = h.records; read = h.read }) core order;
+    order = λ kept order. each-forgotten (IsTerminalInOrder kept) (λ terminal h. record { records = h.records; read = h.read; few = h.few }) core order;
   }
 
   pub forgets-dialogues : (core : Core) → AllHaveDialogues core → AllHaveDialogues (core_without core till)

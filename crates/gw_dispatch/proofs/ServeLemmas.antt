@@ -12,8 +12,7 @@ use Rattle.sale_frame.specs.Decode.{decode_frames, DecodedFrames}
 use Rattle.sale_reply.specs.declared.reply.SaleReply.{SaleReply}
 use Rattle.sale_reply.specs.Reply.{tree_of}
 use Rattle.sale_values.specs.declared.header.Header.{Header}
-use Rattle.sale_values.specs.declared.request.PaymentAsk.{PaymentAsk}
-use Rattle.sale_values.specs.declared.request.SaleRequest.TheVariants.{Payment}
+use Rattle.sale_values.specs.declared.request.SaleRequest.{SaleRequest}
 use Rattle.jrn_log.specs.Journal.{JournalValue, StandsFor}
 use Rattle.gw_owes.specs.Calls.{OwedCall, SendTill, CutTill}
 use Rattle.gw_owes.specs.Core.{Core}
@@ -195,11 +194,11 @@ module _ (setup : Setup) (core : Core) (kept : List Record) (tills : List Till) 
       Triple s s (Owes [] (decoded_items till (decode_frames old) ++ items)) (Owes [] (decoded_items till (decode_frames new) ++ items))
   taken-silent gateway same till there old new t s items = taken gateway same till there given.Nothing old new t s items [] (row-is gateway same till there given.Nothing old new t).calls_are
 
-  -- one that begins a payment
-  pub taken-begins : (gateway : Gateway) → gateway_of setup ≡ gateway → (till : ℕ) → IsThere till tills → (pt : ℕ) (header : Header) (payment : PaymentAsk) (old new : List ℕ) → TakesMessage gateway kept core (moment_of now) (given.Begins pt header payment) old new →
-      (s : Observed) (items : List RoundItem) → Triple s s (Owes [] (decoded_items till (decode_frames old) ++ items)) (Owes [] (Serve pt till header (Payment payment) ∷ (decoded_items till (decode_frames new) ++ items)))
-  taken-begins gateway same till there pt header payment old new t s items =
-      taken gateway same till there (given.Begins pt header payment) old new t s items [] (row-is gateway same till there (given.Begins pt header payment) old new t).calls_are
+  -- one that begins at a terminal
+  pub taken-begins : (gateway : Gateway) → gateway_of setup ≡ gateway → (till : ℕ) → IsThere till tills → (pt : ℕ) (header : Header) (request : SaleRequest) (old new : List ℕ) → TakesMessage gateway kept core (moment_of now) (given.Begins pt header request) old new →
+      (s : Observed) (items : List RoundItem) → Triple s s (Owes [] (decoded_items till (decode_frames old) ++ items)) (Owes [] (Serve pt till header request ∷ (decoded_items till (decode_frames new) ++ items)))
+  taken-begins gateway same till there pt header request old new t s items =
+      taken gateway same till there (given.Begins pt header request) old new t s items [] (row-is gateway same till there (given.Begins pt header request) old new t).calls_are
 
   -- the reply was sent, or the till cut
   pub sent-or-gone : (a b : Observed) (till : ℕ) (owed : ReplyValue) (reading : DecodedFrames) (items : List RoundItem) (served : Served) → served ≢ Incomplete →

@@ -10,7 +10,7 @@ use Rattle.gw_core.specs.declared.till.Given.{Given}
 use Rattle.gw_dispatch.specs.declared.replier.Next.{Next}
 use Rattle.gw_dispatch.specs.declared.replier.Next.TheVariants.{Incomplete, Message, Unframed}
 
--- the first message was taken from the bytes held, and this is given to it: what is owed to it, or the payment that it begins
+-- the first message was taken from the bytes held, and this is given to it: what is owed to it, or the request that begins at a terminal
 pub record TakesMessage (gateway : Gateway) (kept : List Record) (core : Core) (moment : ℕ) (given : Given) (old new : List ℕ) : Type 0 where
   pub message : List ℕ
   pub payload : IsPayload message

@@ -1,14 +1,12 @@
 -- What is owed as the loop goes through a round.
-use Rattle.std.specs.Prelude.{◌≡◌, ℕ, ◌<◌, ℤ, true, false, List, [], ◌++◌, length, map, Some, None, Result, Ok, Err}
+use Rattle.std.specs.Prelude.{◌≡◌, ℕ, ℤ, true, false, List, [], map, Some, None}
 use Rattle.gw_base.specs.Moment.{moment_of}
 use Rattle.gw_base.specs.declared.setup.Setup.{Setup}
-use Rattle.gw_site.specs.Outside.{Outside, outside_after, is_connected}
-use Rattle.gw_site.specs.declared.turn.Turn.TheVariants.{SentTill, CutTill}
+use Rattle.gw_site.specs.Outside.{Outside}
+use Rattle.gw_site.specs.declared.turn.Turn.TheVariants.{SentTill}
 use Rattle.jrn_record.specs.declared.records.Record.{Record}
-use Rattle.sale_frame.specs.Decode.{decode_frames}
 use Rattle.gw_owes.specs.Calls.{OwedCall}
 use Rattle.gw_owes.specs.Core.{Core}
-use Rattle.gw_owes.specs.Events.{decoded_items}
 use Rattle.gw_owes.specs.Items.{RoundItem}
 use Rattle.gw_owes.specs.Row.{Known}
 use Rattle.gw_owes.specs.Terminals.{core_without}

@@ -1,5 +1,5 @@
 -- What a run remembers and keeps, and that the two are in order.
-use Rattle.std.specs.Prelude.{◌≡◌, ◌≤◌, ◌<◌, ◌+◌, ℕ, List, [], ◌++◌, length, false, Option, Some, None, option_to_list, Result, Ok, Err}
+use Rattle.std.specs.Prelude.{◌≡◌, ◌≤◌, ◌<◌, ◌+◌, ℕ, List, ◌++◌, length, Option, option_to_list, Result, Ok, Err}
 use Rattle.gw_base.specs.declared.setup.Setup.{Setup}
 use Rattle.gw_site.specs.Observed.{Observed}
 use Rattle.jrn_record.specs.declared.records.Record.{Record}

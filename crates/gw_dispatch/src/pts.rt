@@ -143,7 +143,7 @@ pub(crate) fn on_closed<S: Site>(
     ensures count { length core.new.terminals ≡ length core.old.terminals }
     ensures goes_on { GoesOnBesideDisk (S.observed site.old) (S.observed site.new) }
 {
-    // The till of a payment that it serves stays, so that no call is owed.
+    // The till of a payment or a reversal that it serves stays, so that no call is owed.
     let _ = core.on_link(pt, false, now);
 }
 

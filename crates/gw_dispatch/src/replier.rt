@@ -1,11 +1,10 @@
-//! What a till's bytes bring: each message gets its reply, or begins a payment, and bytes that begin no frame the cut of the connection.
+//! What a till's bytes bring: each message gets its reply, or begins at a terminal, and bytes that begin no frame the cut of the connection.
 ghost use Rattle.std.specs.Prelude.{◌≡◌, ◌≢◌, ◌≤◌, ◌++◌, ◌∷◌, [], ℕ, List, length, IfOk, Ok, Err, OnOk, OnErr};
 ghost use Rattle.gw_base.specs.Moment.{moment_of};
 ghost use Rattle.gw_base.specs.declared.setup.Setup.{Setup};
 ghost use Rattle.sale_frame.specs.Decode.{decode_frames};
 ghost use Rattle.sale_reply.specs.Limits.{IsWithinLimits};
 ghost use Rattle.sale_reply.specs.Reply.{tree_of};
-ghost use Rattle.sale_values.specs.declared.request.SaleRequest.TheVariants.{Payment};
 ghost use Rattle.gw_owes.specs.Calls.{CutTill, SendTill};
 ghost use Rattle.gw_owes.specs.Events.{decoded_items};
 ghost use Rattle.gw_owes.specs.Items.{RoundItem, Serve};
@@ -33,7 +32,7 @@ use gw_owes::law_records;
 use gw_site::{Failed, Site};
 use sale_frame::FrameReader;
 use sale_reply::{Out, SaleReply, write_reply};
-use sale_values::{Header, PaymentAsk};
+use sale_values::{Header, SaleRequest};
 use std::alloc::{AllocError, Global};
 
 /// What the first bytes of a reader are.
@@ -68,21 +67,22 @@ fn cut<S: Site>(site: &mut S, till: u64) -> Served
     Served::Gone
 }
 
-/// Begins a payment that a till has asked for: its Intent is kept, and then the terminal is asked.
+/// Begins what a till has asked for: the Intent of a payment or a reversal is kept, and then the terminal is asked; at an Abort it is to
+/// stop what it serves.
 fn begin<S: Site>(
     state: &mut RunState,
     site: &mut S,
     pt: u16,
     till: u64,
     header: &Header,
-    payment: &PaymentAsk,
+    request: &SaleRequest,
     now: i64,
 ) -> Result<(), Failed>
     requires well { IsWell state.old (S.observed site.old) }
-    requires begins { BeginsAt state.old.gateway state.old.records.ledger.records state.old.core (moment_of now) pt header.now payment.now }
+    requires begins { BeginsAt state.old.gateway state.old.records.ledger.records state.old.core (moment_of now) pt header.now request.now }
     requires spare { 1 ≤ state.old.records.ledger.spare }
     ensures triple { (setup : Setup) (tills : List TheTill) (polls : ℕ) (heard : ℕ → List ℕ) (items : List RoundItem) → gateway_of setup ≡ state.old.gateway → Triple (S.observed site.old) (S.observed site.new)
-        (HeldRound setup state.old tills polls now (AreHeard heard) [] (Serve pt till header.now (Payment payment.now) ∷ items))
+        (HeldRound setup state.old tills polls now (AreHeard heard) [] (Serve pt till header.now request.now ∷ items))
         (UnlessBroken result (λ done. HeldRound setup state.new tills polls now (AreHeard heard) [] items)) }
     ensures well { OnOk result (IsWell state.new (S.observed site.new)) }
     ensures gateway { state.new.gateway ≡ state.old.gateway }
@@ -98,7 +98,7 @@ fn begin<S: Site>(
         pt,
         till,
         header,
-        payment,
+        request,
         now,
     );
     // The record first: the terminal is only asked for what is kept.
@@ -203,11 +203,11 @@ impl Replier {
                     Given::Begins {
                         pt,
                         header,
-                        payment,
+                        request,
                     },
                 ),
             ) => {
-                match begin(state, site, pt, till, &header, &payment, now) {
+                match begin(state, site, pt, till, &header, &request, now) {
                     Ok(()) => Ok(Served::More),
                     Err(Failed) => Err(TurnFault::Disk),
                 }

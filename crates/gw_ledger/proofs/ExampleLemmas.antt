@@ -1,5 +1,5 @@
 -- Identifiers by a test that computes, and that the examples are records that are folded.
-use Rattle.std.proofs.Common.{◌≡◌, ℕ, ◌^◌, ◌<◌, ◌≤◌, leb, Bool, true, List, [], ◌∷◌, length, pos, codes, IsTrue, refl, arith, lit<, lit≤}
+use Rattle.std.proofs.Common.{◌≡◌, ℕ, ◌^◌, ◌<◌, ◌≤◌, leb, Bool, true, List, [], ◌∷◌, ◌++◌, length, pos, codes, IsTrue, refl, arith, lit<, lit≤}
 use Rattle.std.proofs.lemmas.Int.{ints}
 use Rattle.std.specs.Prelude.{◌&&◌, All}
 use Rattle.std.proofs.lemmas.Bool.{leb-true, and_parts}
@@ -9,12 +9,13 @@ use Rattle.gw_base.specs.Limits.{IsAmount, IsTrace}
 use Rattle.gw_base.specs.Moment.{IsMoment}
 use Rattle.jrn_record.specs.Limits.{IsIntent, IsOutcome, IsRecord}
 use Rattle.jrn_record.specs.declared.records.Record.{Record}
-use Rattle.jrn_record.specs.declared.records.Record.TheVariants.{Intent}
-use Rattle.gw_ledger.specs.Example.{day_approval, day, day_payment, day_reversal, second}
+use Rattle.jrn_record.specs.declared.records.Record.TheVariants.{Intent, Outcome}
+use Rattle.gw_ledger.specs.Example.{day_approval, day, day_payment, day_refusal, day_reversal, second}
 use Rattle.gw_ledger.specs.Fold.{AreFolded, Fit, fits}
 use Rattle.gw_ledger.specs.History.{history}
 use Rattle.gw_ledger.specs.Laws.{IsEntryWithin}
 use Rattle.gw_ledger.specs.Premises.{day_opened, fourth}
+use Rattle.gw_ledger.specs.Reversals.{day_asked_again, day_refused, day_undone}
 use Rattle.gw_ledger.proofs.RecordLemmas.{folded_push}
 
 -- every byte is printable, as a test
@@ -59,19 +60,24 @@ payment_within service amount before is_service is_amount is_trace = record {
   moment = example_moment;
 }
 
--- the day's reversal
-reversal_within : IsIntent (day_reversal (codes "A") (codes "3") 0 1099 124)
-reversal_within = record {
+-- the reversals of the examples
+reversal_of : (service : List ℕ) (payment amount before : ℕ) → is_ident 10 service ≡ true → payment < 2 ^ 32 → IsAmount amount → IsTrace before
+    → IsIntent (day_reversal (codes "A") service payment amount before)
+reversal_of service payment amount before is_service fits is_amount is_trace = record {
   sale = ident 40 (codes "S") refl;
   poi = ident 40 (codes "A") refl;
-  service = ident 10 (codes "3") refl;
+  service = ident 10 service is_service;
   transaction = tt;
   stamp = tt;
-  amount = (lit≤ tt, lit≤ tt);
-  before = lit≤ tt;
-  original = lit< tt;
+  amount = is_amount;
+  before = is_trace;
+  original = fits;
   moment = example_moment;
 }
+
+-- the day's reversal
+reversal_within : IsIntent (day_reversal (codes "A") (codes "3") 0 1099 124)
+reversal_within = reversal_of (codes "3") 0 1099 124 refl (lit< tt) (lit≤ tt, lit≤ tt) (lit≤ tt)
 
 -- the approvals of the examples
 approval_within : (slot trace amount : ℕ) → slot < 2 ^ 32 → (1 ≤ trace) × IsTrace trace → IsAmount amount → IsOutcome (day_approval slot trace amount)
@@ -124,3 +130,30 @@ fourth_fits = refl
 -- and those of the day with one more payment
 pub opened_folded : AreFolded day_opened
 opened_folded = folded_push day (Intent fourth) day_folded (payment_within (codes "4") 100 125 refl (lit≤ tt, lit≤ tt) (lit≤ tt)) fourth_fits
+
+first_fits : IsTrue (fits day (Intent (day_reversal (codes "A") (codes "4") 2 500 125)))
+unfolding history
+first_fits = refl
+
+refusal_fits : IsTrue (fits (day ++ Intent (day_reversal (codes "A") (codes "4") 2 500 125) ∷ []) (Outcome (day_refusal 6)))
+unfolding history
+refusal_fits = refl
+
+again_fits : IsTrue (fits day_refused (Intent (day_reversal (codes "A") (codes "5") 2 500 125)))
+unfolding history
+again_fits = refl
+
+undone_fits : IsTrue (fits day_asked_again (Outcome (day_approval 8 126 500)))
+unfolding history
+undone_fits = refl
+
+refusal_within : IsOutcome (day_refusal 6)
+refusal_within = record { slot = lit< tt; number = refl; receipt = refl; amount = refl; condition = lit≤ tt; moment = example_moment }
+
+-- the records of the day are folded with a reversal that is declined and one that is approved
+pub undone_folded : AreFolded day_undone
+undone_folded =
+    let asked = folded_push day (Intent (day_reversal (codes "A") (codes "4") 2 500 125)) day_folded (reversal_of (codes "4") 2 500 125 refl (lit< tt) (lit≤ tt, lit≤ tt) (lit≤ tt)) first_fits in
+    let declined = folded_push (day ++ Intent (day_reversal (codes "A") (codes "4") 2 500 125) ∷ []) (Outcome (day_refusal 6)) asked refusal_within refusal_fits in
+    let again = folded_push day_refused (Intent (day_reversal (codes "A") (codes "5") 2 500 125)) declined (reversal_of (codes "5") 2 500 125 refl (lit< tt) (lit≤ tt, lit≤ tt) (lit≤ tt)) again_fits in
+    folded_push day_asked_again (Outcome (day_approval 8 126 500)) again (approval_within 8 126 500 (lit< tt) (lit≤ tt, lit≤ tt) (lit≤ tt, lit≤ tt)) undone_fits

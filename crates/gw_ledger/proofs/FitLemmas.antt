@@ -75,7 +75,7 @@ payment_fits records folded intent what none closed rising =
     rw (unknown, free, above, payment) refl
 
 -- the slot and the Intent of an entry
-entry_parts : (records : List Record) (slot : ℕ) (entry : TheEntry) → entry_at records slot ≡ Some entry → (entry.slot ≡ slot) × (intent_at records slot ≡ Some entry.intent)
+pub entry_parts : (records : List Record) (slot : ℕ) (entry : TheEntry) → entry_at records slot ≡ Some entry → (entry.slot ≡ slot) × (intent_at records slot ≡ Some entry.intent)
 entry_parts records slot entry found = by_intent (intent_at records slot) refl found
   where
     by_intent : (asked : Option TheIntent) → intent_at records slot ≡ asked → option_map (entry_with records slot (ended_at records slot)) asked ≡ Some entry

@@ -15,6 +15,7 @@ pub mod NamedLemmas
 pub mod OpenLemmas
 pub mod OutcomeLemmas
 pub mod RecordLemmas
+pub mod ReversalLemmas
 pub mod SettledAfterLemmas
 pub mod SettledLemmas
 pub mod ShortLemmas

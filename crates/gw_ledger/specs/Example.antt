@@ -82,8 +82,8 @@ abbrev pub approved : ℕ → ℕ → ℕ → Record
 approved slot trace amount = Outcome (day_approval slot trace amount)
 
 -- a refusal of the Intent at this slot, which was aborted
-abbrev refusal : ℕ → TheOutcome
-refusal slot = record {
+abbrev pub day_refusal : ℕ → TheOutcome
+day_refusal slot = record {
   approved = false;
   slot = slot;
   number = 0;
@@ -94,8 +94,8 @@ refusal slot = record {
 }
 
 -- its record
-abbrev declined : ℕ → Record
-declined slot = Outcome (refusal slot)
+abbrev pub day_decline : ℕ → Record
+day_decline slot = Outcome (day_refusal slot)
 
 -- a reconciliation of a terminal
 abbrev pub reconciliation : List ℕ → List ℕ → TheSettled
@@ -175,8 +175,8 @@ example_closed = (refl, refl, refl, refl)
 -- an entry by its key: approved, declined, open, unknown
 example_found : (found_of day (key (codes "2"))
     ≡ Some (Entry (record { slot = 2; intent = day_payment (codes "A") (codes "2") 500 123; result = Some (day_approval 2 124 500) })))
-    × (found_of (day ++ pay (codes "A") (codes "4") 100 125 ∷ declined 6 ∷ []) (key (codes "4"))
-    ≡ Some (Entry (record { slot = 6; intent = day_payment (codes "A") (codes "4") 100 125; result = Some (refusal 6) })))
+    × (found_of (day ++ pay (codes "A") (codes "4") 100 125 ∷ day_decline 6 ∷ []) (key (codes "4"))
+    ≡ Some (Entry (record { slot = 6; intent = day_payment (codes "A") (codes "4") 100 125; result = Some (day_refusal 6) })))
     × (found_of (day ++ pay (codes "A") (codes "4") 100 125 ∷ []) (key (codes "4"))
     ≡ Some (Entry (record { slot = 6; intent = day_payment (codes "A") (codes "4") 100 125; result = None })))
     × (found_of day (key (codes "4")) ≡ None)
@@ -197,7 +197,7 @@ example_open : (open_slot (day ++ pay (codes "A") (codes "4") 100 125 ∷ []) (c
     × (open_entry (day ++ pay (codes "A") (codes "4") 100 125 ∷ []) (codes "A")
     ≡ Some (record { slot = 6; intent = day_payment (codes "A") (codes "4") 100 125; result = None }))
     × (open_slot (day ++ pay (codes "A") (codes "4") 100 125 ∷ []) (codes "B") ≡ None)
-    × (open_slot (day ++ pay (codes "A") (codes "4") 100 125 ∷ declined 6 ∷ []) (codes "A") ≡ None)
+    × (open_slot (day ++ pay (codes "A") (codes "4") 100 125 ∷ day_decline 6 ∷ []) (codes "A") ≡ None)
     × (open_slot (day ++ pay (codes "A") (codes "4") 100 125 ∷ settled (codes "A") (codes "5") ∷ []) (codes "A") ≡ Some 6)
 unfolding history
 example_open = (refl, refl, refl, refl, refl)
@@ -205,7 +205,7 @@ example_open = (refl, refl, refl, refl, refl)
 -- how many Intents are open, of all terminals
 example_open_count : (open_count_of day ≡ 0)
     × (open_count_of (day ++ pay (codes "A") (codes "4") 100 125 ∷ pay (codes "B") (codes "5") 100 0 ∷ []) ≡ 2)
-    × (open_count_of (day ++ pay (codes "A") (codes "4") 100 125 ∷ pay (codes "B") (codes "5") 100 0 ∷ declined 6 ∷ []) ≡ 1)
+    × (open_count_of (day ++ pay (codes "A") (codes "4") 100 125 ∷ pay (codes "B") (codes "5") 100 0 ∷ day_decline 6 ∷ []) ≡ 1)
 unfolding history
 example_open_count = (refl, refl, refl)
 
@@ -213,7 +213,7 @@ example_open_count = (refl, refl, refl)
 example_tally :
     (tally_of day ≡ record { accepted = 3; approved = 3; declined = 0; unresolved = 0; sum = 2698 })
     × (tally_of (day ++ settled (codes "A") (codes "4") ∷ []) ≡ record { accepted = 3; approved = 3; declined = 0; unresolved = 0; sum = 2698 })
-    × (tally_of (day ++ pay (codes "A") (codes "4") 100 125 ∷ declined 6 ∷ pay (codes "A") (codes "5") 100 125 ∷ [])
+    × (tally_of (day ++ pay (codes "A") (codes "4") 100 125 ∷ day_decline 6 ∷ pay (codes "A") (codes "5") 100 125 ∷ [])
     ≡ record { accepted = 5; approved = 3; declined = 1; unresolved = 1; sum = 2698 })
 unfolding history
 example_tally = (refl, refl, refl)
@@ -254,14 +254,14 @@ example_reversals : (fits day (undo (codes "A") (codes "4") 2 500 125) ≡ true)
     × (fits day (undo (codes "B") (codes "4") 2 500 125) ≡ false)
     × (fits day (Intent (record (day_reversal (codes "A") (codes "4") 2 500 125) { currency = Chf })) ≡ false)
     × (fits (day ++ settled (codes "A") (codes "4") ∷ []) (undo (codes "A") (codes "5") 2 500 125) ≡ false)
-    × (fits (pay (codes "A") (codes "1") 100 0 ∷ declined 0 ∷ []) (undo (codes "A") (codes "2") 0 100 0) ≡ false)
+    × (fits (pay (codes "A") (codes "1") 100 0 ∷ day_decline 0 ∷ []) (undo (codes "A") (codes "2") 0 100 0) ≡ false)
 unfolding history
 example_reversals = (refl, refl, refl, refl, refl, refl, refl, refl)
 
 -- an Outcome without its open Intent, and an approved trace number that isn't above the one before
-example_outcomes : (fits [] (declined 0) ≡ false) × (fits [] (approved 0 123 1099) ≡ false)
-    × (fits day (declined 2) ≡ false) × (fits day (declined 1) ≡ false) × (fits day (declined 6) ≡ false)
-    × (fits (day ++ pay (codes "A") (codes "4") 100 125 ∷ []) (declined 6) ≡ true)
+example_outcomes : (fits [] (day_decline 0) ≡ false) × (fits [] (approved 0 123 1099) ≡ false)
+    × (fits day (day_decline 2) ≡ false) × (fits day (day_decline 1) ≡ false) × (fits day (day_decline 6) ≡ false)
+    × (fits (day ++ pay (codes "A") (codes "4") 100 125 ∷ []) (day_decline 6) ≡ true)
     × (fits (day ++ pay (codes "A") (codes "4") 100 125 ∷ []) (approved 6 125 100) ≡ false)
     × (fits (day ++ pay (codes "A") (codes "4") 100 125 ∷ []) (approved 6 126 100) ≡ true)
 unfolding history

@@ -10,6 +10,7 @@ pub mod Keys
 pub mod Laws
 pub mod Premises
 pub mod Records
+pub mod Reversals
 pub mod ShortRows
 pub mod Slots
 pub mod Steps

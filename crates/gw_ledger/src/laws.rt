@@ -1,6 +1,7 @@
 //! Laws of the fold of the records.
 ghost use Rattle.gw_ledger.specs.Laws.{CountIsOfOpenSlots, EntriesAreWithin, LastNumberIsGreatest, NamedIsEntry, NewestIsFirst, OpenSlotIsOpen, OthersLeaveTerminal, OutcomeFits, PaymentFits, ReversalFits, SettledFits, SettledIsAfter, TextNamesOne};
 ghost use Rattle.gw_ledger.specs.Premises.{ExampleNamed, ExampleOpen, ExampleOther, ExampleOutcome, ExamplePayment, ExampleReconciliation, ExampleReversal, ExampleSettledAfter, ExampleWithin};
+ghost use Rattle.gw_ledger.specs.Reversals.{ExampleReversedOnce, ExampleSecondReversal, OriginalIsPayment, OthersAreDeclined, ReversedIsApproved, ReversedOnce};
 
 /// One more record is the newest of the history, and where it is one of another terminal it leaves a terminal's open slot
 /// and its last trace number.
@@ -45,6 +46,16 @@ pub fn law_fits()
     ensures settled { SettledFits }
 {}
 
+/// A payment is reversed at most once: no two records approve a reversal of it, and it counts as reversed where one does. Of
+/// two reversals of a payment one is declined, and what a reversal refers to is an earlier payment of its terminal that was
+/// approved, with its whole amount.
+pub fn law_reversed_once()
+    ensures once { ReversedOnce }
+    ensures reversed { ReversedIsApproved }
+    ensures others { OthersAreDeclined }
+    ensures original { OriginalIsPayment }
+{}
+
 /// Examples of the laws, which are computed: their premises hold of a day, and of the day with one more payment that is open.
 pub fn law_examples()
     ensures next { ExampleOther }
@@ -56,4 +67,6 @@ pub fn law_examples()
     ensures reversal { ExampleReversal }
     ensures outcome { ExampleOutcome }
     ensures reconciliation { ExampleReconciliation }
+    ensures reversed_once { ExampleReversedOnce }
+    ensures second_reversal { ExampleSecondReversal }
 {}

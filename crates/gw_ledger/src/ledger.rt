@@ -246,6 +246,13 @@ impl Ledger {
         let _tables = &self.tables;
     }
 
+    /// A ledger has at most as many records as a journal has slots.
+    pub fn law_few(&self)
+        ensures { length self.now.records ≤ 1000000 }
+    {
+        self.tables.law_few();
+    }
+
     /// How many keys are open.
     pub fn open_count(&self) -> u32
         ensures { result ≡ open_count_of self.now.records }

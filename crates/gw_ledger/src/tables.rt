@@ -304,6 +304,14 @@ impl Tables {
         let _records = &self.records;
     }
 
+    /// There are at most as many records as a journal has slots.
+    pub fn law_few(&self)
+        ensures { length self.now.records ≤ 1000000 }
+    {
+        // The proof needs that the records are those of the type's invariant.
+        let _records = &self.records;
+    }
+
     /// For how many more Intents or Settled there is room.
     pub fn spare(&self) -> usize
         ensures { result ≡ self.now.spare }

@@ -11,6 +11,7 @@ use Rattle.zvt_msg.specs.Message.{MessageValue, Ack, Nack, Intermediate, Line, B
 use Rattle.zvt_msg.specs.MessageDecode.{decode_pt_message}
 use Rattle.zvt_talk.specs.declared.meaning.Heard.{Heard}
 use Rattle.zvt_talk.specs.declared.meaning.Heard.TheVariants as heard
+use Rattle.zvt_talk.specs.Talk.{TalkFacts}
 use Rattle.gw_ledger.specs.declared.entry.Entry.{Entry as TheEntry}
 use Rattle.gw_owes.specs.declared.terminal.Service.TheVariants.{Transaction, EndOfDay, Display}
 use Rattle.gw_owes.specs.declared.terminal.Standing.{Standing}
@@ -29,7 +30,7 @@ use Rattle.gw_owes.specs.TerminalLaws.{commands_in, GoesOnTo, IsAsideAt, Reports
 use Rattle.gw_owes.specs.TerminalRows.{terminal_of, terminal_row, is_link_lost}
 use Rattle.gw_owes.specs.Terminals.{terminal_at, of_terminal, terminal_becomes, with_terminal, registers, unlinks}
 use Rattle.gw_owes.proofs.HandlingLemmas.{by-where, each-terminal, each-linked, each-handled, reported-leads}
-use Rattle.gw_owes.proofs.PaymentLemmas.{each-served}
+use Rattle.gw_owes.proofs.PaymentLemmas.{StopsAt, each-served}
 use Rattle.gw_owes.proofs.SetLemmas.{new-is-there, same-some}
 
 -- the standing isn't one that is set aside
@@ -233,7 +234,9 @@ made-none : (known : Known) (number : ℕ) → WasNone known number → NoneAsid
 made-none known number was = each-terminal (NoneAside number) known number (registers known number) was (λ terminal found. becomes-none known number terminal _ found (λ before reported e. cc))
 
 serve-none : (known : Known) (number till : ℕ) (header : Header) (request : SaleRequest) → WasNone known number → NoneAside number (terminal_row known (Serve number till header request))
-serve-none known number till header request was = each-served (NoneAside number) known number till header request was (λ payment terminal last is at. becomes-none known number terminal _ at.found (λ before reported e. cc))
+serve-none known number till header request was =
+    each-served (NoneAside number) known number till header request was (λ terminal last asking at. becomes-none known number terminal _ at.found (λ before reported e. cc))
+    (λ terminal talk at may. becomes-none known number terminal _ at.found (was-not known number terminal was at.found)) (λ terminal talk at may. becomes-none known number terminal _ at.found (was-not known number terminal was at.found))
 
 late-none : (known : Known) (number : ℕ) → WasNone known number → NoneAside number (late_row known number)
 late-none known number was = each-terminal (NoneAside number) known number (λ terminal. owing_where (is_late known.moment terminal.talk) known (cutting known number)) was
@@ -372,12 +375,18 @@ handle-stays known number apdu before reported was =
       asked_none = refl;
     }))
 
--- and it begins nothing
+-- it serves nothing
+serves-apart : (known : Known) (number : ℕ) (header : Header) (request : SaleRequest) (terminal : Terminal) (talk : TalkFacts) (before reported : ℕ) → StopsAt known number header request terminal talk → IsAsideAt known.core number before reported → ⊥
+serves-apart known number header request terminal talk before reported at was =
+    let e : Serving (Transaction at.slot) at.last ≡ Aside before reported = sym at.standing_is ∙ stands-aside known number terminal before reported was at.found in cc
+
+-- and it begins nothing, and has nothing to stop
 serve-stays : (known : Known) (number till : ℕ) (header : Header) (request : SaleRequest) (before reported : ℕ) → IsAsideAt known.core number before reported
     → IsStillAside number before reported (terminal_row known (Serve number till header request))
 serve-stays known number till header request before reported was =
     each-served (IsStillAside number before reported) known number till header request (idle-aside known number before reported was)
-    (λ payment terminal last is at. absurd (let e : Ready last ≡ Aside before reported = sym at.standing_is ∙ stands-aside known number terminal before reported was at.found in cc))
+    (λ terminal last asking at. absurd (let e : Ready last ≡ Aside before reported = sym at.standing_is ∙ stands-aside known number terminal before reported was at.found in cc))
+    (λ terminal talk at may. absurd (serves-apart known number header request terminal talk before reported at was)) (λ terminal talk at may. absurd (serves-apart known number header request terminal talk before reported at was))
 
 -- so with each item
 item-stays : (known : Known) (item : RoundItem) (number before reported : ℕ) → terminal_of item ≡ Some number → is_link_lost item ≡ false → IsAsideAt known.core number before reported

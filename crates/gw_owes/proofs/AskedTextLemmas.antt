@@ -1,4 +1,4 @@
--- The payment of the examples is read from a text.
+-- The payment, the reversal and the Abort of the examples are read from texts.
 use Rattle.std.proofs.Common.{◌≡◌, ℕ, suc, ◌≤◌, Bool, true, false, List, [], ◌∷◌, length, refl, sym, subst, arith, inl, inr}
 use Rattle.std.proofs.lemmas.Bool.{and_parts, ltb-true, leb-true}
 use Rattle.std.proofs.lemmas.List.Elements.{All-from_recursion, All-nil}
@@ -6,28 +6,32 @@ use Rattle.std.proofs.lemmas.Slice.Eq.{bytes_eq-Decides}
 use Rattle.std.proofs.lemmas.Str.{IsUtf8-from_is_utf8}
 use Rattle.std.specs.List.{AllByRecursion}
 use Rattle.std.specs.Char.{IsAsciiDigit}
-use Rattle.std.specs.Prelude.{nat_lt, nat_le, ◌&&◌, ◌||◌, not, bytes_eq, codes, All, None}
+use Rattle.std.specs.Prelude.{nat_lt, nat_le, ◌&&◌, ◌||◌, not, bytes_eq, codes, All, None, Some}
 use Rattle.std.specs.Str.{is_utf8, chars}
 use lib.Utf8.{encode}
 use Rattle.gw_base.specs.Amount.{SpellsAmount, minor_units}
 use Rattle.gw_base.specs.Ident.{IsIdent, IsPrintable}
 use Rattle.json_text.specs.Tree.{Tree, null, boolean, number, string, array, object, Members, no_members, member, names}
-use Rattle.json_text.specs.Grammar.{Spells, IsNew, AreDistinct}
+use Rattle.json_text.specs.Grammar.{IsNew, AreDistinct}
 use Rattle.json_text.specs.Number.{IsNumberText}
 use Rattle.json_text.specs.Spellable.{IsSpellableAt, HaveSpellable}
 use Rattle.json_text.specs.Canonical.{canonical}
 use Rattle.json_text.proofs.CanonicalLemmas.{spellable_written}
 use Rattle.sale_values.specs.declared.names.Class.TheVariants.{Service}
+use Rattle.sale_values.specs.declared.header.Header.{Header}
 use Rattle.sale_values.specs.declared.request.Incoming.TheVariants as incoming
+use Rattle.sale_values.specs.declared.request.SaleRequest.{SaleRequest}
 use Rattle.sale_values.specs.MemberShapes.{number_member, object_member, only, text_member}
+use Rattle.sale_msg.specs.declared.table.Envelope.TheVariants as envelopes
 use Rattle.sale_msg.specs.Form.{IsCapital, IsLetter}
 use Rattle.sale_msg.specs.Path.{tree_at}
-use Rattle.sale_msg.specs.Table.{payment_rows}
+use Rattle.sale_msg.specs.Table.{abort_rows, header_rows, payment_rows, reversal_rows}
 use Rattle.sale_msg.specs.Flaw.{AreMet, IsMet}
-use Rattle.sale_msg.specs.Grammar.{HeaderHolds, IsPayment, IsTillMessage}
+use Rattle.sale_msg.specs.Grammar.{HeaderHolds, IsPayment, IsReferenceAt, IsRequestOf, IsReversal, IsTillMessage}
+use Rattle.gw_owes.specs.ReadAs.{Request}
 use Rattle.gw_owes.specs.RecordExample.{fourth_asked}
 use Rattle.gw_owes.specs.RecordLaws.{IsReadFromTill}
-use Rattle.gw_owes.specs.StepExample.{euros, payment_header}
+use Rattle.gw_owes.specs.StepExample.{abort_header, abort_of_service, asked_at, euros, payment_header, reference_to, reversal_header, reversal_of_text}
 
 -- ---- what holds of each number in a list is tested by computing
 
@@ -142,40 +146,75 @@ mutual
       let q = and_parts (is_spellable d value) (have_spellable d more) p.1 in
       (IsUtf8-from_is_utf8 name p.0, spellable-tree d value q.0, spellable-members d more q.1)
 
--- ---- the request
+-- ---- requests of till S at terminal A
 
-abbrev asked_header : Members
-asked_header =
+abbrev header_members : List ℕ → List ℕ → Members
+header_members category service =
     text_member (codes "ProtocolVersion") (codes "3.0")
     (text_member (codes "MessageClass") (codes "Service")
-    (text_member (codes "MessageCategory") (codes "Payment")
+    (text_member (codes "MessageCategory") category
     (text_member (codes "MessageType") (codes "Request")
-    (text_member (codes "ServiceID") (codes "4")
+    (text_member (codes "ServiceID") service
     (text_member (codes "SaleID") (codes "S")
     (text_member (codes "POIID") (codes "A") no_members))))))
 
+-- the body object with this category and ServiceID, and these members beside the header
+abbrev headed : List ℕ → List ℕ → Members → Tree
+headed category service rest = object (object_member (codes "MessageHeader") (header_members category service) rest)
+
+-- the message
+abbrev asked_tree : List ℕ → List ℕ → Members → Tree
+asked_tree category service rest = only (codes "SaleToPOIRequest") (headed category service rest)
+
+header-holds : (category service : List ℕ) (rest : Members) → HeaderHolds (headed category service rest) (asked_at category (codes "A") service)
+unfolding tree_at
+header-holds category service rest = record { class = refl; category = refl; message_type = refl; service = refl; device = refl; sale = refl; poi = refl }
+
+-- 1 to 40 letters
+abbrev IsCategory : List ℕ → Type 0
+IsCategory text = (1 ≤ length text) × (length text ≤ 40) × All IsLetter text
+
+header-met : (category service : List ℕ) (rest : Members) → IsCategory category → IsIdent 10 service → AreMet (header_rows envelopes.Request) (headed category service rest)
+unfolding IsMet tree_at
+header-met category service rest letters ident = (
+  refl,
+  (
+    (codes "0", refl),
+    (
+      (Service, refl),
+      (
+        letters,
+        (inl refl, (ident, (tt, (ident-tested 40 (codes "S") refl, (ident-tested 40 (codes "A") refl, tt))))),
+      ),
+    ),
+  ),
+)
+
+request-of : (category service : List ℕ) (rest : Members) → IsCategory category → IsIdent 10 service
+    → IsRequestOf (asked_tree category service rest) (headed category service rest) (asked_at category (codes "A") service)
+request-of category service rest letters ident = record {
+  under = refl;
+  header_is = record { members = header-met category service rest letters ident; values = header-holds category service rest };
+  message_type = refl;
+}
+
+-- a message that can be spelled is read from what spells it
+read-of : (tree : Tree) (header : Header) (request : SaleRequest) → is_spellable 0 tree ≡ true → IsTillMessage tree (incoming.Request header request) → IsReadFromTill (Request header request)
+read-of tree header request spellable message = (canonical tree, record { tree = tree; spelled = spellable_written tree (spellable-tree 0 tree spellable); read = message })
+
+-- ---- a Payment
+
 abbrev asked_payment : Members
 asked_payment =
-    object_member (codes "SaleData")
+    object_member (codes "PaymentRequest")
+    (object_member (codes "SaleData")
     (object_member (codes "SaleTransactionID") (text_member (codes "TransactionID") (codes "T") (text_member (codes "TimeStamp") (codes "now") no_members)) no_members)
-    (object_member (codes "PaymentTransaction") (object_member (codes "AmountsReq") (text_member (codes "Currency") (codes "EUR") (number_member (codes "RequestedAmount") amount_text no_members)) no_members) no_members)
+    (object_member (codes "PaymentTransaction") (object_member (codes "AmountsReq") (text_member (codes "Currency") (codes "EUR") (number_member (codes "RequestedAmount") amount_text no_members)) no_members) no_members))
+    no_members
 
-abbrev asked_body : Tree
-asked_body = object (object_member (codes "MessageHeader") asked_header (object_member (codes "PaymentRequest") asked_payment no_members))
-
-abbrev asked_tree : Tree
-asked_tree = only (codes "SaleToPOIRequest") asked_body
-
-asked-spellable : is_spellable 0 asked_tree ≡ true
+payment-spellable : is_spellable 0 (asked_tree (codes "Payment") (codes "4") asked_payment) ≡ true
 unfolding is_utf8 chars encode
-asked-spellable = refl
-
-asked-spelled : Spells asked_tree (canonical asked_tree)
-asked-spelled = spellable_written asked_tree (spellable-tree 0 asked_tree asked-spellable)
-
-header-holds : HeaderHolds asked_body (payment_header (codes "4"))
-unfolding tree_at
-header-holds = record { class = refl; category = refl; message_type = refl; service = refl; device = refl; sale = refl; poi = refl }
+payment-spellable = refl
 
 zeros : All IsAsciiDigit (codes "00")
 zeros = All-from_recursion IsAsciiDigit (codes "00") ((omega arith, omega arith), ((omega arith, omega arith), tt))
@@ -195,9 +234,9 @@ amount-spelled = record {
   amount = (omega arith, omega arith);
 }
 
-body-met : AreMet payment_rows asked_body
+payment-met : AreMet payment_rows (headed (codes "Payment") (codes "4") asked_payment)
 unfolding IsMet tree_at
-body-met = (
+payment-met = (
   ident-tested 10 (codes "4") refl,
   (
     refl,
@@ -205,41 +244,93 @@ body-met = (
   ),
 )
 
-asks-for : IsPayment asked_body (record { transaction = codes "T"; stamp = codes "now"; currency = codes "EUR"; amount = 100; kind = None })
+payment-asks : IsPayment (headed (codes "Payment") (codes "4") asked_payment) (record { transaction = codes "T"; stamp = codes "now"; currency = codes "EUR"; amount = 100; kind = None })
 unfolding tree_at minor_units
-asks-for = record { transaction = refl; stamp = refl; currency = refl; amount = refl; payment_type = refl }
+payment-asks = record { transaction = refl; stamp = refl; currency = refl; amount = refl; payment_type = refl }
 
-asked-message : IsTillMessage asked_tree (incoming.Request (payment_header (codes "4")) (euros 100))
-unfolding IsMet tree_at
-asked-message = (
-  asked_body,
+payment-message : IsTillMessage (asked_tree (codes "Payment") (codes "4") asked_payment) (incoming.Request (payment_header (codes "4")) (euros 100))
+payment-message = (
+  headed (codes "Payment") (codes "4") asked_payment,
   record {
-    request_of = record {
-      under = refl;
-      header_is = record {
-        members = (
-          refl,
-          (
-            (codes "0", refl),
-            (
-              (Service, refl),
-              (
-                (omega arith, omega arith, letters-tested (codes "Payment") refl),
-                (inl refl, (ident-tested 10 (codes "4") refl, (tt, (ident-tested 40 (codes "S") refl, (ident-tested 40 (codes "A") refl, tt))))),
-              ),
-            ),
-          ),
-        );
-        values = header-holds;
-      };
-      message_type = refl;
-    };
+    request_of = request-of (codes "Payment") (codes "4") asked_payment (omega arith, omega arith, letters-tested (codes "Payment") refl) (ident-tested 10 (codes "4") refl);
     category = refl;
-    members = record { members = body-met; parts = All-nil (AreMet []) };
-    asks = asks-for;
+    members = record { members = payment-met; parts = All-nil (AreMet []) };
+    asks = payment-asks;
   },
 )
 
--- the request is read as it is meant
+-- the payment is read as it is meant
 pub fourth-read : IsReadFromTill fourth_asked
-fourth-read = (canonical asked_tree, record { tree = asked_tree; spelled = asked-spelled; read = asked-message })
+fourth-read = read-of (asked_tree (codes "Payment") (codes "4") asked_payment) (payment_header (codes "4")) (euros 100) payment-spellable payment-message
+
+-- ---- a Reversal
+
+abbrev asked_reversal : Members
+asked_reversal =
+    object_member (codes "ReversalRequest")
+    (object_member (codes "OriginalPOITransaction") (object_member (codes "POITransactionID") (text_member (codes "TransactionID") (codes "000124-0017-2") no_members) no_members)
+    (text_member (codes "ReversalReason") (codes "CustCancel") no_members))
+    no_members
+
+reversal-spellable : is_spellable 0 (asked_tree (codes "Reversal") (codes "4") asked_reversal) ≡ true
+unfolding is_utf8 chars encode
+reversal-spellable = refl
+
+reversal-met : AreMet reversal_rows (headed (codes "Reversal") (codes "4") asked_reversal)
+unfolding IsMet tree_at
+reversal-met = (ident-tested 10 (codes "4") refl, (refl, (refl, (refl, (ident-tested 80 (codes "000124-0017-2") refl, (tt, (tt, tt)))))))
+
+reversal-asks : IsReversal (headed (codes "Reversal") (codes "4") asked_reversal) (record { transaction = codes "000124-0017-2"; amount = None })
+unfolding tree_at
+reversal-asks = record { transaction = refl; amount = refl }
+
+reversal-message : IsTillMessage (asked_tree (codes "Reversal") (codes "4") asked_reversal) (incoming.Request (reversal_header (codes "4")) (reversal_of_text (codes "000124-0017-2") None))
+reversal-message = (
+  headed (codes "Reversal") (codes "4") asked_reversal,
+  record {
+    request_of = request-of (codes "Reversal") (codes "4") asked_reversal (omega arith, omega arith, letters-tested (codes "Reversal") refl) (ident-tested 10 (codes "4") refl);
+    category = refl;
+    members = record { members = reversal-met; parts = All-nil (AreMet []) };
+    asks = reversal-asks;
+  },
+)
+
+-- the reversal is read as it is meant
+pub second-reversed-read : IsReadFromTill (Request (reversal_header (codes "4")) (reversal_of_text (codes "000124-0017-2") None))
+second-reversed-read =
+    read-of (asked_tree (codes "Reversal") (codes "4") asked_reversal) (reversal_header (codes "4")) (reversal_of_text (codes "000124-0017-2") None) reversal-spellable reversal-message
+
+-- ---- an Abort
+
+abbrev named_message : Members
+named_message = text_member (codes "ServiceID") (codes "4") no_members
+
+abbrev asked_abort : Members
+asked_abort = object_member (codes "AbortRequest") (object_member (codes "MessageReference") named_message no_members) no_members
+
+abort-spellable : is_spellable 0 (asked_tree (codes "Abort") (codes "9") asked_abort) ≡ true
+unfolding is_utf8 chars encode
+abort-spellable = refl
+
+abort-met : AreMet abort_rows (headed (codes "Abort") (codes "9") asked_abort)
+unfolding IsMet tree_at
+abort-met = (ident-tested 10 (codes "9") refl, (refl, (refl, (ident-tested 10 (codes "4") refl, (tt, (tt, (tt, tt)))))))
+
+abort-asks : IsReferenceAt (codes "AbortRequest.MessageReference") (headed (codes "Abort") (codes "9") asked_abort) (Some (reference_to (codes "4")))
+unfolding tree_at
+abort-asks = (object named_message, refl, record { service = refl; sale = refl; poi = refl })
+
+abort-message : IsTillMessage (asked_tree (codes "Abort") (codes "9") asked_abort) (incoming.Request abort_header (abort_of_service (codes "4")))
+abort-message = (
+  headed (codes "Abort") (codes "9") asked_abort,
+  record {
+    request_of = request-of (codes "Abort") (codes "9") asked_abort (omega arith, omega arith, letters-tested (codes "Abort") refl) (ident-tested 10 (codes "9") refl);
+    category = refl;
+    members = record { members = abort-met; parts = All-nil (AreMet []) };
+    asks = abort-asks;
+  },
+)
+
+-- the Abort is read as it is meant
+pub fourth-aborted-read : IsReadFromTill (Request abort_header (abort_of_service (codes "4")))
+fourth-aborted-read = read-of (asked_tree (codes "Abort") (codes "9") asked_abort) abort_header (abort_of_service (codes "4")) abort-spellable abort-message

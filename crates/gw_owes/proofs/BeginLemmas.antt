@@ -1,175 +1,272 @@
--- A payment that begins keeps what is known in order, and what a till's message begins was read and names its terminal.
-use Rattle.std.proofs.Common.{◌≡◌, ◌∙◌, ℕ, suc, ◌+◌, ◌≤◌, max, Bool, true, false, ◌&&◌, List, [], ◌∷◌, ◌++◌, length, is_some, not, refl, sym, ap, subst, arith}
-use Rattle.std.specs.Prelude.{All, slice_get, map, Option, Some, None, option_and_then, option_map, if◌then◌else◌, bytes_eq, unwrap_or}
-use Rattle.std.proofs.lemmas.Bool.{ltb-false}
+-- A payment or a reversal that begins, and a stop, keep what is known in order, and what a till's message begins was read and names its terminal.
+use Rattle.std.proofs.Common.{◌≡◌, ◌∙◌, ℕ, suc, ◌+◌, ◌^◌, ◌<◌, ◌*◌, ◌≤◌, max, Bool, true, false, ◌&&◌, List, [], ◌∷◌, ◌++◌, length, not, refl, sym, ap, subst, arith}
+use Rattle.std.specs.Prelude.{All, IfSome, slice_get, map, Option, Some, None, option_and_then, option_map, if◌then◌else◌, bytes_eq, unwrap_or}
+use Rattle.std.proofs.lemmas.Bool.{and_parts, ltb-false, not-true, not-false}
 use Rattle.std.proofs.lemmas.List.Elements.{All-nil, All-cons}
 use Rattle.std.proofs.lemmas.Option.{same_Some}
 use Rattle.std.proofs.lemmas.Slice.Eq.{bytes_eq-Decides}
-use Rattle.gw_base.specs.declared.condition.Condition.TheVariants.{Busy, InProgress, NotAllowed, UnavailableDevice, UnavailableService}
 use Rattle.gw_base.specs.declared.setup.Pt.{Pt}
 use Rattle.sale_values.specs.declared.header.Header.{Header}
 use Rattle.sale_values.specs.declared.request.PaymentAsk.{PaymentAsk}
+use Rattle.sale_values.specs.declared.request.Reference.{Reference}
+use Rattle.sale_values.specs.declared.request.ReversalAsk.{ReversalAsk}
 use Rattle.sale_values.specs.declared.request.SaleRequest.{SaleRequest}
 use Rattle.sale_values.specs.declared.request.SaleRequest.TheVariants as requests
+use Rattle.sale_values.specs.Key.{key_of}
+use Rattle.zvt_talk.specs.Talk.{TalkFacts}
+use Rattle.zvt_talk.specs.TalkSteps.{may_send_stop, talk_after_stop_wished}
+use Rattle.jrn_record.specs.Limits.{IsIntent, IsOutcome}
+use Rattle.jrn_record.specs.declared.records.Deal.{Deal}
+use Rattle.jrn_record.specs.declared.records.Deal.TheVariants as deals
 use Rattle.jrn_record.specs.declared.records.Intent.{Intent as TheIntent}
+use Rattle.jrn_record.specs.declared.records.Outcome.{Outcome as TheOutcome}
 use Rattle.jrn_record.specs.declared.records.Record.TheVariants.{Intent}
-use Rattle.gw_ledger.specs.declared.entry.Found.{Found}
-use Rattle.gw_ledger.specs.Accounts.{last_number_of}
+use Rattle.gw_ledger.specs.declared.entry.Entry.{Entry as TheEntry}
+use Rattle.gw_ledger.specs.Accounts.{is_settled, last_number_of}
 use Rattle.gw_ledger.specs.Fold.{fits, found_of, open_entry}
+use Rattle.gw_ledger.specs.History.{same_text}
 use Rattle.gw_ledger.specs.Keys.{intent_key}
-use Rattle.gw_ledger.specs.Sums.{open_count_of}
+use Rattle.gw_ledger.specs.Laws.{HasApproval, IsEntryWithin}
+use Rattle.gw_ledger.specs.Slots.{asks_payment, is_reversed}
+use Rattle.gw_ledger.specs.Sums.{one_if, open_count_of}
+use Rattle.gw_ledger.specs.Transaction.{is_text, text_of}
+use Rattle.xlate.specs.Ask.{HasItsOriginal, IsApproval, IsOriginalWithinLimits, ask}
 use Rattle.gw_owes.specs.declared.terminal.Standing.{Standing}
-use Rattle.gw_owes.specs.declared.terminal.Standing.TheVariants.{Unlinked, Registering, Enquiring, Ready, Serving, Aside}
+use Rattle.gw_owes.specs.declared.terminal.Standing.TheVariants.{Ready}
 use Rattle.gw_owes.specs.declared.terminal.Terminal.{Terminal}
+use Rattle.gw_owes.specs.Content.{is_same_amount}
 use Rattle.gw_owes.specs.Diagnosis.{NamedTerminal, named_from, named_terminal}
+use Rattle.gw_owes.specs.Items.{RoundItem, Serve}
 use Rattle.gw_owes.specs.KeptReplies.{found_for}
-use Rattle.gw_owes.specs.Payments.{asked_for, beginning_row, begins_in, begins_payment, is_beginning, payment_intent, serve_row}
+use Rattle.gw_owes.specs.Payments.{Asking, asked_for, beginning_row, payment_asking, payment_intent, reversal_asking, serve_row}
 use Rattle.gw_owes.specs.ReadAs.{ReadAs, Request, Silent, NoMessage, NoJson}
-use Rattle.gw_owes.specs.RecordLaws.{AreOfSetup, HasNoneOpen, IsInOrder, IsReadItem, IsReadRequest, AreRecordsOf, IsReadFromTill}
+use Rattle.gw_owes.specs.RecordLaws.{AreOfSetup, AreRecordsOf, HasNoneOpen, IsInOrder, IsReadFromTill, IsReadItem, IsReadRequest, IsTalkRead, IsTerminalInOrder, commands_left, poi_asked, stops_left}
 use Rattle.gw_owes.specs.Requests.{begun_by}
-use Rattle.gw_owes.specs.Row.{Known, owing_where}
-use Rattle.gw_owes.specs.Steps.{StepResult, KeptReply, Fails, Begins, step_result, asks_other_currency, has_reply, is_ready, is_repeated, is_unavailable, is_unserved, is_used_up, item_of_result, items_of_result, lacks_room}
-use Rattle.gw_owes.specs.Terminals.{of_terminal, terminal_at}
+use Rattle.gw_owes.specs.Reversals.{amount_in, is_irreversible, is_whole_of, may_be_reversed, original_of, reversal_intent}
+use Rattle.gw_owes.specs.Row.{Known, Row}
+use Rattle.gw_owes.specs.Serving.{staying, stops}
+use Rattle.gw_owes.specs.Steps.{StepResult, KeptReply, Fails, Begins, items_of_result}
+use Rattle.gw_owes.specs.Stops.{serves_key, stop_items_at, wishing}
+use Rattle.gw_owes.specs.Terminals.{terminal_at}
 use Rattle.gw_owes.specs.TerminalLaws.{owes_cut}
-use Rattle.gw_owes.proofs.KeepingLemmas.{RowKeeps, nothing-keeps, record-keeps, setting-there}
-use Rattle.gw_owes.proofs.LimitLemmas.{IsPaymentWithin, intent-within, payment-within}
-use Rattle.gw_owes.proofs.RecordLemmas.{LedgerLaws, entry-of-open, intent-number, intent-opens}
+use Rattle.gw_owes.proofs.FewLemmas.{command-begins, few-more, wished-left, wished-read}
+use Rattle.gw_owes.proofs.HeardLemmas.{of-both}
+use Rattle.gw_owes.proofs.KeepingLemmas.{RowKeeps, becomes-keeps, no-calls, nothing-keeps, record-keeps, setting-there}
+use Rattle.gw_owes.proofs.LimitLemmas.{IsHeaderWithin, IsPaymentWithin, intent-within, payment-within, reversal-intent-within, reversal-within}
+use Rattle.gw_owes.proofs.PaymentLemmas.{BeginsAt, PassesSteps, StopsAt, each-served, passes-steps}
+use Rattle.gw_owes.proofs.RecordLemmas.{LedgerLaws, entry-of-open, entry-parts, intent-number, intent-opens, intent-within as intent-inside, open_entry_of, same-text-is}
 
--- ---- what the steps ask before a service begins
+-- ---- what is asked of a terminal that is ready
 
--- the third step and the eighth don't apply where a service begins
-third-and-eighth : (a b c d e f g h i j : Bool)
-    → is_beginning (if a then KeptReply else if b then Fails InProgress else if c then Fails NotAllowed else if d then Fails UnavailableDevice else if e then Fails UnavailableService
-    else if f then Fails NotAllowed else if g then Fails UnavailableService else if h then Fails UnavailableService else if i then Fails UnavailableDevice else if j then Begins else Fails Busy) ≡ true
-    → (c ≡ false) × (h ≡ false)
-third-and-eighth true b c d e f g h i j begins = absurd cc
-third-and-eighth false true c d e f g h i j begins = absurd cc
-third-and-eighth false false true d e f g h i j begins = absurd cc
-third-and-eighth false false false true e f g h i j begins = absurd cc
-third-and-eighth false false false false true f g h i j begins = absurd cc
-third-and-eighth false false false false false true g h i j begins = absurd cc
-third-and-eighth false false false false false false true h i j begins = absurd cc
-third-and-eighth false false false false false false false true i j begins = absurd cc
-third-and-eighth false false false false false false false false i j begins = (refl, refl)
-
-none-found : (found : Option Found) → is_some found ≡ false → found ≡ None
-none-found None none = refl
-none-found (Some found) none = absurd cc
-
--- the key is unknown, and there is room
-pub record MayBegin (known : Known) (header : Header) : Type 0 where
-  pub unknown : found_for known.kept header ≡ None
+-- the Intent of what this terminal is asked for may come next
+pub record IsAskedAnew (known : Known) (header : Header) (terminal : Terminal) (last : ℕ) (asking : Asking) : Type 0 where
+  -- the request names the terminal, whose Intent it is, with its last trace number
+  pub names : terminal.pt.poi ≡ header.poi
+  pub poi_is : asking.intent.poi ≡ terminal.pt.poi
+  pub before_is : asking.intent.before ≡ last
+  -- its key is unknown
+  pub unknown : found_of known.kept (intent_key asking.intent) ≡ None
+  -- it lies within its limits, fits the records, and leaves room for its Outcome
+  pub within : IsIntent asking.intent
+  pub fitting : fits known.kept (Intent asking.intent) ≡ true
   pub room : length known.kept + (open_count_of known.kept + 2) ≤ known.setup.slots
+  -- a reversal has its original, within its limits
+  pub its_original : HasItsOriginal asking.intent.what asking.intent.original asking.original
+  pub original_within : IsOriginalWithinLimits asking.original
 
-pub may-begin : (known : Known) (header : Header) (request : SaleRequest) (named : Option NamedTerminal) → is_beginning (step_result known header request named) ≡ true → MayBegin known header
-may-begin known header request named begins =
-    let both = third-and-eighth (is_repeated known.kept request (found_for known.kept header) && has_reply (found_for known.kept header)) (is_repeated known.kept request (found_for known.kept header)) (is_some (found_for known.kept header))
-    (not (is_some named)) (is_unserved request) (asks_other_currency request named) (is_used_up known.kept header.poi named) (lacks_room known.setup.slots known.kept) (is_unavailable named) (is_ready named) begins in
-    record { unknown = none-found (found_for known.kept header) both.0; room = ltb-false known.setup.slots (length known.kept + (open_count_of known.kept + 2)) both.1 }
+is-payment : (what : Deal) → asks_payment what ≡ true → what ≡ deals.Payment
+is-payment deals.Payment is = refl
+is-payment deals.Reversal is = absurd cc
+
+-- the Outcome is there and approves
+record IsApproved (result : Option TheOutcome) : Type 0 where
+  has : HasApproval (amount_in result) result
+  is : IsApproval result
+
+whole-approved : (amount : Option ℕ) (result : Option TheOutcome) → is_whole_of amount result ≡ true → IsApproved result
+whole-approved amount None whole = absurd cc
+whole-approved amount (Some outcome) whole = let parts = and_parts outcome.approved (is_same_amount amount outcome.amount) whole in record { has = (parts.0, refl); is = parts.0 }
+
+-- what is known as a request begins that was read and passes the steps
+module _ (laws : LedgerLaws) (known : Known) (order : IsInOrder known) (header : Header) (terminal : Terminal) (last : ℕ) (heading : IsHeaderWithin header) (names : terminal.pt.poi ≡ header.poi)
+    (unknown : found_for known.kept header ≡ None) (room : length known.kept + (open_count_of known.kept + 2) ≤ known.setup.slots) (has : HasNoneOpen known.kept header.poi last) where
+  key-unknown : found_of known.kept (record { sale = header.sale; poi = header.poi; service = unwrap_or header.service [] }) ≡ None
+  key-unknown =
+      ap (λ (service : Option (List ℕ)). found_of known.kept (record { sale = header.sale; poi = header.poi; service = unwrap_or service [] })) heading.service_is
+      ∙ sym (ap (λ (service : Option (List ℕ)). option_and_then (found_of known.kept) (option_map (λ (s : List ℕ). record { sale = header.sale; poi = header.poi; service = s }) service)) heading.service_is)
+      ∙ unknown
+
+  payment-anew : (payment : PaymentAsk) → IsPaymentWithin header payment → IsAskedAnew known header terminal last (payment_asking known header payment terminal last)
+  payment-anew payment asks = record {
+    names = names;
+    poi_is = sym names;
+    before_is = refl;
+    unknown = key-unknown;
+    within = intent-within header payment terminal.pt.currency last known.moment asks has.within order.moment;
+    fitting = laws.payment known.kept order.folded (payment_intent header payment terminal.pt.currency last known.moment) refl key-unknown has.none_open has.not_below;
+    room = room;
+    its_original = tt;
+    original_within = tt;
+  }
+
+  reversal-anew : (reversal : ReversalAsk) (original : TheEntry) → original_of known.kept header.poi reversal ≡ Some original → may_be_reversed known.kept reversal original ≡ true
+      → IsAskedAnew known header terminal last (reversal_asking known header last original)
+  reversal-anew reversal original named may =
+      let entry = laws.named known.kept header.poi reversal.transaction original named in
+      let at_poi = (and_parts (same_text header.poi original.intent.poi) (is_text reversal.transaction (text_of original)) entry.1).0 in
+      let parts = and_parts (asks_payment original.intent.what && is_whole_of reversal.amount original.result) (not (is_reversed known.kept original.slot) && not (is_settled known.kept original.slot)) may in
+      let paid = and_parts (asks_payment original.intent.what) (is_whole_of reversal.amount original.result) parts.0 in
+      let still = and_parts (not (is_reversed known.kept original.slot)) (not (is_settled known.kept original.slot)) parts.1 in
+      let approved = whole-approved reversal.amount original.result paid.1 in
+      let within : IsEntryWithin original = (laws.within known.kept order.folded).0 original.slot original entry.0 in
+      let inside : original.slot < length known.kept = intent-inside known.kept original.slot original.intent (entry-parts known.kept original.slot original entry.0).1 in
+      let most : known.setup.slots ≤ 1000000 = order.of_setup.within.slots.1 in
+      let small : original.slot < 2 ^ 32 = omega (arith, inside, room, most) in
+      record {
+        names = names;
+        poi_is = sym names;
+        before_is = refl;
+        unknown = key-unknown;
+        within = reversal-intent-within header original last known.moment heading within approved.is small has.within order.moment;
+        fitting = laws.reversal known.kept order.folded (reversal_intent header original last known.moment) original.slot original refl key-unknown has.none_open has.not_below entry.0
+            (record { what = is-payment original.intent.what paid.0; poi = sym (same-text-is header.poi original.intent.poi at_poi); currency = refl; approved = approved.has })
+            (not-true (is_reversed known.kept original.slot) still.0) (not-true (is_settled known.kept original.slot) still.1);
+        room = room;
+        its_original = (refl, approved.is);
+        original_within = λ outcome is. subst (λ (result : Option TheOutcome). IfSome result IsOutcome) is within.result;
+      }
 
 -- ---- the beginning
 
-module _ (laws : LedgerLaws) (known : Known) (order : IsInOrder known) (number till : ℕ) (header : Header) (payment : PaymentAsk) (asks : IsPaymentWithin header payment) (terminal : Terminal) (here : terminal_at known number ≡ Some terminal)
-    (poi : terminal.pt.poi ≡ header.poi) (may : MayBegin known header) where
-  -- the key of the Intent is unknown
-  key-unknown : (last : ℕ) → found_of known.kept (intent_key (payment_intent header payment terminal.pt.currency last known.moment)) ≡ None
-  key-unknown last =
-      ap (λ (service : Option (List ℕ)). found_of known.kept (record { sale = header.sale; poi = header.poi; service = unwrap_or service [] })) asks.service_is
-      ∙ sym (ap (λ (service : Option (List ℕ)). option_and_then (found_of known.kept) (option_map (λ (s : List ℕ). record { sale = header.sale; poi = header.poi; service = s }) service)) asks.service_is)
-      ∙ may.unknown
+module _ (laws : LedgerLaws) (known : Known) (order : IsInOrder known) (number till : ℕ) (header : Header) where
+  -- the terminal of a request that was read has the POIID that this is about
+  asked-names : (request : SaleRequest) (terminal : Terminal) → IsReadRequest known.setup number header request → terminal_at known number ≡ Some terminal → terminal.pt.poi ≡ poi_asked header request
+  asked-names request terminal read here =
+      read.names terminal.pt (subst (λ (pts : List Pt). slice_get pts number ≡ Some terminal.pt) order.of_setup.settings (setting-there known.core.terminals number terminal here))
 
-  -- a terminal that is ready begins it
-  begins-keeps : (last : ℕ) → HasNoneOpen known.kept terminal.pt.poi last → RowKeeps known number (beginning_row known number till terminal last (payment_intent header payment terminal.pt.currency last known.moment))
-  begins-keeps last has =
-      let intent : TheIntent = payment_intent header payment terminal.pt.currency last known.moment in
-      let fitting : fits known.kept (Intent intent) ≡ true =
-      laws.payment known.kept order.folded intent refl (key-unknown last) (subst (λ (p : List ℕ). open_entry known.kept p ≡ None) poi has.none_open) (subst (λ (p : List ℕ). last_number_of known.kept p ≤ last) poi has.not_below) in
-      let room = may.room in
-      let before : last_number_of known.kept header.poi ≤ last = subst (λ (p : List ℕ). last_number_of known.kept p ≤ last) poi has.not_below in
-      let after : last_number_of (known.kept ++ Intent intent ∷ []) header.poi ≡ max (last_number_of known.kept header.poi) last = intent-number laws known.kept intent in
-      record-keeps known order number laws terminal (asked_for known till terminal last intent) (Intent intent) _ (record { no_records = refl; no_cut = refl }) here
-      (intent-within header payment terminal.pt.currency last known.moment asks has.within order.moment) fitting (omega arith) (ap Some (sym poi))
+  -- what the records have of the terminal
+  ready-records : (terminal : Terminal) (last : ℕ) → terminal_at known number ≡ Some terminal → terminal.standing ≡ Ready last → terminal.pt.poi ≡ header.poi → HasNoneOpen known.kept header.poi last
+  ready-records terminal last here standing names =
+      subst (λ (p : List ℕ). HasNoneOpen known.kept p last) names (subst (AreRecordsOf known.kept terminal.pt.poi) standing (order.terminals number terminal here).records)
+
+  -- and room is left
+  room-left : (request : SaleRequest) (named : Option NamedTerminal) → PassesSteps known header request named → length known.kept + (open_count_of known.kept + 2) ≤ known.setup.slots
+  room-left request named passes = ltb-false known.setup.slots (length known.kept + (open_count_of known.kept + 2)) passes.room
+
+  payment-begins-anew : (payment : PaymentAsk) (terminal : Terminal) (last : ℕ) (asking : Asking) → IsReadRequest known.setup number header (requests.Payment payment)
+      → BeginsAt known number header (requests.Payment payment) terminal last asking → IsAskedAnew known header terminal last asking
+  payment-begins-anew payment terminal last asking read at =
+      let named : Option NamedTerminal = Some (record { number = number; terminal = terminal }) in
+      let passes = passes-steps known header (requests.Payment payment) named at.begins_is in
+      let names = asked-names (requests.Payment payment) terminal read at.found in
+      let asks = payment-within header payment read.read in
+      subst (IsAskedAnew known header terminal last) (same_Some (payment_asking known header payment terminal last) asking at.asking_is)
+      (payment-anew laws known order header terminal last asks.heading names passes.unknown (room-left (requests.Payment payment) named passes) (ready-records terminal last at.found at.standing_is names) payment asks)
+
+  reversal-begins-anew : (reversal : ReversalAsk) (terminal : Terminal) (last : ℕ) (asking : Asking) → IsReadRequest known.setup number header (requests.Reversal reversal)
+      → BeginsAt known number header (requests.Reversal reversal) terminal last asking → IsAskedAnew known header terminal last asking
+  reversal-begins-anew reversal terminal last asking read at = by-original (original_of known.kept header.poi reversal) refl at.asking_is passes.reversible
+    where
+      named : Option NamedTerminal
+      named = Some (record { number = number; terminal = terminal })
+
+      passes : PassesSteps known header (requests.Reversal reversal) named
+      passes = passes-steps known header (requests.Reversal reversal) named at.begins_is
+
+      names : terminal.pt.poi ≡ header.poi
+      names = asked-names (requests.Reversal reversal) terminal read at.found
+
+      by-original : (found : Option TheEntry) → original_of known.kept header.poi reversal ≡ found → option_map (reversal_asking known header last) found ≡ Some asking → is_irreversible known.kept reversal found ≡ false
+          → IsAskedAnew known header terminal last asking
+      by-original None is asks may = absurd cc
+      by-original (Some original) is asks may =
+          subst (IsAskedAnew known header terminal last) (same_Some (reversal_asking known header last original) asking asks)
+          (reversal-anew laws known order header terminal last (reversal-within header reversal read.read) names passes.unknown (room-left (requests.Reversal reversal) named passes)
+          (ready-records terminal last at.found at.standing_is names) reversal original is (not-false (may_be_reversed known.kept reversal original) may))
+
+  -- what a request asks for that begins may come next
+  pub begins-anew : (request : SaleRequest) (terminal : Terminal) (last : ℕ) (asking : Asking) → IsReadRequest known.setup number header request → BeginsAt known number header request terminal last asking
+      → IsAskedAnew known header terminal last asking
+  begins-anew requests.Login terminal last asking read at = let none = at.asking_is in absurd cc
+  begins-anew requests.Logout terminal last asking read at = let none = at.asking_is in absurd cc
+  begins-anew (requests.Payment payment) terminal last asking read at = payment-begins-anew payment terminal last asking read at
+  begins-anew (requests.Reversal reversal) terminal last asking read at = reversal-begins-anew reversal terminal last asking read at
+  begins-anew (requests.Abort reference) terminal last asking read at = let none = at.asking_is in absurd cc
+  begins-anew (requests.Status reference) terminal last asking read at = let none = at.asking_is in absurd cc
+  begins-anew (requests.Reconciliation period) terminal last asking read at = let none = at.asking_is in absurd cc
+  begins-anew (requests.Display outputs) terminal last asking read at = let none = at.asking_is in absurd cc
+  begins-anew (requests.Print qualifier) terminal last asking read at = let none = at.asking_is in absurd cc
+  begins-anew requests.Diagnosis terminal last asking read at = let none = at.asking_is in absurd cc
+
+  -- its Intent is kept
+  pub begins-keeps : (terminal : Terminal) (last : ℕ) (asking : Asking) → terminal_at known number ≡ Some terminal → terminal.standing ≡ Ready last → IsAskedAnew known header terminal last asking
+      → RowKeeps known number (beginning_row known number till terminal last asking.intent asking.original)
+  begins-keeps terminal last asking here standing anew =
+      let intent : TheIntent = asking.intent in
+      let was : IsTerminalInOrder known.kept terminal = order.terminals number terminal here in
+      let has : HasNoneOpen known.kept terminal.pt.poi last = subst (AreRecordsOf known.kept terminal.pt.poi) standing was.records in
+      let not_below : last_number_of known.kept intent.poi ≤ last = subst (λ (p : List ℕ). last_number_of known.kept p ≤ last) (sym anew.poi_is) has.not_below in
+      let after : last_number_of (known.kept ++ Intent intent ∷ []) intent.poi ≡ max (last_number_of known.kept intent.poi) intent.before = intent-number laws known.kept intent in
+      let before : intent.before ≡ last = anew.before_is in
+      let room = anew.room in
+      let begins = command-begins terminal.pt (ask intent asking.original terminal.pt) known.moment in
+      let left = begins.left in
+      let more = few-more known.kept (Intent intent) (terminal.awaited + commands_left terminal.standing terminal.talk) was.few in
+      record-keeps known order number laws terminal (asked_for known till terminal last intent asking.original) (Intent intent) _ (record { no_records = refl; no_cut = refl }) here
+      anew.within anew.fitting (omega (arith, room)) (ap Some anew.poi_is)
       (record {
         records = record {
           intent = intent;
-          is_open = subst (λ (p : List ℕ). open_entry (known.kept ++ Intent intent ∷ []) p ≡ Some (record { slot = length known.kept; intent = intent; result = None })) (sym poi)
-              (entry-of-open (known.kept ++ Intent intent ∷ []) header.poi (length known.kept) intent (intent-opens laws known.kept intent));
-          before = refl;
-          what = refl;
-          not_below = subst (λ (p : List ℕ). last_number_of (known.kept ++ Intent intent ∷ []) p ≤ last) (sym poi) (omega arith);
+          is_open = subst (λ (p : List ℕ). open_entry (known.kept ++ Intent intent ∷ []) p ≡ Some (open_entry_of (length known.kept) intent)) anew.poi_is
+              (entry-of-open (known.kept ++ Intent intent ∷ []) intent.poi (length known.kept) intent (intent-opens laws known.kept intent));
+          before = anew.before_is;
+          not_below = subst (λ (p : List ℕ). last_number_of (known.kept ++ Intent intent ∷ []) p ≤ last) anew.poi_is (omega (arith, not_below, after, before));
         };
-        read = tt;
+        read = begins.read;
+        few = omega (arith, more, left);
       })
 
-  -- and no other
-  pub begins-in-keeps : (standing : Standing) → AreRecordsOf known.kept terminal.pt.poi standing → RowKeeps known number (begins_in known number till header payment terminal standing)
-  begins-in-keeps (Unlinked due) has = nothing-keeps known order number
-  begins-in-keeps Registering has = nothing-keeps known order number
-  begins-in-keeps Enquiring has = nothing-keeps known order number
-  begins-in-keeps (Ready last) has = begins-keeps last has
-  begins-in-keeps (Serving service last) has = nothing-keeps known order number
-  begins-in-keeps (Aside before reported) has = nothing-keeps known order number
+  -- ---- a stop
 
-module _ (laws : LedgerLaws) (known : Known) (order : IsInOrder known) (number till : ℕ) (header : Header) where
-  payment-keeps : (payment : PaymentAsk) → IsReadRequest known.setup number header (requests.Payment payment) → RowKeeps known number (of_terminal known (begins_payment known number till header payment) (terminal_at known number))
-  payment-keeps payment read = by-terminal (terminal_at known number) refl
-    where
-      names : (terminal : Terminal) → terminal_at known number ≡ Some terminal → terminal.pt.poi ≡ header.poi
-      names terminal here =
-          read.names terminal.pt (subst (λ (pts : List Pt). slice_get pts number ≡ Some terminal.pt) order.of_setup.settings (setting-there known.core.terminals number terminal here))
+  -- the terminal is in order once a stop is wished, sent or not
+  stopped-in-order : (request : SaleRequest) (terminal : Terminal) (talk : TalkFacts) (sent : Bool) → StopsAt known number header request terminal talk → may_send_stop talk.phase ≡ sent
+      → IsTerminalInOrder known.kept (record (wishing terminal talk) { awaited = terminal.awaited + one_if sent })
+  stopped-in-order request terminal talk sent at may =
+      let was = order.terminals number terminal at.found in
+      let runs : terminal.awaited + commands_left terminal.standing (Some talk) ≤ 2 * length known.kept + 2 =
+      subst (λ (t : Option TalkFacts). terminal.awaited + commands_left terminal.standing t ≤ 2 * length known.kept + 2) at.talk_is was.few in
+      let serves : terminal.awaited + stops_left (Some talk) ≤ 2 * length known.kept + 2 =
+      subst (λ (s : Standing). terminal.awaited + commands_left s (Some talk) ≤ 2 * length known.kept + 2) at.standing_is runs in
+      let left : one_if sent + stops_left (Some (talk_after_stop_wished talk)) ≡ stops_left (Some talk) =
+      subst (λ (b : Bool). one_if b + stops_left (Some (talk_after_stop_wished talk)) ≡ stops_left (Some talk)) may (wished-left talk) in
+      record {
+        records = was.records;
+        read = wished-read talk.phase (subst IsTalkRead at.talk_is was.read);
+        few = subst (λ (s : Standing). terminal.awaited + one_if sent + commands_left s (Some (talk_after_stop_wished talk)) ≤ 2 * length known.kept + 2) (sym at.standing_is) (omega (arith, serves, left));
+      }
 
-      by-begins : (terminal : Terminal) (b : Bool) → terminal_at known number ≡ Some terminal → is_beginning (step_result known header (requests.Payment payment) (Some (record { number = number; terminal = terminal }))) ≡ b
-          → RowKeeps known number (owing_where b known (begins_in known number till header payment terminal terminal.standing))
-      by-begins terminal false here is = nothing-keeps known order number
-      by-begins terminal true here is =
-          begins-in-keeps laws known order number till header payment (payment-within header payment read.read) terminal here (names terminal here)
-          (may-begin known header (requests.Payment payment) (Some (record { number = number; terminal = terminal })) is) terminal.standing (order.terminals number terminal here).records
+  sent-keeps : (request : SaleRequest) (terminal : Terminal) (talk : TalkFacts) → StopsAt known number header request terminal talk → may_send_stop talk.phase ≡ true → RowKeeps known number (stops known number (wishing terminal talk))
+  sent-keeps request terminal talk at may =
+      becomes-keeps known order number (record (wishing terminal talk) { awaited = terminal.awaited + 1 }) _ (record { no_records = refl; no_cut = refl }) (stopped-in-order request terminal talk true at may)
 
-      by-terminal : (found : Option Terminal) → terminal_at known number ≡ found → RowKeeps known number (of_terminal known (begins_payment known number till header payment) found)
-      by-terminal None is = nothing-keeps known order number
-      by-terminal (Some terminal) is = by-begins terminal (is_beginning (step_result known header (requests.Payment payment) (Some (record { number = number; terminal = terminal })))) is refl
+  wished-keeps : (request : SaleRequest) (terminal : Terminal) (talk : TalkFacts) → StopsAt known number header request terminal talk → may_send_stop talk.phase ≡ false → RowKeeps known number (staying known number (wishing terminal talk))
+  wished-keeps request terminal talk at may =
+      let stopped = stopped-in-order request terminal talk false at may in
+      let few = stopped.few in
+      becomes-keeps known order number (wishing terminal talk) [] no-calls (record { records = stopped.records; read = stopped.read; few = omega (arith, few) })
 
-  -- a request that begins
+  -- a request that begins, and one that stops
   pub serve-keeps : (request : SaleRequest) → IsReadRequest known.setup number header request → RowKeeps known number (serve_row known number till header request)
-  serve-keeps requests.Login read = nothing-keeps known order number
-  serve-keeps requests.Logout read = nothing-keeps known order number
-  serve-keeps (requests.Payment payment) read = payment-keeps payment read
-  serve-keeps (requests.Reversal reversal) read = nothing-keeps known order number
-  serve-keeps (requests.Abort reference) read = nothing-keeps known order number
-  serve-keeps (requests.Status reference) read = nothing-keeps known order number
-  serve-keeps (requests.Reconciliation period) read = nothing-keeps known order number
-  serve-keeps (requests.Display outputs) read = nothing-keeps known order number
-  serve-keeps (requests.Print qualifier) read = nothing-keeps known order number
-  serve-keeps requests.Diagnosis read = nothing-keeps known order number
+  serve-keeps request read =
+      each-served (RowKeeps known number) known number till header request (nothing-keeps known order number)
+      (λ terminal last asking at. begins-keeps terminal last asking at.found at.standing_is (begins-anew request terminal last asking read at))
+      (λ terminal talk at may. sent-keeps request terminal talk at may)
+      (λ terminal talk at may. wished-keeps request terminal talk at may)
 
 -- and it cuts nothing
 pub serve-never-cuts : (known : Known) (number till : ℕ) (header : Header) (request : SaleRequest) → owes_cut (serve_row known number till header request).calls ≡ false
-serve-never-cuts known number till header requests.Login = refl
-serve-never-cuts known number till header requests.Logout = refl
-serve-never-cuts known number till header (requests.Payment payment) = by-terminal (terminal_at known number)
-  where
-    by-standing : (terminal : Terminal) (standing : Standing) → owes_cut (begins_in known number till header payment terminal standing).calls ≡ false
-    by-standing terminal (Unlinked due) = refl
-    by-standing terminal Registering = refl
-    by-standing terminal Enquiring = refl
-    by-standing terminal (Ready last) = refl
-    by-standing terminal (Serving service last) = refl
-    by-standing terminal (Aside before reported) = refl
-
-    by-begins : (terminal : Terminal) (b : Bool) → owes_cut (owing_where b known (begins_in known number till header payment terminal terminal.standing)).calls ≡ false
-    by-begins terminal true = by-standing terminal terminal.standing
-    by-begins terminal false = refl
-
-    by-terminal : (found : Option Terminal) → owes_cut (of_terminal known (begins_payment known number till header payment) found).calls ≡ false
-    by-terminal None = refl
-    by-terminal (Some terminal) = by-begins terminal (is_beginning (step_result known header (requests.Payment payment) (Some (record { number = number; terminal = terminal }))))
-serve-never-cuts known number till header (requests.Reversal reversal) = refl
-serve-never-cuts known number till header (requests.Abort reference) = refl
-serve-never-cuts known number till header (requests.Status reference) = refl
-serve-never-cuts known number till header (requests.Reconciliation period) = refl
-serve-never-cuts known number till header (requests.Display outputs) = refl
-serve-never-cuts known number till header (requests.Print qualifier) = refl
-serve-never-cuts known number till header requests.Diagnosis = refl
+serve-never-cuts known number till header request =
+    each-served (λ (row : Row). owes_cut row.calls ≡ false) known number till header request refl (λ terminal last asking at. refl) (λ terminal talk at may. refl) (λ terminal talk at may. refl)
 
 -- ---- what a till's message begins
 
@@ -198,31 +295,40 @@ named-has poi from (terminal ∷ terminals) named is = by-test (bytes_eq termina
         record { at = suc rest.at; number_is = omega arith; has = rest.has }
 
 module _ (known : Known) (of_setup : AreOfSetup known.core known.setup) (till : ℕ) (header : Header) where
-  -- the Serve item of a terminal that is named is read
-  named-read : (request : SaleRequest) (named : Option NamedTerminal) (result : StepResult) → named_terminal known.core header.poi ≡ named → IsReadFromTill (Request header request) → All (IsReadItem known.setup) (items_of_result till header request named result)
+  -- the settings of a terminal that is named have the POIID
+  setting-names : (poi : List ℕ) (named : NamedTerminal) → named_terminal known.core poi ≡ Some named → (pt : Pt) → slice_get known.setup.terminals named.number ≡ Some pt → pt.poi ≡ poi
+  setting-names poi named is pt there =
+      let found : IsNamed poi 0 known.core.terminals named.number = named-has poi 0 known.core.terminals named is in
+      let number_is = found.number_is in
+      let at : named.number ≡ found.at = omega arith in
+      found.has pt (subst (λ (pts : List Pt). slice_get pts found.at ≡ Some pt) (sym of_setup.settings) (subst (λ (n : ℕ). slice_get known.setup.terminals n ≡ Some pt) at there))
+
+  -- the Serve item of a request that is about a terminal that is named was read
+  serve-read : (request : SaleRequest) (named : NamedTerminal) → named_terminal known.core (poi_asked header request) ≡ Some named → IsReadFromTill (Request header request)
+      → All (IsReadItem known.setup) (Serve named.number till header request ∷ [])
+  serve-read request named is read = All-cons (IsReadItem known.setup) _ [] (record { read = read; names = setting-names (poi_asked header request) named is }) (All-nil (IsReadItem known.setup))
+
+  named-read : (request : SaleRequest) (named : Option NamedTerminal) (result : StepResult) → named_terminal known.core (poi_asked header request) ≡ named → IsReadFromTill (Request header request)
+      → All (IsReadItem known.setup) (items_of_result till header request named result)
   named-read request None result is read = All-nil (IsReadItem known.setup)
-  named-read request (Some named) result is read = by-result result
-    where
-      found : IsNamed header.poi 0 known.core.terminals named.number
-      found = named-has header.poi 0 known.core.terminals named is
+  named-read request (Some named) KeptReply is read = All-nil (IsReadItem known.setup)
+  named-read request (Some named) (Fails condition) is read = All-nil (IsReadItem known.setup)
+  named-read request (Some named) Begins is read = serve-read request named is read
 
-      names : (pt : Pt) → slice_get known.setup.terminals named.number ≡ Some pt → pt.poi ≡ header.poi
-      names pt there =
-          let number_is = found.number_is in
-          let at : named.number ≡ found.at = omega arith in
-          found.has pt (subst (λ (pts : List Pt). slice_get pts found.at ≡ Some pt) (sym of_setup.settings) (subst (λ (n : ℕ). slice_get known.setup.terminals n ≡ Some pt) at there))
-
-      by-result : (result : StepResult) → All (IsReadItem known.setup) (item_of_result till header request named.number result)
-      by-result KeptReply = All-nil (IsReadItem known.setup)
-      by-result (Fails condition) = All-nil (IsReadItem known.setup)
-      by-result Begins = All-cons (IsReadItem known.setup) _ [] (record { read = read; names = names }) (All-nil (IsReadItem known.setup))
+  -- so was that of an Abort
+  stop-read : (reference : Reference) (named : Option NamedTerminal) → named_terminal known.core (key_of header reference).poi ≡ named → IsReadFromTill (Request header (requests.Abort reference))
+      → All (IsReadItem known.setup) (stop_items_at known till header reference named)
+  stop-read reference None is read = All-nil (IsReadItem known.setup)
+  stop-read reference (Some named) is read =
+      of-both (λ (items : List RoundItem). All (IsReadItem known.setup) items) (serves_key known.kept (key_of header reference) named.terminal) (Serve named.number till header (requests.Abort reference) ∷ []) []
+      (serve-read (requests.Abort reference) named is read) (All-nil (IsReadItem known.setup))
 
   request-read : (request : SaleRequest) → IsReadFromTill (Request header request) → All (IsReadItem known.setup) (begun_by known till (Request header request))
   request-read requests.Login read = All-nil (IsReadItem known.setup)
   request-read requests.Logout read = All-nil (IsReadItem known.setup)
   request-read (requests.Payment payment) read = named-read (requests.Payment payment) (named_terminal known.core header.poi) _ refl read
   request-read (requests.Reversal reversal) read = named-read (requests.Reversal reversal) (named_terminal known.core header.poi) _ refl read
-  request-read (requests.Abort reference) read = All-nil (IsReadItem known.setup)
+  request-read (requests.Abort reference) read = stop-read reference (named_terminal known.core (key_of header reference).poi) refl read
   request-read (requests.Status reference) read = All-nil (IsReadItem known.setup)
   request-read (requests.Reconciliation period) read = named-read (requests.Reconciliation period) (named_terminal known.core header.poi) _ refl read
   request-read (requests.Display outputs) read = All-nil (IsReadItem known.setup)

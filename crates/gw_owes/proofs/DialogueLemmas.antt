@@ -4,10 +4,12 @@ use Rattle.std.specs.Prelude.{map, set, nat_lt, slice_get, pos, ◌+ℤ◌, nat_
 use Rattle.std.specs.Option.{option_map}
 use Rattle.gw_base.specs.declared.figures.Figures.{Figures}
 use Rattle.gw_base.specs.declared.setup.Pt.{Pt}
+use Rattle.sale_values.specs.declared.header.Header.{Header}
+use Rattle.sale_values.specs.declared.request.SaleRequest.{SaleRequest}
 use Rattle.zvt_bmp.specs.declared.fields.Fields.{Fields}
 use Rattle.zvt_msg.specs.Message.{MessageValue, Ack, Nack, Intermediate, Line, Block, Status, Completion, Abort, Other}
 use Rattle.zvt_talk.specs.declared.dialogue_kind.DialogueKind.{DialogueKind}
-use Rattle.zvt_talk.specs.declared.dialogue_kind.DialogueKind.TheVariants.{Registration, Enquiry, Payment}
+use Rattle.zvt_talk.specs.declared.dialogue_kind.DialogueKind.TheVariants.{Registration, Enquiry, Payment, Reversal, EndOfDay as EndOfDayDialogue, Display as DisplayDialogue}
 use Rattle.zvt_talk.specs.declared.meaning.Heard.{Heard}
 use Rattle.zvt_talk.specs.declared.meaning.Heard.TheVariants as heard
 use Rattle.zvt_talk.specs.declared.phase.Phase.{Phase}
@@ -16,8 +18,12 @@ use Rattle.zvt_talk.specs.declared.statuses.Statuses.{Statuses}
 use Rattle.zvt_talk.specs.Came.{is_taken}
 use Rattle.zvt_talk.specs.Table.{full_figures, declined, declined_unless, approved_with, transaction_result, transaction_completed, enquiry_aborted, enquiry_approved, enquiry_completed, enquiry_result, service_completed, service_result}
 use Rattle.zvt_talk.specs.Talk.{TalkFacts}
-use Rattle.zvt_talk.specs.TalkSteps.{meaning_in_phase, next_phase, next_talk}
+use Rattle.zvt_talk.specs.TalkSteps.{meaning_in_phase, next_phase, next_talk, phase_after_stop_wished, talk_after_stop_wished}
+use Rattle.jrn_record.specs.declared.records.Deal.{Deal}
+use Rattle.jrn_record.specs.declared.records.Deal.TheVariants as deals
+use Rattle.jrn_record.specs.declared.records.Intent.{Intent as TheIntent}
 use Rattle.gw_ledger.specs.declared.entry.Entry.{Entry as TheEntry}
+use Rattle.xlate.specs.Ask.{ask_for}
 use Rattle.gw_owes.specs.declared.terminal.Service.{Service}
 use Rattle.gw_owes.specs.declared.terminal.Service.TheVariants.{Transaction, EndOfDay, Display}
 use Rattle.gw_owes.specs.declared.terminal.Standing.{Standing}
@@ -26,20 +32,21 @@ use Rattle.gw_owes.specs.declared.terminal.Terminal.{Terminal}
 use Rattle.gw_owes.specs.Core.{Core, new_terminal}
 use Rattle.gw_owes.specs.Items.{Crowded, Message, Asked as AskedItem, Unframed, Gone, Greet, Handle, Serve, NextWaiting, Oversized, LinkLost, Late, Overdue, Due}
 use Rattle.gw_owes.specs.Row.{Known, Row}
-use Rattle.gw_owes.specs.Terminals.{terminal_at, of_terminal, with_terminal, terminal_becomes, link_made, link_lost, registers, unlinks, unlinked_terminal}
+use Rattle.gw_owes.specs.Terminals.{terminal_at, of_terminal, with_terminal, terminal_becomes, talk_of_command, link_made, link_lost, registers, unlinks, unlinked_terminal}
 use Rattle.gw_owes.specs.Links.{LinkIsMade, LinkHasFailed, LinkIsLost}
 use Rattle.gw_owes.specs.Reports.{Report, on_record, standing_reported, outcome_reported, report_of_open, report_against}
 use Rattle.gw_owes.specs.Serving.{at_rest, approved_outcome, resolves, approved_row, serving_transaction}
 use Rattle.gw_owes.specs.Handling.{awaited_after, taken_as, meaning_for, meaning_at, taking, registering, enquiring, serving, consequence}
 use Rattle.gw_owes.specs.Greeting.{greet_row, oversized_row}
+use Rattle.gw_owes.specs.Stops.{wishing}
 use Rattle.gw_owes.specs.Deadlines.{late_row, due_row}
 use Rattle.gw_owes.specs.TerminalLaws.{owes_cut}
-use Rattle.gw_owes.specs.Dialogues.{AwaitedIn, RunsDialogue, RunsNone, IsDialogueOfService, IsDialogueOf, HasItsDialogue, AllHaveDialogues, OthersHaveDialogues, NewCoreHasDialogues, EachRowKeepsDialogues, EachLinkGivesDialogues}
+use Rattle.gw_owes.specs.Dialogues.{AwaitedIn, RunsDialogue, runs_transaction, AwaitedServing, RunsTransaction, IsDialogueOfService, IsDialogueOf, HasItsDialogue, AllHaveDialogues, OthersHaveDialogues, NewCoreHasDialogues, EachRowKeepsDialogues, EachLinkGivesDialogues}
 use Rattle.gw_owes.proofs.HandlingLemmas.{each-handled}
-use Rattle.gw_owes.proofs.PaymentLemmas.{each-served}
+use Rattle.gw_owes.proofs.PaymentLemmas.{StopsAt, each-served}
 use Rattle.gw_owes.proofs.TerminalLemmas.{greeting-changes-nothing, late-same, due-same, oversized-same}
 
--- ---- what a message means in a registration, in an enquiry, and in a payment
+-- ---- what a message means in a registration, in an enquiry, and in a payment or a reversal
 
 either : (P : Heard → Type 0) (b : Bool) (x y : Heard) → P x → P y → P (cond b x y)
 either P true x y p q = p
@@ -68,7 +75,7 @@ EnquiryNext phase awaited heard.Block = AwaitedIn phase awaited
 EnquiryNext phase awaited heard.Seen = AwaitedIn phase awaited
 EnquiryNext phase awaited (heard.Approved figures) = ⊥
 EnquiryNext phase awaited heard.Done = ⊥
-EnquiryNext phase awaited (heard.Told reported approved result_code) = awaited ≡ 0
+EnquiryNext phase awaited (heard.Told reported approved result_code) = Unit {0}
 EnquiryNext phase awaited (heard.Declined result_code reported) = Unit {0}
 EnquiryNext phase awaited heard.Unclear = Unit {0}
 EnquiryNext phase awaited heard.Stray = AwaitedIn phase awaited
@@ -106,23 +113,23 @@ registration-next none (Begun stop_sent statuses) (Abort (Some result_code)) awa
 registration-next none (Begun stop_sent statuses) Other awaited e taken = absurd cc
 registration-next none (Ended stop_sent) message awaited e taken = absurd e
 
-approved-next : (phase : Phase) (awaited trace : ℕ) (figures : Option Figures) → awaited ≡ 0 → EnquiryNext phase awaited (enquiry_approved trace figures)
-approved-next phase awaited trace None e = tt
-approved-next phase awaited trace (Some figures) e = e
+approved-next : (phase : Phase) (awaited trace : ℕ) (figures : Option Figures) → EnquiryNext phase awaited (enquiry_approved trace figures)
+approved-next phase awaited trace None = tt
+approved-next phase awaited trace (Some figures) = tt
 
-enquiry-result-next : (phase : Phase) (awaited : ℕ) (status : Fields) (result trace : Option ℕ) → awaited ≡ 0 → EnquiryNext phase awaited (enquiry_result status result trace)
-enquiry-result-next phase awaited status None trace e = tt
-enquiry-result-next phase awaited status (Some result_code) None e = tt
-enquiry-result-next phase awaited status (Some result_code) (Some trace) e =
-    either (EnquiryNext phase awaited) (eqb result_code 0) (enquiry_approved trace (full_figures status)) (heard.Told trace None result_code) (approved-next phase awaited trace (full_figures status) e) e
+enquiry-result-next : (phase : Phase) (awaited : ℕ) (status : Fields) (result trace : Option ℕ) → EnquiryNext phase awaited (enquiry_result status result trace)
+enquiry-result-next phase awaited status None trace = tt
+enquiry-result-next phase awaited status (Some result_code) None = tt
+enquiry-result-next phase awaited status (Some result_code) (Some trace) =
+    either (EnquiryNext phase awaited) (eqb result_code 0) (enquiry_approved trace (full_figures status)) (heard.Told trace None result_code) (approved-next phase awaited trace (full_figures status)) tt
 
-enquiry-completed-next : (phase : Phase) (awaited : ℕ) (last : Option Fields) → awaited ≡ 0 → EnquiryNext phase awaited (enquiry_completed last)
-enquiry-completed-next phase awaited None e = tt
-enquiry-completed-next phase awaited (Some status) e = enquiry-result-next phase awaited status status.result status.trace e
+enquiry-completed-next : (phase : Phase) (awaited : ℕ) (last : Option Fields) → EnquiryNext phase awaited (enquiry_completed last)
+enquiry-completed-next phase awaited None = tt
+enquiry-completed-next phase awaited (Some status) = enquiry-result-next phase awaited status status.result status.trace
 
-enquiry-aborted-next : (phase : Phase) (awaited none : ℕ) (last : Option Fields) (result_code : ℕ) → awaited ≡ 0 → EnquiryNext phase awaited (enquiry_aborted none last result_code)
-enquiry-aborted-next phase awaited none None result_code e = either (EnquiryNext phase awaited) (eqb result_code none) (heard.Told 0 None result_code) heard.Unclear e tt
-enquiry-aborted-next phase awaited none (Some status) result_code e = tt
+enquiry-aborted-next : (phase : Phase) (awaited none : ℕ) (last : Option Fields) (result_code : ℕ) → EnquiryNext phase awaited (enquiry_aborted none last result_code)
+enquiry-aborted-next phase awaited none None result_code = either (EnquiryNext phase awaited) (eqb result_code none) (heard.Told 0 None result_code) heard.Unclear tt tt
+enquiry-aborted-next phase awaited none (Some status) result_code = tt
 
 enquiry-next : (none : ℕ) (phase : Phase) (message : MessageValue) (awaited : ℕ) → AwaitedIn phase awaited → is_taken message ≡ true
     → EnquiryNext (next_phase Enquiry phase (taken_as awaited message)) (awaited_after message awaited) (meaning_in_phase Enquiry none phase (taken_as awaited message))
@@ -143,55 +150,50 @@ enquiry-next none (Begun stop_sent statuses) (Intermediate intermediate_status) 
 enquiry-next none (Begun stop_sent statuses) (Line text) awaited e taken = e
 enquiry-next none (Begun stop_sent statuses) (Block objects) awaited e taken = e
 enquiry-next none (Begun stop_sent statuses) (Status fields) awaited e taken = e
-enquiry-next none (Begun stop_sent statuses) Completion awaited e taken = enquiry-completed-next (Ended stop_sent) awaited statuses.last e.1
+enquiry-next none (Begun stop_sent statuses) Completion awaited e taken = enquiry-completed-next (Ended stop_sent) awaited statuses.last
 enquiry-next none (Begun stop_sent statuses) (Abort None) awaited e taken = tt
 enquiry-next none (Begun stop_sent statuses) (Abort (Some result_code)) awaited e taken =
-    either (EnquiryNext (Ended stop_sent) awaited) (eqb result_code 0) heard.Unclear (enquiry_aborted none statuses.last result_code) tt (enquiry-aborted-next (Ended stop_sent) awaited none statuses.last result_code e.1)
+    either (EnquiryNext (Ended stop_sent) awaited) (eqb result_code 0) heard.Unclear (enquiry_aborted none statuses.last result_code) tt (enquiry-aborted-next (Ended stop_sent) awaited none statuses.last result_code)
 enquiry-next none (Begun stop_sent statuses) Other awaited e taken = absurd cc
 enquiry-next none (Ended stop_sent) message awaited e taken = absurd e
 
--- the same of a payment, which is approved or declined, and in which no stop is wished
-abbrev PaymentNext : Phase → ℕ → Heard → Type 0
-PaymentNext phase awaited (heard.Begun true) = ⊥
-PaymentNext phase awaited (heard.Begun false) = AwaitedIn phase awaited
-PaymentNext phase awaited (heard.Note intermediate_status) = AwaitedIn phase awaited
-PaymentNext phase awaited heard.Line = AwaitedIn phase awaited
-PaymentNext phase awaited heard.Block = AwaitedIn phase awaited
-PaymentNext phase awaited heard.Seen = AwaitedIn phase awaited
-PaymentNext phase awaited (heard.Approved figures) = awaited ≡ 0
-PaymentNext phase awaited heard.Done = ⊥
-PaymentNext phase awaited (heard.Told reported approved result_code) = ⊥
-PaymentNext phase awaited (heard.Declined result_code reported) = awaited ≡ 0
-PaymentNext phase awaited heard.Unclear = Unit {0}
-PaymentNext phase awaited heard.Stray = AwaitedIn phase awaited
+-- the same of a payment or a reversal, which is approved or declined, and in which a stop may be wished
+abbrev TransactionNext : Phase → ℕ → Heard → Type 0
+TransactionNext phase awaited (heard.Begun stop) = AwaitedServing phase awaited
+TransactionNext phase awaited (heard.Note intermediate_status) = AwaitedServing phase awaited
+TransactionNext phase awaited heard.Line = AwaitedServing phase awaited
+TransactionNext phase awaited heard.Block = AwaitedServing phase awaited
+TransactionNext phase awaited heard.Seen = AwaitedServing phase awaited
+TransactionNext phase awaited (heard.Approved figures) = Unit {0}
+TransactionNext phase awaited heard.Done = ⊥
+TransactionNext phase awaited (heard.Told reported approved result_code) = ⊥
+TransactionNext phase awaited (heard.Declined result_code reported) = Unit {0}
+TransactionNext phase awaited heard.Unclear = Unit {0}
+TransactionNext phase awaited heard.Stray = AwaitedServing phase awaited
 
-full-next : (phase : Phase) (awaited : ℕ) (figures : Option Figures) → awaited ≡ 0 → PaymentNext phase awaited (approved_with figures)
-full-next phase awaited None e = tt
-full-next phase awaited (Some figures) e = e
+full-next : (phase : Phase) (awaited : ℕ) (figures : Option Figures) → TransactionNext phase awaited (approved_with figures)
+full-next phase awaited None = tt
+full-next phase awaited (Some figures) = tt
 
-declined-next : (phase : Phase) (awaited : ℕ) (said_approved : Bool) (statuses : Statuses) (result_code : ℕ) → awaited ≡ 0 → PaymentNext phase awaited (declined_unless said_approved statuses result_code)
-declined-next phase awaited true statuses result_code e = tt
-declined-next phase awaited false statuses result_code e = e
+declined-next : (phase : Phase) (awaited : ℕ) (said_approved : Bool) (statuses : Statuses) (result_code : ℕ) → TransactionNext phase awaited (declined_unless said_approved statuses result_code)
+declined-next phase awaited true statuses result_code = tt
+declined-next phase awaited false statuses result_code = tt
 
-transaction-next : (phase : Phase) (awaited : ℕ) (statuses : Statuses) (status : Fields) (result : Option ℕ) → awaited ≡ 0 → PaymentNext phase awaited (transaction_result statuses status result)
-transaction-next phase awaited statuses status None e = tt
-transaction-next phase awaited statuses status (Some result_code) e =
-    either (PaymentNext phase awaited) (eqb result_code 0) (approved_with (full_figures status)) (declined_unless statuses.approved statuses result_code) (full-next phase awaited (full_figures status) e) (declined-next phase awaited statuses.approved statuses result_code e)
+result-next : (phase : Phase) (awaited : ℕ) (statuses : Statuses) (status : Fields) (result : Option ℕ) → TransactionNext phase awaited (transaction_result statuses status result)
+result-next phase awaited statuses status None = tt
+result-next phase awaited statuses status (Some result_code) =
+    either (TransactionNext phase awaited) (eqb result_code 0) (approved_with (full_figures status)) (declined_unless statuses.approved statuses result_code) (full-next phase awaited (full_figures status)) (declined-next phase awaited statuses.approved statuses result_code)
 
-completed-next : (phase : Phase) (awaited : ℕ) (statuses : Statuses) (last : Option Fields) → awaited ≡ 0 → PaymentNext phase awaited (transaction_completed statuses last)
-completed-next phase awaited statuses None e = tt
-completed-next phase awaited statuses (Some status) e = transaction-next phase awaited statuses status status.result e
+completed-next : (phase : Phase) (awaited : ℕ) (statuses : Statuses) (last : Option Fields) → TransactionNext phase awaited (transaction_completed statuses last)
+completed-next phase awaited statuses None = tt
+completed-next phase awaited statuses (Some status) = result-next phase awaited statuses status status.result
 
-payment-next : (none : ℕ) (phase : Phase) (message : MessageValue) (awaited : ℕ) → AwaitedIn phase awaited → is_taken message ≡ true
-    → PaymentNext (next_phase Payment phase (taken_as awaited message)) (awaited_after message awaited) (meaning_in_phase Payment none phase (taken_as awaited message))
-payment-next none (Asked true) Ack awaited e taken = absurd (wished e.0)
-  where
-    wished : true ≡ false → ⊥
-    wished is = cc
-payment-next none (Asked false) Ack awaited e taken = (refl, omega arith)
+payment-next : (none : ℕ) (phase : Phase) (message : MessageValue) (awaited : ℕ) → AwaitedServing phase awaited → is_taken message ≡ true
+    → TransactionNext (next_phase Payment phase (taken_as awaited message)) (awaited_after message awaited) (meaning_in_phase Payment none phase (taken_as awaited message))
+payment-next none (Asked stop_wished) Ack awaited e taken = tt
 payment-next none (Asked stop_wished) (Nack error_code) awaited e taken =
     let handed : ℕ = if nat_le 2 awaited then 0 else error_code in
-    either (PaymentNext (Ended false) (awaited_after (Nack error_code) awaited)) (eqb handed 0) heard.Unclear (heard.Declined handed None) tt (omega arith)
+    either (TransactionNext (Ended false) (awaited_after (Nack error_code) awaited)) (eqb handed 0) heard.Unclear (heard.Declined handed None) tt tt
 payment-next none (Asked stop_wished) (Intermediate intermediate_status) awaited e taken = tt
 payment-next none (Asked stop_wished) (Line text) awaited e taken = tt
 payment-next none (Asked stop_wished) (Block objects) awaited e taken = tt
@@ -199,18 +201,62 @@ payment-next none (Asked stop_wished) (Status fields) awaited e taken = tt
 payment-next none (Asked stop_wished) Completion awaited e taken = tt
 payment-next none (Asked stop_wished) (Abort result_code) awaited e taken = tt
 payment-next none (Asked stop_wished) Other awaited e taken = absurd cc
-payment-next none (Begun stop_sent statuses) Ack awaited e taken = (e.0, omega arith)
-payment-next none (Begun stop_sent statuses) (Nack error_code) awaited e taken = (e.0, omega arith)
-payment-next none (Begun stop_sent statuses) (Intermediate intermediate_status) awaited e taken = e
-payment-next none (Begun stop_sent statuses) (Line text) awaited e taken = e
-payment-next none (Begun stop_sent statuses) (Block objects) awaited e taken = e
-payment-next none (Begun stop_sent statuses) (Status fields) awaited e taken = e
-payment-next none (Begun stop_sent statuses) Completion awaited e taken = completed-next (Ended stop_sent) awaited statuses statuses.last e.1
+payment-next none (Begun stop_sent statuses) Ack awaited e taken = tt
+payment-next none (Begun stop_sent statuses) (Nack error_code) awaited e taken = tt
+payment-next none (Begun stop_sent statuses) (Intermediate intermediate_status) awaited e taken = tt
+payment-next none (Begun stop_sent statuses) (Line text) awaited e taken = tt
+payment-next none (Begun stop_sent statuses) (Block objects) awaited e taken = tt
+payment-next none (Begun stop_sent statuses) (Status fields) awaited e taken = tt
+payment-next none (Begun stop_sent statuses) Completion awaited e taken = completed-next (Ended stop_sent) awaited statuses statuses.last
 payment-next none (Begun stop_sent statuses) (Abort None) awaited e taken = tt
 payment-next none (Begun stop_sent statuses) (Abort (Some result_code)) awaited e taken =
-    either (PaymentNext (Ended stop_sent) awaited) (eqb result_code 0) heard.Unclear (declined_unless statuses.approved statuses result_code) tt (declined-next (Ended stop_sent) awaited statuses.approved statuses result_code e.1)
+    either (TransactionNext (Ended stop_sent) awaited) (eqb result_code 0) heard.Unclear (declined_unless statuses.approved statuses result_code) tt (declined-next (Ended stop_sent) awaited statuses.approved statuses result_code)
 payment-next none (Begun stop_sent statuses) Other awaited e taken = absurd cc
 payment-next none (Ended stop_sent) message awaited e taken = absurd e
+
+-- a message means in a reversal what it means in a payment
+pub reversal-means : (none : ℕ) (phase : Phase) (message : MessageValue) → meaning_in_phase Reversal none phase message ≡ meaning_in_phase Payment none phase message
+reversal-means none (Asked stop_wished) Ack = refl
+reversal-means none (Asked stop_wished) (Nack error_code) = refl
+reversal-means none (Asked stop_wished) (Intermediate intermediate_status) = refl
+reversal-means none (Asked stop_wished) (Line text) = refl
+reversal-means none (Asked stop_wished) (Block objects) = refl
+reversal-means none (Asked stop_wished) (Status fields) = refl
+reversal-means none (Asked stop_wished) Completion = refl
+reversal-means none (Asked stop_wished) (Abort result_code) = refl
+reversal-means none (Asked stop_wished) Other = refl
+reversal-means none (Begun stop_sent statuses) Ack = refl
+reversal-means none (Begun stop_sent statuses) (Nack error_code) = refl
+reversal-means none (Begun stop_sent statuses) (Intermediate intermediate_status) = refl
+reversal-means none (Begun stop_sent statuses) (Line text) = refl
+reversal-means none (Begun stop_sent statuses) (Block objects) = refl
+reversal-means none (Begun stop_sent statuses) (Status fields) = refl
+reversal-means none (Begun stop_sent statuses) Completion = refl
+reversal-means none (Begun stop_sent statuses) (Abort None) = refl
+reversal-means none (Begun stop_sent statuses) (Abort (Some result_code)) = refl
+reversal-means none (Begun stop_sent statuses) Other = refl
+reversal-means none (Ended stop_sent) message = refl
+
+-- and it makes of its phase the same
+pub reversal-next : (phase : Phase) (message : MessageValue) → next_phase Reversal phase message ≡ next_phase Payment phase message
+reversal-next (Asked stop_wished) message = refl
+reversal-next (Begun stop_sent statuses) message = refl
+reversal-next (Ended stop_sent) message = refl
+
+transaction-next : (dialogue_kind : DialogueKind) (none : ℕ) (phase : Phase) (message : MessageValue) (awaited : ℕ) → runs_transaction dialogue_kind ≡ true → AwaitedServing phase awaited → is_taken message ≡ true
+    → TransactionNext (next_phase dialogue_kind phase (taken_as awaited message)) (awaited_after message awaited) (meaning_in_phase dialogue_kind none phase (taken_as awaited message))
+transaction-next Registration none phase message awaited transaction e taken = absurd cc
+transaction-next Enquiry none phase message awaited transaction e taken = absurd cc
+transaction-next Payment none phase message awaited transaction e taken = payment-next none phase message awaited e taken
+transaction-next Reversal none phase message awaited transaction e taken =
+    subst (TransactionNext (next_phase Reversal phase (taken_as awaited message)) (awaited_after message awaited)) (sym (reversal-means none phase (taken_as awaited message)))
+    (subst (λ (next : Phase). TransactionNext next (awaited_after message awaited) (meaning_in_phase Payment none phase (taken_as awaited message))) (sym (reversal-next phase (taken_as awaited message)))
+    (payment-next none phase message awaited e taken))
+transaction-next EndOfDayDialogue none phase message awaited transaction e taken = absurd cc
+transaction-next DisplayDialogue none phase message awaited transaction e taken = absurd cc
+
+some-same : {A : Type 0} (one other : A) → Some one ≡ Some other → one ≡ other
+some-same one other same = cc
 
 -- ---- the dialogue after a message
 
@@ -250,10 +296,51 @@ means-in dialogue_kind terminal message runs =
     ap (λ (talk : Option TalkFacts). meaning_for talk (taken_as terminal.awaited message)) runs.talk_is
     ∙ ap (λ (k : DialogueKind). meaning_in_phase k runs.facts.none runs.facts.phase (taken_as terminal.awaited message)) runs.kind_is
 
--- ---- one terminal of a list
+-- ---- the dialogue of a payment or a reversal
 
-some-same : {A : Type 0} (one other : A) → Some one ≡ Some other → one ≡ other
-some-same one other same = cc
+-- it goes on after a message
+serves-on : (terminal : Terminal) (message : MessageValue) (moment : ℕ) (runs : RunsTransaction terminal.talk terminal.awaited) (awaited : ℕ) → is_taken message ≡ true
+    → AwaitedServing (next_phase (RunsTransaction.facts runs).dialogue_kind (RunsTransaction.facts runs).phase (taken_as terminal.awaited message)) awaited
+    → RunsTransaction (taking terminal message moment).talk awaited
+serves-on terminal message moment runs awaited taken awaits =
+    let next = next-is runs.facts (taken_as terminal.awaited message) moment (still-taken terminal.awaited message taken) in
+    record {
+      facts = next.0;
+      talk_is = ap (λ (talk : Option TalkFacts). option_map (λ t. next_talk t (taken_as terminal.awaited message) (pos moment)) talk) runs.talk_is ∙ ap (λ (t : TalkFacts). Some t) next.1;
+      kind_is = ap runs_transaction next.2 ∙ runs.kind_is;
+      awaited_is = subst (λ (phase : Phase). AwaitedServing phase awaited) (sym next.3) awaits;
+    }
+
+-- one more is awaited
+one-more : (phase : Phase) (awaited : ℕ) → AwaitedServing phase awaited → AwaitedServing phase (awaited + 1)
+one-more (Asked stop_wished) awaited e = omega arith
+one-more (Begun stop_sent statuses) awaited e = tt
+one-more (Ended stop_sent) awaited e = absurd e
+
+-- a stop is wished
+wished-on : (phase : Phase) (awaited : ℕ) → AwaitedServing phase awaited → AwaitedServing (phase_after_stop_wished phase) awaited
+wished-on (Asked stop_wished) awaited e = e
+wished-on (Begun stop_sent statuses) awaited e = tt
+wished-on (Ended stop_sent) awaited e = absurd e
+
+-- it goes on with the wish, with whatever may be awaited then
+wish-runs : (terminal : Terminal) (talk : TalkFacts) (awaited : ℕ) → RunsTransaction terminal.talk terminal.awaited → terminal.talk ≡ Some talk
+    → (AwaitedServing talk.phase terminal.awaited → AwaitedServing talk.phase awaited) → RunsTransaction (Some (talk_after_stop_wished talk)) awaited
+wish-runs terminal talk awaited runs is more =
+    let same : runs.facts ≡ talk = some-same runs.facts talk (sym runs.talk_is ∙ is) in
+    record {
+      facts = talk_after_stop_wished talk;
+      talk_is = refl;
+      kind_is = ap (λ (t : TalkFacts). runs_transaction t.dialogue_kind) (sym same) ∙ runs.kind_is;
+      awaited_is = wished-on talk.phase awaited (more (subst (λ (t : TalkFacts). AwaitedServing t.phase terminal.awaited) same runs.awaited_is));
+    }
+
+-- the command for an Intent begins one
+asked-runs : (what : Deal) (intent : TheIntent) (original : Option TheEntry) (password : List ℕ) (pt : Pt) (moment awaited : ℕ) → RunsTransaction (talk_of_command pt (ask_for what intent original password) moment) (awaited + 1)
+asked-runs deals.Payment intent original password pt moment awaited = record { facts = _; talk_is = refl; kind_is = refl; awaited_is = omega arith }
+asked-runs deals.Reversal intent original password pt moment awaited = record { facts = _; talk_is = refl; kind_is = refl; awaited_is = omega arith }
+
+-- ---- one terminal of a list
 
 -- what holds of every other element, and of the new one, holds of all
 with-new : {A : Type 0} (P : A → Type 0) (all : List A) (at : ℕ) (new : A) → ((number : ℕ) (one : A) → number ≢ at → slice_get all number ≡ Some one → P one) → P new
@@ -291,25 +378,23 @@ registering-keeps known number terminal phase (heard.Declined result_code report
 registering-keeps known number terminal phase heard.Unclear all next has no_cut = absurd cc
 registering-keeps known number terminal phase heard.Stray all next has no_cut = all-with known.core number terminal (but-one known.core number all) (has next)
 
-reported-rests : (least reported : ℕ) (talk : Option TalkFacts) (awaited : ℕ) → RunsNone talk awaited → IsDialogueOf (standing_reported least reported) talk awaited
+reported-rests : (least reported : ℕ) (talk : Option TalkFacts) (awaited : ℕ) → talk ≡ None → IsDialogueOf (standing_reported least reported) talk awaited
 reported-rests least reported talk awaited none = by-least (nat_le least reported)
   where
     by-least : (b : Bool) → IsDialogueOf (if b then Ready reported else Aside least reported) talk awaited
     by-least true = none
     by-least false = none
 
-open-keeps : (known : Known) (number : ℕ) (terminal : Terminal) (report : Report) (entry : TheEntry) → AllHaveDialogues known.core → terminal.awaited ≡ 0 → AllHaveDialogues (report_of_open known number terminal report entry).core
-open-keeps known number terminal report entry all none = by-number (nat_le entry.intent.before report.trace)
+open-keeps : (known : Known) (number : ℕ) (terminal : Terminal) (report : Report) (entry : TheEntry) → AllHaveDialogues known.core → AllHaveDialogues (report_of_open known number terminal report entry).core
+open-keeps known number terminal report entry all = by-number (nat_le entry.intent.before report.trace)
   where
     by-number : (least : Bool) → AllHaveDialogues (if least then resolves known number terminal (Ready report.trace) (outcome_reported entry report known.moment) else terminal_becomes known number (at_rest terminal (Aside entry.intent.before report.trace)) []).core
-    by-number true = all-with known.core number _ (but-one known.core number all) (record { none = refl; awaited_is = none })
-    by-number false = all-with known.core number _ (but-one known.core number all) (record { none = refl; awaited_is = none })
+    by-number true = all-with known.core number _ (but-one known.core number all) refl
+    by-number false = all-with known.core number _ (but-one known.core number all) refl
 
-report-keeps : (known : Known) (number : ℕ) (terminal : Terminal) (opened : Option TheEntry) (last : ℕ) (report : Report) → AllHaveDialogues known.core → terminal.awaited ≡ 0
-    → AllHaveDialogues (report_against opened last known number terminal report).core
-report-keeps known number terminal None last report all none =
-    all-with known.core number _ (but-one known.core number all) (reported-rests last report.trace None terminal.awaited (record { none = refl; awaited_is = none }))
-report-keeps known number terminal (Some entry) last report all none = open-keeps known number terminal report entry all none
+report-keeps : (known : Known) (number : ℕ) (terminal : Terminal) (opened : Option TheEntry) (last : ℕ) (report : Report) → AllHaveDialogues known.core → AllHaveDialogues (report_against opened last known number terminal report).core
+report-keeps known number terminal None last report all = all-with known.core number _ (but-one known.core number all) (reported-rests last report.trace None terminal.awaited refl)
+report-keeps known number terminal (Some entry) last report all = open-keeps known number terminal report entry all
 
 enquiring-keeps : (known : Known) (number : ℕ) (terminal : Terminal) (phase : Phase) (meant : Heard) → AllHaveDialogues known.core → EnquiryNext phase terminal.awaited meant
     → (AwaitedIn phase terminal.awaited → HasItsDialogue terminal) → Keeps (enquiring known number terminal meant)
@@ -321,59 +406,46 @@ enquiring-keeps known number terminal phase heard.Seen all next has no_cut = all
 enquiring-keeps known number terminal phase (heard.Approved figures) all next has no_cut = absurd next
 enquiring-keeps known number terminal phase heard.Done all next has no_cut = absurd next
 enquiring-keeps known number terminal phase (heard.Told trace approved result_code) all next has no_cut =
-    report-keeps known number terminal (on_record known.kept terminal.pt.poi).opened (on_record known.kept terminal.pt.poi).last (record { trace = trace; approved = approved; result_code = result_code }) all next
+    report-keeps known number terminal (on_record known.kept terminal.pt.poi).opened (on_record known.kept terminal.pt.poi).last (record { trace = trace; approved = approved; result_code = result_code }) all
 enquiring-keeps known number terminal phase (heard.Declined result_code reported) all next has no_cut = absurd cc
 enquiring-keeps known number terminal phase heard.Unclear all next has no_cut = absurd cc
 enquiring-keeps known number terminal phase heard.Stray all next has no_cut = all-with known.core number terminal (but-one known.core number all) (has next)
 
-resolved-keeps : (known : Known) (number : ℕ) (terminal : Terminal) (slot last : ℕ) (figures : Figures) → AllHaveDialogues known.core → terminal.awaited ≡ 0 → AllHaveDialogues (approved_row known number terminal slot last figures).core
-resolved-keeps known number terminal slot last figures all none = by-number (nat_lt last figures.number)
+resolved-keeps : (known : Known) (number : ℕ) (terminal : Terminal) (slot last : ℕ) (figures : Figures) → AllHaveDialogues known.core → AllHaveDialogues (approved_row known number terminal slot last figures).core
+resolved-keeps known number terminal slot last figures all = by-number (nat_lt last figures.number)
   where
     by-number : (above : Bool) → AllHaveDialogues (if above then resolves known number terminal (Ready figures.number) (approved_outcome slot figures known.moment) else terminal_becomes known number (at_rest terminal (Aside last figures.number)) []).core
-    by-number true = all-with known.core number _ (but-one known.core number all) (record { none = refl; awaited_is = none })
-    by-number false = all-with known.core number _ (but-one known.core number all) (record { none = refl; awaited_is = none })
+    by-number true = all-with known.core number _ (but-one known.core number all) refl
+    by-number false = all-with known.core number _ (but-one known.core number all) refl
 
-payment-keeps : (known : Known) (number : ℕ) (terminal : Terminal) (slot last : ℕ) (phase : Phase) (meant : Heard) → AllHaveDialogues known.core → PaymentNext phase terminal.awaited meant
-    → (AwaitedIn phase terminal.awaited → HasItsDialogue terminal) → Keeps (serving_transaction known number terminal slot last meant)
-payment-keeps known number terminal slot last phase (heard.Begun true) all next has no_cut = absurd next
-payment-keeps known number terminal slot last phase (heard.Begun false) all next has no_cut = all-with known.core number terminal (but-one known.core number all) (has next)
-payment-keeps known number terminal slot last phase (heard.Note intermediate_status) all next has no_cut = all-with known.core number terminal (but-one known.core number all) (has next)
-payment-keeps known number terminal slot last phase heard.Line all next has no_cut = all-with known.core number terminal (but-one known.core number all) (has next)
-payment-keeps known number terminal slot last phase heard.Block all next has no_cut = all-with known.core number terminal (but-one known.core number all) (has next)
-payment-keeps known number terminal slot last phase heard.Seen all next has no_cut = all-with known.core number terminal (but-one known.core number all) (has next)
-payment-keeps known number terminal slot last phase (heard.Approved figures) all next has no_cut = resolved-keeps known number terminal slot last figures all next
-payment-keeps known number terminal slot last phase heard.Done all next has no_cut = absurd next
-payment-keeps known number terminal slot last phase (heard.Told reported approved result_code) all next has no_cut = absurd next
-payment-keeps known number terminal slot last phase (heard.Declined result_code reported) all next has no_cut =
-    all-with known.core number _ (but-one known.core number all) (record { none = refl; awaited_is = next })
-payment-keeps known number terminal slot last phase heard.Unclear all next has no_cut = absurd cc
-payment-keeps known number terminal slot last phase heard.Stray all next has no_cut = all-with known.core number terminal (but-one known.core number all) (has next)
+transaction-keeps : (known : Known) (number : ℕ) (terminal : Terminal) (slot last : ℕ) (phase : Phase) (meant : Heard) → AllHaveDialogues known.core → TransactionNext phase terminal.awaited meant
+    → ((awaited : ℕ) → AwaitedServing phase awaited → HasItsDialogue (record terminal { awaited = awaited })) → Keeps (serving_transaction known number terminal slot last meant)
+transaction-keeps known number terminal slot last phase (heard.Begun true) all next has no_cut =
+    all-with known.core number _ (but-one known.core number all) (has (terminal.awaited + 1) (one-more phase terminal.awaited next))
+transaction-keeps known number terminal slot last phase (heard.Begun false) all next has no_cut = all-with known.core number terminal (but-one known.core number all) (has terminal.awaited next)
+transaction-keeps known number terminal slot last phase (heard.Note intermediate_status) all next has no_cut = all-with known.core number terminal (but-one known.core number all) (has terminal.awaited next)
+transaction-keeps known number terminal slot last phase heard.Line all next has no_cut = all-with known.core number terminal (but-one known.core number all) (has terminal.awaited next)
+transaction-keeps known number terminal slot last phase heard.Block all next has no_cut = all-with known.core number terminal (but-one known.core number all) (has terminal.awaited next)
+transaction-keeps known number terminal slot last phase heard.Seen all next has no_cut = all-with known.core number terminal (but-one known.core number all) (has terminal.awaited next)
+transaction-keeps known number terminal slot last phase (heard.Approved figures) all next has no_cut = resolved-keeps known number terminal slot last figures all
+transaction-keeps known number terminal slot last phase heard.Done all next has no_cut = absurd next
+transaction-keeps known number terminal slot last phase (heard.Told reported approved result_code) all next has no_cut = absurd next
+transaction-keeps known number terminal slot last phase (heard.Declined result_code reported) all next has no_cut = all-with known.core number _ (but-one known.core number all) refl
+transaction-keeps known number terminal slot last phase heard.Unclear all next has no_cut = absurd cc
+transaction-keeps known number terminal slot last phase heard.Stray all next has no_cut = all-with known.core number terminal (but-one known.core number all) (has terminal.awaited next)
 
--- a terminal without a dialogue takes a message: an Ack or a Nack of which none is awaited
-rests-on : (terminal : Terminal) (message : MessageValue) (moment : ℕ) → RunsNone terminal.talk terminal.awaited → RunsNone (taking terminal message moment).talk (taking terminal message moment).awaited
-rests-on terminal message moment none = record {
-  none = ap (λ (talk : Option TalkFacts). option_map (λ t. next_talk t (taken_as terminal.awaited message) (pos moment)) talk) none.none;
-  awaited_is = none-after message none.awaited_is;
-}
-  where
-    none-after : (message : MessageValue) → terminal.awaited ≡ 0 → awaited_after message terminal.awaited ≡ 0
-    none-after Ack e = omega arith
-    none-after (Nack error_code) e = omega arith
-    none-after (Intermediate intermediate_status) e = e
-    none-after (Line text) e = e
-    none-after (Block objects) e = e
-    none-after (Status fields) e = e
-    none-after Completion e = e
-    none-after (Abort result_code) e = e
-    none-after Other e = e
+-- a terminal without a dialogue takes a message
+rests-on : (terminal : Terminal) (message : MessageValue) (moment : ℕ) → terminal.talk ≡ None → (taking terminal message moment).talk ≡ None
+rests-on terminal message moment none = ap (λ (talk : Option TalkFacts). option_map (λ t. next_talk t (taken_as terminal.awaited message) (pos moment)) talk) none
 
 serving-keeps : (known : Known) (number : ℕ) (terminal : Terminal) (message : MessageValue) (service : Service) (last : ℕ) → AllHaveDialogues known.core → is_taken message ≡ true → terminal.standing ≡ Serving service last
     → IsDialogueOfService service terminal.talk terminal.awaited → Keeps (serving known number (taking terminal message known.moment) service last (meaning_at terminal message))
 serving-keeps known number terminal message (Transaction slot) last all taken is runs no_cut =
-    payment-keeps known number (taking terminal message known.moment) slot last _ (meaning_at terminal message) all
-    (subst (PaymentNext (next_phase Payment runs.facts.phase (taken_as terminal.awaited message)) (awaited_after message terminal.awaited)) (sym (means-in Payment terminal message runs))
-    (payment-next runs.facts.none runs.facts.phase message terminal.awaited runs.awaited_is taken))
-    (λ awaits. subst (λ (s : Standing). IsDialogueOf s (taking terminal message known.moment).talk (taking terminal message known.moment).awaited) (sym is) (goes-on Payment terminal message known.moment runs taken awaits))
+    transaction-keeps known number (taking terminal message known.moment) slot last _ (meaning_at terminal message) all
+    (subst (TransactionNext (next_phase runs.facts.dialogue_kind runs.facts.phase (taken_as terminal.awaited message)) (awaited_after message terminal.awaited))
+    (sym (ap (λ (talk : Option TalkFacts). meaning_for talk (taken_as terminal.awaited message)) runs.talk_is))
+    (transaction-next runs.facts.dialogue_kind runs.facts.none runs.facts.phase message terminal.awaited runs.kind_is runs.awaited_is taken))
+    (λ awaited awaits. subst (λ (s : Standing). IsDialogueOf s (taking terminal message known.moment).talk awaited) (sym is) (serves-on terminal message known.moment runs awaited taken awaits))
     no_cut
 serving-keeps known number terminal message (EndOfDay header period) last all taken is never no_cut = absurd never
 serving-keeps known number terminal message (Display header outputs) last all taken is never no_cut = absurd never
@@ -429,8 +501,17 @@ links-give known number LinkIsMade others = made-gives known number others
 links-give known number LinkHasFailed others = lost-gives known number others
 links-give known number LinkIsLost others = lost-gives known number others
 
-none-awaited : (terminal : Terminal) (last : ℕ) → terminal.standing ≡ Ready last → HasItsDialogue terminal → terminal.awaited ≡ 0
-none-awaited terminal last is has = let none : RunsNone terminal.talk terminal.awaited = subst (λ (s : Standing). IsDialogueOf s terminal.talk terminal.awaited) is has in none.awaited_is
+-- what a terminal that serves a payment or a reversal runs
+served-runs : (terminal : Terminal) (slot last : ℕ) → terminal.standing ≡ Serving (Transaction slot) last → HasItsDialogue terminal → RunsTransaction terminal.talk terminal.awaited
+served-runs terminal slot last is has = subst (λ (s : Standing). IsDialogueOf s terminal.talk terminal.awaited) is has
+
+-- each has its dialogue once a stop is wished, with whatever may be awaited then
+wish-keeps : (known : Known) (number : ℕ) (header : Header) (request : SaleRequest) (terminal : Terminal) (talk : TalkFacts) (awaited : ℕ) → StopsAt known number header request terminal talk → AllHaveDialogues known.core
+    → (AwaitedServing talk.phase terminal.awaited → AwaitedServing talk.phase awaited) → AllHaveDialogues (with_terminal known.core number (record (wishing terminal talk) { awaited = awaited }))
+wish-keeps known number header request terminal talk awaited at all more =
+    all-with known.core number _ (but-one known.core number all)
+    (subst (λ (s : Standing). IsDialogueOf s (Some (talk_after_stop_wished talk)) awaited) (sym at.standing_is)
+    (wish-runs terminal talk awaited (served-runs terminal at.slot at.last at.standing_is (all number terminal at.found)) at.talk_is more))
 
 pub rows-keep : EachRowKeepsDialogues
 rows-keep known (Crowded till) all = λ no_cut. all
@@ -444,8 +525,9 @@ rows-keep known (Handle number apdu) all =
     (λ terminal message found linked is taken. consequence-keeps known number terminal message terminal.standing all taken refl (all number terminal found))
 rows-keep known (Serve number till header request) all =
     each-served Keeps known number till header request (λ no_cut. all)
-    (λ payment terminal last is at no_cut. all-with known.core number _ (but-one known.core number all)
-    (record { facts = _; talk_is = refl; kind_is = refl; awaited_is = (refl, ap (λ (n : ℕ). n + 1) (none-awaited terminal last at.standing_is (all number terminal at.found))) }))
+    (λ terminal last asking at no_cut. all-with known.core number _ (but-one known.core number all) (asked-runs asking.intent.what asking.intent asking.original terminal.pt.password terminal.pt known.moment terminal.awaited))
+    (λ terminal talk at may no_cut. wish-keeps known number header request terminal talk (terminal.awaited + 1) at all (one-more talk.phase terminal.awaited))
+    (λ terminal talk at may no_cut. wish-keeps known number header request terminal talk terminal.awaited at all (λ awaits. awaits))
 rows-keep known (NextWaiting number) all = λ no_cut. all
 rows-keep known (Oversized number) all = same-keeps known (oversized_row known number) all (oversized-same known number)
 rows-keep known (LinkLost number) all = λ no_cut. lost-gives known number (but-one known.core number all)

@@ -24,6 +24,7 @@ use Rattle.gw_owes.specs.Reply.{ReplyValue}
 use Rattle.gw_owes.specs.Row.{Known, Row, owing_nothing}
 use Rattle.gw_owes.specs.TerminalLaws.{owes_cut, settings_of}
 use Rattle.gw_owes.specs.Terminals.{terminal_at, terminal_becomes, with_terminal, reply_calls_to}
+use Rattle.gw_owes.proofs.FewLemmas.{few-more}
 use Rattle.gw_owes.proofs.RecordLemmas.{LedgerLaws, apart-texts, count-more, entry-of-open, folded-more, none-open, open-parts, other-number, other-open, other-slot}
 use Rattle.gw_owes.proofs.SetLemmas.{others-stay}
 
@@ -83,7 +84,6 @@ others-records laws kept next poi (Serving (Transaction slot) last) folded apart
   intent = has.intent;
   is_open = entry-of-open (kept ++ next ∷ []) poi slot has.intent (other-open laws kept next folded poi slot has.intent apart (open-parts laws kept folded poi slot has.intent has.is_open));
   before = has.before;
-  what = has.what;
   not_below = subst (λ (n : ℕ). n ≤ last) (sym (other-number laws kept next poi apart)) has.not_below;
 }
 others-records laws kept next poi (Serving (EndOfDay header period) last) folded apart has = absurd has
@@ -169,6 +169,7 @@ module _ (known : Known) (order : IsInOrder known) (number : ℕ) where
             records = others-records laws known.kept next terminal.pt.poi terminal.standing order.folded
                 (ap (is_poi terminal.pt.poi) its_poi ∙ apart-pois known number other old terminal order.of_setup apart here found) was.records;
             read = was.read;
+            few = let more = few-more known.kept next _ was.few in omega (arith, more);
           }
 
       slots : length (known.kept ++ next ∷ []) + open_count_of (known.kept ++ next ∷ []) ≤ known.setup.slots

@@ -1,10 +1,15 @@
 -- The lemmas of what each item of a round owes.
+pub mod AbortExampleLemmas
 pub mod ApduLemmas
 pub mod AsideLemmas
+pub mod AskedLemmas
 pub mod AskedTextLemmas
+pub mod AwaitedLemmas
+pub mod BeginLawLemmas
 pub mod BeginLemmas
 pub mod DialogueLemmas
 pub mod ExampleLemmas
+pub mod FewLemmas
 pub mod FrameLemmas
 pub mod HandlingLemmas
 pub mod HeardLemmas
@@ -17,6 +22,11 @@ pub mod PaymentLemmas
 pub mod ReadLemmas
 pub mod RecordExampleLemmas
 pub mod RecordLemmas
+pub mod RefusalLemmas
+pub mod ReversalExampleLemmas
+pub mod ReversalLemmas
+pub mod ReversalPremiseLemmas
+pub mod ReversalReplyLemmas
 pub mod RowEndLemmas
 pub mod RowLemmas
 pub mod ServingLemmas
@@ -24,5 +34,6 @@ pub mod SetLemmas
 pub mod StandingLemmas
 pub mod StepExampleLemmas
 pub mod StepLemmas
+pub mod StopLemmas
 pub mod TerminalLemmas
 pub mod TranscriptLemmas

@@ -1,6 +1,6 @@
 -- What a till's request asks for lies within the limits of a record, where it was read.
 use Rattle.std.proofs.Common.{◌≡◌, ◌∙◌, ℕ, ◌^◌, ◌<◌, ◌≤◌, Bool, true, false, ◌&&◌, eqb, leb, List, [], ◌∷◌, refl, sym, subst, arith}
-use Rattle.std.specs.Prelude.{◌==◌, Option, Some, None, MatchOption, if◌then◌else◌, option_and_then, drop, codes, pos, unwrap_or}
+use Rattle.std.specs.Prelude.{◌==◌, Option, Some, None, IfSome, MatchOption, if◌then◌else◌, option_and_then, drop, codes, pos, unwrap_or}
 use Rattle.std.specs.List.{list_all}
 use Rattle.std.proofs.lemmas.Bool.{and_parts, leb-true}
 use Rattle.std.proofs.lemmas.Option.{same_Some}
@@ -15,18 +15,24 @@ use Rattle.gw_base.specs.Moment.{IsMoment}
 use Rattle.json_text.specs.Tree.{Tree, string_of}
 use Rattle.sale_values.specs.declared.header.Header.{Header}
 use Rattle.sale_values.specs.declared.request.PaymentAsk.{PaymentAsk}
+use Rattle.sale_values.specs.declared.request.ReversalAsk.{ReversalAsk}
 use Rattle.sale_values.specs.declared.request.SaleRequest.TheVariants as requests
 use Rattle.sale_msg.specs.Flaw.{IsMet, MayBeAbsent}
 use Rattle.sale_msg.specs.Form.{HasForm}
-use Rattle.sale_msg.specs.Grammar.{IsRequest}
+use Rattle.sale_msg.specs.Grammar.{IsRequest, IsRequestOf}
 use Rattle.sale_msg.specs.Path.{text_at, tree_at}
 use Rattle.sale_msg.specs.Table.{MemberRow, service_row}
-use Rattle.jrn_record.specs.Limits.{IsIntent, IsOutcome, reason_code}
+use Rattle.jrn_record.specs.Limits.{IsIntent, IsOutcome, IsPresentAs, reason_code}
+use Rattle.jrn_record.specs.declared.records.Outcome.{Outcome as TheOutcome}
 use Rattle.zvt_talk.specs.Limits.{FiguresFitRecord}
+use Rattle.gw_ledger.specs.declared.entry.Entry.{Entry as TheEntry}
+use Rattle.gw_ledger.specs.Laws.{IsEntryWithin}
+use Rattle.xlate.specs.Ask.{IsApproval}
 use Rattle.xlate.specs.Codes.{CodeRow, abort_result_code, code_rows, condition_in_rows, condition_of_code}
 use Rattle.gw_owes.specs.Payments.{payment_intent}
 use Rattle.gw_owes.specs.ReadAs.{Request}
 use Rattle.gw_owes.specs.RecordLaws.{IsReadFromTill}
+use Rattle.gw_owes.specs.Reversals.{amount_in, reversal_intent}
 use Rattle.gw_owes.specs.Serving.{approved_outcome, declined_outcome, refused_outcome}
 use Rattle.gw_owes.proofs.HeardLemmas.{of-both}
 
@@ -89,38 +95,54 @@ amount-of : (text : List ℕ) (units : ℕ) → minor_units text ≡ Some units 
 unfolding minor_units
 amount-of text units is = amount-with (whole_of text) (fraction_of (rest_of text)) units is
 
-amount-in : (numeral : Option (List ℕ)) (units : ℕ) → option_and_then minor_units numeral ≡ Some units → IsAmount units
-amount-in None units is = absurd cc
-amount-in (Some numeral) units is = amount-of numeral units is
+amount-read : (numeral : Option (List ℕ)) (units : ℕ) → option_and_then minor_units numeral ≡ Some units → IsAmount units
+amount-read None units is = absurd cc
+amount-read (Some numeral) units is = amount-of numeral units is
 
--- ---- a Payment
+-- ---- a request
 
--- the fields of a Payment lie within the limits of an Intent's
-pub record IsPaymentWithin (header : Header) (payment : PaymentAsk) : Type 0 where
+-- the texts of a request's header, which has a ServiceID, lie within the limits of an Intent's
+pub record IsHeaderWithin (header : Header) : Type 0 where
   pub service : List ℕ
   pub service_is : header.service ≡ Some service
   pub service_within : IsIdent 10 service
   pub sale : IsIdent 40 header.sale
   pub poi : IsIdent 40 header.poi
-  pub transaction : IsIdent 80 payment.transaction
-  pub stamp : IsIdent 35 payment.stamp
-  pub amount : IsAmount payment.amount
 
-payment-of : (message body : Tree) (header : Header) (payment : PaymentAsk) → IsRequest message body header (requests.Payment payment) → IsPaymentWithin header payment
-payment-of message body header payment request =
-    let values = request.request_of.header_is.values in
-    let members = request.request_of.header_is.members in
-    let met = request.members.members in
-    let service = service-there body met.0 in
+header-of : (message body : Tree) (header : Header) → IsRequestOf message body header → IsMet service_row body → IsHeaderWithin header
+header-of message body header request met =
+    let values = request.header_is.values in
+    let members = request.header_is.members in
+    let service = service-there body met in
     record {
       service = service.text;
       service_is = sym values.service ∙ service.is;
       service_within = service.ident;
       sale = ident-at _ 40 body header.sale (λ tree form. form) members.1.1.1.1.1.1.1.0 values.sale;
       poi = ident-at _ 40 body header.poi (λ tree form. form) members.1.1.1.1.1.1.1.1.0 values.poi;
+    }
+
+-- the ServiceID that an Intent has
+service-within : (header : Header) → IsHeaderWithin header → IsIdent 10 (unwrap_or header.service [])
+service-within header within = subst (λ (s : Option (List ℕ)). IsIdent 10 (unwrap_or s [])) (sym within.service_is) within.service_within
+
+-- ---- a Payment
+
+-- the fields of a Payment lie within the limits of an Intent's
+pub record IsPaymentWithin (header : Header) (payment : PaymentAsk) : Type 0 where
+  pub heading : IsHeaderWithin header
+  pub transaction : IsIdent 80 payment.transaction
+  pub stamp : IsIdent 35 payment.stamp
+  pub amount : IsAmount payment.amount
+
+payment-of : (message body : Tree) (header : Header) (payment : PaymentAsk) → IsRequest message body header (requests.Payment payment) → IsPaymentWithin header payment
+payment-of message body header payment request =
+    let met = request.members.members in
+    record {
+      heading = header-of message body header request.request_of met.0;
       transaction = ident-at _ 80 body payment.transaction (λ tree form. form) met.1.1.1.1.0 request.asks.transaction;
       stamp = ident-at _ 35 body payment.stamp (λ tree form. form) met.1.1.1.1.1.0 request.asks.stamp;
-      amount = amount-in _ payment.amount request.asks.amount;
+      amount = amount-read _ payment.amount request.asks.amount;
     }
 
 -- so they do where it was read
@@ -134,14 +156,44 @@ payment-within header payment read =
 pub intent-within : (header : Header) (payment : PaymentAsk) (currency : Currency) (last moment : ℕ) → IsPaymentWithin header payment → IsTrace last → IsMoment (pos moment)
     → IsIntent (payment_intent header payment currency last moment)
 intent-within header payment currency last moment within trace at = record {
-  sale = within.sale;
-  poi = within.poi;
-  service = subst (λ (s : Option (List ℕ)). IsIdent 10 (unwrap_or s [])) (sym within.service_is) within.service_within;
+  sale = within.heading.sale;
+  poi = within.heading.poi;
+  service = service-within header within.heading;
   transaction = within.transaction;
   stamp = within.stamp;
   amount = within.amount;
   before = trace;
   original = tt;
+  moment = at;
+}
+
+-- ---- a Reversal
+
+-- the header of a Reversal that was read lies within its limits
+pub reversal-within : (header : Header) (reversal : ReversalAsk) → IsReadFromTill (Request header (requests.Reversal reversal)) → IsHeaderWithin header
+reversal-within header reversal read =
+    let message = read.1 in
+    let request = message.read in
+    let asked = request.1 in
+    header-of message.tree request.0 header asked.request_of asked.members.members.0
+
+-- the amount of an approval lies within its limits
+approved-amount : (result : Option TheOutcome) → IfSome result IsOutcome → IsApproval result → IsAmount (amount_in result)
+approved-amount None within approved = absurd approved
+approved-amount (Some outcome) within approved = subst (λ (b : Bool). IsPresentAs b IsAmount outcome.amount) approved within.amount
+
+-- and so does the Intent of a reversal of an entry that is approved
+pub reversal-intent-within : (header : Header) (original : TheEntry) (last moment : ℕ) → IsHeaderWithin header → IsEntryWithin original → IsApproval original.result → original.slot < 2 ^ 32 → IsTrace last → IsMoment (pos moment)
+    → IsIntent (reversal_intent header original last moment)
+reversal-intent-within header original last moment within entry approved small trace at = record {
+  sale = within.sale;
+  poi = within.poi;
+  service = service-within header within;
+  transaction = tt;
+  stamp = tt;
+  amount = approved-amount original.result entry.result approved;
+  before = trace;
+  original = small;
   moment = at;
 }
 

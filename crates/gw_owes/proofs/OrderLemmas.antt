@@ -1,5 +1,5 @@
 -- Each item, and each event of a link, keeps what is known in order.
-use Rattle.std.proofs.Common.{◌≡◌, ◌≢◌, ◌∙◌, ℕ, zero, suc, Bool, true, false, List, [], ◌∷◌, refl, sym, ap, subst}
+use Rattle.std.proofs.Common.{◌≡◌, ◌≢◌, ◌∙◌, ℕ, zero, suc, Bool, true, false, List, [], ◌∷◌, refl, sym, ap, subst, arith}
 use Rattle.std.specs.Prelude.{All, map, slice_get, Option, Some, None, pos, Result, Ok, Err, unwrap_or}
 use Rattle.std.proofs.lemmas.List.Elements.{All-nil}
 use Rattle.std.proofs.lemmas.Option.{same_Some}
@@ -12,6 +12,7 @@ use Rattle.zvt_msg.specs.Message.{MessageValue, Ack, Nack, Intermediate, Line, B
 use Rattle.zvt_msg.specs.MessageDecode.{decode_pt_message}
 use Rattle.zvt_msg.specs.Numbers.{NumbersFitFields}
 use Rattle.zvt_talk.specs.Came.{is_taken}
+use Rattle.gw_owes.specs.declared.terminal.Standing.TheVariants.{Registering}
 use Rattle.gw_owes.specs.declared.terminal.Terminal.{Terminal}
 use Rattle.gw_owes.specs.Calls.{CutTill, LinkPt, records_kept}
 use Rattle.gw_owes.specs.Core.{new_terminal}
@@ -26,8 +27,9 @@ use Rattle.gw_owes.specs.Row.{Known, Row, owing, owing_where}
 use Rattle.gw_owes.specs.Rows.{asked_row}
 use Rattle.gw_owes.specs.TerminalLaws.{owes_cut}
 use Rattle.gw_owes.specs.TerminalRows.{terminal_of, terminal_row}
-use Rattle.gw_owes.specs.Terminals.{link_lost, link_made, of_terminal, registers, reply_to_lost, terminal_at, unlinked_terminal, unlinks}
+use Rattle.gw_owes.specs.Terminals.{after_command, link_lost, link_made, of_terminal, registers, registration, reply_to_lost, terminal_at, unlinked_terminal, unlinks}
 use Rattle.gw_owes.proofs.BeginLemmas.{begun-read, serve-keeps, serve-never-cuts}
+use Rattle.gw_owes.proofs.FewLemmas.{command-begins, taken-few}
 use Rattle.gw_owes.proofs.HeardLemmas.{meant-fits, taken-read}
 use Rattle.gw_owes.proofs.KeepingLemmas.{KeepNothing, RowKeeps, cutting-keeps, in-order-keeps, no-calls, nothing-keeps, others-with, replies-keep-nothing}
 use Rattle.gw_owes.proofs.RecordLemmas.{LedgerLaws}
@@ -47,14 +49,16 @@ lost-in-order known number others = by-found (terminal_at known number) refl
   where
     by-found : (found : Option Terminal) → terminal_at known number ≡ found → AreTerminalsInOrder known.kept (of_terminal known (unlinks known number) found).core
     by-found None none = λ other terminal found. others other terminal (missing known number other terminal none found) found
-    by-found (Some terminal) is = others-with known.kept known.core number (unlinked_terminal terminal known.moment) others (record { records = tt; read = tt })
+    by-found (Some terminal) is = others-with known.kept known.core number (unlinked_terminal terminal known.moment) others (record { records = tt; read = tt; few = omega arith })
 
 made-in-order : (known : Known) (number : ℕ) → AreOthersInOrder number known.kept known.core → AreTerminalsInOrder known.kept (link_made known number).core
 made-in-order known number others = by-found (terminal_at known number) refl
   where
     by-found : (found : Option Terminal) → terminal_at known number ≡ found → AreTerminalsInOrder known.kept (of_terminal known (registers known number) found).core
     by-found None none = λ other terminal found. others other terminal (missing known number other terminal none found) found
-    by-found (Some terminal) is = others-with known.kept known.core number _ others (record { records = tt; read = tt })
+    by-found (Some terminal) is =
+        let begins = command-begins terminal.pt (registration terminal.pt) known.moment in
+        others-with known.kept known.core number (after_command (record terminal { awaited = 0 }) (registration terminal.pt) Registering known.moment) others (record { records = tt; read = begins.read; few = omega arith })
 
 -- each event of a link
 pub links-in-order : EachLinkKeepsInOrder
@@ -132,9 +136,13 @@ module _ (known : Known) (order : IsInOrder known) (number : ℕ) where
       message-keeps terminal found =
           let was = order.terminals number terminal found in
           let numbers : NumbersFitFields message = fits message refl in
-          where-keeps (consequence known number (taking terminal message known.moment) (meaning_at terminal message) terminal.standing) (is_taken message)
-          (consequence-keeps laws known order number terminal (taking terminal message known.moment) found refl (taken-read terminal.talk terminal.awaited message (pos known.moment) was.read numbers)
-          (meaning_at terminal message) terminal.standing refl was.records (meant-fits terminal.talk (taken_as terminal.awaited message) was.read))
+          let meant = meaning_at terminal message in
+          let now = taking terminal message known.moment in
+          let before = was.few in
+          let after = taken-few terminal message known.moment terminal.standing in
+          where-keeps (consequence known number now meant terminal.standing) (is_taken message)
+          (consequence-keeps laws known order number terminal now found refl (taken-read terminal.talk terminal.awaited message (pos known.moment) was.read numbers) (omega (arith, before, after))
+          meant terminal.standing (record { standing_is = refl; records = was.records; few = omega (arith, before, after) }) (meant-fits terminal.talk (taken_as terminal.awaited message) was.read))
 
 -- the number of an item's terminal; 0 where it is about none
 abbrev number_in : RoundItem → ℕ
@@ -223,5 +231,5 @@ new-in-order setup kept number terminal found = in-list setup.terminals number f
   where
     in-list : (pts : List Pt) (number : ℕ) → slice_get (map new_terminal pts) number ≡ Some terminal → IsTerminalInOrder kept terminal
     in-list [] number f = absurd cc
-    in-list (pt ∷ pts) zero f = subst (IsTerminalInOrder kept) (same_Some (new_terminal pt) terminal f) (record { records = tt; read = tt })
+    in-list (pt ∷ pts) zero f = subst (IsTerminalInOrder kept) (same_Some (new_terminal pt) terminal f) (record { records = tt; read = tt; few = omega arith })
     in-list (pt ∷ pts) (suc number) f = in-list pts number f

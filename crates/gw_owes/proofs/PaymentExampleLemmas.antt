@@ -24,6 +24,7 @@ payment-accepted = record {
   found = refl;
   ready = refl;
   begins = refl;
+  steps = refl;
   item = record { items_are = refl; no_reply = refl };
   served = record {
     intent = intent_after 122;

@@ -1,18 +1,10 @@
--- How payments begin and end, what a report of an open one does, and a repeated request.
+-- How payments and reversals end, and what a report of an open one does.
 use Rattle.std.proofs.Common.{◌≡◌, ◌≢◌, ◌⊎◌, ◌<◌, ◌≤◌, ℕ, List, [], ◌∷◌, refl, sym, ◌∙◌, ap, subst, arith, inl, inr, Bool, true, false}
 use Rattle.std.proofs.lemmas.Bool.{lt-ltb, le-ltb, le-leb, ltb-true, leb-true}
-use Rattle.std.specs.Prelude.{pos, ◌+ℤ◌, nat_le, nat_lt, not, bytes_eq, unwrap_or, option_map, slice_get, set, if◌then◌else◌, Option, Some, None, Result, Ok, Err}
-use Rattle.gw_base.specs.Currency.{currency_letters}
+use Rattle.std.specs.Prelude.{pos, ◌+ℤ◌, nat_le, nat_lt, option_map, if◌then◌else◌, Option, Some, None, Ok}
 use Rattle.gw_base.specs.declared.condition.Condition.TheVariants.{Aborted}
 use Rattle.gw_base.specs.declared.figures.Figures.{Figures}
-use Rattle.gw_base.specs.declared.key.Key.{Key}
-use Rattle.gw_site.specs.Outside.{Connection, is_connected}
-use Rattle.sale_values.specs.declared.header.Header.{Header}
-use Rattle.sale_values.specs.declared.request.PaymentAsk.{PaymentAsk}
-use Rattle.sale_values.specs.declared.request.SaleRequest.{SaleRequest}
-use Rattle.sale_values.specs.declared.request.SaleRequest.TheVariants as requests
 use Rattle.zvt_apdu.specs.Grammar.{ApduValue}
-use Rattle.zvt_msg.specs.declared.fault.PtFault.{PtFault}
 use Rattle.zvt_msg.specs.Message.{MessageValue, Ack, Nack, Intermediate, Line, Block, Status, Completion, Abort, Other}
 use Rattle.zvt_msg.specs.MessageDecode.{decode_pt_message}
 use Rattle.zvt_talk.specs.declared.dialogue_kind.DialogueKind.{DialogueKind}
@@ -28,60 +20,46 @@ use Rattle.zvt_talk.specs.Talk.{TalkFacts}
 use Rattle.zvt_talk.specs.TalkSteps.{meaning_in_phase, next_phase, next_talk, with_status, was_stop_sent}
 use Rattle.jrn_record.specs.declared.records.Outcome.{Outcome as TheOutcome}
 use Rattle.jrn_record.specs.declared.records.Record.{Record}
-use Rattle.jrn_record.specs.declared.records.Record.TheVariants.{Intent, Outcome}
 use Rattle.gw_ledger.specs.declared.entry.Entry.{Entry as TheEntry}
-use Rattle.gw_ledger.specs.declared.entry.Found.{Found}
-use Rattle.gw_ledger.specs.Sums.{is_intent}
 use Rattle.gw_owes.specs.declared.terminal.Service.TheVariants.{Transaction, EndOfDay, Display}
 use Rattle.gw_owes.specs.declared.terminal.Standing.{Standing}
 use Rattle.gw_owes.specs.declared.terminal.Standing.TheVariants.{Unlinked, Registering, Enquiring, Ready, Serving, Aside}
 use Rattle.gw_owes.specs.declared.terminal.Terminal.{Terminal}
-use Rattle.gw_owes.specs.Calls.{OwedCall, LinkPt, CutTill, records_kept}
-use Rattle.gw_owes.specs.Deadlines.{is_late, is_due, late_row, due_row}
-use Rattle.gw_owes.specs.Diagnosis.{NamedTerminal, named_terminal}
-use Rattle.gw_owes.specs.Greeting.{greeting, sending_calls, greet_decoded}
+use Rattle.gw_owes.specs.Calls.{OwedCall, records_kept}
 use Rattle.gw_owes.specs.Handling.{taken_as, meaning_for, meaning_at, taking, enquires, registering, enquiring, serving_other, consequence, handle_row}
-use Rattle.gw_owes.specs.Items.{RoundItem, Crowded, Message, Asked, Unframed, Gone, Greet, Handle, Serve, NextWaiting, Oversized, LinkLost, Late, Overdue, Due}
-use Rattle.gw_owes.specs.KeptReplies.{found_for}
-use Rattle.gw_owes.specs.Links.{is_linked, cutting}
-use Rattle.gw_owes.specs.Payments.{payment_intent, asked_for, beginning_row, begins_in, begins_payment, is_beginning, serve_row}
-use Rattle.gw_owes.specs.ReadAs.{ReadAs, Request, Silent, NoMessage, NoJson}
+use Rattle.gw_owes.specs.Links.{is_linked}
 use Rattle.gw_owes.specs.Reply.{ReplyValue}
 use Rattle.gw_owes.specs.Reports.{Report, on_record, outcome_as_last, outcome_reported, report_of_open, report_against}
-use Rattle.gw_owes.specs.Requests.{begun_by, reply_to}
-use Rattle.gw_owes.specs.Row.{Known, Row, owing, owing_nothing, owing_where}
-use Rattle.gw_owes.specs.Rows.{row_of, asked_row}
+use Rattle.gw_owes.specs.Row.{Known, Row}
 use Rattle.gw_owes.specs.Serving.{at_rest, staying, breaking, stops, approved_outcome, refused_outcome, declined_outcome, was_stopped, resolves, approved_row, last_after_decline, serving_transaction}
-use Rattle.gw_owes.specs.Steps.{StepResult, KeptReply, Fails, Begins, is_unserved, step_result, reply_of_result, items_of_result}
 use Rattle.gw_owes.specs.TerminalLaws.{GoesOnTo}
-use Rattle.gw_owes.specs.Terminals.{terminal_at, of_terminal, terminal_becomes, unlinks, reply_calls_to, reply_to_lost}
-use Rattle.gw_owes.specs.PaymentLaws.{asks_for_payment, sends_terminal, sends_till, BeginsPayment, BeginsThere, EachAcceptedBegins, BeginsToServe, EachBegunIsServed, EachPaymentIsKeptFirst, EachIntentIsAsked, MeansAt, outcome_calls, ApprovalIsKept, NotAboveIsSetAside, DeclineIsKept, UnclearKeepsNothing, IsOutcomeOf, ReportsOfOpen, ResolvesKey, EachTillHasItsOutcomeKept, EachRecordIsOfAnEnd, ReportedApprovalIsKept, ReportedDeclineIsKept, UnperformedIsAborted, RepeatBeginsNothing, AsksNoTerminal, EachAskedSendsNoTerminal, BeginsAtNamed, EachAskedBeginsPayment, OnlyAskedBegins}
-use Rattle.gw_owes.proofs.HandlingLemmas.{by-where, each-terminal, each-linked, each-handled, leads-by, means-taken, reported-leads}
-use Rattle.gw_owes.proofs.PaymentLemmas.{each-served, passes-steps}
-use Rattle.gw_owes.proofs.SetLemmas.{new-is-there, same-some}
+use Rattle.gw_owes.specs.Terminals.{terminal_at, terminal_becomes, reply_calls_to}
+use Rattle.gw_owes.specs.PaymentLaws.{asks_for_transaction, sends_terminal, sends_till, MeansAt, outcome_calls, ApprovalIsKept, NotAboveIsSetAside, DeclineIsKept, UnclearKeepsNothing, IsOutcomeOf, ReportsOfOpen, ResolvesKey, EachTillHasItsOutcomeKept, EachRecordIsOfAnEnd, ReportedApprovalIsKept, ReportedDeclineIsKept, UnperformedIsAborted}
+use Rattle.gw_owes.proofs.HandlingLemmas.{each-handled, leads-by, means-taken, reported-leads}
+use Rattle.gw_owes.proofs.SetLemmas.{new-is-there}
 
 -- ---- replies
 
-reply-asks : (asker : Option ℕ) (reply : Option ReplyValue) → asks_for_payment (reply_calls_to asker reply) ≡ false
+pub reply-asks : (asker : Option ℕ) (reply : Option ReplyValue) → asks_for_transaction (reply_calls_to asker reply) ≡ false
 reply-asks None reply = refl
 reply-asks (Some till) None = refl
 reply-asks (Some till) (Some reply) = refl
 
-reply-sends : (asker : Option ℕ) (reply : Option ReplyValue) → sends_terminal (reply_calls_to asker reply) ≡ false
+pub reply-sends : (asker : Option ℕ) (reply : Option ReplyValue) → sends_terminal (reply_calls_to asker reply) ≡ false
 reply-sends None reply = refl
 reply-sends (Some till) None = refl
 reply-sends (Some till) (Some reply) = refl
 
-reply-keeps : (asker : Option ℕ) (reply : Option ReplyValue) → records_kept (reply_calls_to asker reply) ≡ []
+pub reply-keeps : (asker : Option ℕ) (reply : Option ReplyValue) → records_kept (reply_calls_to asker reply) ≡ []
 reply-keeps None reply = refl
 reply-keeps (Some till) None = refl
 reply-keeps (Some till) (Some reply) = refl
 
 -- ---- what follows from a message
 
--- nothing that concerns a payment is owed
-record IsPlain (row : Row) : Type 0 where
-  pub asks : asks_for_payment row.calls ≡ false
+-- nothing that concerns a payment or a reversal is owed
+pub record IsPlain (row : Row) : Type 0 where
+  pub asks : asks_for_transaction row.calls ≡ false
   pub keeps : records_kept row.calls ≡ []
   pub sends : sends_till row.calls ≡ false
   pub items : row.items ≡ []
@@ -115,7 +93,7 @@ record ReportsIn (known : Known) (number : ℕ) (terminal : Terminal) (meant : H
   pub meant_is : meant ≡ heard.Told report.trace report.approved report.result_code
   pub resolved : ResolvesOpen known number terminal report row
 
--- nothing that concerns a payment is owed, or what is served is resolved, or what is open
+-- nothing that concerns a payment or a reversal is owed, or what is served is resolved, or what is open
 abbrev IsPlainOrResolved : Known → ℕ → Terminal → Heard → Standing → Row → Type 0
 IsPlainOrResolved known number terminal meant standing row = IsPlain row ⊎ (ResolvesIn known number terminal meant standing row ⊎ ReportsIn known number terminal meant standing row)
 
@@ -244,11 +222,11 @@ consequence-resolves known number terminal meant (Aside before reported) = inl (
 
 -- ---- the row of a message
 
--- nothing that concerns a payment is owed, or what is served has ended, or a report resolves what is open
-abbrev IsPlainOrEnds : Known → ℕ → ApduValue → Row → Type 0
+-- nothing that concerns a payment or a reversal is owed, or what is served has ended, or a report resolves what is open
+abbrev pub IsPlainOrEnds : Known → ℕ → ApduValue → Row → Type 0
 IsPlainOrEnds known number apdu row = IsPlain row ⊎ (ResolvesKey known number apdu row.calls × (row.items ≡ []))
 
-handle-resolves : (known : Known) (number : ℕ) (apdu : ApduValue) → IsPlainOrEnds known number apdu (handle_row known number apdu)
+pub handle-resolves : (known : Known) (number : ℕ) (apdu : ApduValue) → IsPlainOrEnds known number apdu (handle_row known number apdu)
 handle-resolves known number apdu =
     each-handled (IsPlainOrEnds known number apdu) known number apdu (inl (record { asks = refl; keeps = refl; sends = refl; items = refl }))
     (λ terminal message found linked is taken. ends terminal message found is _ (consequence-resolves known number (taking terminal message known.moment) (meaning_at terminal message) terminal.standing))
@@ -284,7 +262,7 @@ handle-resolves known number apdu =
           ap (λ (r : Row). r.items) within.resolved.row_is,
         )
 
-apart : false ≡ true → ⊥
+pub apart : false ≡ true → ⊥
 apart e = cc
 
 pub each-kept-before-reply : EachTillHasItsOutcomeKept
@@ -294,7 +272,7 @@ each-kept-before-reply known number apdu sends = by-either (handle-resolves know
     by-either (inl plain) = absurd (apart (sym plain.sends ∙ sends))
     by-either (inr ends) = ends.0
 
-none-more : (the_record : Record) (more : List Record) → [] ≡ the_record ∷ more → ⊥
+pub none-more : (the_record : Record) (more : List Record) → [] ≡ the_record ∷ more → ⊥
 none-more the_record more e = cc
 
 pub each-record-of-an-end : EachRecordIsOfAnEnd
@@ -413,299 +391,3 @@ pub unperformed-is-aborted : UnperformedIsAborted
 unperformed-is-aborted known number apdu terminal report entry of_open same =
     reported-resolves known number apdu terminal report entry (refused_outcome entry.slot Aborted known.moment) of_open (omega (arith, same))
     (ap (outcome-by entry report known.moment) (le-ltb entry.intent.before report.trace (omega (arith, same))))
-
--- ---- the rows that begin a payment
-
--- no payment is begun: no terminal is asked for one, and no Intent is kept
-record BeginsNone (row : Row) : Type 0 where
-  pub asks : asks_for_payment row.calls ≡ false
-  pub keeps : (the_record : Record) (more : List Record) → records_kept row.calls ≡ the_record ∷ more → is_intent the_record ≡ true → ⊥
-
-none-kept : (row : Row) → asks_for_payment row.calls ≡ false → records_kept row.calls ≡ [] → BeginsNone row
-none-kept row asks none = record { asks = asks; keeps = λ the_record more kept intent. none-more the_record more (sym none ∙ kept) }
-
-nothing-begins : (known : Known) → BeginsNone (owing_nothing known)
-nothing-begins known = none-kept (owing_nothing known) refl refl
-
-reply-begins : (known : Known) (asker : Option ℕ) (reply : Option ReplyValue) (row : Row) → row.calls ≡ reply_calls_to asker reply → BeginsNone row
-reply-begins known asker reply row is = none-kept row (ap asks_for_payment is ∙ reply-asks asker reply) (ap records_kept is ∙ reply-keeps asker reply)
-
-greet-begins : (known : Known) (number : ℕ) (decoded : Result MessageValue PtFault) → BeginsNone (greet_decoded known number decoded)
-greet-begins known number (Ok message) =
-    each-linked BeginsNone known number (λ terminal. owing known (sending_calls number (greeting message))) (nothing-begins known) (λ terminal found linked. by-message message)
-  where
-    by-message : (message : MessageValue) → BeginsNone (owing known (sending_calls number (greeting message)))
-    by-message Ack = none-kept _ refl refl
-    by-message (Nack error_code) = none-kept _ refl refl
-    by-message (Intermediate intermediate_status) = none-kept _ refl refl
-    by-message (Line text) = none-kept _ refl refl
-    by-message (Block objects) = none-kept _ refl refl
-    by-message (Status fields) = none-kept _ refl refl
-    by-message Completion = none-kept _ refl refl
-    by-message (Abort result_code) = none-kept _ refl refl
-    by-message Other = none-kept _ refl refl
-greet-begins known number (Err fault) = each-linked BeginsNone known number (λ terminal. cutting known number) (nothing-begins known) (λ terminal found linked. none-kept _ refl refl)
-
-not-intent : (outcome : TheOutcome) (the_record : Record) (more others : List Record) → Outcome outcome ∷ others ≡ the_record ∷ more → is_intent the_record ≡ true → ⊥
-not-intent outcome (Intent intent) more others kept is = cc
-not-intent outcome (Outcome other) more others kept is = cc
-not-intent outcome (Record.Settled settled) more others kept is = cc
-
--- an Outcome is kept, and then its reply is sent
-record KeepsOutcome (known : Known) (calls : List OwedCall) : Type 0 where
-  pub terminal : Terminal
-  pub outcome : TheOutcome
-  pub calls_are : calls ≡ outcome_calls known terminal outcome
-
-either-keeps : (known : Known) (number : ℕ) (apdu : ApduValue) (calls : List OwedCall) → ResolvesKey known number apdu calls → KeepsOutcome known calls
-either-keeps known number apdu calls (inl ends) = record { terminal = ends.terminal; outcome = ends.outcome; calls_are = ends.calls_are }
-either-keeps known number apdu calls (inr reports) = record { terminal = reports.terminal; outcome = outcome_reported reports.entry reports.report known.moment; calls_are = reports.calls_are }
-
-keeping-begins : (known : Known) (row : Row) → KeepsOutcome known row.calls → BeginsNone row
-keeping-begins known row kept_with = record {
-  asks = ap asks_for_payment kept_with.calls_are ∙ reply-asks kept_with.terminal.asker _;
-  keeps = λ the_record more kept intent. not-intent kept_with.outcome the_record more _ (sym (ap records_kept kept_with.calls_are) ∙ kept) intent;
-}
-
-handle-begins : (known : Known) (number : ℕ) (apdu : ApduValue) → BeginsNone (handle_row known number apdu)
-handle-begins known number apdu = by-either (handle-resolves known number apdu)
-  where
-    by-either : IsPlainOrEnds known number apdu (handle_row known number apdu) → BeginsNone (handle_row known number apdu)
-    by-either (inl plain) = none-kept _ plain.asks plain.keeps
-    by-either (inr (ends, items)) = keeping-begins known _ (either-keeps known number apdu _ ends)
-
--- the key of a request is that of its Intent
-key-is : (sale poi : List ℕ) (service : Option (List ℕ)) (key : Key) → option_map (λ (s : List ℕ). record { sale = sale; poi = poi; service = s }) service ≡ Some key → record { sale = sale; poi = poi; service = unwrap_or service [] } ≡ key
-key-is sale poi None key is = absurd cc
-key-is sale poi (Some service) key is = same-some _ key is
-
-same-currency : (same : Bool) → not same ≡ false → same ≡ true
-same-currency true is = refl
-same-currency false is = absurd cc
-
-payment-begins : (known : Known) (number till : ℕ) (header : Header) (request : SaleRequest) → BeginsNone (serve_row known number till header request) ⊎ BeginsPayment known (Serve number till header request) (serve_row known number till header request).calls
-payment-begins known number till header request =
-    each-served (λ (row : Row). BeginsNone row ⊎ BeginsPayment known (Serve number till header request) row.calls) known number till header request (inl (nothing-begins known))
-    (λ payment terminal last is at.
-    let passed = passes-steps known header (requests.Payment payment) (Some (record { number = number; terminal = terminal })) at.begins_is in
-    inr (record {
-      number = number;
-      till = till;
-      header = header;
-      payment = payment;
-      item_is = ap (Serve number till header) is;
-      terminal = terminal;
-      found = at.found;
-      last = last;
-      ready = at.standing_is;
-      unknown = passed.unknown;
-      currency = same-currency (bytes_eq payment.currency (currency_letters terminal.pt.currency)) passed.currency;
-      intent = payment_intent header payment terminal.pt.currency last known.moment;
-      says = record { what = refl; amount = refl; currency = refl; key = λ key own. key-is header.sale header.poi header.service key own; transaction = refl; stamp = refl; before = refl; original = refl; moment_is = refl };
-      calls_are = refl;
-    }))
-
--- the row of a terminal that serves a payment
-begun-row : (known : Known) (number till : ℕ) (header : Header) (payment : PaymentAsk) (terminal : Terminal) (last : ℕ) → terminal_at known number ≡ Some terminal → terminal.standing ≡ Ready last
-    → step_result known header (requests.Payment payment) (Some (record { number = number; terminal = terminal })) ≡ Begins
-    → serve_row known number till header (requests.Payment payment) ≡ beginning_row known number till terminal last (payment_intent header payment terminal.pt.currency last known.moment)
-begun-row known number till header payment terminal last found ready accepted =
-    ap (of_terminal known (begins_payment known number till header payment)) found
-    ∙ ap (λ (result : StepResult). owing_where (is_beginning result) known (begins_in known number till header payment terminal terminal.standing)) accepted
-    ∙ ap (begins_in known number till header payment terminal) ready
-
-pub each-begun-served : EachBegunIsServed
-each-begun-served tills known till header payment number terminal last found ready accepted =
-    subst (BeginsToServe known till header payment number terminal last) (sym (begun-row known number till header payment terminal last found ready accepted))
-    (record {
-      intent = payment_intent header payment terminal.pt.currency last known.moment;
-      says = record { what = refl; amount = refl; currency = refl; key = λ key own. key-is header.sale header.poi header.service key own; transaction = refl; stamp = refl; before = refl; original = refl; moment_is = refl };
-      goes_on = record { terminal = _; found = there; standing_is = refl; calls_are = refl };
-      for_till = ap (option_map (λ (serving : Terminal). serving.asker)) there;
-      none_more = refl;
-    })
-  where
-    serving_it : Terminal
-    serving_it = asked_for known till terminal last (payment_intent header payment terminal.pt.currency last known.moment)
-
-    there : slice_get (set known.core.terminals number serving_it) number ≡ Some serving_it
-    there = new-is-there known.core.terminals number terminal serving_it found
-
-pub each-accepted-begins : EachAcceptedBegins
-each-accepted-begins tills known till header payment named there named_is accepted =
-    subst (λ (holds : Bool). BeginsThere till header payment named.number (owing_where holds known (asked_row known till (Request header (requests.Payment payment))))) (sym there)
-    (record { items_are = items; no_reply = ap (reply_calls_to (Some till)) reply })
-  where
-    items : begun_by known till (Request header (requests.Payment payment)) ≡ Serve named.number till header (requests.Payment payment) ∷ []
-    items =
-        ap (λ (found : Option NamedTerminal). items_of_result till header (requests.Payment payment) found (step_result known header (requests.Payment payment) found)) named_is
-        ∙ ap (λ (result : StepResult). items_of_result till header (requests.Payment payment) (Some named) result) accepted
-
-    reply : reply_to known (Request header (requests.Payment payment)) ≡ None
-    reply =
-        ap (λ (found : Option NamedTerminal). reply_of_result known.kept header (step_result known header (requests.Payment payment) found)) named_is
-        ∙ ap (λ (result : StepResult). reply_of_result known.kept header result) accepted
-
-lost-begins : (known : Known) (number : ℕ) → BeginsNone (of_terminal known (unlinks known number) (terminal_at known number))
-lost-begins known number = each-terminal BeginsNone known number (unlinks known number) (nothing-begins known) (λ terminal found. reply-begins known terminal.asker (reply_to_lost terminal.standing) _ refl)
-
-late-begins : (known : Known) (number : ℕ) → BeginsNone (late_row known number)
-late-begins known number = each-terminal BeginsNone known number (λ terminal. owing_where (is_late known.moment terminal.talk) known (cutting known number)) (nothing-begins known)
-    (λ terminal found. by-where BeginsNone known (cutting known number) (is_late known.moment terminal.talk) (nothing-begins known) (λ late. none-kept _ refl refl))
-
-due-begins : (known : Known) (number : ℕ) → BeginsNone (due_row known number)
-due-begins known number = each-terminal BeginsNone known number (λ terminal. owing_where (is_due known.moment terminal.standing) known (owing known (LinkPt number ∷ []))) (nothing-begins known)
-    (λ terminal found. by-where BeginsNone known (owing known (LinkPt number ∷ [])) (is_due known.moment terminal.standing) (nothing-begins known) (λ due. none-kept _ refl refl))
-
-asked-begins-none : (tills : List Connection) (known : Known) (till : ℕ) (as_read : ReadAs) → BeginsNone (row_of tills known (Asked till as_read))
-asked-begins-none tills known till as_read =
-    by-where BeginsNone known (asked_row known till as_read) (is_connected tills till) (nothing-begins known) (λ there. reply-begins known (Some till) (reply_to known as_read) _ refl)
-
-row-begins : (tills : List Connection) (known : Known) (item : RoundItem) → BeginsNone (row_of tills known item) ⊎ BeginsPayment known item (row_of tills known item).calls
-row-begins tills known (Crowded till) = inl (none-kept _ refl refl)
-row-begins tills known (Message till bytes) = inl (nothing-begins known)
-row-begins tills known (Asked till as_read) = inl (asked-begins-none tills known till as_read)
-row-begins tills known (Unframed till) = inl (by-where BeginsNone known (owing known (CutTill till ∷ [])) (is_connected tills till) (nothing-begins known) (λ there. none-kept _ refl refl))
-row-begins tills known (Gone till) = inl (none-kept _ refl refl)
-row-begins tills known (Greet number apdu) = inl (greet-begins known number (decode_pt_message apdu))
-row-begins tills known (Handle number apdu) = inl (handle-begins known number apdu)
-row-begins tills known (Serve number till header request) = payment-begins known number till header request
-row-begins tills known (NextWaiting number) = inl (nothing-begins known)
-row-begins tills known (Oversized number) = inl (each-linked BeginsNone known number (λ terminal. cutting known number) (nothing-begins known) (λ terminal found linked. none-kept _ refl refl))
-row-begins tills known (LinkLost number) = inl (lost-begins known number)
-row-begins tills known (Late number) = inl (late-begins known number)
-row-begins tills known (Overdue key) = inl (nothing-begins known)
-row-begins tills known (Due number) = inl (due-begins known number)
-
-pub each-kept-first : EachPaymentIsKeptFirst
-each-kept-first tills known item asks = by-either (row-begins tills known item)
-  where
-    by-either : BeginsNone (row_of tills known item) ⊎ BeginsPayment known item (row_of tills known item).calls → BeginsPayment known item (row_of tills known item).calls
-    by-either (inl none) = absurd (apart (sym none.asks ∙ asks))
-    by-either (inr begins) = begins
-
-pub each-intent-asked : EachIntentIsAsked
-each-intent-asked tills known item the_record more kept intent = by-either (row-begins tills known item)
-  where
-    by-either : BeginsNone (row_of tills known item) ⊎ BeginsPayment known item (row_of tills known item).calls → BeginsPayment known item (row_of tills known item).calls
-    by-either (inl none) = absurd (none.keeps the_record more kept intent)
-    by-either (inr begins) = begins
-
--- ---- what a till asks
-
-pub asked-sends-none : EachAskedSendsNoTerminal
-asked-sends-none tills known till as_read =
-    by-where (λ (row : Row). AsksNoTerminal row.calls) known (asked_row known till as_read) (is_connected tills till) (record { sends_none = refl; keeps_none = refl })
-    (λ there. record { sends_none = reply-sends (Some till) (reply_to known as_read); keeps_none = reply-keeps (Some till) (reply_to known as_read) })
-
--- a request begins at the terminal that its POIID names
-record BeginsRequest (known : Known) (till : ℕ) (header : Header) (request : SaleRequest) (row : Row) : Type 0 where
-  pub unknown : found_for known.kept header ≡ None
-  pub served : is_unserved request ≡ false
-  pub named : NamedTerminal
-  pub named_is : named_terminal known.core header.poi ≡ Some named
-  pub items_are : row.items ≡ Serve named.number till header request ∷ []
-  pub no_reply : row.calls ≡ []
-
--- the row of a request, by the terminal that is named and what the steps say
-abbrev row-by : Known → ℕ → Header → SaleRequest → Option NamedTerminal → StepResult → Row
-row-by known till header request named result =
-    record { core = known.core; calls = reply_calls_to (Some till) (reply_of_result known.kept header result); items = items_of_result till header request named result }
-
-begins-by : (known : Known) (till : ℕ) (header : Header) (request : SaleRequest) (named : Option NamedTerminal) (result : StepResult) → named_terminal known.core header.poi ≡ named → step_result known header request named ≡ result
-    → ((row-by known till header request named result).items ≡ []) ⊎ BeginsRequest known till header request (row-by known till header request named result)
-begins-by known till header request None result named_is is = inl refl
-begins-by known till header request (Some named) KeptReply named_is is = inl refl
-begins-by known till header request (Some named) (Fails condition) named_is is = inl refl
-begins-by known till header request (Some named) Begins named_is is =
-    let passed = passes-steps known header request (Some named) (ap is_beginning is) in
-    inr (record { unknown = passed.unknown; served = passed.served; named = named; named_is = named_is; items_are = refl; no_reply = refl })
-
--- what a request begins
-abbrev BeginsOrNot : Known → ℕ → ReadAs → Row → Type 0
-BeginsOrNot known till as_read row = (row.items ≡ []) ⊎ BeginsAtNamed known till as_read row
-
-payment-only : (known : Known) (till : ℕ) (header : Header) (payment : PaymentAsk) (row : Row) → (row.items ≡ []) ⊎ BeginsRequest known till header (requests.Payment payment) row → BeginsOrNot known till (Request header (requests.Payment payment)) row
-payment-only known till header payment row (inl none) = inl none
-payment-only known till header payment row (inr begins) = inr (record {
-  header = header;
-  payment = payment;
-  request_is = refl;
-  unknown = begins.unknown;
-  named = begins.named;
-  named_is = begins.named_is;
-  items_are = begins.items_are;
-  no_reply = begins.no_reply;
-})
-
-never-begins : (known : Known) (till : ℕ) (header : Header) (request : SaleRequest) (row : Row) → is_unserved request ≡ true → (row.items ≡ []) ⊎ BeginsRequest known till header request row → BeginsOrNot known till (Request header request) row
-never-begins known till header request row unserved (inl none) = inl none
-never-begins known till header request row unserved (inr begins) = absurd (apart (sym begins.served ∙ unserved))
-
-request-begins : (known : Known) (till : ℕ) (header : Header) (request : SaleRequest) → BeginsOrNot known till (Request header request) (asked_row known till (Request header request))
-request-begins known till header requests.Login = inl refl
-request-begins known till header requests.Logout = inl refl
-request-begins known till header (requests.Payment payment) = payment-only known till header payment _ (begins-by known till header (requests.Payment payment) (named_terminal known.core header.poi) _ refl refl)
-request-begins known till header (requests.Reversal reversal) = never-begins known till header (requests.Reversal reversal) _ refl (begins-by known till header (requests.Reversal reversal) (named_terminal known.core header.poi) _ refl refl)
-request-begins known till header (requests.Abort reference) = inl refl
-request-begins known till header (requests.Status reference) = inl refl
-request-begins known till header (requests.Reconciliation period) = never-begins known till header (requests.Reconciliation period) _ refl (begins-by known till header (requests.Reconciliation period) (named_terminal known.core header.poi) _ refl refl)
-request-begins known till header (requests.Display outputs) = inl refl
-request-begins known till header (requests.Print qualifier) = inl refl
-request-begins known till header requests.Diagnosis = inl refl
-
-message-begins : (known : Known) (till : ℕ) (as_read : ReadAs) → BeginsOrNot known till as_read (asked_row known till as_read)
-message-begins known till (Request header request) = request-begins known till header request
-message-begins known till Silent = inl refl
-message-begins known till (NoMessage fault) = inl refl
-message-begins known till (NoJson fault) = inl refl
-
-pub asked-begins : EachAskedBeginsPayment
-asked-begins tills known till as_read = by-where (BeginsOrNot known till as_read) known (asked_row known till as_read) (is_connected tills till) (inl refl) (λ there. message-begins known till as_read)
-
-read-same : (header other : Header) (request another : SaleRequest) → Request header request ≡ Request other another → header ≡ other
-read-same header other request another same = cc
-
-some-found : (found : Found) → Some found ≡ None → ⊥
-some-found found e = cc
-
-pub repeat-begins-nothing : RepeatBeginsNothing
-repeat-begins-nothing tills known till header request found is = by-either (asked-begins tills known till (Request header request))
-  where
-    by-either : BeginsOrNot known till (Request header request) (row_of tills known (Asked till (Request header request))) → (row_of tills known (Asked till (Request header request))).items ≡ []
-    by-either (inl none) = none
-    by-either (inr begins) =
-        absurd (some-found found (sym is ∙ ap (λ (h : Header). found_for known.kept h) (read-same header begins.header request (requests.Payment begins.payment) begins.request_is) ∙ begins.unknown))
-
--- ---- what begins nothing
-
-handle-items : (known : Known) (number : ℕ) (apdu : ApduValue) → (handle_row known number apdu).items ≡ []
-handle-items known number apdu = by-either (handle-resolves known number apdu)
-  where
-    by-either : IsPlainOrEnds known number apdu (handle_row known number apdu) → (handle_row known number apdu).items ≡ []
-    by-either (inl plain) = plain.items
-    by-either (inr (ends, items)) = items
-
-greet-items : (known : Known) (number : ℕ) (decoded : Result MessageValue PtFault) → (greet_decoded known number decoded).items ≡ []
-greet-items known number (Ok message) = each-linked (λ (row : Row). row.items ≡ []) known number (λ terminal. owing known (sending_calls number (greeting message))) refl (λ terminal found linked. refl)
-greet-items known number (Err fault) = each-linked (λ (row : Row). row.items ≡ []) known number (λ terminal. cutting known number) refl (λ terminal found linked. refl)
-
-pub only-asked-begins : OnlyAskedBegins
-only-asked-begins tills known (Crowded till) other = refl
-only-asked-begins tills known (Message till bytes) other = refl
-only-asked-begins tills known (Asked till as_read) other = absurd (apart (sym other))
-only-asked-begins tills known (Unframed till) other = by-where (λ (row : Row). row.items ≡ []) known (owing known (CutTill till ∷ [])) (is_connected tills till) refl (λ there. refl)
-only-asked-begins tills known (Gone till) other = refl
-only-asked-begins tills known (Greet number apdu) other = greet-items known number (decode_pt_message apdu)
-only-asked-begins tills known (Handle number apdu) other = handle-items known number apdu
-only-asked-begins tills known (Serve number till header request) other = each-served (λ (row : Row). row.items ≡ []) known number till header request refl (λ payment terminal last is at. refl)
-only-asked-begins tills known (NextWaiting number) other = refl
-only-asked-begins tills known (Oversized number) other = each-linked (λ (row : Row). row.items ≡ []) known number (λ terminal. cutting known number) refl (λ terminal found linked. refl)
-only-asked-begins tills known (LinkLost number) other = each-terminal (λ (row : Row). row.items ≡ []) known number (unlinks known number) refl (λ terminal found. refl)
-only-asked-begins tills known (Late number) other =
-    each-terminal (λ (row : Row). row.items ≡ []) known number (λ terminal. owing_where (is_late known.moment terminal.talk) known (cutting known number)) refl
-    (λ terminal found. by-where (λ (row : Row). row.items ≡ []) known (cutting known number) (is_late known.moment terminal.talk) refl (λ late. refl))
-only-asked-begins tills known (Overdue key) other = refl
-only-asked-begins tills known (Due number) other =
-    each-terminal (λ (row : Row). row.items ≡ []) known number (λ terminal. owing_where (is_due known.moment terminal.standing) known (owing known (LinkPt number ∷ []))) refl
-    (λ terminal found. by-where (λ (row : Row). row.items ≡ []) known (owing known (LinkPt number ∷ [])) (is_due known.moment terminal.standing) refl (λ due. refl))

@@ -1,31 +1,35 @@
 -- The examples of the records beside what is remembered are computed, and their premises hold.
 use Rattle.std.proofs.Common.{◌≡◌, ◌≢◌, ◌+◌, ◌≤◌, ℕ, zero, suc, true, false, List, [], ◌∷◌, length, refl, sym, ap, subst, arith, Some, lit≤}
-use Rattle.std.specs.Prelude.{All, codes, pos, slice_get}
+use Rattle.std.specs.Fmt.{digits}
+use Rattle.std.specs.Prelude.{None, All, codes, pos, slice_get}
 use Rattle.std.proofs.lemmas.Int.{ints}
 use Rattle.std.proofs.lemmas.List.Elements.{All-from_recursion, All-nil, All-cons}
 use Rattle.std.proofs.lemmas.Option.{same_Some}
 use Rattle.gw_base.specs.Bcd.{IsBcd, IsBcdByte}
 use Rattle.gw_base.specs.Moment.{IsMoment}
 use Rattle.gw_base.specs.Setup.{IsPt, IsSetup}
+use Rattle.gw_base.specs.Transaction.{transaction_text}
 use Rattle.gw_base.specs.declared.setup.Pt.{Pt}
 use Rattle.jrn_record.specs.declared.records.Record.{Record}
 use Rattle.jrn_record.specs.declared.records.Record.TheVariants.{Intent, Outcome}
+use Rattle.zvt_msg.specs.declared.command.Command.TheVariants.{Stop}
 use Rattle.zvt_msg.specs.MessageDecode.{decode_pt_message}
 use Rattle.gw_ledger.specs.Accounts.{last_number_of}
 use Rattle.gw_ledger.specs.Example.{day}
 use Rattle.gw_ledger.specs.History.{history}
 use Rattle.gw_ledger.specs.Sums.{open_count_of}
-use Rattle.gw_ledger.specs.Premises.{ExampleOutcome, ExamplePayment, day_opened, fourth, fourth_approval}
+use Rattle.gw_ledger.specs.Premises.{ExampleOutcome, ExamplePayment, day_opened, fourth, fourth_approval, second_reversal}
 use Rattle.gw_owes.specs.declared.terminal.Standing.TheVariants.{Ready}
 use Rattle.gw_owes.specs.declared.terminal.Terminal.{Terminal}
-use Rattle.gw_owes.specs.Calls.{records_kept}
+use Rattle.gw_owes.specs.Calls.{Ask, OwedCall, SendPt, records_kept}
 use Rattle.gw_owes.specs.Core.{new_terminal}
 use Rattle.gw_owes.specs.Items.{RoundItem, Asked}
 use Rattle.gw_owes.specs.Links.{LinkIsLost}
-use Rattle.gw_owes.specs.RecordExample.{ExampleIntentKept, ExampleKeyStaysOpen, ExampleOutcomeKept, ExampleRequestBegins, fourth_asked, fourth_begins, paying_terminal, ready_known, sends, serving_known}
+use Rattle.gw_owes.specs.ReadAs.{Request}
+use Rattle.gw_owes.specs.RecordExample.{ExampleIntentKept, ExampleKeyStaysOpen, ExampleOutcomeKept, ExampleRequestBegins, ExampleReversalKept, ExampleStopKeepsNothing, fourth_asked, fourth_begins, fourth_stops, paying_terminal, ready_known, second_reverses, sends, serving_known}
 use Rattle.gw_owes.specs.RecordLaws.{EachCutKeepsInOrder, EachLinkKeepsInOrder, EachRowBringsReadItems, EachRowKeepsInOrder, IsInOrder, IsReadItem, IsTerminalInOrder, KeepsInOrder, IsReadFromTill}
 use Rattle.gw_owes.specs.Rows.{row_of}
-use Rattle.gw_owes.specs.StepExample.{day_pt}
+use Rattle.gw_owes.specs.StepExample.{abort_header, abort_of_service, day_pt, reversal_header, reversal_of_text}
 use Rattle.gw_owes.specs.TerminalExample.{setup_with}
 use Rattle.gw_owes.specs.TerminalLaws.{owes_cut}
 use Rattle.gw_owes.specs.TerminalRows.{terminal_row}
@@ -40,6 +44,8 @@ pub record RecordFacts : Type 0 where
   pub ready : ExamplePayment
   pub opened : ExampleOutcome
   pub read : IsReadFromTill fourth_asked
+  pub reversed : IsReadFromTill (Request (reversal_header (codes "4")) (reversal_of_text (codes "000124-0017-2") None))
+  pub aborted : IsReadFromTill (Request abort_header (abort_of_service (codes "4")))
 
 -- ---- what is known is in order
 
@@ -95,13 +101,14 @@ module _ (facts : RecordFacts) where
     of_setup = record { within = setup-within; settings = refl };
     moment = first-moment;
     terminals = one-terminal (IsTerminalInOrder day) (record (new_terminal day_pt) { standing = Ready 125 })
-        (record { records = record { none_open = facts.ready.none_open; not_below = facts.ready.not_below; within = omega arith }; read = tt });
+        (record { records = record { none_open = facts.ready.none_open; not_below = facts.ready.not_below; within = omega arith }; read = tt; few = omega arith });
   }
 
   paying-in-order : IsTerminalInOrder day_opened paying_terminal
   paying-in-order = record {
-    records = record { intent = fourth; is_open = facts.opened.entry; before = refl; what = refl; not_below = opened-number };
+    records = record { intent = fourth; is_open = facts.opened.entry; before = refl; not_below = opened-number };
     read = record { amount = omega arith; trace = omega arith; receipt = omega arith };
+    few = omega arith;
   }
 
   serving-in-order : IsInOrder serving_known
@@ -113,12 +120,18 @@ module _ (facts : RecordFacts) where
     terminals = one-terminal (IsTerminalInOrder day_opened) paying_terminal paying-in-order;
   }
 
-  -- the request names the terminal
+  -- each request names the terminal
+  one-pt : (pt : Pt) → slice_get (day_pt ∷ []) 0 ≡ Some pt → pt.poi ≡ codes "A"
+  one-pt pt found = ap (λ (p : Pt). p.poi) (sym (same_Some day_pt pt found))
+
   begins-read : IsReadItem ready_known.setup fourth_begins
   begins-read = record { read = facts.read; names = one-pt }
-    where
-      one-pt : (pt : Pt) → slice_get (day_pt ∷ []) 0 ≡ Some pt → pt.poi ≡ codes "A"
-      one-pt pt found = ap (λ (p : Pt). p.poi) (sym (same_Some day_pt pt found))
+
+  reverses-read : IsReadItem ready_known.setup second_reverses
+  reverses-read = record { read = facts.reversed; names = one-pt }
+
+  stops-read : IsReadItem serving_known.setup fourth_stops
+  stops-read = record { read = facts.aborted; names = one-pt }
 
 -- ---- what is kept
 
@@ -145,6 +158,18 @@ outcome-uncut = refl
 unclear-cut : owes_cut (terminal_row serving_known (sends 0x06 0x1E)).calls ≡ true
 unfolding history decode_pt_message
 unclear-cut = refl
+
+reversal-kept : records_kept (terminal_row ready_known second_reverses).calls ≡ Intent second_reversal ∷ []
+unfolding history transaction_text digits
+reversal-kept = refl
+
+reversal-uncut : owes_cut (terminal_row ready_known second_reverses).calls ≡ false
+unfolding history transaction_text digits
+reversal-uncut = refl
+
+stop-sent : (terminal_row serving_known fourth_stops).calls ≡ SendPt 0 (Ask Stop) ∷ []
+unfolding history
+stop-sent = refl
 
 -- ---- the examples
 
@@ -184,3 +209,22 @@ key-stays-open facts =
       others = left.1;
       lost = facts.links (record serving_known { core = (terminal_row serving_known (sends 0x06 0x1E)).core }) 0 LinkIsLost left.1;
     }
+
+pub reversal-is-kept : RecordFacts → ExampleReversalKept
+reversal-is-kept facts = record {
+  in_order = ready-in-order facts;
+  read = reverses-read facts;
+  uncut = reversal-uncut;
+  kept = reversal-kept;
+  keeps = subst (λ (kept : List Record). KeepsInOrder ready_known kept (terminal_row ready_known second_reverses).core) reversal-kept
+      (facts.rows ready_known second_reverses (ready-in-order facts) (reverses-read facts) reversal-uncut);
+}
+
+pub stop-keeps-nothing : RecordFacts → ExampleStopKeepsNothing
+stop-keeps-nothing facts = record {
+  in_order = serving-in-order facts;
+  read = stops-read facts;
+  calls = stop-sent;
+  keeps = subst (λ (calls : List OwedCall). KeepsInOrder serving_known (records_kept calls) (terminal_row serving_known fourth_stops).core) stop-sent
+      (facts.rows serving_known fourth_stops (serving-in-order facts) (stops-read facts) (ap owes_cut stop-sent));
+}

@@ -23,7 +23,7 @@ use Rattle.gw_ledger.specs.Accounts.{account_in, account_of, account_with, is_po
 use Rattle.gw_ledger.specs.Fold.{AreFolded, FitBy, fits, fits_beside_key, has_fitting_original, is_unknown, open_entry}
 use Rattle.gw_ledger.specs.History.{history, same_text}
 use Rattle.gw_ledger.specs.Keys.{intent_key}
-use Rattle.gw_ledger.specs.Laws.{NewestIsFirst, OpenSlotIsOpen, CountIsOfOpenSlots, EntriesAreWithin, PaymentFits, OutcomeFits, count_below, poi_at}
+use Rattle.gw_ledger.specs.Laws.{NewestIsFirst, OpenSlotIsOpen, CountIsOfOpenSlots, EntriesAreWithin, NamedIsEntry, PaymentFits, ReversalFits, OutcomeFits, count_below, poi_at}
 use Rattle.gw_ledger.specs.Slots.{as_intent, ended_at, ended_in, entry_at, entry_with, intent_at, is_open, is_outcome_of}
 use Rattle.gw_ledger.specs.Sums.{one_if, open_count_of, open_in, open_with}
 
@@ -35,7 +35,9 @@ pub record LedgerLaws : Type 0 where
   pub open_slots : OpenSlotIsOpen
   pub count : CountIsOfOpenSlots
   pub within : EntriesAreWithin
+  pub named : NamedIsEntry
   pub payment : PaymentFits
+  pub reversal : ReversalFits
   pub outcome : OutcomeFits
 
 -- ---- texts

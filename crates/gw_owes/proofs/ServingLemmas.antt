@@ -1,5 +1,5 @@
 -- What a message of a terminal leaves and owes keeps what is known in order.
-use Rattle.std.proofs.Common.{◌≡◌, ◌∙◌, ℕ, ◌+◌, ◌^◌, ◌<◌, ◌≤◌, max, Bool, true, false, ltb, leb, List, [], ◌∷◌, ◌++◌, length, refl, sym, ap, subst, arith}
+use Rattle.std.proofs.Common.{◌≡◌, ◌∙◌, ℕ, ◌+◌, ◌*◌, ◌^◌, ◌<◌, ◌≤◌, max, Bool, true, false, ltb, leb, List, [], ◌∷◌, ◌++◌, length, refl, sym, ap, subst, arith}
 use Rattle.std.specs.Prelude.{Option, Some, None, option_and_then, if◌then◌else◌, pos}
 use Rattle.std.proofs.lemmas.Bool.{leb-true, ltb-true}
 use Rattle.gw_base.specs.Limits.{IsTrace}
@@ -8,29 +8,32 @@ use Rattle.gw_base.specs.declared.condition.Condition.TheVariants.{Aborted}
 use Rattle.gw_base.specs.declared.figures.Figures.{Figures}
 use Rattle.zvt_talk.specs.declared.meaning.Heard.{Heard}
 use Rattle.zvt_talk.specs.declared.meaning.Heard.TheVariants as heard
+use Rattle.zvt_talk.specs.Laws.{says_stop}
 use Rattle.zvt_talk.specs.Limits.{FiguresFitRecord}
 use Rattle.jrn_record.specs.Limits.{IsOutcome}
 use Rattle.jrn_record.specs.declared.records.Intent.{Intent as TheIntent}
 use Rattle.jrn_record.specs.declared.records.Outcome.{Outcome as TheOutcome}
+use Rattle.jrn_record.specs.declared.records.Record.{Record}
 use Rattle.jrn_record.specs.declared.records.Record.TheVariants.{Outcome}
 use Rattle.gw_ledger.specs.declared.entry.Entry.{Entry as TheEntry}
 use Rattle.gw_ledger.specs.Accounts.{last_number_of}
 use Rattle.gw_ledger.specs.Fold.{fits, open_entry}
 use Rattle.gw_ledger.specs.Laws.{IsEntryWithin}
 use Rattle.gw_ledger.specs.Slots.{entry_at}
-use Rattle.gw_ledger.specs.Sums.{open_count_of}
+use Rattle.gw_ledger.specs.Sums.{one_if, open_count_of}
 use Rattle.gw_owes.specs.declared.terminal.Service.{Service}
 use Rattle.gw_owes.specs.declared.terminal.Service.TheVariants.{Transaction, EndOfDay, Display}
 use Rattle.gw_owes.specs.declared.terminal.Standing.{Standing}
 use Rattle.gw_owes.specs.declared.terminal.Standing.TheVariants.{Unlinked, Registering, Enquiring, Ready, Serving, Aside}
 use Rattle.gw_owes.specs.declared.terminal.Terminal.{Terminal}
 use Rattle.gw_owes.specs.HeardLaws.{AreFiguresOf, FitsRecord, IsReportFit, IsTraceOrNone}
-use Rattle.gw_owes.specs.Handling.{consequence, enquiring, registering, serving}
-use Rattle.gw_owes.specs.RecordLaws.{AreRecordsOf, IsInOrder, IsServedOpen, IsServiceOnRecord, IsTalkRead}
+use Rattle.gw_owes.specs.Handling.{consequence, enquires, enquiring, enquiry_command, registering, serving}
+use Rattle.gw_owes.specs.RecordLaws.{AreRecordsOf, IsInOrder, IsServedOpen, IsTalkRead, IsTerminalInOrder, commands_left}
 use Rattle.gw_owes.specs.Reports.{Report, on_record, outcome_as_last, outcome_reported, report_against, report_of_open, report_row, standing_reported}
 use Rattle.gw_owes.specs.Row.{Known}
 use Rattle.gw_owes.specs.Serving.{at_rest, approved_outcome, approved_row, declined_outcome, declined_row, done_with, last_after_decline, refused_outcome, reply_to_outcome, resolves, serving_transaction, staying, stops, was_stopped}
-use Rattle.gw_owes.specs.Terminals.{reply_calls_to, terminal_at, terminal_becomes}
+use Rattle.gw_owes.specs.Terminals.{after_command, reply_calls_to, terminal_at, terminal_becomes}
+use Rattle.gw_owes.proofs.FewLemmas.{command-begins, few-more, stops_sent}
 use Rattle.gw_owes.proofs.KeepingLemmas.{RowKeeps, becomes-keeps, breaking-keeps, no-calls, nothing-keeps, record-keeps, replies-keep-nothing}
 use Rattle.gw_owes.proofs.LimitLemmas.{approval-within, decline-within, refusal-within}
 use Rattle.gw_owes.proofs.RecordLemmas.{LedgerLaws, open-counted, open-not-below, open-parts, open-within, open-without-outcome, open_entry_of, outcome-closes, outcome-number, outcome-poi}
@@ -112,15 +115,36 @@ reported-outcome entry report moment small at fit = by-test (ltb entry.intent.be
 
 -- ---- what a terminal becomes
 
-module _ (laws : LedgerLaws) (known : Known) (order : IsInOrder known) (number : ℕ) (old now : Terminal) (here : terminal_at known number ≡ Some old) (same : now.pt ≡ old.pt) (read : IsTalkRead now.talk) where
-  -- the terminal in this standing has what the records have
-  abbrev Stands : Standing → Type 0
-  Stands standing = AreRecordsOf known.kept now.pt.poi standing
+-- a terminal that has taken a message, with which it is to be sent so many stops, is in this standing: the records have what that says, and few Acks and Nacks are awaited
+pub record StandsAs (kept : List Record) (now : Terminal) (standing : Standing) (stops : ℕ) : Type 0 where
+  pub standing_is : now.standing ≡ standing
+  pub records : AreRecordsOf kept now.pt.poi standing
+  pub few : now.awaited + (stops + commands_left standing now.talk) ≤ 2 * length kept + 2
+
+module _ (laws : LedgerLaws) (known : Known) (order : IsInOrder known) (number : ℕ) (old now : Terminal) (here : terminal_at known number ≡ Some old) (same : now.pt ≡ old.pt) (read : IsTalkRead now.talk) (few : now.awaited ≤ 2 * length known.kept + 2) where
+  -- it is in this standing, with so many stops to be sent
+  abbrev Stands : Standing → ℕ → Type 0
+  Stands standing stops = StandsAs known.kept now standing stops
+
+  -- the terminal is in order, as it is and with this count
+  stands-in-order : (standing : Standing) (stops : ℕ) → Stands standing stops → IsTerminalInOrder known.kept (record now { awaited = now.awaited + stops })
+  stands-in-order standing stops stands = record {
+    records = subst (AreRecordsOf known.kept now.pt.poi) (sym stands.standing_is) stands.records;
+    read = read;
+    few = subst (λ (s : Standing). now.awaited + stops + commands_left s now.talk ≤ 2 * length known.kept + 2) (sym stands.standing_is) (let all = stands.few in omega (arith, all));
+  }
 
   -- it stays as it is
-  stays-keeps : (standing : Standing) → now.standing ≡ standing → Stands standing → RowKeeps known number (staying known number now)
-  stays-keeps standing is has =
-      becomes-keeps known order number now [] no-calls (record { records = subst (AreRecordsOf known.kept now.pt.poi) (sym is) has; read = read })
+  stays-keeps : (standing : Standing) (stops : ℕ) → Stands standing stops → RowKeeps known number (staying known number now)
+  stays-keeps standing stops stands =
+      let all = stands-in-order standing stops stands in
+      let count = all.few in
+      becomes-keeps known order number now [] no-calls (record { records = all.records; read = read; few = omega (arith, count) })
+
+  -- no dialogue runs any more, and it has this standing, in which no command is left to be sent
+  rests-keeps : (standing : Standing) → AreRecordsOf known.kept now.pt.poi standing → commands_left standing None ≡ 0 → RowKeeps known number (terminal_becomes known number (at_rest now standing) [])
+  rests-keeps standing has none =
+      becomes-keeps known order number (at_rest now standing) [] no-calls (record { records = has; read = tt; few = omega (arith, few, none) })
 
   -- the Outcome of its open entry is kept, and it is ready with a number that isn't below
   resolves-keeps : (outcome : TheOutcome) (intent : TheIntent) (ready : ℕ) → open_entry known.kept now.pt.poi ≡ Some (open_entry_of outcome.slot intent) → IsOutcome outcome → (outcome.approved ≡ true → intent.before < outcome.number)
@@ -141,6 +165,7 @@ module _ (laws : LedgerLaws) (known : Known) (order : IsInOrder known) (number :
           within = trace;
         };
         read = tt;
+        few = let more = few-more known.kept (Outcome outcome) now.awaited few in omega (arith, more);
       })
 
   -- so it is of what is served
@@ -160,7 +185,7 @@ module _ (laws : LedgerLaws) (known : Known) (order : IsInOrder known) (number :
           let above : last < figures.number = ltb-true last figures.number rises in
           served-keeps (approved_outcome slot figures known.moment) last figures.number has (approval-within slot figures known.moment (slot-small laws known order now.pt.poi slot has.intent has.is_open) fit order.moment) (λ approved. above) (omega arith)
           (omega arith) fit.trace
-      by-test false rises = becomes-keeps known order number (at_rest now (Aside last figures.number)) [] no-calls (record { records = tt; read = tt })
+      by-test false rises = rests-keeps (Aside last figures.number) tt refl
 
   -- or declined
   declined-keeps : (slot last result_code : ℕ) (reported : Option ℕ) → IsServedOpen known.kept now.pt.poi last slot → IsTraceOrNone reported → RowKeeps known number (declined_row known number now slot last result_code reported)
@@ -170,23 +195,30 @@ module _ (laws : LedgerLaws) (known : Known) (order : IsInOrder known) (number :
       (last-after-within last reported (open-before-within laws known order now.pt.poi last slot has) fits)
 
   -- the stop of what is served
-  stops-keeps : (standing : Standing) → now.standing ≡ standing → Stands standing → RowKeeps known number (stops known number now)
-  stops-keeps standing is has =
-      becomes-keeps known order number (record now { awaited = now.awaited + 1 }) _ (record { no_records = refl; no_cut = refl })
-      (record { records = subst (AreRecordsOf known.kept now.pt.poi) (sym is) has; read = read })
+  stops-keeps : (standing : Standing) → Stands standing 1 → RowKeeps known number (stops known number now)
+  stops-keeps standing stands =
+      becomes-keeps known order number (record now { awaited = now.awaited + 1 }) _ (record { no_records = refl; no_cut = refl }) (stands-in-order standing 1 stands)
 
-  registering-keeps : (meant : Heard) → now.standing ≡ Registering → RowKeeps known number (registering known number now meant)
-  registering-keeps (heard.Begun stop) is = stays-keeps Registering is tt
-  registering-keeps (heard.Note intermediate_status) is = stays-keeps Registering is tt
-  registering-keeps heard.Line is = stays-keeps Registering is tt
-  registering-keeps heard.Block is = stays-keeps Registering is tt
-  registering-keeps heard.Seen is = stays-keeps Registering is tt
-  registering-keeps (heard.Approved figures) is = stays-keeps Registering is tt
-  registering-keeps heard.Done is = becomes-keeps known order number _ _ (record { no_records = refl; no_cut = refl }) (record { records = tt; read = tt })
-  registering-keeps (heard.Told reported approved result_code) is = stays-keeps Registering is tt
-  registering-keeps (heard.Declined result_code reported) is = breaking-keeps known order number now
-  registering-keeps heard.Unclear is = breaking-keeps known order number now
-  registering-keeps heard.Stray is = stays-keeps Registering is tt
+  -- the enquiry after the registration
+  enquires-keeps : Stands Registering 0 → RowKeeps known number (enquires known number now)
+  enquires-keeps stands =
+      let begins = command-begins now.pt (enquiry_command now.pt) known.moment in
+      let all = stands.few in
+      becomes-keeps known order number (after_command now (enquiry_command now.pt) Enquiring known.moment) _ (record { no_records = refl; no_cut = refl })
+      (record { records = tt; read = begins.read; few = omega (arith, all) })
+
+  registering-keeps : (meant : Heard) → Stands Registering 0 → RowKeeps known number (registering known number now meant)
+  registering-keeps (heard.Begun stop) stands = stays-keeps Registering 0 stands
+  registering-keeps (heard.Note intermediate_status) stands = stays-keeps Registering 0 stands
+  registering-keeps heard.Line stands = stays-keeps Registering 0 stands
+  registering-keeps heard.Block stands = stays-keeps Registering 0 stands
+  registering-keeps heard.Seen stands = stays-keeps Registering 0 stands
+  registering-keeps (heard.Approved figures) stands = stays-keeps Registering 0 stands
+  registering-keeps heard.Done stands = enquires-keeps stands
+  registering-keeps (heard.Told reported approved result_code) stands = stays-keeps Registering 0 stands
+  registering-keeps (heard.Declined result_code reported) stands = breaking-keeps known order number now
+  registering-keeps heard.Unclear stands = breaking-keeps known order number now
+  registering-keeps heard.Stray stands = stays-keeps Registering 0 stands
 
   -- what a terminal reports without an open entry
   reported-none-open : (reported : ℕ) → IsTrace reported → open_entry known.kept now.pt.poi ≡ None
@@ -195,10 +227,8 @@ module _ (laws : LedgerLaws) (known : Known) (order : IsInOrder known) (number :
     where
       by-test : (b : Bool) → leb (last_number_of known.kept now.pt.poi) reported ≡ b
           → RowKeeps known number (terminal_becomes known number (at_rest now (if b then Ready reported else Aside (last_number_of known.kept now.pt.poi) reported)) [])
-      by-test true above =
-          becomes-keeps known order number (at_rest now (Ready reported)) [] no-calls
-          (record { records = record { none_open = none; not_below = leb-true (last_number_of known.kept now.pt.poi) reported above; within = trace }; read = tt })
-      by-test false above = becomes-keeps known order number (at_rest now (Aside (last_number_of known.kept now.pt.poi) reported)) [] no-calls (record { records = tt; read = tt })
+      by-test true above = rests-keeps (Ready reported) (record { none_open = none; not_below = leb-true (last_number_of known.kept now.pt.poi) reported above; within = trace }) refl
+      by-test false above = rests-keeps (Aside (last_number_of known.kept now.pt.poi) reported) tt refl
 
   -- and with one
   reported-of-open : (report : Report) (entry : TheEntry) → IsReportFit report.trace report.approved → open_entry known.kept now.pt.poi ≡ Some entry → RowKeeps known number (report_of_open known number now report entry)
@@ -214,7 +244,7 @@ module _ (laws : LedgerLaws) (known : Known) (order : IsInOrder known) (number :
           let outcome = reported-outcome entry report known.moment (slot-small laws known order now.pt.poi entry.slot entry.intent is_open) order.moment fit in
           resolves-keeps (outcome_reported entry report known.moment) entry.intent report.trace
           (subst (λ (slot : ℕ). open_entry known.kept now.pt.poi ≡ Some (open_entry_of slot entry.intent)) (sym outcome.slot_is) is_open) outcome.within outcome.above (omega arith) outcome.not_above fit.within
-      by-test false above = becomes-keeps known order number (at_rest now (Aside entry.intent.before report.trace)) [] no-calls (record { records = tt; read = tt })
+      by-test false above = rests-keeps (Aside entry.intent.before report.trace) tt refl
 
   reported-keeps : (report : Report) → IsReportFit report.trace report.approved → RowKeeps known number (report_row (on_record known.kept now.pt.poi) known number now report)
   reported-keeps report fit = by-open (open_entry known.kept now.pt.poi) refl
@@ -223,43 +253,43 @@ module _ (laws : LedgerLaws) (known : Known) (order : IsInOrder known) (number :
       by-open None none = reported-none-open report.trace fit.within none
       by-open (Some entry) is = reported-of-open report entry fit is
 
-  enquiring-keeps : (meant : Heard) → now.standing ≡ Enquiring → FitsRecord meant → RowKeeps known number (enquiring known number now meant)
-  enquiring-keeps (heard.Begun stop) is fits = stays-keeps Enquiring is tt
-  enquiring-keeps (heard.Note intermediate_status) is fits = stays-keeps Enquiring is tt
-  enquiring-keeps heard.Line is fits = stays-keeps Enquiring is tt
-  enquiring-keeps heard.Block is fits = stays-keeps Enquiring is tt
-  enquiring-keeps heard.Seen is fits = stays-keeps Enquiring is tt
-  enquiring-keeps (heard.Approved figures) is fits = stays-keeps Enquiring is tt
-  enquiring-keeps heard.Done is fits = stays-keeps Enquiring is tt
-  enquiring-keeps (heard.Told trace approved result_code) is fits = reported-keeps (record { trace = trace; approved = approved; result_code = result_code }) fits
-  enquiring-keeps (heard.Declined result_code reported) is fits = breaking-keeps known order number now
-  enquiring-keeps heard.Unclear is fits = breaking-keeps known order number now
-  enquiring-keeps heard.Stray is fits = stays-keeps Enquiring is tt
+  enquiring-keeps : (meant : Heard) → Stands Enquiring 0 → FitsRecord meant → RowKeeps known number (enquiring known number now meant)
+  enquiring-keeps (heard.Begun stop) stands fits = stays-keeps Enquiring 0 stands
+  enquiring-keeps (heard.Note intermediate_status) stands fits = stays-keeps Enquiring 0 stands
+  enquiring-keeps heard.Line stands fits = stays-keeps Enquiring 0 stands
+  enquiring-keeps heard.Block stands fits = stays-keeps Enquiring 0 stands
+  enquiring-keeps heard.Seen stands fits = stays-keeps Enquiring 0 stands
+  enquiring-keeps (heard.Approved figures) stands fits = stays-keeps Enquiring 0 stands
+  enquiring-keeps heard.Done stands fits = stays-keeps Enquiring 0 stands
+  enquiring-keeps (heard.Told trace approved result_code) stands fits = reported-keeps (record { trace = trace; approved = approved; result_code = result_code }) fits
+  enquiring-keeps (heard.Declined result_code reported) stands fits = breaking-keeps known order number now
+  enquiring-keeps heard.Unclear stands fits = breaking-keeps known order number now
+  enquiring-keeps heard.Stray stands fits = stays-keeps Enquiring 0 stands
 
-  transaction-keeps : (slot last : ℕ) (meant : Heard) → now.standing ≡ Serving (Transaction slot) last → IsServedOpen known.kept now.pt.poi last slot → FitsRecord meant → RowKeeps known number (serving_transaction known number now slot last meant)
-  transaction-keeps slot last (heard.Begun true) is has fits = stops-keeps (Serving (Transaction slot) last) is has
-  transaction-keeps slot last (heard.Begun false) is has fits = stays-keeps (Serving (Transaction slot) last) is has
-  transaction-keeps slot last (heard.Note intermediate_status) is has fits = stays-keeps (Serving (Transaction slot) last) is has
-  transaction-keeps slot last heard.Line is has fits = stays-keeps (Serving (Transaction slot) last) is has
-  transaction-keeps slot last heard.Block is has fits = stays-keeps (Serving (Transaction slot) last) is has
-  transaction-keeps slot last heard.Seen is has fits = stays-keeps (Serving (Transaction slot) last) is has
-  transaction-keeps slot last (heard.Approved figures) is has fits = approved-keeps slot last figures has fits
-  transaction-keeps slot last heard.Done is has fits = stays-keeps (Serving (Transaction slot) last) is has
-  transaction-keeps slot last (heard.Told reported approved result_code) is has fits = stays-keeps (Serving (Transaction slot) last) is has
-  transaction-keeps slot last (heard.Declined result_code reported) is has fits = declined-keeps slot last result_code reported has fits
-  transaction-keeps slot last heard.Unclear is has fits = breaking-keeps known order number now
-  transaction-keeps slot last heard.Stray is has fits = stays-keeps (Serving (Transaction slot) last) is has
+  transaction-keeps : (slot last : ℕ) (meant : Heard) → Stands (Serving (Transaction slot) last) (one_if (says_stop meant)) → FitsRecord meant → RowKeeps known number (serving_transaction known number now slot last meant)
+  transaction-keeps slot last (heard.Begun true) stands fits = stops-keeps (Serving (Transaction slot) last) stands
+  transaction-keeps slot last (heard.Begun false) stands fits = stays-keeps (Serving (Transaction slot) last) 0 stands
+  transaction-keeps slot last (heard.Note intermediate_status) stands fits = stays-keeps (Serving (Transaction slot) last) 0 stands
+  transaction-keeps slot last heard.Line stands fits = stays-keeps (Serving (Transaction slot) last) 0 stands
+  transaction-keeps slot last heard.Block stands fits = stays-keeps (Serving (Transaction slot) last) 0 stands
+  transaction-keeps slot last heard.Seen stands fits = stays-keeps (Serving (Transaction slot) last) 0 stands
+  transaction-keeps slot last (heard.Approved figures) stands fits = approved-keeps slot last figures stands.records fits
+  transaction-keeps slot last heard.Done stands fits = stays-keeps (Serving (Transaction slot) last) 0 stands
+  transaction-keeps slot last (heard.Told reported approved result_code) stands fits = stays-keeps (Serving (Transaction slot) last) 0 stands
+  transaction-keeps slot last (heard.Declined result_code reported) stands fits = declined-keeps slot last result_code reported stands.records fits
+  transaction-keeps slot last heard.Unclear stands fits = breaking-keeps known order number now
+  transaction-keeps slot last heard.Stray stands fits = stays-keeps (Serving (Transaction slot) last) 0 stands
 
-  serving-keeps : (service : Service) (last : ℕ) (meant : Heard) → now.standing ≡ Serving service last → IsServiceOnRecord known.kept now.pt.poi last service → FitsRecord meant → RowKeeps known number (serving known number now service last meant)
-  serving-keeps (Transaction slot) last meant is has fits = transaction-keeps slot last meant is has fits
-  serving-keeps (EndOfDay header period) last meant is has fits = absurd has
-  serving-keeps (Display header outputs) last meant is has fits = absurd has
+  serving-keeps : (service : Service) (last : ℕ) (meant : Heard) → Stands (Serving service last) (one_if (says_stop meant)) → FitsRecord meant → RowKeeps known number (serving known number now service last meant)
+  serving-keeps (Transaction slot) last meant stands fits = transaction-keeps slot last meant stands fits
+  serving-keeps (EndOfDay header period) last meant stands fits = absurd stands.records
+  serving-keeps (Display header outputs) last meant stands fits = absurd stands.records
 
   -- in each standing
-  pub consequence-keeps : (meant : Heard) (standing : Standing) → now.standing ≡ standing → Stands standing → FitsRecord meant → RowKeeps known number (consequence known number now meant standing)
-  consequence-keeps meant (Unlinked due) is has fits = nothing-keeps known order number
-  consequence-keeps meant Registering is has fits = registering-keeps meant is
-  consequence-keeps meant Enquiring is has fits = enquiring-keeps meant is fits
-  consequence-keeps meant (Ready last) is has fits = stays-keeps (Ready last) is has
-  consequence-keeps meant (Serving service last) is has fits = serving-keeps service last meant is has fits
-  consequence-keeps meant (Aside before reported) is has fits = stays-keeps (Aside before reported) is tt
+  pub consequence-keeps : (meant : Heard) (standing : Standing) → Stands standing (stops_sent standing meant) → FitsRecord meant → RowKeeps known number (consequence known number now meant standing)
+  consequence-keeps meant (Unlinked due) stands fits = nothing-keeps known order number
+  consequence-keeps meant Registering stands fits = registering-keeps meant stands
+  consequence-keeps meant Enquiring stands fits = enquiring-keeps meant stands fits
+  consequence-keeps meant (Ready last) stands fits = stays-keeps (Ready last) 0 stands
+  consequence-keeps meant (Serving service last) stands fits = serving-keeps service last meant stands fits
+  consequence-keeps meant (Aside before reported) stands fits = stays-keeps (Aside before reported) 0 stands

@@ -1,6 +1,7 @@
 -- Which dialogue a transcript has in each standing that it leads to.
 use Rattle.std.proofs.Common.{◌≡◌, ℕ, List, [], ◌∷◌, ◌++◌, refl, sym, ◌∙◌, ap, subst, Bool, true, false, not, cond, is_some}
 use Rattle.std.specs.Prelude.{ℤ, nat_le, nat_lt, Option, Some, None, if◌then◌else◌, option_and_then}
+use Rattle.std.specs.Option.{option_map}
 use Rattle.gw_base.specs.declared.setup.Pt.{Pt}
 use Rattle.zvt_msg.specs.declared.command.Command.TheVariants as commands
 use Rattle.zvt_msg.specs.Message.{MessageValue}
@@ -8,17 +9,20 @@ use Rattle.zvt_talk.specs.declared.dialogue_kind.DialogueKind.{DialogueKind}
 use Rattle.zvt_talk.specs.declared.dialogue_kind.DialogueKind.TheVariants.{Registration, Enquiry}
 use Rattle.zvt_talk.specs.declared.meaning.Heard.{Heard}
 use Rattle.zvt_talk.specs.declared.meaning.Heard.TheVariants as heard
-use Rattle.zvt_talk.specs.Came.{Came, Message as CameMessage}
+use Rattle.zvt_talk.specs.declared.phase.Phase.{Phase}
+use Rattle.zvt_talk.specs.declared.phase.Phase.TheVariants.{Asked, Begun, Ended}
+use Rattle.zvt_talk.specs.Came.{Came, Message as CameMessage, StopWished}
 use Rattle.zvt_talk.specs.Dialogue.{Dialogue}
-use Rattle.zvt_talk.specs.Laws.{IsTransaction, IsEndOf, MeansForTalkAsAfterAll, NextTalkIsAfterAll, EndStays}
-use Rattle.zvt_talk.specs.Talk.{TalkFacts, meaning, is_end, end_of, talk_after, talk_goes_on}
+use Rattle.zvt_talk.specs.Laws.{IsTransaction, IsEndOf, MeansForTalkAsAfterAll, NextTalkIsAfterAll, TalkAfterStopWishedIsAfterAll, EndStays}
+use Rattle.zvt_talk.specs.Talk.{TalkFacts, meaning, is_end, end_of, talk_after, is_open_phase, talk_goes_on}
+use Rattle.zvt_talk.specs.TalkSteps.{phase_after_stop_wished, talk_after_stop_wished}
 use Rattle.gw_owes.specs.declared.terminal.Service.{Service}
 use Rattle.gw_owes.specs.declared.terminal.Service.TheVariants.{Transaction, EndOfDay, Display}
 use Rattle.gw_owes.specs.declared.terminal.Standing.{Standing}
 use Rattle.gw_owes.specs.declared.terminal.Standing.TheVariants.{Unlinked, Registering, Enquiring, Ready, Serving, Aside}
 use Rattle.gw_owes.specs.Reports.{standing_reported}
 use Rattle.gw_owes.specs.Serving.{last_after_decline}
-use Rattle.gw_owes.specs.Transcript.{Carried, Commanded, Took, awaited_by, dialogue_by, came_with, came_by, talk_going_on, talk_by, standing_enquired, standing_served, standing_of_service, standing_ended, standing_taken, ended_with, standing_asked, standing_by}
+use Rattle.gw_owes.specs.Transcript.{Carried, Commanded, Took, Wished, awaited_by, dialogue_by, came_with, came_by, talk_going_on, talk_by, standing_enquired, standing_served, standing_of_service, standing_ended, standing_taken, ended_with, standing_asked, standing_by}
 use Rattle.gw_owes.proofs.SetLemmas.{same-some}
 
 -- ---- what is known of dialogues
@@ -28,6 +32,7 @@ pub record DialogueLaws : Type 0 where
   pub goes_on : (dialogue : Dialogue) (came : List Came) → talk_goes_on (talk_after dialogue came) ≡ not (is_some (end_of dialogue came))
   pub means : MeansForTalkAsAfterAll
   pub next : NextTalkIsAfterAll
+  pub stop_wished : TalkAfterStopWishedIsAfterAll
   pub stays : EndStays
   pub by_message : (dialogue : Dialogue) (came : List Came) (message : MessageValue) (at : ℤ) → talk_goes_on (talk_after dialogue came) ≡ true
       → end_of dialogue (came ++ CameMessage message at ∷ []) ≡ cond (is_end (meaning dialogue came message)) (Some (meaning dialogue came message)) None
@@ -86,6 +91,30 @@ rests-more laws (Some dialogue) came more rests =
     let ended = ended-stays laws (Some dialogue) came more (rests-ended laws dialogue came (end_of dialogue came) refl rests) in
     ap (λ (d : Dialogue). talk_going_on d (came ++ more)) (same-some dialogue ended.dialogue ended.found_is)
     ∙ ap (λ (b : Bool). cond b (Some (talk_after ended.dialogue (came ++ more))) None) (laws.goes_on ended.dialogue (came ++ more) ∙ ap (λ (e : Option Heard). not (is_some e)) ended.ended)
+
+-- ---- a stop that is wished
+
+open-same : (phase : Phase) → is_open_phase (phase_after_stop_wished phase) ≡ is_open_phase phase
+open-same (Asked stop_wished) = refl
+open-same (Begun stop_sent statuses) = refl
+open-same (Ended stop_sent) = refl
+
+wished-goes : (talk : TalkFacts) (goes : Bool) → talk_goes_on talk ≡ goes
+    → cond (talk_goes_on (talk_after_stop_wished talk)) (Some (talk_after_stop_wished talk)) None ≡ option_map talk_after_stop_wished (cond goes (Some talk) None)
+wished-goes talk true is = ap (λ (b : Bool). cond b (Some (talk_after_stop_wished talk)) None) (open-same talk.phase ∙ is)
+wished-goes talk false is = ap (λ (b : Bool). cond b (Some (talk_after_stop_wished talk)) None) (open-same talk.phase ∙ is)
+
+-- the talk that runs goes on with the wish, and where none runs none does
+wished-going : (laws : DialogueLaws) (found : Option Dialogue) (came : List Came)
+    → option_and_then (λ dialogue. talk_going_on dialogue (came ++ StopWished ∷ [])) found ≡ option_map talk_after_stop_wished (option_and_then (λ dialogue. talk_going_on dialogue came) found)
+wished-going laws None came = refl
+wished-going laws (Some dialogue) came =
+    ap (λ (t : TalkFacts). cond (talk_goes_on t) (Some t) None) (sym (laws.stop_wished dialogue came))
+    ∙ wished-goes (talk_after dialogue came) (talk_goes_on (talk_after dialogue came)) refl
+
+-- so it is of the transcript
+pub wished-talk : (laws : DialogueLaws) (pt : Pt) (transcript : List Carried) → talk_by pt (Wished ∷ transcript) ≡ option_map talk_after_stop_wished (talk_by pt transcript)
+wished-talk laws pt transcript = wished-going laws (dialogue_by pt transcript) (came_by transcript)
 
 -- ---- which standing a message leads to
 
@@ -251,3 +280,4 @@ stands-in laws pt (Commanded (commands.Show lines) moment ∷ earlier) standing 
 stands-in laws pt (Took message moment last ∷ earlier) standing is =
     took-stands laws (is_some (talk_by pt earlier)) (dialogue_by pt earlier) (came_by earlier) _ last (standing_by pt earlier) (ended_with pt message moment earlier) refl
     (λ before stands. stands-in laws pt earlier before stands) standing is
+stands-in laws pt (Wished ∷ earlier) standing is = stands-more laws standing (dialogue_by pt earlier) (came_by earlier) (StopWished ∷ []) (stands-in laws pt earlier standing is)

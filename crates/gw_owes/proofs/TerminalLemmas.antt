@@ -54,7 +54,7 @@ due-ends known number = each-terminal EndsInOne known number (λ terminal. owing
     (λ terminal found. by-where EndsInOne known (owing known (LinkPt number ∷ [])) (is_due known.moment terminal.standing) refl (λ due. refl))
 
 serve-ends : (known : Known) (number till : ℕ) (header : Header) (request : SaleRequest) → EndsInOne (serve_row known number till header request)
-serve-ends known number till header request = each-served EndsInOne known number till header request refl (λ payment terminal last is at. refl)
+serve-ends known number till header request = each-served EndsInOne known number till header request refl (λ terminal last asking at. refl) (λ terminal talk at may. refl) (λ terminal talk at may. refl)
 
 pub link-rows-end : (known : Known) (number : ℕ) (event : LinkEvent) → EndsInOne (link_row known number event)
 link-rows-end known number LinkIsMade = let ends = links-end known number in ends.made
@@ -112,11 +112,12 @@ link-changes-alone known number LinkIsMade =
 link-changes-alone known number LinkHasFailed = lost-alone known number
 link-changes-alone known number LinkIsLost = lost-alone known number
 
--- a request that a terminal begins to serve changes it alone
+-- a request that a terminal begins to serve, or by which it stops what it serves, changes it alone
 pub serve-alone : (known : Known) (number till : ℕ) (header : Header) (request : SaleRequest) → ChangesTerminalAlone number known.core (serve_row known number till header request).core
 serve-alone known number till header request =
     each-served (λ (row : Row). ChangesTerminalAlone number known.core row.core) known number till header request (alone-same number known.core)
-    (λ payment terminal last is at. alone-set number known.core terminal _ at.found refl)
+    (λ terminal last asking at. alone-set number known.core terminal _ at.found refl) (λ terminal talk at may. alone-set number known.core terminal _ at.found refl)
+    (λ terminal talk at may. alone-set number known.core terminal _ at.found refl)
 
 pub row-changes-alone : EachRowChangesItsTerminal
 row-changes-alone known (Crowded till) number is = absurd cc
@@ -249,7 +250,7 @@ due-no-cut known number = each-terminal (λ (row : Row). owes_cut row.calls ≡ 
     (λ terminal found. by-where (λ (row : Row). owes_cut row.calls ≡ false) known (owing known (LinkPt number ∷ [])) (is_due known.moment terminal.standing) refl (λ due. refl))
 
 serve-no-cut : (known : Known) (number till : ℕ) (header : Header) (request : SaleRequest) → owes_cut (serve_row known number till header request).calls ≡ false
-serve-no-cut known number till header request = each-served (λ (row : Row). owes_cut row.calls ≡ false) known number till header request refl (λ payment terminal last is at. refl)
+serve-no-cut known number till header request = each-served (λ (row : Row). owes_cut row.calls ≡ false) known number till header request refl (λ terminal last asking at. refl) (λ terminal talk at may. refl) (λ terminal talk at may. refl)
 
 pub cuts-have-cause : EachCutHasCause
 cuts-have-cause known (Crowded till) cuts = absurd cc

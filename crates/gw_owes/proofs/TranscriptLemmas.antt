@@ -2,13 +2,16 @@
 use Rattle.std.proofs.Common.{◌≡◌, ◌≢◌, ℕ, zero, suc, ◌+◌, List, [], ◌∷◌, ◌++◌, refl, sym, ◌∙◌, ap, subst, Bool, true, false, cond, eqb}
 use Rattle.std.proofs.lemmas.Bool.{eqb-true, eqb-false}
 use Rattle.std.specs.Prelude.{map, slice_get, pos, nat_le, nat_lt, Option, Some, None, if◌then◌else◌, option_and_then, Result, Ok, Err}
+use Rattle.std.specs.Fmt.{digits}
 use Rattle.std.specs.Option.{option_map}
 use Rattle.gw_base.specs.declared.figures.Figures.{Figures}
+use Rattle.gw_base.specs.declared.key.Key.{Key}
 use Rattle.gw_base.specs.declared.setup.Pt.{Pt}
+use Rattle.gw_base.specs.Transaction.{transaction_text}
 use Rattle.sale_values.specs.declared.header.Header.{Header}
-use Rattle.sale_values.specs.declared.request.PaymentAsk.{PaymentAsk}
 use Rattle.sale_values.specs.declared.request.SaleRequest.{SaleRequest}
 use Rattle.sale_values.specs.declared.request.SaleRequest.TheVariants as requests
+use Rattle.sale_values.specs.Key.{key_of}
 use Rattle.zvt_apdu.specs.Grammar.{ApduValue}
 use Rattle.zvt_msg.specs.declared.command.Command.TheVariants as commands
 use Rattle.zvt_msg.specs.declared.fault.PtFault.{PtFault}
@@ -23,10 +26,14 @@ use Rattle.zvt_talk.specs.Came.{Came, is_taken}
 use Rattle.zvt_talk.specs.Dialogue.{Dialogue}
 use Rattle.zvt_talk.specs.Laws.{IsTransaction, IsEndOf, IsTransactionEnd, IsEnquiryEnd, IsServiceEnd}
 use Rattle.zvt_talk.specs.Talk.{TalkFacts, meaning, is_end, end_of, talk_after}
-use Rattle.zvt_talk.specs.TalkSteps.{next_talk}
+use Rattle.zvt_talk.specs.TalkSteps.{may_send_stop, next_talk, talk_after_stop_wished}
+use Rattle.jrn_record.specs.declared.records.Deal.{Deal}
+use Rattle.jrn_record.specs.declared.records.Deal.TheVariants as deals
+use Rattle.jrn_record.specs.declared.records.Intent.{Intent as TheIntent}
 use Rattle.jrn_record.specs.declared.records.Outcome.{Outcome as TheOutcome}
 use Rattle.gw_ledger.specs.declared.entry.Entry.{Entry as TheEntry}
 use Rattle.gw_ledger.specs.History.{history}
+use Rattle.xlate.specs.Ask.{ask_for}
 use Rattle.gw_owes.specs.Reply.{ReplyValue}
 use Rattle.gw_owes.specs.declared.terminal.Service.TheVariants as services
 use Rattle.gw_owes.specs.declared.terminal.Standing.{Standing}
@@ -36,22 +43,23 @@ use Rattle.gw_owes.specs.Core.{Core, new_terminal}
 use Rattle.gw_owes.specs.Items.{RoundItem, Crowded, Message, Asked, Unframed, Gone, Greet, Handle, Serve, NextWaiting, Oversized, LinkLost, Late, Overdue, Due}
 use Rattle.gw_owes.specs.Row.{Known, Row, owing, owing_nothing, owing_where}
 use Rattle.gw_owes.specs.Calls.{LinkPt}
-use Rattle.gw_owes.specs.Terminals.{terminal_at, of_terminal, with_terminal, registers, unlinks, unlinked_terminal, link_lost, link_made, reply_calls_to, reply_to_lost, terminal_becomes}
+use Rattle.gw_owes.specs.Terminals.{terminal_at, of_terminal, with_terminal, talk_of_command, registers, unlinks, unlinked_terminal, link_lost, link_made, reply_calls_to, reply_to_lost, terminal_becomes}
 use Rattle.gw_owes.specs.Links.{is_linked, cutting, LinkEvent, link_row, LinkIsMade, LinkHasFailed, LinkIsLost}
 use Rattle.gw_owes.specs.Reports.{Report, on_record, least_against, least_reported, standing_reported, outcome_reported, report_of_open, report_against}
 use Rattle.gw_owes.specs.Serving.{at_rest, staying, stops, reply_to_outcome, done_with, resolves, approved_outcome, was_stopped, declined_outcome, approved_row, last_after_decline, serving_transaction}
-use Rattle.gw_owes.specs.Payments.{begins_in, is_beginning, begins_payment, serve_row}
+use Rattle.gw_owes.specs.Payments.{Asking, asking_of, begins_asking, begins_in, is_beginning, begins_request, serve_row}
 use Rattle.gw_owes.specs.Steps.{step_result}
+use Rattle.gw_owes.specs.Stops.{serves_key, stops_key, wishes_stop, wishing}
 use Rattle.gw_owes.specs.Handling.{awaited_after, taken_as, meaning_for, meaning_at, taking, registering, enquiring, consequence, handle_message, handle_decoded, handle_row}
 use Rattle.gw_owes.specs.Greeting.{greeting, sending_calls, greet_decoded, greet_row, oversized_row}
 use Rattle.gw_owes.specs.Deadlines.{is_late, late_row, is_due, due_row}
 use Rattle.gw_owes.specs.TerminalLaws.{owes_cut, ChangesTerminalAlone}
 use Rattle.gw_owes.specs.TerminalRows.{terminal_of, terminal_row}
-use Rattle.gw_owes.specs.Transcript.{Carried, Commanded, Took, TerminalStep, StepAt, HandlesItem, ChangesLink, awaited_by, dialogue_by, came_by, talk_by, standing_taken, standing_asked, standing_by, as_carried, FollowsTranscript, commanded_by, took_decoded, took_of, took_by, transcript_after, transcript_anew, core_with_cut, core_after, is_number, transcript_with_cut, transcript_after_step, known_before, known_after, core_along, transcript_along, known_new, NewCoreFollowsTranscript, EachRowFollowsTranscript, EachLinkBeginsTranscript, EachStepFollowsTranscript}
-use Rattle.gw_owes.specs.TranscriptExample.{ExampleReadyTranscript, ExamplePaymentTranscript, ExampleTranscript}
+use Rattle.gw_owes.specs.Transcript.{Carried, Commanded, Took, Wished, TerminalStep, StepAt, HandlesItem, ChangesLink, awaited_by, dialogue_by, came_by, talk_by, standing_taken, standing_asked, standing_commanded, standing_by, as_carried, FollowsTranscript, commanded_by, took_decoded, took_of, wished_of, wished_for, took_by, transcript_after, transcript_anew, core_with_cut, core_after, is_number, transcript_with_cut, transcript_after_step, known_before, known_after, core_along, transcript_along, known_new, NewCoreFollowsTranscript, EachRowFollowsTranscript, EachLinkBeginsTranscript, EachStepFollowsTranscript}
+use Rattle.gw_owes.specs.TranscriptExample.{ExampleReadyTranscript, ExamplePaymentTranscript, ExampleReversalTranscript, ExampleStopTranscript, ExampleTranscript}
 use Rattle.gw_owes.proofs.HandlingLemmas.{by-where, each-terminal, each-linked}
 use Rattle.gw_owes.proofs.SetLemmas.{new-is-there, same-some}
-use Rattle.gw_owes.proofs.StandingLemmas.{DialogueLaws, talk-is, GoesOn, talk-goes, ended-rests, rests-more, standing-took, rests-unended, runs-ends, StandsIn, stands-in}
+use Rattle.gw_owes.proofs.StandingLemmas.{DialogueLaws, talk-is, GoesOn, talk-goes, ended-rests, rests-more, standing-took, rests-unended, runs-ends, wished-talk, StandsIn, stands-in}
 use Rattle.gw_owes.proofs.TerminalLemmas.{link-changes-alone, row-changes-alone}
 
 -- ---- what a terminal becomes
@@ -62,7 +70,7 @@ follows known number transcript old new found talk awaited standing =
     record { terminal = new; found = new-is-there known.core.terminals number old new found; talk_is = talk; awaited_is = awaited; standing_is = standing }
 
 -- the least trace number that the terminal may report
-abbrev least_of : Known → Terminal → ℕ
+abbrev pub least_of : Known → Terminal → ℕ
 least_of known terminal = least_reported (on_record known.kept terminal.pt.poi)
 
 -- the terminal has taken a message in a dialogue that has such ends, which meant this
@@ -110,7 +118,7 @@ Follows known number transcript row = owes_cut row.calls ≡ false → FollowsTr
 
 -- ---- an Outcome
 
-reply-quiet : (moment : ℕ) (asker : Option ℕ) (reply : Option ReplyValue) → commanded_by moment (reply_calls_to asker reply) ≡ []
+pub reply-quiet : (moment : ℕ) (asker : Option ℕ) (reply : Option ReplyValue) → commanded_by moment (reply_calls_to asker reply) ≡ []
 reply-quiet moment None reply = refl
 reply-quiet moment (Some till) None = refl
 reply-quiet moment (Some till) (Some reply) = refl
@@ -223,14 +231,14 @@ serving-follows laws known number transcript terminal slot last heard.Stray take
 -- ---- what a message makes of a terminal
 
 -- what the transcript says of a terminal that is there
-record IsAsCarried (known : Known) (number : ℕ) (transcript : List Carried) (terminal : Terminal) : Type 0 where
-  found : terminal_at known number ≡ Some terminal
-  talk_is : terminal.talk ≡ talk_by terminal.pt transcript
-  awaited_is : terminal.awaited ≡ awaited_by transcript
-  standing_is : Some (as_carried terminal.standing) ≡ standing_by terminal.pt transcript
+pub record IsAsCarried (known : Known) (number : ℕ) (transcript : List Carried) (terminal : Terminal) : Type 0 where
+  pub found : terminal_at known number ≡ Some terminal
+  pub talk_is : terminal.talk ≡ talk_by terminal.pt transcript
+  pub awaited_is : terminal.awaited ≡ awaited_by transcript
+  pub standing_is : Some (as_carried terminal.standing) ≡ standing_by terminal.pt transcript
 
 -- the transcript with a message of the terminal
-abbrev with_message : Known → Terminal → MessageValue → List Carried → List Carried
+abbrev pub with_message : Known → Terminal → MessageValue → List Carried → List Carried
 with_message known terminal message transcript = Took message known.moment (least_of known terminal) ∷ transcript
 
 -- a message is taken in a dialogue that goes on
@@ -316,7 +324,7 @@ transaction-ends EndOfDay transaction end ends = absurd transaction
 transaction-ends Display transaction end ends = absurd transaction
 
 -- the terminal's standing has its dialogue
-carried-in : (laws : DialogueLaws) (known : Known) (number : ℕ) (transcript : List Carried) (terminal : Terminal) (standing : Standing) → IsAsCarried known number transcript terminal → terminal.standing ≡ standing
+pub carried-in : (laws : DialogueLaws) (known : Known) (number : ℕ) (transcript : List Carried) (terminal : Terminal) (standing : Standing) → IsAsCarried known number transcript terminal → terminal.standing ≡ standing
     → StandsIn (as_carried standing) (dialogue_by terminal.pt transcript) (came_by transcript)
 carried-in laws known number transcript terminal standing is stands =
     stands-in laws terminal.pt transcript (as_carried standing) (sym (ap (λ (s : Standing). Some (as_carried s)) (sym stands) ∙ is.standing_is))
@@ -350,19 +358,19 @@ consequence-follows laws known number transcript terminal message (Aside before 
     rests-follows laws known number transcript terminal message (Aside before reported) is stands linked (ended-rests laws terminal.pt transcript (carried-in laws known number transcript terminal (Aside before reported) is stands))
 
 -- what holds where nothing is taken and owed, and where a message is taken, of its consequence, holds of what is taken and of the row
-each-taken : (P : List Carried → Row → Type 0) (known : Known) (number : ℕ) (apdu : ApduValue) (terminal : Terminal) → terminal_at known number ≡ Some terminal → P [] (owing_nothing known)
-    → ((message : MessageValue) → is_linked terminal.standing ≡ true → P (with_message known terminal message []) (consequence known number (taking terminal message known.moment) (meaning_at terminal message) terminal.standing))
+pub each-taken : (P : List Carried → Row → Type 0) (known : Known) (number : ℕ) (apdu : ApduValue) (terminal : Terminal) → terminal_at known number ≡ Some terminal → P [] (owing_nothing known)
+    → ((message : MessageValue) → is_taken message ≡ true → is_linked terminal.standing ≡ true → P (with_message known terminal message []) (consequence known number (taking terminal message known.moment) (meaning_at terminal message) terminal.standing))
     → P (took_by known (Handle number apdu)) (handle_row known number apdu)
 each-taken P known number apdu terminal found none some = by-decoded (decode_pt_message apdu)
   where
-    by-taken : (message : MessageValue) → is_linked terminal.standing ≡ true → (taken : Bool)
+    by-taken : (message : MessageValue) → is_linked terminal.standing ≡ true → (taken : Bool) → is_taken message ≡ taken
         → P (if taken then with_message known terminal message [] else []) (owing_where taken known (consequence known number (taking terminal message known.moment) (meaning_at terminal message) terminal.standing))
-    by-taken message linked true = some message linked
-    by-taken message linked false = none
+    by-taken message linked true taken = some message taken linked
+    by-taken message linked false taken = none
 
     by-linked : (message : MessageValue) (linked : Bool) → is_linked terminal.standing ≡ linked
         → P (if linked then took_decoded known.moment (least_of known terminal) (Ok message) else []) (owing_where linked known (handle_message known number terminal message))
-    by-linked message true is = by-taken message is (is_taken message)
+    by-linked message true is = by-taken message is (is_taken message) refl
     by-linked message false is = none
 
     outside : (linked : Bool) → P (if linked then [] else []) (owing_nothing known)
@@ -382,51 +390,108 @@ handle-follows : (laws : DialogueLaws) (known : Known) (number : ℕ) (apdu : Ap
 handle-follows laws known number apdu transcript has =
     each-taken (λ took (row : Row). Follows known number (took ++ transcript) row) known number apdu has.terminal has.found
     (λ no_cut. has)
-    (λ message linked. consequence-follows laws known number transcript has.terminal message has.terminal.standing
+    (λ message taken linked. consequence-follows laws known number transcript has.terminal message has.terminal.standing
     (record { found = has.found; talk_is = has.talk_is; awaited_is = has.awaited_is; standing_is = has.standing_is }) refl linked)
 
 -- ---- the row of a request that a terminal begins to serve
 
-begins-follows : (known : Known) (number till : ℕ) (header : Header) (payment : PaymentAsk) (transcript : List Carried) (terminal : Terminal) (standing : Standing) → IsAsCarried known number transcript terminal
-    → FollowsTranscript number transcript known.core → terminal.standing ≡ standing → Follows known number transcript (begins_in known number till header payment terminal standing)
-begins-follows known number till header payment transcript terminal (Unlinked due) is has stands no_cut = has
-begins-follows known number till header payment transcript terminal Registering is has stands no_cut = has
-begins-follows known number till header payment transcript terminal Enquiring is has stands no_cut = has
-begins-follows known number till header payment transcript terminal (Ready last) is has stands no_cut =
-    follows known number _ terminal _ is.found refl (ap (λ (n : ℕ). n + 1) is.awaited_is)
-    (ap (λ (s : Option Standing). option_and_then standing_asked s) (ap (λ (s : Standing). Some (as_carried s)) (sym stands) ∙ is.standing_is))
-begins-follows known number till header payment transcript terminal (Serving service last) is has stands no_cut = has
-begins-follows known number till header payment transcript terminal (Aside before reported) is has stands no_cut = has
+-- the command for an Intent begins its dialogue
+asked-talk : (what : Deal) (intent : TheIntent) (original : Option TheEntry) (pt : Pt) (moment : ℕ) (transcript : List Carried)
+    → talk_of_command pt (ask_for what intent original pt.password) moment ≡ talk_by pt (Commanded (ask_for what intent original pt.password) moment ∷ transcript)
+asked-talk deals.Payment intent original pt moment transcript = refl
+asked-talk deals.Reversal intent original pt moment transcript = refl
 
-pay-follows : (known : Known) (number till : ℕ) (header : Header) (payment : PaymentAsk) (transcript : List Carried) → FollowsTranscript number transcript known.core
-    → Follows known number transcript (of_terminal known (begins_payment known number till header payment) (terminal_at known number))
-pay-follows known number till header payment transcript has =
-    subst (λ (o : Option Terminal). Follows known number transcript (of_terminal known (begins_payment known number till header payment) o)) (sym has.found)
-    (by-where (Follows known number transcript) known (begins_in known number till header payment has.terminal has.terminal.standing)
-    (is_beginning (step_result known header (requests.Payment payment) (Some (record { number = number; terminal = has.terminal }))))
+-- and is served by a terminal that is ready
+asked-standing : (what : Deal) (intent : TheIntent) (original : Option TheEntry) (password : List ℕ) (standing : Option Standing) → standing_commanded (ask_for what intent original password) standing ≡ option_and_then standing_asked standing
+asked-standing deals.Payment intent original password standing = refl
+asked-standing deals.Reversal intent original password standing = refl
+
+asking-follows : (known : Known) (number till : ℕ) (transcript : List Carried) (terminal : Terminal) (last : ℕ) (asked : Option Asking) → IsAsCarried known number transcript terminal
+    → FollowsTranscript number transcript known.core → terminal.standing ≡ Ready last → Follows known number transcript (begins_asking known number till terminal last asked)
+asking-follows known number till transcript terminal last None is has stands no_cut = has
+asking-follows known number till transcript terminal last (Some asking) is has stands no_cut =
+    follows known number _ terminal _ is.found (asked-talk asking.intent.what asking.intent asking.original terminal.pt known.moment transcript) (ap (λ (n : ℕ). n + 1) is.awaited_is)
+    (ap (λ (s : Option Standing). option_and_then standing_asked s) (ap (λ (s : Standing). Some (as_carried s)) (sym stands) ∙ is.standing_is)
+    ∙ sym (asked-standing asking.intent.what asking.intent asking.original terminal.pt.password (standing_by terminal.pt transcript)))
+
+begins-follows : (known : Known) (number till : ℕ) (header : Header) (request : SaleRequest) (transcript : List Carried) (terminal : Terminal) (standing : Standing) → IsAsCarried known number transcript terminal
+    → FollowsTranscript number transcript known.core → terminal.standing ≡ standing → Follows known number transcript (begins_in known number till header request terminal standing)
+begins-follows known number till header request transcript terminal (Unlinked due) is has stands no_cut = has
+begins-follows known number till header request transcript terminal Registering is has stands no_cut = has
+begins-follows known number till header request transcript terminal Enquiring is has stands no_cut = has
+begins-follows known number till header request transcript terminal (Ready last) is has stands no_cut =
+    asking-follows known number till transcript terminal last (asking_of known header request terminal last) is has stands no_cut
+begins-follows known number till header request transcript terminal (Serving service last) is has stands no_cut = has
+begins-follows known number till header request transcript terminal (Aside before reported) is has stands no_cut = has
+
+pub as-carried : (known : Known) (number : ℕ) (transcript : List Carried) (has : FollowsTranscript number transcript known.core) → IsAsCarried known number transcript (FollowsTranscript.terminal has)
+as-carried known number transcript has = record { found = has.found; talk_is = has.talk_is; awaited_is = has.awaited_is; standing_is = has.standing_is }
+
+request-follows : (known : Known) (number till : ℕ) (header : Header) (request : SaleRequest) (transcript : List Carried) → FollowsTranscript number transcript known.core
+    → Follows known number transcript (of_terminal known (begins_request known number till header request) (terminal_at known number))
+request-follows known number till header request transcript has =
+    subst (λ (o : Option Terminal). Follows known number transcript (of_terminal known (begins_request known number till header request) o)) (sym has.found)
+    (by-where (Follows known number transcript) known (begins_in known number till header request has.terminal has.terminal.standing)
+    (is_beginning (step_result known header request (Some (record { number = number; terminal = has.terminal }))))
     (λ no_cut. has)
-    (λ begins. begins-follows known number till header payment transcript has.terminal has.terminal.standing
-    (record { found = has.found; talk_is = has.talk_is; awaited_is = has.awaited_is; standing_is = has.standing_is }) has refl))
+    (λ begins. begins-follows known number till header request transcript has.terminal has.terminal.standing (as-carried known number transcript has) has refl))
 
-serve-follows : (known : Known) (number till : ℕ) (header : Header) (request : SaleRequest) (transcript : List Carried) → FollowsTranscript number transcript known.core
-    → Follows known number transcript (serve_row known number till header request)
-serve-follows known number till header requests.Login transcript has = λ no_cut. has
-serve-follows known number till header requests.Logout transcript has = λ no_cut. has
-serve-follows known number till header (requests.Payment payment) transcript has = pay-follows known number till header payment transcript has
-serve-follows known number till header (requests.Reversal reversal) transcript has = λ no_cut. has
-serve-follows known number till header (requests.Abort reference) transcript has = λ no_cut. has
-serve-follows known number till header (requests.Status reference) transcript has = λ no_cut. has
-serve-follows known number till header (requests.Reconciliation period) transcript has = λ no_cut. has
-serve-follows known number till header (requests.Display outputs) transcript has = λ no_cut. has
-serve-follows known number till header (requests.Print qualifier) transcript has = λ no_cut. has
-serve-follows known number till header requests.Diagnosis transcript has = λ no_cut. has
+-- ---- the row of an Abort
+
+-- the terminal once a stop is wished, with whatever else was sent
+wishing-follows : (laws : DialogueLaws) (known : Known) (number : ℕ) (transcript longer : List Carried) (terminal : Terminal) (talk : TalkFacts) (awaited : ℕ) → IsAsCarried known number transcript terminal → terminal.talk ≡ Some talk
+    → talk_by terminal.pt longer ≡ talk_by terminal.pt (Wished ∷ transcript) → awaited ≡ awaited_by longer → standing_by terminal.pt longer ≡ standing_by terminal.pt transcript
+    → FollowsTranscript number longer (with_terminal known.core number (record (wishing terminal talk) { awaited = awaited }))
+wishing-follows laws known number transcript longer terminal talk awaited is runs talk_same awaits stands_same =
+    follows known number longer terminal (record (wishing terminal talk) { awaited = awaited }) is.found
+    (ap (option_map talk_after_stop_wished) (sym runs ∙ is.talk_is) ∙ sym (wished-talk laws terminal.pt transcript) ∙ sym talk_same) awaits
+    (is.standing_is ∙ sym stands_same)
+
+wish-follows : (laws : DialogueLaws) (known : Known) (number : ℕ) (transcript : List Carried) (terminal : Terminal) (runs : Option TalkFacts) → IsAsCarried known number transcript terminal → terminal.talk ≡ runs
+    → Follows known number (Wished ∷ transcript) (wishes_stop known number terminal runs)
+wish-follows laws known number transcript terminal None is runs = λ no_cut. record {
+  terminal = terminal;
+  found = is.found;
+  talk_is = runs ∙ ap (option_map talk_after_stop_wished) (sym runs ∙ is.talk_is) ∙ sym (wished-talk laws terminal.pt transcript);
+  awaited_is = is.awaited_is;
+  standing_is = is.standing_is;
+}
+wish-follows laws known number transcript terminal (Some talk) is runs = by-test (may_send_stop talk.phase)
+  where
+    by-test : (test : Bool) → Follows known number (Wished ∷ transcript) (if test then stops known number (wishing terminal talk) else staying known number (wishing terminal talk))
+    by-test true no_cut =
+        wishing-follows laws known number transcript (Commanded commands.Stop known.moment ∷ Wished ∷ transcript) terminal talk (terminal.awaited + 1) is runs refl (ap (λ (n : ℕ). n + 1) is.awaited_is) refl
+    by-test false no_cut = wishing-follows laws known number transcript (Wished ∷ transcript) terminal talk terminal.awaited is runs refl is.awaited_is refl
+
+abort-follows : (laws : DialogueLaws) (known : Known) (number : ℕ) (key : Key) (transcript : List Carried) → FollowsTranscript number transcript known.core
+    → Follows known number (wished_of known.kept key (terminal_at known number) ++ transcript) (of_terminal known (stops_key known number key) (terminal_at known number))
+abort-follows laws known number key transcript has =
+    subst (λ (o : Option Terminal). Follows known number (wished_of known.kept key o ++ transcript) (of_terminal known (stops_key known number key) o)) (sym has.found)
+    (by-serves (serves_key known.kept key has.terminal))
+  where
+    by-serves : (serves : Bool) → Follows known number ((if serves then Wished ∷ [] else []) ++ transcript) (owing_where serves known (wishes_stop known number has.terminal has.terminal.talk))
+    by-serves true = wish-follows laws known number transcript has.terminal has.terminal.talk (as-carried known number transcript has) refl
+    by-serves false = λ no_cut. has
+
+serve-follows : (laws : DialogueLaws) (known : Known) (number till : ℕ) (header : Header) (request : SaleRequest) (transcript : List Carried) → FollowsTranscript number transcript known.core
+    → Follows known number (wished_for known number header request ++ transcript) (serve_row known number till header request)
+serve-follows laws known number till header requests.Login transcript has = λ no_cut. has
+serve-follows laws known number till header requests.Logout transcript has = λ no_cut. has
+serve-follows laws known number till header (requests.Payment payment) transcript has = request-follows known number till header (requests.Payment payment) transcript has
+serve-follows laws known number till header (requests.Reversal reversal) transcript has = request-follows known number till header (requests.Reversal reversal) transcript has
+serve-follows laws known number till header (requests.Abort reference) transcript has = abort-follows laws known number (key_of header reference) transcript has
+serve-follows laws known number till header (requests.Status reference) transcript has = λ no_cut. has
+serve-follows laws known number till header (requests.Reconciliation period) transcript has = λ no_cut. has
+serve-follows laws known number till header (requests.Display outputs) transcript has = λ no_cut. has
+serve-follows laws known number till header (requests.Print qualifier) transcript has = λ no_cut. has
+serve-follows laws known number till header requests.Diagnosis transcript has = λ no_cut. has
 
 -- ---- rows that send no command
 
 -- nothing is changed, and no command is sent
-record IsQuiet (known : Known) (row : Row) : Type 0 where
-  core_is : row.core ≡ known.core
-  none : commanded_by known.moment row.calls ≡ []
+pub record IsQuiet (known : Known) (row : Row) : Type 0 where
+  pub core_is : row.core ≡ known.core
+  pub none : commanded_by known.moment row.calls ≡ []
 
 sending-quiet : (known : Known) (number : ℕ) (message : MessageValue) → commanded_by known.moment (sending_calls number (greeting message)) ≡ []
 sending-quiet known number Ack = refl
@@ -439,16 +504,16 @@ sending-quiet known number Completion = refl
 sending-quiet known number (Abort result_code) = refl
 sending-quiet known number Other = refl
 
-greet-quiet : (known : Known) (number : ℕ) (decoded : Result MessageValue PtFault) → IsQuiet known (greet_decoded known number decoded)
+pub greet-quiet : (known : Known) (number : ℕ) (decoded : Result MessageValue PtFault) → IsQuiet known (greet_decoded known number decoded)
 greet-quiet known number (Ok message) =
     each-linked (IsQuiet known) known number (λ terminal. owing known (sending_calls number (greeting message))) (record { core_is = refl; none = refl }) (λ terminal found linked. record { core_is = refl; none = sending-quiet known number message })
 greet-quiet known number (Err fault) = each-linked (IsQuiet known) known number (λ terminal. cutting known number) (record { core_is = refl; none = refl }) (λ terminal found linked. record { core_is = refl; none = refl })
 
-late-quiet : (known : Known) (number : ℕ) → IsQuiet known (late_row known number)
+pub late-quiet : (known : Known) (number : ℕ) → IsQuiet known (late_row known number)
 late-quiet known number = each-terminal (IsQuiet known) known number (λ terminal. owing_where (is_late known.moment terminal.talk) known (cutting known number)) (record { core_is = refl; none = refl })
     (λ terminal found. by-where (IsQuiet known) known (cutting known number) (is_late known.moment terminal.talk) (record { core_is = refl; none = refl }) (λ late. record { core_is = refl; none = refl }))
 
-due-quiet : (known : Known) (number : ℕ) → IsQuiet known (due_row known number)
+pub due-quiet : (known : Known) (number : ℕ) → IsQuiet known (due_row known number)
 due-quiet known number = each-terminal (IsQuiet known) known number (λ terminal. owing_where (is_due known.moment terminal.standing) known (owing known (LinkPt number ∷ []))) (record { core_is = refl; none = refl })
     (λ terminal found. by-where (IsQuiet known) known (owing known (LinkPt number ∷ [])) (is_due known.moment terminal.standing) (record { core_is = refl; none = refl }) (λ due. record { core_is = refl; none = refl }))
 
@@ -465,7 +530,7 @@ lost-follows known number terminal found =
     subst (λ (o : Option Terminal). FollowsTranscript number [] (of_terminal known (unlinks known number) o).core) (sym found)
     (follows known number [] terminal (unlinked_terminal terminal known.moment) found refl refl refl)
 
-lost-quiet : (known : Known) (number : ℕ) → commanded_by known.moment (link_lost known number).calls ≡ []
+pub lost-quiet : (known : Known) (number : ℕ) → commanded_by known.moment (link_lost known number).calls ≡ []
 lost-quiet known number = each-terminal (λ (row : Row). commanded_by known.moment row.calls ≡ []) known number (unlinks known number) refl (λ terminal found. reply-quiet known.moment terminal.asker (reply_to_lost terminal.standing))
 
 lost-begins : (known : Known) (number : ℕ) (terminal : Terminal) → terminal_at known number ≡ Some terminal → FollowsTranscript number (commanded_by known.moment (link_lost known number).calls) (link_lost known number).core
@@ -497,8 +562,8 @@ rows-follow laws known (Handle pt apdu) number transcript is has no_cut =
     (λ there. handle-follows laws known pt apdu transcript there no_cut) has
 rows-follow laws known (Serve pt till header request) number transcript is has no_cut =
     let e : pt ≡ number = cc in
-    subst (λ (n : ℕ). FollowsTranscript n transcript known.core → FollowsTranscript n (commanded_by known.moment (serve_row known pt till header request).calls ++ transcript) (serve_row known pt till header request).core) e
-    (λ there. serve-follows known pt till header request transcript there no_cut) has
+    subst (λ (n : ℕ). FollowsTranscript n transcript known.core → FollowsTranscript n (commanded_by known.moment (serve_row known pt till header request).calls ++ (wished_for known pt header request ++ transcript)) (serve_row known pt till header request).core) e
+    (λ there. serve-follows laws known pt till header request transcript there no_cut) has
 rows-follow laws known (NextWaiting pt) number transcript is has no_cut = has
 rows-follow laws known (Oversized pt) number transcript is has no_cut =
     quiet-follows known number transcript (oversized_row known pt)
@@ -545,7 +610,7 @@ others-follow number other transcript old new alone apart has =
     record { terminal = has.terminal; found = alone.others other apart ∙ has.found; talk_is = has.talk_is; awaited_is = has.awaited_is; standing_is = has.standing_is }
 
 -- what is remembered after an item of no terminal
-none-same : (known : Known) (item : RoundItem) → terminal_of item ≡ None → (terminal_row known item).core ≡ known.core
+pub none-same : (known : Known) (item : RoundItem) → terminal_of item ≡ None → (terminal_row known item).core ≡ known.core
 none-same known (Crowded till) is = refl
 none-same known (Message till bytes) is = refl
 none-same known (Asked till as_read) is = refl
@@ -612,7 +677,7 @@ link-follows known other event number transcript has = by-number (eqb other numb
         (links-begin known other event has.terminal (ap (terminal_at known) same ∙ has.found))
     by-number false e = others-follow other number transcript known.core (link_row known other event).core (link-changes-alone known other event) (λ same. eqb-false other number e (sym same)) has
 
-step-follows : (laws : DialogueLaws) (known : Known) (step : TerminalStep) (number : ℕ) (transcript : List Carried) → FollowsTranscript number transcript known.core
+pub step-follows : (laws : DialogueLaws) (known : Known) (step : TerminalStep) (number : ℕ) (transcript : List Carried) → FollowsTranscript number transcript known.core
     → FollowsTranscript number (transcript_after_step number known step transcript) (core_after known step)
 step-follows laws known (HandlesItem item) number transcript has = item-follows laws known item number transcript has
 step-follows laws known (ChangesLink other event) number transcript has = link-follows known other event number transcript has
@@ -659,5 +724,24 @@ payment-transcript = record {
   unclear = record { transcript_is = refl; carried_is = refl; standing_is = refl; follows = record { terminal = _; found = refl; talk_is = refl; awaited_is = refl; standing_is = refl } };
 }
 
+reversal-transcript : ExampleReversalTranscript
+unfolding decode_pt_message decode_status decode_status_within decode_status_field decode_field_value history transaction_text digits
+reversal-transcript = record {
+  reversing = record { transcript_is = refl; carried_is = refl; standing_is = refl; follows = record { terminal = _; found = refl; talk_is = refl; awaited_is = refl; standing_is = refl } };
+  reversed = record { transcript_is = refl; carried_is = refl; standing_is = refl; follows = record { terminal = _; found = refl; talk_is = refl; awaited_is = refl; standing_is = refl } };
+}
+
+stop-transcript : ExampleStopTranscript
+unfolding decode_pt_message decode_status decode_status_within decode_status_field decode_field_value history
+stop-transcript = record {
+  wished = record { transcript_is = refl; carried_is = refl; standing_is = refl; follows = record { terminal = _; found = refl; talk_is = refl; awaited_is = refl; standing_is = refl } };
+  wished_awaits = refl;
+  unacknowledged = record { transcript_is = refl; carried_is = refl; standing_is = refl; follows = record { terminal = _; found = refl; talk_is = refl; awaited_is = refl; standing_is = refl } };
+  unacknowledged_awaits = refl;
+  late = record { transcript_is = refl; carried_is = refl; standing_is = refl; follows = record { terminal = _; found = refl; talk_is = refl; awaited_is = refl; standing_is = refl } };
+  late_awaits = refl;
+  cut = record { transcript_is = refl; carried_is = refl; standing_is = refl; follows = record { terminal = _; found = refl; talk_is = refl; awaited_is = refl; standing_is = refl } };
+}
+
 pub example-transcript : ExampleTranscript
-example-transcript = record { ready = ready-transcript; payments = payment-transcript }
+example-transcript = record { ready = ready-transcript; payments = payment-transcript; reversal = reversal-transcript; stop = stop-transcript }

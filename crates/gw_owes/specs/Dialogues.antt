@@ -1,8 +1,8 @@
 -- Which dialogue runs with a terminal of each standing, and what is awaited in it.
-use Rattle.std.specs.Prelude.{◌≡◌, ◌≢◌, ℕ, false, slice_get, Option, Some, None}
+use Rattle.std.specs.Prelude.{◌≡◌, ◌≢◌, ◌≤◌, ℕ, Bool, true, false, slice_get, Option, Some, None}
 use Rattle.gw_base.specs.declared.setup.Setup.{Setup}
 use Rattle.zvt_talk.specs.declared.dialogue_kind.DialogueKind.{DialogueKind}
-use Rattle.zvt_talk.specs.declared.dialogue_kind.DialogueKind.TheVariants.{Registration, Enquiry, Payment}
+use Rattle.zvt_talk.specs.declared.dialogue_kind.DialogueKind.TheVariants.{Registration, Enquiry, Payment, Reversal, EndOfDay, Display as DisplayDialogue}
 use Rattle.zvt_talk.specs.declared.phase.Phase.{Phase}
 use Rattle.zvt_talk.specs.declared.phase.Phase.TheVariants.{Asked, Begun, Ended}
 use Rattle.zvt_talk.specs.Talk.{TalkFacts}
@@ -20,7 +20,7 @@ use Rattle.gw_owes.specs.TerminalRows.{terminal_row}
 
 -- ---- one terminal
 
--- so many Acks and Nacks are awaited in a dialogue that goes on: that of its command until it comes; no stop is wished yet, and so none was sent
+-- so many Acks and Nacks are awaited in a registration or an enquiry that goes on: that of its command until it comes; no stop is wished of either, and so none was sent
 abbrev pub AwaitedIn : Phase → ℕ → Type 0
 AwaitedIn (Asked stop_wished) awaited = (stop_wished ≡ false) × (awaited ≡ 1)
 AwaitedIn (Begun stop_sent statuses) awaited = (stop_sent ≡ false) × (awaited ≡ 0)
@@ -33,25 +33,47 @@ pub record RunsDialogue (dialogue_kind : DialogueKind) (talk : Option TalkFacts)
   pub kind_is : facts.dialogue_kind ≡ dialogue_kind
   pub awaited_is : AwaitedIn facts.phase awaited
 
+-- a payment or a reversal
+abbrev pub runs_transaction : DialogueKind → Bool
+runs_transaction Registration = false
+runs_transaction Enquiry = false
+runs_transaction Payment = true
+runs_transaction Reversal = true
+runs_transaction EndOfDay = false
+runs_transaction DisplayDialogue = false
+
+-- so many Acks and Nacks are awaited in a payment or a reversal that goes on: that of its command until it comes, and beside it those of stops, of earlier ones and then of its own
+abbrev pub AwaitedServing : Phase → ℕ → Type 0
+AwaitedServing (Asked stop_wished) awaited = 1 ≤ awaited
+AwaitedServing (Begun stop_sent statuses) awaited = Unit {0}
+AwaitedServing (Ended stop_sent) awaited = ⊥
+
+-- the dialogue of a payment or a reversal runs, and so many Acks and Nacks are awaited
+pub record RunsTransaction (talk : Option TalkFacts) (awaited : ℕ) : Type 0 where
+  pub facts : TalkFacts
+  pub talk_is : talk ≡ Some facts
+  pub kind_is : runs_transaction facts.dialogue_kind ≡ true
+  pub awaited_is : AwaitedServing facts.phase awaited
+
 -- no dialogue runs, and nothing is awaited
 pub record RunsNone (talk : Option TalkFacts) (awaited : ℕ) : Type 0 where
   pub none : talk ≡ None
   pub awaited_is : awaited ≡ 0
 
--- the dialogue of what is served; only payments are begun yet
+-- the dialogue of what is served; only payments and reversals are begun yet
 abbrev pub IsDialogueOfService : Service → Option TalkFacts → ℕ → Type 0
-IsDialogueOfService (Transaction slot) talk awaited = RunsDialogue Payment talk awaited
+IsDialogueOfService (Transaction slot) talk awaited = RunsTransaction talk awaited
 IsDialogueOfService (EndOfDay header period) talk awaited = ⊥
 IsDialogueOfService (Display header outputs) talk awaited = ⊥
 
--- the dialogue of a standing
+-- the dialogue of a standing; where a terminal is ready, or set aside, none runs, but the Ack or Nack of a stop may still be awaited
 abbrev pub IsDialogueOf : Standing → Option TalkFacts → ℕ → Type 0
 IsDialogueOf (Unlinked due) talk awaited = RunsNone talk awaited
 IsDialogueOf Registering talk awaited = RunsDialogue Registration talk awaited
 IsDialogueOf Enquiring talk awaited = RunsDialogue Enquiry talk awaited
-IsDialogueOf (Ready last) talk awaited = RunsNone talk awaited
+IsDialogueOf (Ready last) talk awaited = talk ≡ None
 IsDialogueOf (Serving service last) talk awaited = IsDialogueOfService service talk awaited
-IsDialogueOf (Aside before reported) talk awaited = RunsNone talk awaited
+IsDialogueOf (Aside before reported) talk awaited = talk ≡ None
 
 -- the terminal has the dialogue of its standing
 abbrev pub HasItsDialogue : Terminal → Type 0

@@ -22,7 +22,7 @@ pub data RoundItem : Type 0 where
   Greet : ℕ → ApduValue → RoundItem
   -- the dialogue of a terminal takes the APDU
   Handle : ℕ → ApduValue → RoundItem
-  -- a terminal begins to serve a request of a till
+  -- a terminal begins to serve a request of a till, or is to stop what it serves
   Serve : ℕ → ℕ → Header → SaleRequest → RoundItem
   -- the first request that waits for a terminal is begun or refused
   NextWaiting : ℕ → RoundItem

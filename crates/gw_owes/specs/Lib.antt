@@ -1,4 +1,7 @@
 -- The definitions of what each item of a round owes: what a till's bytes are read as, the calls, and what is remembered.
+pub mod AbortExample
+pub mod AbortLaws
+pub mod AwaitedLaws
 pub mod Calls
 pub mod Content
 pub mod Core
@@ -23,12 +26,17 @@ pub mod Replies
 pub mod Reply
 pub mod Reports
 pub mod Requests
+pub mod ReversalExample
+pub mod ReversalLaws
+pub mod ReversalPremises
+pub mod Reversals
 pub mod Row
 pub mod Rows
 pub mod Serving
 pub mod StepExample
 pub mod StepLaws
 pub mod Steps
+pub mod Stops
 pub mod TerminalExample
 pub mod TerminalLaws
 pub mod TerminalRows

@@ -34,6 +34,7 @@ use Rattle.gw_owes.specs.Reply.{ReplyValue, Finished}
 use Rattle.gw_owes.specs.Replies.{failure_reply}
 use Rattle.gw_owes.specs.Row.{Known, Row}
 use Rattle.gw_owes.specs.Rows.{row_of}
+use Rattle.gw_owes.specs.StepLaws.{has_steps}
 use Rattle.gw_owes.specs.Steps.{Begins, step_result}
 use Rattle.gw_owes.specs.Terminals.{registration, terminal_at}
 use Rattle.gw_owes.specs.Handling.{enquiry_command}
@@ -199,7 +200,8 @@ pub record ExamplePaymentAccepted : Type 0 where
   pub found : terminal_at (since_ready 122).known 0 ≡ Some ready_terminal
   pub ready : ready_terminal.standing ≡ Ready 122
   pub begins : step_result (since_ready 122).known (till_header (codes "Payment") (codes "1")) (requests.Payment (ask_of 1099)) (Some (record { number = 0; terminal = ready_terminal })) ≡ Begins
-  pub item : BeginsThere 1 (till_header (codes "Payment") (codes "1")) (ask_of 1099) 0 (row_of two_tills (since_ready 122).known (Asked 1 (Request (till_header (codes "Payment") (codes "1")) (requests.Payment (ask_of 1099)))))
+  pub steps : has_steps (requests.Payment (ask_of 1099)) ≡ true
+  pub item : BeginsThere 1 (till_header (codes "Payment") (codes "1")) (requests.Payment (ask_of 1099)) 0 (row_of two_tills (since_ready 122).known (Asked 1 (Request (till_header (codes "Payment") (codes "1")) (requests.Payment (ask_of 1099)))))
   pub served :
       BeginsToServe (since_ready 122).known 1 (till_header (codes "Payment") (codes "1")) (ask_of 1099) 0 ready_terminal 122
       (row_of two_tills (since_ready 122).known (Serve 0 1 (till_header (codes "Payment") (codes "1")) (requests.Payment (ask_of 1099))))

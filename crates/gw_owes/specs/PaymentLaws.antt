@@ -1,5 +1,5 @@
--- Laws of payments: each begins with its Intent kept, each ends with its Outcome kept before its till gets the reply, or has it by a report, and a repeated request asks no terminal.
-use Rattle.std.specs.Prelude.{◌≡◌, ◌⊎◌, ◌<◌, ◌≤◌, ℕ, pos, Bool, true, false, ◌||◌, bytes_eq, List, [], ◌∷◌, ◌++◌, length, slice_get, Option, Some, None, Ok}
+-- Laws of payments and reversals: each begins with its Intent kept, each ends with its Outcome kept before its till gets the reply, or has it by a report, and a repeated request asks no terminal.
+use Rattle.std.specs.Prelude.{◌≡◌, ◌≢◌, ◌⊎◌, ◌<◌, ◌≤◌, ℕ, pos, Bool, true, false, ◌||◌, bytes_eq, List, [], ◌∷◌, ◌++◌, length, slice_get, Option, Some, None, Ok}
 use Rattle.std.specs.Option.{option_map}
 use Rattle.gw_base.specs.Currency.{currency_letters, currency_number}
 use Rattle.gw_base.specs.declared.condition.Condition.TheVariants.{Aborted}
@@ -8,8 +8,11 @@ use Rattle.gw_base.specs.declared.key.Key.{Key}
 use Rattle.gw_site.specs.Outside.{Connection, is_connected}
 use Rattle.sale_values.specs.declared.header.Header.{Header}
 use Rattle.sale_values.specs.declared.request.PaymentAsk.{PaymentAsk}
+use Rattle.sale_values.specs.declared.request.Reference.{Reference}
+use Rattle.sale_values.specs.declared.request.ReversalAsk.{ReversalAsk}
 use Rattle.sale_values.specs.declared.request.SaleRequest.{SaleRequest}
 use Rattle.sale_values.specs.declared.request.SaleRequest.TheVariants as requests
+use Rattle.sale_values.specs.Key.{key_of}
 use Rattle.zvt_apdu.specs.Grammar.{ApduValue}
 use Rattle.zvt_msg.specs.declared.command.Command.{Command}
 use Rattle.zvt_msg.specs.declared.command.Command.TheVariants as commands
@@ -24,7 +27,9 @@ use Rattle.jrn_record.specs.declared.records.Record.{Record}
 use Rattle.jrn_record.specs.declared.records.Record.TheVariants.{Intent, Outcome}
 use Rattle.gw_ledger.specs.declared.entry.Entry.{Entry as TheEntry}
 use Rattle.gw_ledger.specs.declared.entry.Found.{Found}
+use Rattle.gw_ledger.specs.Accounts.{is_settled}
 use Rattle.gw_ledger.specs.Keys.{intent_key}
+use Rattle.gw_ledger.specs.Slots.{is_reversed}
 use Rattle.gw_ledger.specs.Sums.{is_intent}
 use Rattle.xlate.specs.Codes.{condition_of_code}
 use Rattle.gw_owes.specs.declared.terminal.Service.TheVariants.{Transaction}
@@ -37,43 +42,46 @@ use Rattle.gw_owes.specs.Items.{RoundItem, Crowded, Message, Asked, Unframed, Go
 use Rattle.gw_owes.specs.KeptReplies.{own_key, found_for}
 use Rattle.gw_owes.specs.ReadAs.{ReadAs, Request}
 use Rattle.gw_owes.specs.Reports.{Report, on_record, outcome_reported}
+use Rattle.gw_owes.specs.Reversals.{original_of}
 use Rattle.gw_owes.specs.Row.{Known, Row}
 use Rattle.gw_owes.specs.Rows.{row_of}
 use Rattle.gw_owes.specs.Serving.{was_stopped, reply_to_outcome, last_after_decline}
+use Rattle.gw_owes.specs.StepLaws.{has_steps}
 use Rattle.gw_owes.specs.Steps.{Begins, step_result}
+use Rattle.gw_owes.specs.Stops.{serves_key}
 use Rattle.gw_owes.specs.TerminalLaws.{GoesOnTo, ReportsAt}
 use Rattle.gw_owes.specs.Terminals.{terminal_at, reply_calls_to}
 
 -- ---- calls
 
--- the command asks for a payment
-abbrev pub is_payment_command : Command → Bool
-is_payment_command (commands.Register password config currency) = false
-is_payment_command (commands.Authorise amount currency) = true
-is_payment_command (commands.Enquire password) = false
-is_payment_command (commands.Reverse password receipt) = false
-is_payment_command (commands.EndOfDay password) = false
-is_payment_command commands.Stop = false
-is_payment_command (commands.Show lines) = false
+-- the command asks for a payment or a reversal
+abbrev pub is_transaction_command : Command → Bool
+is_transaction_command (commands.Register password config currency) = false
+is_transaction_command (commands.Authorise amount currency) = true
+is_transaction_command (commands.Enquire password) = false
+is_transaction_command (commands.Reverse password receipt) = true
+is_transaction_command (commands.EndOfDay password) = false
+is_transaction_command commands.Stop = false
+is_transaction_command (commands.Show lines) = false
 
--- what is sent asks for a payment
-abbrev pub is_payment_asked : Sending → Bool
-is_payment_asked (Ask command) = is_payment_command command
-is_payment_asked Acknowledge = false
-is_payment_asked Refuse = false
+-- what is sent asks for a payment or a reversal
+abbrev pub is_transaction_asked : Sending → Bool
+is_transaction_asked (Ask command) = is_transaction_command command
+is_transaction_asked Acknowledge = false
+is_transaction_asked Refuse = false
 
--- a terminal is asked for a payment by one of these calls
-abbrev pub asks_for_payment : List OwedCall → Bool
-asks_for_payment [] = false
-asks_for_payment (SendTill till reply ∷ calls) = asks_for_payment calls
-asks_for_payment (SendPt number sending ∷ calls) = is_payment_asked sending || asks_for_payment calls
-asks_for_payment (CutTill till ∷ calls) = asks_for_payment calls
-asks_for_payment (CutPt number ∷ calls) = asks_for_payment calls
-asks_for_payment (LinkPt number ∷ calls) = asks_for_payment calls
-asks_for_payment (WriteBody slot the_record ∷ calls) = asks_for_payment calls
-asks_for_payment (WriteGate slot the_record ∷ calls) = asks_for_payment calls
-asks_for_payment (WriteFirstGate ∷ calls) = asks_for_payment calls
-asks_for_payment (Sync ∷ calls) = asks_for_payment calls
+-- a terminal is asked for a payment or a reversal by one of these calls
+abbrev pub asks_for_transaction : List OwedCall → Bool
+asks_for_transaction [] = false
+asks_for_transaction (SendTill till reply ∷ calls) = asks_for_transaction calls
+asks_for_transaction (SendPt number sending ∷ calls) = is_transaction_asked sending || asks_for_transaction calls
+asks_for_transaction (CutTill till ∷ calls) = asks_for_transaction calls
+asks_for_transaction (CutPt number ∷ calls) = asks_for_transaction calls
+asks_for_transaction (LinkPt number ∷ calls) = asks_for_transaction calls
+asks_for_transaction (WriteBody slot the_record ∷ calls) = asks_for_transaction calls
+asks_for_transaction (WriteGate slot the_record ∷ calls) = asks_for_transaction calls
+asks_for_transaction (WriteFirstGate ∷ calls) = asks_for_transaction calls
+asks_for_transaction (Sync ∷ calls) = asks_for_transaction calls
 
 -- a terminal is sent something by one of these calls
 abbrev pub sends_terminal : List OwedCall → Bool
@@ -101,7 +109,7 @@ sends_till (WriteGate slot the_record ∷ calls) = sends_till calls
 sends_till (WriteFirstGate ∷ calls) = sends_till calls
 sends_till (Sync ∷ calls) = sends_till calls
 
--- ---- a payment begins
+-- ---- a payment or a reversal begins
 
 -- the Intent says what a till asks at this moment of a terminal that is ready with this last trace number: the amount, the till's transaction and time stamp, the terminal's currency, the key of the request, and that number as the one before; it reverses no other
 pub record SaysWhatIsAsked (moment : ℕ) (header : Header) (payment : PaymentAsk) (terminal : Terminal) (last : ℕ) (intent : TheIntent) : Type 0 where
@@ -132,27 +140,73 @@ pub record BeginsPayment (known : Known) (item : RoundItem) (calls : List OwedCa
   pub says : SaysWhatIsAsked known.moment header payment terminal last intent
   pub calls_are : calls ≡ keep_calls (length known.kept) (Intent intent) ++ SendPt number (Ask (commands.Authorise payment.amount (currency_number terminal.pt.currency))) ∷ []
 
--- where a terminal is asked for a payment, its Intent is kept first
-abbrev pub EachPaymentIsKeptFirst : Type 0
-EachPaymentIsKeptFirst = (tills : List Connection) (known : Known) (item : RoundItem) → asks_for_payment (row_of tills known item).calls ≡ true → BeginsPayment known item (row_of tills known item).calls
+-- The Intent says what a till reverses at this moment, at a terminal that is ready with this last trace number: the original's slot, the whole amount of its Outcome, and its currency, the key of the request, and that number as the one before. Of the till's transaction and time stamp a reversal has none.
+pub record SaysWhatIsReversed (moment : ℕ) (header : Header) (original : TheEntry) (approval : TheOutcome) (last : ℕ) (intent : TheIntent) : Type 0 where
+  pub what : intent.what ≡ deals.Reversal
+  pub original_is : intent.original ≡ Some original.slot
+  pub amount : intent.amount ≡ approval.amount
+  pub currency : intent.currency ≡ original.intent.currency
+  pub key : (key : Key) → own_key header ≡ Some key → intent_key intent ≡ key
+  pub transaction : intent.transaction ≡ None
+  pub stamp : intent.stamp ≡ None
+  pub before : intent.before ≡ last
+  pub moment_is : intent.moment ≡ pos moment
+
+-- the entry may be reversed: it is a payment, approved with this Outcome, whose whole amount is to be reversed, and it is neither reversed nor settled
+pub record IsReversible (kept : List Record) (reversal : ReversalAsk) (original : TheEntry) (approval : TheOutcome) : Type 0 where
+  pub what : original.intent.what ≡ deals.Payment
+  pub result : original.result ≡ Some approval
+  pub approved : approval.approved ≡ true
+  pub whole : (amount : ℕ) → reversal.amount ≡ Some amount → amount ≡ approval.amount
+  pub not_reversed : is_reversed kept original.slot ≡ false
+  pub not_settled : is_settled kept original.slot ≡ false
+
+-- An item begins a reversal: a till asks it of a terminal that is ready, under a key that is not on record, and its text names an entry of the terminal that may be reversed. The Intent is kept in the next slot; then the terminal is asked to reverse the original by its receipt number, and nothing else is owed.
+pub record BeginsReversal (known : Known) (item : RoundItem) (calls : List OwedCall) : Type 0 where
+  pub number : ℕ
+  pub till : ℕ
+  pub header : Header
+  pub reversal : ReversalAsk
+  pub item_is : item ≡ Serve number till header (requests.Reversal reversal)
+  pub terminal : Terminal
+  pub found : terminal_at known number ≡ Some terminal
+  pub last : ℕ
+  pub ready : terminal.standing ≡ Ready last
+  pub unknown : found_for known.kept header ≡ None
+  pub original : TheEntry
+  pub named : original_of known.kept header.poi reversal ≡ Some original
+  pub approval : TheOutcome
+  pub reversible : IsReversible known.kept reversal original approval
+  pub intent : TheIntent
+  pub says : SaysWhatIsReversed known.moment header original approval last intent
+  pub calls_are : calls ≡ keep_calls (length known.kept) (Intent intent) ++ SendPt number (Ask (commands.Reverse terminal.pt.password approval.receipt)) ∷ []
+
+-- an item begins a payment or a reversal
+abbrev pub BeginsTransaction : Known → RoundItem → List OwedCall → Type 0
+BeginsTransaction known item calls = BeginsPayment known item calls ⊎ BeginsReversal known item calls
+
+-- where a terminal is asked for a payment or a reversal, its Intent is kept first
+abbrev pub EachTransactionIsKeptFirst : Type 0
+EachTransactionIsKeptFirst =
+    (tills : List Connection) (known : Known) (item : RoundItem) → asks_for_transaction (row_of tills known item).calls ≡ true → BeginsTransaction known item (row_of tills known item).calls
 
 -- where an Intent is kept, its terminal is asked next
 abbrev pub EachIntentIsAsked : Type 0
 EachIntentIsAsked =
     (tills : List Connection) (known : Known) (item : RoundItem) (the_record : Record) (more : List Record) → records_kept (row_of tills known item).calls ≡ the_record ∷ more → is_intent the_record ≡ true
-    → BeginsPayment known item (row_of tills known item).calls
+    → BeginsTransaction known item (row_of tills known item).calls
 
--- a payment that is read begins at the terminal of this number, and nothing else is owed
-pub record BeginsThere (till : ℕ) (header : Header) (payment : PaymentAsk) (number : ℕ) (row : Row) : Type 0 where
-  pub items_are : row.items ≡ Serve number till header (requests.Payment payment) ∷ []
+-- a request that is read begins at the terminal of this number, and nothing else is owed
+pub record BeginsThere (till : ℕ) (header : Header) (request : SaleRequest) (number : ℕ) (row : Row) : Type 0 where
+  pub items_are : row.items ≡ Serve number till header request ∷ []
   pub no_reply : row.calls ≡ []
 
--- a payment of a till that is there, whose steps come to the last one at the terminal that its POIID names, begins at this one
+-- a request with steps, of a till that is there, whose steps come to the last one at the terminal that its POIID names, begins at this one
 abbrev pub EachAcceptedBegins : Type 0
 EachAcceptedBegins =
-    (tills : List Connection) (known : Known) (till : ℕ) (header : Header) (payment : PaymentAsk) (named : NamedTerminal) → is_connected tills till ≡ true → named_terminal known.core header.poi ≡ Some named
-    → step_result known header (requests.Payment payment) (Some named) ≡ Begins
-    → BeginsThere till header payment named.number (row_of tills known (Asked till (Request header (requests.Payment payment))))
+    (tills : List Connection) (known : Known) (till : ℕ) (header : Header) (request : SaleRequest) (named : NamedTerminal) → is_connected tills till ≡ true → named_terminal known.core header.poi ≡ Some named
+    → has_steps request ≡ true → step_result known header request (Some named) ≡ Begins
+    → BeginsThere till header request named.number (row_of tills known (Asked till (Request header request)))
 
 -- the terminal of this number serves a payment for this till: its Intent is kept in the next slot, then it is asked for the amount, and nothing else is owed
 pub record BeginsToServe (known : Known) (till : ℕ) (header : Header) (payment : PaymentAsk) (number : ℕ) (terminal : Terminal) (last : ℕ) (row : Row) : Type 0 where
@@ -171,7 +225,28 @@ EachBegunIsServed =
     → step_result known header (requests.Payment payment) (Some (record { number = number; terminal = terminal })) ≡ Begins
     → BeginsToServe known till header payment number terminal last (row_of tills known (Serve number till header (requests.Payment payment)))
 
--- ---- a payment ends
+-- the terminal of this number serves a reversal for this till: its text names an entry that may be reversed, its Intent is kept in the next slot, then it is asked to reverse that one's receipt, and nothing else is owed
+pub record BeginsToReverse (known : Known) (till : ℕ) (header : Header) (reversal : ReversalAsk) (number : ℕ) (terminal : Terminal) (last : ℕ) (row : Row) : Type 0 where
+  pub original : TheEntry
+  pub named : original_of known.kept header.poi reversal ≡ Some original
+  pub approval : TheOutcome
+  pub reversible : IsReversible known.kept reversal original approval
+  pub intent : TheIntent
+  pub says : SaysWhatIsReversed known.moment header original approval last intent
+  pub goes_on :
+      GoesOnTo number (Serving (Transaction (length known.kept)) last)
+      (keep_calls (length known.kept) (Intent intent) ++ SendPt number (Ask (commands.Reverse terminal.pt.password approval.receipt)) ∷ []) row
+  pub for_till : option_map (λ (serving : Terminal). serving.asker) (slice_get row.core.terminals number) ≡ Some (Some till)
+  pub none_more : row.items ≡ []
+
+-- where a reversal begins at a terminal that is ready, whose steps come to the last one there, this is so
+abbrev pub EachBegunIsReversed : Type 0
+EachBegunIsReversed =
+    (tills : List Connection) (known : Known) (till : ℕ) (header : Header) (reversal : ReversalAsk) (number : ℕ) (terminal : Terminal) (last : ℕ) → terminal_at known number ≡ Some terminal → terminal.standing ≡ Ready last
+    → step_result known header (requests.Reversal reversal) (Some (record { number = number; terminal = terminal })) ≡ Begins
+    → BeginsToReverse known till header reversal number terminal last (row_of tills known (Serve number till header (requests.Reversal reversal)))
+
+-- ---- a payment or a reversal ends
 
 -- a terminal that serves the payment or the reversal of this slot, with this trace number before it, sends a message that means this
 pub record MeansAt (known : Known) (number : ℕ) (apdu : ApduValue) (terminal : Terminal) (slot last : ℕ) (meant : Heard) : Type 0 where
@@ -298,10 +373,11 @@ UnperformedIsAborted =
 
 -- ---- repeats
 
--- a request on a key that is on record begins nothing
+-- a request on a key that is on record begins nothing; an Abort has none of its own, but names another
 abbrev pub RepeatBeginsNothing : Type 0
 RepeatBeginsNothing =
-    (tills : List Connection) (known : Known) (till : ℕ) (header : Header) (request : SaleRequest) (found : Found) → found_for known.kept header ≡ Some found → (row_of tills known (Asked till (Request header request))).items ≡ []
+    (tills : List Connection) (known : Known) (till : ℕ) (header : Header) (request : SaleRequest) (found : Found) → found_for known.kept header ≡ Some found → ((reference : Reference) → request ≢ requests.Abort reference)
+    → (row_of tills known (Asked till (Request header request))).items ≡ []
 
 -- what a till asks sends no terminal anything, and keeps no record
 pub record AsksNoTerminal (calls : List OwedCall) : Type 0 where
@@ -312,21 +388,47 @@ pub record AsksNoTerminal (calls : List OwedCall) : Type 0 where
 abbrev pub EachAskedSendsNoTerminal : Type 0
 EachAskedSendsNoTerminal = (tills : List Connection) (known : Known) (till : ℕ) (as_read : ReadAs) → AsksNoTerminal (row_of tills known (Asked till as_read)).calls
 
--- a till's Payment, on a key that is not on record, begins at the terminal that its POIID names, and there is no reply yet
+-- a Payment or a Reversal
+abbrev pub is_transaction_request : SaleRequest → Bool
+is_transaction_request requests.Login = false
+is_transaction_request requests.Logout = false
+is_transaction_request (requests.Payment ask) = true
+is_transaction_request (requests.Reversal ask) = true
+is_transaction_request (requests.Abort reference) = false
+is_transaction_request (requests.Status reference) = false
+is_transaction_request (requests.Reconciliation period) = false
+is_transaction_request (requests.Display outputs) = false
+is_transaction_request (requests.Print qualifier) = false
+is_transaction_request requests.Diagnosis = false
+
+-- a till's Payment or Reversal, on a key that is not on record, begins at the terminal that its POIID names, and there is no reply yet
 pub record BeginsAtNamed (known : Known) (till : ℕ) (as_read : ReadAs) (row : Row) : Type 0 where
   pub header : Header
-  pub payment : PaymentAsk
-  pub request_is : as_read ≡ Request header (requests.Payment payment)
+  pub request : SaleRequest
+  pub request_is : as_read ≡ Request header request
+  pub transaction : is_transaction_request request ≡ true
   pub unknown : found_for known.kept header ≡ None
   pub named : NamedTerminal
   pub named_is : named_terminal known.core header.poi ≡ Some named
-  pub items_are : row.items ≡ Serve named.number till header (requests.Payment payment) ∷ []
+  pub items_are : row.items ≡ Serve named.number till header request ∷ []
   pub no_reply : row.calls ≡ []
 
--- a message of a till begins nothing, or a payment
-abbrev pub EachAskedBeginsPayment : Type 0
-EachAskedBeginsPayment =
-    (tills : List Connection) (known : Known) (till : ℕ) (as_read : ReadAs) → ((row_of tills known (Asked till as_read)).items ≡ []) ⊎ BeginsAtNamed known till as_read (row_of tills known (Asked till as_read))
+-- a till's Abort stops what the terminal of the key that it names serves, which has this key, and there is no reply
+pub record StopsAtNamed (known : Known) (till : ℕ) (as_read : ReadAs) (row : Row) : Type 0 where
+  pub header : Header
+  pub reference : Reference
+  pub request_is : as_read ≡ Request header (requests.Abort reference)
+  pub named : NamedTerminal
+  pub named_is : named_terminal known.core (key_of header reference).poi ≡ Some named
+  pub serves : serves_key known.kept (key_of header reference) named.terminal ≡ true
+  pub items_are : row.items ≡ Serve named.number till header (requests.Abort reference) ∷ []
+  pub no_reply : row.calls ≡ []
+
+-- a message of a till begins nothing, or a payment or a reversal, or stops one
+abbrev pub EachAskedBegins : Type 0
+EachAskedBegins =
+    (tills : List Connection) (known : Known) (till : ℕ) (as_read : ReadAs)
+    → ((row_of tills known (Asked till as_read)).items ≡ []) ⊎ (BeginsAtNamed known till as_read (row_of tills known (Asked till as_read)) ⊎ StopsAtNamed known till as_read (row_of tills known (Asked till as_read)))
 
 -- the item is what a till asks
 abbrev pub is_asked_item : RoundItem → Bool
@@ -345,6 +447,6 @@ is_asked_item (Late number) = false
 is_asked_item (Overdue key) = false
 is_asked_item (Due number) = false
 
--- no other item begins anything
+-- no other item brings another
 abbrev pub OnlyAskedBegins : Type 0
 OnlyAskedBegins = (tills : List Connection) (known : Known) (item : RoundItem) → is_asked_item item ≡ false → (row_of tills known item).items ≡ []

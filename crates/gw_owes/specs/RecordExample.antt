@@ -1,15 +1,16 @@
--- Closed examples of the records beside what is remembered, in which the whole premise of each law holds: a payment that begins, its end, and one whose end is unclear.
+-- Closed examples of the records beside what is remembered, in which the whole premise of each law holds: a payment that begins, its end, one whose end is unclear, a reversal that begins, and a stop.
 use Rattle.std.specs.Prelude.{◌≡◌, ℕ, pos, true, false, [], ◌∷◌, All, Some, None, codes}
 use Rattle.jrn_record.specs.declared.records.Record.TheVariants.{Intent, Outcome}
+use Rattle.zvt_msg.specs.declared.command.Command.TheVariants.{Stop}
 use Rattle.zvt_talk.specs.declared.dialogue_kind.DialogueKind.TheVariants.{Payment}
 use Rattle.zvt_talk.specs.declared.phase.Phase.TheVariants.{Begun}
 use Rattle.zvt_talk.specs.Talk.{TalkFacts}
 use Rattle.gw_ledger.specs.Example.{day}
-use Rattle.gw_ledger.specs.Premises.{day_opened, fourth, fourth_approval}
+use Rattle.gw_ledger.specs.Premises.{day_opened, fourth, fourth_approval, second_reversal}
 use Rattle.gw_owes.specs.declared.terminal.Service.TheVariants.{Transaction}
 use Rattle.gw_owes.specs.declared.terminal.Standing.TheVariants.{Ready, Serving}
 use Rattle.gw_owes.specs.declared.terminal.Terminal.{Terminal}
-use Rattle.gw_owes.specs.Calls.{records_kept}
+use Rattle.gw_owes.specs.Calls.{Ask, SendPt, records_kept}
 use Rattle.gw_owes.specs.Core.{no_core, new_terminal}
 use Rattle.gw_owes.specs.Items.{RoundItem, Asked, Handle, Serve}
 use Rattle.gw_owes.specs.Links.{LinkIsLost, link_row}
@@ -17,7 +18,7 @@ use Rattle.gw_owes.specs.ReadAs.{ReadAs, Request}
 use Rattle.gw_owes.specs.RecordLaws.{AreTerminalsInOrder, AreOthersInOrder, IsInOrder, IsReadItem, KeepsInOrder}
 use Rattle.gw_owes.specs.Row.{Known}
 use Rattle.gw_owes.specs.Rows.{row_of}
-use Rattle.gw_owes.specs.StepExample.{day_known, day_pt, euros, payment_header}
+use Rattle.gw_owes.specs.StepExample.{abort_header, abort_of_service, day_known, day_pt, euros, payment_header, reversal_header, reversal_of_text}
 use Rattle.gw_owes.specs.TerminalLaws.{owes_cut}
 use Rattle.gw_owes.specs.TerminalRows.{terminal_row}
 
@@ -55,6 +56,14 @@ fourth_asked = Request (payment_header (codes "4")) (euros 100)
 abbrev pub fourth_begins : RoundItem
 fourth_begins = Serve 0 3 (payment_header (codes "4")) (euros 100)
 
+-- the terminal begins to serve the reversal of the day's second payment
+abbrev pub second_reverses : RoundItem
+second_reverses = Serve 0 3 (reversal_header (codes "4")) (reversal_of_text (codes "000124-0017-2") None)
+
+-- it is to stop the payment that it serves
+abbrev pub fourth_stops : RoundItem
+fourth_stops = Serve 0 3 abort_header (abort_of_service (codes "4"))
+
 -- the terminal sends a message without data
 abbrev pub sends : ℕ → ℕ → RoundItem
 sends class instruction = Handle 0 (record { class = class; instr = instruction; body = [] })
@@ -90,3 +99,18 @@ pub record ExampleKeyStaysOpen : Type 0 where
   pub none_kept : records_kept (terminal_row serving_known (sends 0x06 0x1E)).calls ≡ []
   pub others : AreOthersInOrder 0 day_opened (terminal_row serving_known (sends 0x06 0x1E)).core
   pub lost : AreTerminalsInOrder day_opened (link_row (record serving_known { core = (terminal_row serving_known (sends 0x06 0x1E)).core }) 0 LinkIsLost).core
+
+-- the terminal begins a reversal in place of the payment: its Intent is kept
+pub record ExampleReversalKept : Type 0 where
+  pub in_order : IsInOrder ready_known
+  pub read : IsReadItem ready_known.setup second_reverses
+  pub uncut : owes_cut (terminal_row ready_known second_reverses).calls ≡ false
+  pub kept : records_kept (terminal_row ready_known second_reverses).calls ≡ Intent second_reversal ∷ []
+  pub keeps : KeepsInOrder ready_known (Intent second_reversal ∷ []) (terminal_row ready_known second_reverses).core
+
+-- the payment is aborted: `06 B0` is sent, and nothing is kept
+pub record ExampleStopKeepsNothing : Type 0 where
+  pub in_order : IsInOrder serving_known
+  pub read : IsReadItem serving_known.setup fourth_stops
+  pub calls : (terminal_row serving_known fourth_stops).calls ≡ SendPt 0 (Ask Stop) ∷ []
+  pub keeps : KeepsInOrder serving_known [] (terminal_row serving_known fourth_stops).core

@@ -1,5 +1,5 @@
 -- What the records have of a terminal in each of its standings, and that each record that a row keeps may come next.
-use Rattle.std.specs.Prelude.{◌≡◌, ◌≢◌, ◌≤◌, ℕ, ◌+◌, pos, true, false, List, [], ◌++◌, All, length, slice_get, Option, Some, None}
+use Rattle.std.specs.Prelude.{◌≡◌, ◌≢◌, ◌≤◌, ℕ, ◌+◌, ◌*◌, pos, true, false, if◌then◌else◌, List, [], ◌++◌, All, length, slice_get, Option, Some, None}
 use Rattle.gw_base.specs.Limits.{IsTrace}
 use Rattle.gw_base.specs.Moment.{IsMoment}
 use Rattle.gw_base.specs.Setup.{IsSetup}
@@ -8,13 +8,15 @@ use Rattle.gw_base.specs.declared.setup.Setup.{Setup}
 use Rattle.gw_site.specs.Outside.{Connection}
 use Rattle.sale_values.specs.declared.header.Header.{Header}
 use Rattle.sale_values.specs.declared.request.SaleRequest.{SaleRequest}
+use Rattle.sale_values.specs.declared.request.SaleRequest.TheVariants as requests
+use Rattle.sale_values.specs.Key.{key_of}
 use Rattle.zvt_bmp.specs.declared.fields.Fields.{Fields}
 use Rattle.zvt_msg.specs.Message.{Status}
 use Rattle.zvt_msg.specs.Numbers.{NumbersFitFields}
 use Rattle.zvt_talk.specs.declared.phase.Phase.{Phase}
 use Rattle.zvt_talk.specs.declared.phase.Phase.TheVariants as phases
 use Rattle.zvt_talk.specs.Talk.{TalkFacts}
-use Rattle.jrn_record.specs.declared.records.Deal.TheVariants as deals
+use Rattle.zvt_talk.specs.TalkSteps.{was_stop_sent}
 use Rattle.jrn_record.specs.declared.records.Intent.{Intent as TheIntent}
 use Rattle.jrn_record.specs.declared.records.Record.{Record}
 use Rattle.gw_ledger.specs.Accounts.{last_number_of}
@@ -37,15 +39,14 @@ use Rattle.gw_owes.specs.TerminalRows.{terminal_of, terminal_row}
 
 -- ---- one terminal
 
--- a payment that is served is the terminal's open key, with the last trace number as the number before
+-- a payment or a reversal that is served is the terminal's open key, with the last trace number as the number before
 pub record IsServedOpen (kept : List Record) (poi : List ℕ) (last slot : ℕ) : Type 0 where
   pub intent : TheIntent
   pub is_open : open_entry kept poi ≡ Some (record { slot = slot; intent = intent; result = None })
   pub before : intent.before ≡ last
-  pub what : intent.what ≡ deals.Payment
   pub not_below : last_number_of kept poi ≤ last
 
--- what is served is on record; only payments are begun yet
+-- what is served is on record; only payments and reversals are begun yet
 abbrev pub IsServiceOnRecord : List Record → List ℕ → ℕ → Service → Type 0
 IsServiceOnRecord kept poi last (Transaction slot) = IsServedOpen kept poi last slot
 IsServiceOnRecord kept poi last (EndOfDay header period) = ⊥
@@ -82,10 +83,26 @@ abbrev pub IsTalkRead : Option TalkFacts → Type 0
 IsTalkRead None = Unit {0}
 IsTalkRead (Some talk) = HasReadStatuses talk.phase
 
+-- a stop may still be sent in the dialogue that runs
+abbrev pub stops_left : Option TalkFacts → ℕ
+stops_left None = 0
+stops_left (Some talk) = if was_stop_sent talk.phase then 0 else 1
+
+-- how many commands may still be sent to a terminal before another record is kept: the enquiry that follows a registration, and the stop of a payment or a reversal
+abbrev pub commands_left : Standing → Option TalkFacts → ℕ
+commands_left (Unlinked due) talk = 0
+commands_left Registering talk = 1
+commands_left Enquiring talk = 0
+commands_left (Ready last) talk = 0
+commands_left (Serving service last) talk = stops_left talk
+commands_left (Aside before reported) talk = 0
+
 -- the records have what the terminal's standing says, and what it has reported was read
 pub record IsTerminalInOrder (kept : List Record) (terminal : Terminal) : Type 0 where
   pub records : AreRecordsOf kept terminal.pt.poi terminal.standing
   pub read : IsTalkRead terminal.talk
+  -- no more Acks and Nacks are awaited than those of the two commands by which it became ready, and of two with each record: that of what is begun, and its stop
+  pub few : terminal.awaited + commands_left terminal.standing terminal.talk ≤ 2 * length kept + 2
 
 -- ---- all terminals
 
@@ -102,10 +119,23 @@ pub record AreOfSetup (core : Core) (setup : Setup) : Type 0 where
 abbrev pub IsReadFromTill : ReadAs → Type 0
 IsReadFromTill as_read = (bytes : List ℕ) × IsReadAs bytes as_read
 
--- a request that a terminal of this number begins to serve was read from a till's bytes, and has its POIID
+-- the POIID of the terminal that a request is about: its own, and of an Abort that of the key which it names
+abbrev pub poi_asked : Header → SaleRequest → List ℕ
+poi_asked header requests.Login = header.poi
+poi_asked header requests.Logout = header.poi
+poi_asked header (requests.Payment ask) = header.poi
+poi_asked header (requests.Reversal ask) = header.poi
+poi_asked header (requests.Abort reference) = (key_of header reference).poi
+poi_asked header (requests.Status reference) = header.poi
+poi_asked header (requests.Reconciliation period) = header.poi
+poi_asked header (requests.Display outputs) = header.poi
+poi_asked header (requests.Print qualifier) = header.poi
+poi_asked header requests.Diagnosis = header.poi
+
+-- a request that a terminal of this number begins to serve, or by which it is to stop, was read from a till's bytes, and is about this terminal
 pub record IsReadRequest (setup : Setup) (number : ℕ) (header : Header) (request : SaleRequest) : Type 0 where
   pub read : IsReadFromTill (Request header request)
-  pub names : (pt : Pt) → slice_get setup.terminals number ≡ Some pt → pt.poi ≡ header.poi
+  pub names : (pt : Pt) → slice_get setup.terminals number ≡ Some pt → pt.poi ≡ poi_asked header request
 
 -- what an item has of a till was read from its bytes
 abbrev pub IsReadItem : Setup → RoundItem → Type 0

@@ -1,4 +1,4 @@
--- The reply to each message of a till: one table, with a row for each kind of message. A Payment and a Diagnosis are served, and no other service of a terminal; what the records have is said.
+-- The reply to each message of a till: one table, with a row for each kind of message. A Payment, a Reversal, an Abort and a Diagnosis are served, and no other service of a terminal; what the records have is said.
 use Rattle.std.specs.Prelude.{ℕ, pos, Bool, true, false, List, [], Option, Some, None}
 use Rattle.gw_base.specs.declared.condition.Condition.{Condition}
 use Rattle.gw_base.specs.declared.condition.Condition.TheVariants.{UnavailableDevice, UnavailableService}
@@ -14,6 +14,7 @@ use Rattle.gw_owes.specs.Diagnosis.{NamedTerminal, named_terminal, diagnosis_rep
 use Rattle.gw_owes.specs.KeptReplies.{found_by_status, is_open_key, status_reply}
 use Rattle.gw_owes.specs.Items.{RoundItem}
 use Rattle.gw_owes.specs.Steps.{service_reply, service_items}
+use Rattle.gw_owes.specs.Stops.{stop_items}
 
 -- ---- requests
 
@@ -22,7 +23,7 @@ abbrev pub unserved_for : Option NamedTerminal → Condition
 unserved_for None = UnavailableDevice
 unserved_for (Some named) = UnavailableService
 
--- an Abort of a key that is open gets nothing; that of another is rejected
+-- an Abort of a key that is open gets no reply; that of another is rejected
 abbrev pub abort_reply : Bool → Known → Header → Option ReplyValue
 abort_reply true known header = None
 abort_reply false known header = Some (Reject header.sale header.poi (pos known.moment) details.Abort)
@@ -55,13 +56,13 @@ reply_to known (NoJson fault) = Some (reject_event known.setup.name known.moment
 
 -- ---- what begins
 
--- what a request of a till begins, at the terminal that its POIID names
+-- what a request of a till begins, at the terminal that its POIID names; an Abort is about that of the key that it names
 abbrev pub begun_at : Option NamedTerminal → Known → ℕ → Header → SaleRequest → List RoundItem
 begun_at named known till header requests.Login = []
 begun_at named known till header requests.Logout = []
 begun_at named known till header (requests.Payment ask) = service_items known till header (requests.Payment ask) named
 begun_at named known till header (requests.Reversal ask) = service_items known till header (requests.Reversal ask) named
-begun_at named known till header (requests.Abort reference) = []
+begun_at named known till header (requests.Abort reference) = stop_items known till header reference
 begun_at named known till header (requests.Status reference) = []
 begun_at named known till header (requests.Reconciliation period) = service_items known till header (requests.Reconciliation period) named
 begun_at named known till header (requests.Display outputs) = []

@@ -2,7 +2,7 @@
 use Rattle.std.specs.Prelude.{ℕ, ◌+◌, ◌==◌, nat_lt, bytes_eq, is_some, not, Bool, true, false, ◌&&◌, ◌||◌, if◌then◌else◌, List, [], ◌∷◌, length, Option, Some, None, option_and_then}
 use Rattle.gw_base.specs.Currency.{currency_letters}
 use Rattle.gw_base.specs.declared.condition.Condition.{Condition}
-use Rattle.gw_base.specs.declared.condition.Condition.TheVariants.{Busy, InProgress, NotAllowed, UnavailableDevice, UnavailableService}
+use Rattle.gw_base.specs.declared.condition.Condition.TheVariants.{Busy, InProgress, NotAllowed, NotFound, UnavailableDevice, UnavailableService}
 use Rattle.sale_values.specs.declared.header.Header.{Header}
 use Rattle.sale_values.specs.declared.request.SaleRequest.{SaleRequest}
 use Rattle.sale_values.specs.declared.request.SaleRequest.TheVariants as requests
@@ -18,6 +18,7 @@ use Rattle.gw_owes.specs.Items.{RoundItem, Serve}
 use Rattle.gw_owes.specs.KeptReplies.{found_for, is_finished, kept_reply}
 use Rattle.gw_owes.specs.Reply.{ReplyValue}
 use Rattle.gw_owes.specs.Replies.{failure_reply}
+use Rattle.gw_owes.specs.Reversals.{names_irreversible, names_none}
 use Rattle.gw_owes.specs.Row.{Known}
 
 -- what a step gives
@@ -46,12 +47,12 @@ abbrev pub has_reply : Option Found → Bool
 has_reply None = false
 has_reply (Some found) = is_finished found
 
--- the service isn't there: a payment whose type isn't `Normal`, and as yet each reversal and reconciliation
+-- the service isn't there: a payment whose type isn't `Normal`, and as yet each reconciliation
 abbrev pub is_unserved : SaleRequest → Bool
 is_unserved requests.Login = true
 is_unserved requests.Logout = true
 is_unserved (requests.Payment ask) = not (is_normal ask.kind)
-is_unserved (requests.Reversal ask) = true
+is_unserved (requests.Reversal ask) = false
 is_unserved (requests.Abort reference) = true
 is_unserved (requests.Status reference) = true
 is_unserved (requests.Reconciliation period) = true
@@ -142,6 +143,8 @@ steps known header request found named =
     ∷ record { applies = not (is_some named); result = Fails UnavailableDevice }
     ∷ record { applies = is_unserved request; result = Fails UnavailableService }
     ∷ record { applies = asks_other_currency request named; result = Fails NotAllowed }
+    ∷ record { applies = names_none known.kept header.poi request; result = Fails NotFound }
+    ∷ record { applies = names_irreversible known.kept header.poi request; result = Fails NotAllowed }
     ∷ record { applies = is_used_up known.kept header.poi named; result = Fails UnavailableService }
     ∷ record { applies = lacks_room known.setup.slots known.kept; result = Fails UnavailableService }
     ∷ record { applies = is_unavailable named; result = Fails UnavailableDevice }

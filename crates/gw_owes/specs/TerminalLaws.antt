@@ -2,6 +2,8 @@
 use Rattle.std.specs.Prelude.{◌≡◌, ◌≢◌, ◌⊎◌, ◌<◌, ◌≤◌, ℕ, ◌+◌, pos, int_le, Bool, true, false, List, [], ◌∷◌, length, map, slice_get, Option, Some, None, Ok, Err}
 use Rattle.gw_base.specs.declared.figures.Figures.{Figures}
 use Rattle.gw_base.specs.declared.setup.Pt.{Pt}
+use Rattle.sale_values.specs.declared.header.Header.{Header}
+use Rattle.sale_values.specs.declared.request.SaleRequest.{SaleRequest}
 use Rattle.zvt_apdu.specs.Grammar.{ApduValue}
 use Rattle.zvt_msg.specs.declared.fault.PtFault.{PtFault}
 use Rattle.zvt_msg.specs.Message.{MessageValue, Nack, Other}
@@ -121,6 +123,12 @@ abbrev pub EachMessageCounts : Type 0
 EachMessageCounts =
     (known : Known) (number : ℕ) (apdu : ApduValue) (terminal : Terminal) (message : MessageValue) → terminal_at known number ≡ Some terminal → is_linked terminal.standing ≡ true
     → decode_pt_message apdu ≡ Ok message → Awaits number (awaited_after message terminal.awaited) (handle_row known number apdu)
+
+-- so does each command that a request of a till has a terminal sent, the stop among them
+abbrev pub EachServedCounts : Type 0
+EachServedCounts =
+    (known : Known) (number till : ℕ) (header : Header) (request : SaleRequest) (terminal : Terminal) → terminal_at known number ≡ Some terminal
+    → Awaits number terminal.awaited (terminal_row known (Serve number till header request))
 
 -- on a new link, and on none, nothing is awaited but what is sent with it
 abbrev pub EachLinkCountsAnew : Type 0

@@ -1,8 +1,13 @@
--- The transcript of a terminal's link, which is all that was sent and taken on it, and what the gateway remembers of the terminal by that flat list.
+-- The transcript of a terminal's link, which is all that was sent and taken on it, and the stops wished, and what the gateway remembers of the terminal by that flat list.
 use Rattle.std.specs.Prelude.{◌≡◌, ℕ, ◌+◌, pos, Bool, false, if◌then◌else◌, List, [], ◌∷◌, ◌++◌, nat_lt, slice_get, Option, Some, None, is_some, option_and_then, Result, Ok, Err, ◌==◌}
 use Rattle.std.specs.Option.{option_or}
+use Rattle.gw_base.specs.declared.key.Key.{Key}
 use Rattle.gw_base.specs.declared.setup.Pt.{Pt}
 use Rattle.gw_base.specs.declared.setup.Setup.{Setup}
+use Rattle.sale_values.specs.declared.header.Header.{Header}
+use Rattle.sale_values.specs.declared.request.SaleRequest.{SaleRequest}
+use Rattle.sale_values.specs.declared.request.SaleRequest.TheVariants as requests
+use Rattle.sale_values.specs.Key.{key_of}
 use Rattle.zvt_msg.specs.declared.command.Command.{Command}
 use Rattle.zvt_msg.specs.declared.command.Command.TheVariants as commands
 use Rattle.zvt_msg.specs.declared.fault.PtFault.{PtFault}
@@ -10,7 +15,7 @@ use Rattle.zvt_msg.specs.Message.{MessageValue}
 use Rattle.zvt_msg.specs.MessageDecode.{decode_pt_message}
 use Rattle.zvt_talk.specs.declared.meaning.Heard.{Heard}
 use Rattle.zvt_talk.specs.declared.meaning.Heard.TheVariants as heard
-use Rattle.zvt_talk.specs.Came.{Came, Message as CameMessage, is_taken}
+use Rattle.zvt_talk.specs.Came.{Came, Message as CameMessage, StopWished, is_taken}
 use Rattle.zvt_talk.specs.Dialogue.{Dialogue, dialogue_kind_of, dialogue_of}
 use Rattle.zvt_talk.specs.Talk.{TalkFacts, end_of, talk_after, talk_goes_on}
 use Rattle.jrn_record.specs.declared.records.Record.{Record}
@@ -28,15 +33,18 @@ use Rattle.gw_owes.specs.Links.{is_linked, LinkEvent, LinkIsLost, link_row}
 use Rattle.gw_owes.specs.Reports.{standing_reported, on_record, least_reported}
 use Rattle.gw_owes.specs.Serving.{last_after_decline}
 use Rattle.gw_owes.specs.Handling.{awaited_after, taken_as}
+use Rattle.gw_owes.specs.Stops.{serves_key}
 use Rattle.gw_owes.specs.TerminalLaws.{owes_cut}
 use Rattle.gw_owes.specs.TerminalRows.{terminal_of, terminal_row, is_link_lost}
 
--- what a link carries, at its moment; a transcript is a list of these since the link was made, the newest first
+-- what a link carries, at its moment, and a stop that is wished of what is served on it; a transcript is a list of these since the link was made, the newest first
 pub data Carried : Type 0 where
   -- this command was sent
   Commanded : Command → ℕ → Carried
   -- this message was taken, when by the records this was the least trace number that the terminal might report
   Took : MessageValue → ℕ → ℕ → Carried
+  -- a stop was wished
+  Wished : Carried
 
 -- ---- what is remembered, by the transcript
 
@@ -45,12 +53,14 @@ abbrev pub awaited_by : List Carried → ℕ
 awaited_by [] = 0
 awaited_by (Commanded command moment ∷ earlier) = awaited_by earlier + 1
 awaited_by (Took message moment least ∷ earlier) = awaited_after message (awaited_by earlier)
+awaited_by (Wished ∷ earlier) = awaited_by earlier
 
 -- the dialogue of the last command that begins one
 abbrev pub dialogue_by : Pt → List Carried → Option Dialogue
 dialogue_by pt [] = None
 dialogue_by pt (Commanded command moment ∷ earlier) = option_or (dialogue_of command pt.none pt.answer pt.command (pos moment)) (dialogue_by pt earlier)
 dialogue_by pt (Took message moment least ∷ earlier) = dialogue_by pt earlier
+dialogue_by pt (Wished ∷ earlier) = dialogue_by pt earlier
 
 -- one message more, as the dialogue is handed it where so many Acks and Nacks are awaited
 abbrev pub came_with : MessageValue → ℕ → ℕ → List Came → List Came
@@ -61,6 +71,7 @@ abbrev pub came_by : List Carried → List Came
 came_by [] = []
 came_by (Commanded command moment ∷ earlier) = if is_some (dialogue_kind_of command) then [] else came_by earlier
 came_by (Took message moment least ∷ earlier) = came_with message moment (awaited_by earlier) (came_by earlier)
+came_by (Wished ∷ earlier) = came_by earlier ++ StopWished ∷ []
 
 -- the talk of a dialogue after all that came, while it goes on
 abbrev pub talk_going_on : Dialogue → List Came → Option TalkFacts
@@ -98,7 +109,7 @@ standing_served (heard.Declined result_code reported) last = Some (Ready (last_a
 standing_served heard.Unclear last = None
 standing_served heard.Stray last = None
 
--- the standing that the end of what is served leads to; only payments are begun yet
+-- the standing that the end of what is served leads to; only payments and reversals are begun yet
 abbrev pub standing_of_service : Heard → Service → ℕ → Option Standing
 standing_of_service end (Transaction slot) last = standing_served end last
 standing_of_service end (EndOfDay header period) last = None
@@ -149,6 +160,7 @@ abbrev pub standing_by : Pt → List Carried → Option Standing
 standing_by pt [] = Some (Unlinked None)
 standing_by pt (Commanded command moment ∷ earlier) = standing_commanded command (standing_by pt earlier)
 standing_by pt (Took message moment least ∷ earlier) = option_and_then (standing_taken least (ended_with pt message moment earlier)) (standing_by pt earlier)
+standing_by pt (Wished ∷ earlier) = standing_by pt earlier
 
 -- what is served without its slot in the records
 abbrev pub without_slot : Service → Service
@@ -204,7 +216,25 @@ abbrev pub took_of : Known → Option Terminal → Result MessageValue PtFault �
 took_of known None decoded = []
 took_of known (Some terminal) decoded = if is_linked terminal.standing then took_decoded known.moment (least_reported (on_record known.kept terminal.pt.poi)) decoded else []
 
--- the message that an item takes
+-- a stop is wished where the terminal serves the payment or the reversal of this key
+abbrev pub wished_of : List Record → Key → Option Terminal → List Carried
+wished_of kept key None = []
+wished_of kept key (Some terminal) = if serves_key kept key terminal then Wished ∷ [] else []
+
+-- a request wishes a stop of the terminal of this number: only an Abort does
+abbrev pub wished_for : Known → ℕ → Header → SaleRequest → List Carried
+wished_for known number header requests.Login = []
+wished_for known number header requests.Logout = []
+wished_for known number header (requests.Payment ask) = []
+wished_for known number header (requests.Reversal ask) = []
+wished_for known number header (requests.Abort reference) = wished_of known.kept (key_of header reference) (terminal_at known number)
+wished_for known number header (requests.Status reference) = []
+wished_for known number header (requests.Reconciliation period) = []
+wished_for known number header (requests.Display outputs) = []
+wished_for known number header (requests.Print qualifier) = []
+wished_for known number header requests.Diagnosis = []
+
+-- the message that an item takes, or the stop that it wishes
 abbrev pub took_by : Known → RoundItem → List Carried
 took_by known (Crowded till) = []
 took_by known (Message till bytes) = []
@@ -213,7 +243,7 @@ took_by known (Unframed till) = []
 took_by known (Gone till) = []
 took_by known (Greet number apdu) = []
 took_by known (Handle number apdu) = took_of known (terminal_at known number) (decode_pt_message apdu)
-took_by known (Serve number till header request) = []
+took_by known (Serve number till header request) = wished_for known number header request
 took_by known (NextWaiting number) = []
 took_by known (Oversized number) = []
 took_by known (LinkLost number) = []
@@ -221,7 +251,7 @@ took_by known (Late number) = []
 took_by known (Overdue key) = []
 took_by known (Due number) = []
 
--- the transcript after what an item takes and its row sends
+-- the transcript after what an item takes, or wishes, and its row sends
 abbrev pub transcript_grown : Known → RoundItem → List Carried → List Carried
 transcript_grown known item transcript = commanded_by known.moment (terminal_row known item).calls ++ (took_by known item ++ transcript)
 
@@ -239,7 +269,7 @@ transcript_after known item transcript = if is_link_lost item then [] else trans
 abbrev pub NewCoreFollowsTranscript : Type 0
 NewCoreFollowsTranscript = (setup : Setup) (number : ℕ) (pt : Pt) → slice_get setup.terminals number ≡ Some pt → FollowsTranscript number [] (new_core setup)
 
--- an item of a terminal that cuts no connection adds to the terminal's transcript what it takes and sends, and what is remembered follows
+-- an item of a terminal that cuts no connection adds to the terminal's transcript what it takes, wishes and sends, and what is remembered follows
 abbrev pub EachRowFollowsTranscript : Type 0
 EachRowFollowsTranscript =
     (known : Known) (item : RoundItem) (number : ℕ) (transcript : List Carried) → terminal_of item ≡ Some number → FollowsTranscript number transcript known.core

@@ -1,9 +1,9 @@
--- Closed examples of transcripts, message by message: a terminal that becomes ready, and then serves payments, each of which ends in another way.
+-- Closed examples of transcripts, message by message: a terminal that becomes ready, and then serves payments, each of which ends in another way, a reversal, and a payment that is to stop.
 use Rattle.std.specs.Prelude.{◌≡◌, ℕ, List, [], ◌∷◌, ◌++◌, Option, Some, None, codes, slice_get}
 use Rattle.std.specs.Option.{option_map}
 use Rattle.sale_values.specs.declared.request.PaymentAsk.{PaymentAsk}
 use Rattle.sale_values.specs.declared.request.SaleRequest.TheVariants as requests
-use Rattle.zvt_msg.specs.declared.command.Command.TheVariants.{Authorise}
+use Rattle.zvt_msg.specs.declared.command.Command.TheVariants.{Authorise, Reverse, Stop}
 use Rattle.zvt_msg.specs.Message.{Ack, Nack, Status, Completion, Abort}
 use Rattle.gw_owes.specs.declared.terminal.Service.TheVariants.{Transaction}
 use Rattle.gw_owes.specs.declared.terminal.Standing.{Standing}
@@ -16,7 +16,7 @@ use Rattle.gw_owes.specs.Terminals.{registration}
 use Rattle.gw_owes.specs.Links.{LinkIsMade}
 use Rattle.gw_owes.specs.Handling.{enquiry_command}
 use Rattle.gw_owes.specs.TerminalExample.{one_pt, setup_with, header_for}
-use Rattle.gw_owes.specs.Transcript.{Carried, Commanded, Took, awaited_by, talk_by, standing_by, StepAt, HandlesItem, ChangesLink, FollowsTranscript, core_along, transcript_along, known_new}
+use Rattle.gw_owes.specs.Transcript.{Carried, Commanded, Took, Wished, awaited_by, talk_by, standing_by, StepAt, HandlesItem, ChangesLink, FollowsTranscript, core_along, transcript_along, known_new}
 
 -- ---- what happens
 
@@ -70,6 +70,23 @@ abbrev pub begins_service : ℕ → List ℕ → StepAt
 begins_service moment service =
     record { moment = moment; step = HandlesItem (Serve 0 3 (record (header_for (codes "Payment") (codes "T1")) { service = Some service }) (requests.Payment payment_of_10_99)) }
 
+-- till 3 asks under ServiceID 2 for the reversal of the transaction 000123-0017-0, and the terminal begins to serve it
+abbrev pub begins_reversal : ℕ → StepAt
+begins_reversal moment = record {
+  moment = moment;
+  step =
+      HandlesItem
+      (Serve 0 3 (record (header_for (codes "Reversal") (codes "T1")) { service = Some (codes "2") })
+      (requests.Reversal (record { transaction = codes "000123-0017-0"; amount = None })));
+}
+
+-- till 3 aborts the request with this ServiceID, and the terminal is to stop it
+abbrev pub aborts_service : ℕ → List ℕ → StepAt
+aborts_service moment service = record {
+  moment = moment;
+  step = HandlesItem (Serve 0 3 (header_for (codes "Abort") (codes "T1")) (requests.Abort (record { service = service; sale = None; poi = None })));
+}
+
 -- ---- where it leads to
 
 -- the first payment is begun
@@ -99,6 +116,30 @@ steps_to_aside = steps_to_refused ++ begins_service 15 (codes "4") ∷ acknowled
 -- the first one is acknowledged and completed without a Status, which is unclear: the connection is cut
 abbrev pub steps_to_unclear : List StepAt
 steps_to_unclear = steps_to_serving ++ acknowledges 6 ∷ completes 7 ∷ []
+
+-- the payment that was approved is reversed
+abbrev pub steps_to_reversing : List StepAt
+steps_to_reversing = steps_to_approved ++ begins_reversal 9 ∷ []
+
+-- it is acknowledged, and approved with the trace number 124
+abbrev pub steps_to_reversed : List StepAt
+steps_to_reversed = steps_to_reversing ++ acknowledges 10 ∷ reports 11 0x00 0x01 0x24 ∷ completes 12 ∷ []
+
+-- the first payment is aborted before it is acknowledged
+abbrev pub steps_to_wished : List StepAt
+steps_to_wished = steps_to_serving ++ aborts_service 6 (codes "1") ∷ []
+
+-- once it is acknowledged it is aborted again; then it is approved all the same, before its stop is acknowledged or refused
+abbrev pub steps_to_unacknowledged : List StepAt
+steps_to_unacknowledged = steps_to_wished ++ acknowledges 7 ∷ aborts_service 8 (codes "1") ∷ reports 9 0x00 0x01 0x23 ∷ completes 10 ∷ []
+
+-- the second payment is begun
+abbrev pub steps_to_late : List StepAt
+steps_to_late = steps_to_unacknowledged ++ begins_service 11 (codes "2") ∷ []
+
+-- a refusal comes, which may be that of the stop: that is unclear, and the connection is cut
+abbrev pub steps_to_late_cut : List StepAt
+steps_to_late_cut = steps_to_late ++ refuses 12 ∷ []
 
 -- what is known as the run of the one terminal begins
 abbrev pub one_known : Known
@@ -155,6 +196,26 @@ refused_transcript = Took (Nack 0x6C) 14 200 ∷ Commanded (Authorise 1099 978) 
 abbrev pub aside_transcript : List Carried
 aside_transcript = Took Completion 18 200 ∷ took_status 0x00 150 17 200 ∷ Took Ack 16 200 ∷ Commanded (Authorise 1099 978) 15 ∷ refused_transcript
 
+-- that of the one that reverses the payment, by its receipt number
+abbrev pub reversing_transcript : List Carried
+reversing_transcript = Commanded (Reverse one_pt.password 17) 9 ∷ approved_transcript
+
+-- that of the one whose reversal was approved
+abbrev pub reversed_transcript : List Carried
+reversed_transcript = Took Completion 12 123 ∷ took_status 0x00 124 11 123 ∷ Took Ack 10 123 ∷ reversing_transcript
+
+-- that of the one of which a stop is wished
+abbrev pub wished_transcript : List Carried
+wished_transcript = Wished ∷ serving_transcript
+
+-- that of the one that was asked to stop, and has approved all the same
+abbrev pub unacknowledged_transcript : List Carried
+unacknowledged_transcript = Took Completion 10 0 ∷ took_status 0x00 123 9 0 ∷ Wished ∷ Commanded Stop 7 ∷ Took Ack 7 0 ∷ wished_transcript
+
+-- that of the one that serves the second payment then
+abbrev pub late_transcript : List Carried
+late_transcript = Commanded (Authorise 1099 978) 11 ∷ unacknowledged_transcript
+
 -- ---- the examples
 
 -- the transcripts on the way to ready, and what they say: an enquiry with its Ack awaited, and then a terminal that is ready with 0, without a dialogue; and the one after a cut
@@ -190,7 +251,24 @@ pub record ExamplePaymentTranscript : Type 0 where
   pub aside : EndsWithTranscript steps_to_aside aside_transcript (Aside 200 150) (Aside 200 150)
   pub unclear : EndsWithTranscript steps_to_unclear [] (Unlinked None) (Unlinked (Some 12))
 
+-- the transcripts of a reversal, which is approved
+pub record ExampleReversalTranscript : Type 0 where
+  pub reversing : EndsWithTranscript steps_to_reversing reversing_transcript (Serving (Transaction 0) 123) (Serving (Transaction 2) 123)
+  pub reversed : EndsWithTranscript steps_to_reversed reversed_transcript (Ready 124) (Ready 124)
+
+-- the transcripts of a payment of which a stop is wished twice, and sent once; of its Ack or Nack, which is awaited beside that of the next payment; and of a refusal that may be it
+pub record ExampleStopTranscript : Type 0 where
+  pub wished : EndsWithTranscript steps_to_wished wished_transcript (Serving (Transaction 0) 0) (Serving (Transaction 0) 0)
+  pub wished_awaits : awaited_by wished_transcript ≡ 1
+  pub unacknowledged : EndsWithTranscript steps_to_unacknowledged unacknowledged_transcript (Ready 123) (Ready 123)
+  pub unacknowledged_awaits : awaited_by unacknowledged_transcript ≡ 1
+  pub late : EndsWithTranscript steps_to_late late_transcript (Serving (Transaction 0) 123) (Serving (Transaction 2) 123)
+  pub late_awaits : awaited_by late_transcript ≡ 2
+  pub cut : EndsWithTranscript steps_to_late_cut [] (Unlinked None) (Unlinked (Some 17))
+
 -- the examples
 pub record ExampleTranscript : Type 0 where
   pub ready : ExampleReadyTranscript
   pub payments : ExamplePaymentTranscript
+  pub reversal : ExampleReversalTranscript
+  pub stop : ExampleStopTranscript

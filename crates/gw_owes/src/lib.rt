@@ -6,6 +6,7 @@ ghost use Rattle.gw_owes.specs.Laws.{EachRowEndsInOne, FindsBadLengths, LinksEnd
 
 mod payment_laws;
 mod record_laws;
+mod reversal_laws;
 mod step_laws;
 mod terminal;
 mod terminal_laws;
@@ -14,6 +15,10 @@ pub use payment_laws::{
     law_open_reports, law_payment_begins, law_payment_ends, law_payment_examples, law_repeats,
 };
 pub use record_laws::{law_meanings, law_record_examples, law_records};
+pub use reversal_laws::{
+    law_abort_examples, law_aborts, law_refusals, law_reversal_examples, law_reversal_premises,
+    law_reversals,
+};
 pub use step_laws::{law_on_record, law_step_examples};
 pub use terminal::{Service, Standing, Terminal};
 pub use terminal_laws::{

@@ -1,18 +1,21 @@
-//! Laws of payments. Each function does nothing: its contract is the law.
+//! Laws of payments and reversals. Each function does nothing: its contract is the law.
 ghost use Rattle.gw_owes.specs.PaymentExample.{ExampleApproved, ExampleCommandFails, ExampleDeclined, ExampleNotAbove, ExamplePaymentAccepted, ExamplePaymentBegins, ExampleReportsOfOpen, ExampleRoom, ExampleSecondRequest, ExampleUnclearEnd};
-ghost use Rattle.gw_owes.specs.PaymentLaws.{ApprovalIsKept, DeclineIsKept, EachAcceptedBegins, EachAskedBeginsPayment, EachAskedSendsNoTerminal, EachBegunIsServed, EachIntentIsAsked, EachPaymentIsKeptFirst, EachRecordIsOfAnEnd, EachTillHasItsOutcomeKept, NotAboveIsSetAside, OnlyAskedBegins, RepeatBeginsNothing, ReportedApprovalIsKept, ReportedDeclineIsKept, UnclearKeepsNothing, UnperformedIsAborted};
+ghost use Rattle.gw_owes.specs.PaymentLaws.{ApprovalIsKept, DeclineIsKept, EachAcceptedBegins, EachAskedBegins, EachAskedSendsNoTerminal, EachBegunIsReversed, EachBegunIsServed, EachIntentIsAsked, EachRecordIsOfAnEnd, EachTillHasItsOutcomeKept, EachTransactionIsKeptFirst, NotAboveIsSetAside, OnlyAskedBegins, RepeatBeginsNothing, ReportedApprovalIsKept, ReportedDeclineIsKept, UnclearKeepsNothing, UnperformedIsAborted};
 
-/// A payment begins only with its Intent kept first, in the next slot, with the amount and the key of the request, the terminal's
-/// currency and its last trace number; and where an Intent is kept the terminal is asked next. A payment of a till that is there,
-/// whose steps come to the last one, begins so at the terminal that its POIID names, and gets no reply yet.
+/// A payment and a reversal begin only with their Intent kept first, in the next slot, with the key of the request and the terminal's
+/// last trace number: a payment with the amount that is asked and the terminal's currency, a reversal with the amount, the currency
+/// and the slot of its original; and where an Intent is kept the terminal is asked next, to reverse by the original's receipt number.
+/// A request of a till that is there, whose steps come to the last one, begins so at the terminal that its POIID names, and gets no
+/// reply yet.
 pub fn law_payment_begins()
-    ensures kept_first { EachPaymentIsKeptFirst }
+    ensures kept_first { EachTransactionIsKeptFirst }
     ensures asked { EachIntentIsAsked }
     ensures begins { EachAcceptedBegins }
     ensures served { EachBegunIsServed }
+    ensures reversed { EachBegunIsReversed }
 {}
 
-/// A payment ends only with its Outcome kept before its till gets the reply, also where a report resolves it. An approval keeps the
+/// A payment or a reversal ends only with its Outcome kept before its till gets the reply, also where a report resolves it. An approval keeps the
 /// figures that the terminal reported, where its trace number is above the one before; else nothing is kept, and the terminal is set
 /// aside. A decline keeps the condition of its code. An unclear end keeps nothing: the connection is cut, and the key stays open.
 pub fn law_payment_ends()
@@ -36,12 +39,13 @@ pub fn law_open_reports()
     ensures examples { ExampleReportsOfOpen }
 {}
 
-/// A request on a key that is on record asks no terminal: what a till asks sends none anything, and begins a payment, at the
-/// terminal that its POIID names, only where its key is unknown. Nothing else begins one.
+/// A request on a key that is on record asks no terminal: what a till asks sends none anything, and begins a payment or a reversal, at
+/// the terminal that its POIID names, only where its key is unknown. An Abort begins nothing, but may stop what is served under the
+/// key that it names. No item but what a till asks brings another.
 pub fn law_repeats()
     ensures repeat { RepeatBeginsNothing }
     ensures sends { EachAskedSendsNoTerminal }
-    ensures begins { EachAskedBeginsPayment }
+    ensures begins { EachAskedBegins }
     ensures others { OnlyAskedBegins }
 {}
 

@@ -1,12 +1,13 @@
 //! Laws of the records beside what is remembered. Each function does nothing: its contract is the law.
 ghost use Rattle.gw_owes.specs.HeardLaws.{EachMeaningFits};
-ghost use Rattle.gw_owes.specs.RecordExample.{ExampleIntentKept, ExampleKeyStaysOpen, ExampleOutcomeKept, ExampleRequestBegins};
+ghost use Rattle.gw_owes.specs.RecordExample.{ExampleIntentKept, ExampleKeyStaysOpen, ExampleOutcomeKept, ExampleRequestBegins, ExampleReversalKept, ExampleStopKeepsNothing};
 ghost use Rattle.gw_owes.specs.RecordLaws.{EachCutKeepsInOrder, EachLinkKeepsInOrder, EachRowBringsReadItems, EachRowKeepsInOrder, NewCoreIsInOrder};
 
 /// While a terminal is ready none of its keys is open on record, and its last trace number is none below that of its records; while
-/// it serves a payment, that is its one open key, and the number before is the one with which it was ready. So it is as a run
-/// begins, whatever the records; each item leaves it so, and each event of a link. A row keeps one record at most; it may come
-/// after those before it, and a slot is left for the Outcome of each open key.
+/// it serves a payment or a reversal, that is its one open key, and the number before is the one with which it was ready. It never
+/// awaits more Acks and Nacks than all the records allow. So it is as a run begins, whatever the records; each item leaves it so, and each
+/// event of a link. A row keeps one record at most; it may come after those before it, and a slot is left for the Outcome of each open
+/// key.
 pub fn law_records()
     ensures new { NewCoreIsInOrder }
     ensures rows { EachRowKeepsInOrder }
@@ -17,6 +18,7 @@ pub fn law_records()
     gw_ledger::law_next();
     gw_ledger::law_open();
     gw_ledger::law_within();
+    gw_ledger::law_named();
     gw_ledger::law_fits();
     zvt_msg::law_read_fits();
 }
@@ -26,13 +28,15 @@ pub fn law_meanings()
     ensures { EachMeaningFits }
 {}
 
-/// Examples of these laws, which are computed: their premises hold of a terminal that is ready and begins a payment, and of one that
-/// serves it and ends it, clearly or not.
+/// Examples of these laws, which are computed: their premises hold of a terminal that is ready and begins a payment or a reversal, and
+/// of one that serves a payment and ends it, clearly or not, or is to stop it.
 pub fn law_record_examples()
     ensures begins { ExampleRequestBegins }
     ensures intent { ExampleIntentKept }
     ensures outcome { ExampleOutcomeKept }
     ensures open_key { ExampleKeyStaysOpen }
+    ensures reversal { ExampleReversalKept }
+    ensures stop { ExampleStopKeepsNothing }
 {
     law_records();
     gw_ledger::law_examples();

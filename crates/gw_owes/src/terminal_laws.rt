@@ -1,8 +1,9 @@
 //! Laws of what the items of terminals and their links leave and owe. Each function does nothing: its contract is the law.
+ghost use Rattle.gw_owes.specs.AwaitedLaws.{EachLinkAwaitsNoMore, EachRowAwaitsNoMore, EachStepAwaitsNoMore, EachUnstoppedIsHandedItsOwn, ExampleAwaitedOfStops};
 ghost use Rattle.gw_owes.specs.Dialogues.{EachLinkGivesDialogues, EachRowKeepsDialogues, NewCoreHasDialogues};
 ghost use Rattle.gw_owes.specs.PaymentExample.{ExampleReportBelow, ExampleReportBelowOpen};
 ghost use Rattle.gw_owes.specs.TerminalExample.{ExampleAside, ExampleBecomesReady, ExampleComparedReports, ExampleDiagnosis, ExampleEnquiryFails, ExampleFailedSend, ExampleForeignCommand, ExampleLateStop, ExampleLinkFails, ExampleManyTerminals, ExampleOutside, ExampleRegistrationFails, ExampleReportsLast, ExampleSilence, ExampleStop, ExampleStrayMessages, ExampleUnlinked, ExampleUnserved};
-ghost use Rattle.gw_owes.specs.TerminalLaws.{AbsentIsOwedNothing, AsideStaysAside, DueIsLinked, EachAckTakesOne, EachAsideHasCause, EachCauseCuts, EachCutHasCause, EachLinkChangesItsTerminal, EachLinkCountsAnew, EachMessageCounts, EachMessageIsGreeted, EachRowChangesItsTerminal, EnquiredIsReady, EnquiredIsSetAside, ForeignHasNoEffect, GreetingChangesNothing, GreetingsAreSpelled, LateNackIsUnclear, LinkedIsRegistered, NoLinkEventCuts, NoLinkEventSetsAside, RegisteredIsEnquired, UnlinkedIsOwedNothing};
+ghost use Rattle.gw_owes.specs.TerminalLaws.{AbsentIsOwedNothing, AsideStaysAside, DueIsLinked, EachAckTakesOne, EachAsideHasCause, EachCauseCuts, EachCutHasCause, EachLinkChangesItsTerminal, EachLinkCountsAnew, EachMessageCounts, EachMessageIsGreeted, EachRowChangesItsTerminal, EachServedCounts, EnquiredIsReady, EnquiredIsSetAside, ForeignHasNoEffect, GreetingChangesNothing, GreetingsAreSpelled, LateNackIsUnclear, LinkedIsRegistered, NoLinkEventCuts, NoLinkEventSetsAside, RegisteredIsEnquired, UnlinkedIsOwedNothing};
 ghost use Rattle.gw_owes.specs.Transcript.{EachLinkBeginsTranscript, EachRowFollowsTranscript, EachStepFollowsTranscript, NewCoreFollowsTranscript};
 ghost use Rattle.gw_owes.specs.TranscriptExample.{ExampleTranscript};
 
@@ -22,12 +23,13 @@ pub fn law_unlinked()
     ensures absent { AbsentIsOwedNothing }
 {}
 
-/// What a terminal is still to acknowledge or refuse on its link: one more with each command that is sent, one less with each
-/// Ack and Nack in whatever standing, and never below 0, at each message. Where that is more than one, a Nack before the last
-/// command is acknowledged is unclear.
+/// What a terminal is still to acknowledge or refuse on its link: one more with each command that is sent, the stop among them, one
+/// less with each Ack and Nack in whatever standing, and never below 0, at each message. Where that is more than one, a Nack before the
+/// last command is acknowledged is unclear.
 pub fn law_awaited()
     ensures takes { EachAckTakesOne }
     ensures counts { EachMessageCounts }
+    ensures served { EachServedCounts }
     ensures anew { EachLinkCountsAnew }
     ensures late { LateNackIsUnclear }
 {}
@@ -70,9 +72,9 @@ pub fn law_set_aside()
     ensures open_example { ExampleReportBelowOpen }
 {}
 
-/// Each terminal has the dialogue of its standing: a registration, an enquiry or a payment that goes on, with the Ack or Nack of its
-/// command awaited until it comes, or none, with nothing awaited. It has it as a run begins, and each item that cuts no connection,
-/// and each event of a link, leaves it so.
+/// Each terminal has the dialogue of its standing: a registration or an enquiry that goes on, with the Ack or Nack of its command
+/// awaited until it comes; a payment or a reversal, with that and those of stops; or none. Without a link nothing is awaited. It has it
+/// as a run begins, and each item that cuts no connection, and each event of a link, leaves it so.
 pub fn law_dialogues()
     ensures new { NewCoreHasDialogues }
     ensures rows { EachRowKeepsDialogues }
@@ -80,16 +82,26 @@ pub fn law_dialogues()
 {}
 
 /// What is remembered of a terminal is a few facts, which each item moves on. They are what the transcript of its link says, the
-/// flat list of all that was sent and taken on it: the dialogue that runs, how many Acks and Nacks are awaited, and the standing.
-/// So it is as a run begins; each item of the terminal that cuts no connection, and each event of its link, leaves it so; and so it
-/// is after every list of such steps from there, with the cuts among them, whatever brings them. Examples are computed: a terminal
-/// that becomes ready, and then serves payments, each of which ends in another way.
+/// flat list of all that was sent and taken on it, and of the stops that were wished: the dialogue that runs, how many Acks and Nacks
+/// are awaited, and the standing. So it is as a run begins; each item of the terminal that cuts no connection, and each event of its
+/// link, leaves it so; and so it is after every list of such steps from there, with the cuts among them, whatever brings them. Examples
+/// are computed: a terminal that becomes ready, and then serves payments, each of which ends in another way, a reversal, and a payment
+/// that is to stop and approves all the same, with a late refusal that may be that of its stop.
+///
+/// No more Acks and Nacks are awaited than stops were sent on the link, and one while the command of the dialogue that runs isn't
+/// acknowledged. So where no stop was sent on it, each message is handed to the dialogue as it came, and a refusal of the command,
+/// with any code but 0, declines what was asked.
 pub fn law_transcript()
     ensures new { NewCoreFollowsTranscript }
     ensures rows { EachRowFollowsTranscript }
     ensures links { EachLinkBeginsTranscript }
     ensures steps { EachStepFollowsTranscript }
     ensures example { ExampleTranscript }
+    ensures awaits_rows { EachRowAwaitsNoMore }
+    ensures awaits_links { EachLinkAwaitsNoMore }
+    ensures awaits_steps { EachStepAwaitsNoMore }
+    ensures unstopped { EachUnstoppedIsHandedItsOwn }
+    ensures awaits_example { ExampleAwaitedOfStops }
 {
     zvt_talk::law_talk_steps();
     zvt_talk::law_ends();

@@ -1,5 +1,5 @@
 -- What a played terminal says: its book stays honest with the end that it brings, and its dialogue goes on, or all that it has sent was handled.
-use Rattle.std.proofs.Common.{◌≡◌, ◌≢◌, ◌≤◌, ◌<◌, ◌∙◌, ℕ, zero, suc, Bool, true, false, ◌&&◌, ◌||◌, eqb, leb, ltb, List, [], ◌∷◌, ◌++◌, length, inl, inr, refl, sym, ap, subst, arith, append-nil}
+use Rattle.std.proofs.Common.{◌≡◌, ◌≢◌, ◌≤◌, ◌<◌, ◌∙◌, ℕ, zero, suc, ◌+◌, Bool, true, false, ◌&&◌, ◌||◌, eqb, leb, ltb, List, [], ◌∷◌, ◌++◌, length, inl, inr, refl, sym, ap, subst, arith, append-nil}
 use Rattle.std.specs.Prelude.{◌⊎◌, pos, bytes_eq, if◌then◌else◌, map, slice_get, All, Option, Some, None, option_and_then, option_map, Result, Ok, Err}
 use Rattle.std.specs.List.{flat_map, list_any}
 use Rattle.std.specs.Option.{option_to_list}
@@ -16,7 +16,7 @@ use Rattle.zvt_msg.specs.declared.fault.PtFault.{PtFault}
 use Rattle.zvt_msg.specs.Message.{MessageValue}
 use Rattle.zvt_msg.specs.MessageDecode.{decode_pt_message}
 use Rattle.zvt_talk.specs.declared.dialogue_kind.DialogueKind.{DialogueKind}
-use Rattle.zvt_talk.specs.declared.dialogue_kind.DialogueKind.TheVariants.{Registration, Enquiry, Payment}
+use Rattle.zvt_talk.specs.declared.dialogue_kind.DialogueKind.TheVariants.{Registration, Enquiry, Payment, Reversal}
 use Rattle.zvt_talk.specs.declared.meaning.Heard.{Heard}
 use Rattle.zvt_talk.specs.declared.meaning.Heard.TheVariants as heard
 use Rattle.zvt_talk.specs.Came.{is_taken}
@@ -47,7 +47,7 @@ use Rattle.gw_owes.specs.RecordLaws.{AreRecordsOf, IsInOrder}
 use Rattle.gw_owes.specs.Reply.{ReplyValue}
 use Rattle.gw_owes.specs.Reports.{Report, on_record, outcome_reported, report_against, report_row}
 use Rattle.gw_owes.specs.Row.{Known, Row, becoming, owing_where}
-use Rattle.gw_owes.specs.Serving.{at_rest, approved_outcome, approved_row, breaking, declined_outcome, declined_row, done_with, last_after_decline, reply_to_outcome, resolves, serving_transaction, staying, was_stopped}
+use Rattle.gw_owes.specs.Serving.{at_rest, approved_outcome, approved_row, breaking, declined_outcome, declined_row, done_with, last_after_decline, reply_to_outcome, resolves, serving_transaction, staying, stops, was_stopped}
 use Rattle.gw_owes.specs.Terminals.{after_command, of_terminal, reply_calls_to, terminal_at, terminal_becomes, with_terminal}
 use Rattle.gw_owes.proofs.KeepingLemmas.{setting-there}
 use Rattle.gw_owes.proofs.SetLemmas.{same-some}
@@ -63,10 +63,10 @@ use Rattle.gw_rules.proofs.SetupLemmas.{HasSetup}
 use Rattle.gw_books.specs.Books.{is_true}
 use Rattle.gw_books.specs.Past.{Occasion, OfMessage, OfNothing, SentCommand, Ending, Approved, Declined, Reported, HeardEnd, Past, command_served, ending_with, ends_by, ends_of, first_occasion, occasion_decoded, served_in}
 use Rattle.gw_books.proofs.FrameRowLemmas.{each-in-place}
-use Rattle.gw_books.proofs.Holding.{charge_owed, is_handle}
+use Rattle.gw_books.proofs.Holding.{charges, charge_owed, is_handle}
 use Rattle.gw_books.proofs.ListLemmas.{In, bytes-are, found-in, in-either}
 use Rattle.gw_played.specs.Played.{PlacedExchange, book_along, exchanges_in}
-use Rattle.gw_played.proofs.Playing.{IsLastServed, IsLeft, IsOfCommand, IsPaying, IsPeer, IsPeerIn, IsQuiet, IsTalking, PeerLaws, Plays, PlaysItem, WasLinked, ask_owed, brings_charge, link_owed, met_in, pending}
+use Rattle.gw_played.proofs.Playing.{IsLastServed, IsLeft, IsOfCommand, IsTransacting, IsPeer, IsPeerIn, IsQuiet, IsTalking, PeerLaws, Plays, PlaysItem, WasLinked, ask_owed, brings_charge, link_owed, met_in, pending}
 use Rattle.gw_played.proofs.HonestGrowLemmas.{honest-ends}
 use Rattle.gw_played.proofs.PeerEndLemmas.{approved-true, declined-true, heard_now, reported-true}
 use Rattle.gw_played.proofs.PeerTalkLemmas.{GoesOn, IsAsked, MayEnd, same-kind}
@@ -80,6 +80,10 @@ record AreMild (number : ℕ) (calls : List OwedCall) : Type 0 where
   links_none : (other : ℕ) → link_owed other calls ≡ false
   charges_none : (other : ℕ) → charge_owed other calls ≡ false
 
+neither : (b : Bool) → ((b && false) || false) ≡ false
+neither true = refl
+neither false = refl
+
 mild-none : (number : ℕ) → AreMild number []
 mild-none number = record { asks_others = λ other apart. refl; links_none = λ other. refl; charges_none = λ other. refl }
 
@@ -88,14 +92,14 @@ mild-cut number = record { asks_others = λ other apart. refl; links_none = λ o
 
 mild-enquiry : (number : ℕ) (pt : Pt) → AreMild number (SendPt number (Ask (enquiry_command pt)) ∷ [])
 mild-enquiry number pt = record {
-  asks_others = λ other apart. ap (λ (b : Bool). b || false) (other-number number other apart);
+  asks_others = λ other apart. ap (λ (b : Bool). (b && true) || false) (other-number number other apart);
   links_none = λ other. refl;
-  charges_none = λ other. by-test (eqb number other);
+  charges_none = λ other. neither (eqb number other);
 }
-  where
-    by-test : (b : Bool) → ((b && false) || false) ≡ false
-    by-test true = refl
-    by-test false = refl
+
+-- a stop asks nothing
+mild-stop : (number : ℕ) → AreMild number (SendPt number (Ask commands.Stop) ∷ [])
+mild-stop number = record { asks_others = λ other apart. neither (eqb number other); links_none = λ other. refl; charges_none = λ other. neither (eqb number other) }
 
 mild-replies : (number : ℕ) (asker : Option ℕ) (reply : Option ReplyValue) → AreMild number (reply_calls_to asker reply)
 mild-replies number None reply = mild-none number
@@ -114,7 +118,7 @@ own-cut : (number : ℕ) → cut_owed number (CutPt number ∷ []) ≡ true
 own-cut number = ap (λ (b : Bool). b || false) (own-number number)
 
 own-enquiry : (number : ℕ) (pt : Pt) → ask_owed number (SendPt number (Ask (enquiry_command pt)) ∷ []) ≡ true
-own-enquiry number pt = ap (λ (b : Bool). b || false) (own-number number)
+own-enquiry number pt = ap (λ (b : Bool). (b && true) || false) (own-number number)
 
 -- ---- rows that go on
 
@@ -144,13 +148,15 @@ enquiring-on known number terminal (heard.Declined result_code reported) on = ab
 enquiring-on known number terminal heard.Unclear on = absurd on
 enquiring-on known number terminal heard.Stray on = absurd on
 
-serving-on : (known : Known) (number : ℕ) (terminal : Terminal) (slot last : ℕ) (meant : Heard) → GoesOn meant → serving_transaction known number terminal slot last meant ≡ staying known number terminal
-serving-on known number terminal slot last (heard.Begun true) on = absurd cc
-serving-on known number terminal slot last (heard.Begun false) on = refl
+-- a payment or a reversal goes on, and a stop is sent or not
+serving-on : (known : Known) (number : ℕ) (terminal : Terminal) (slot last : ℕ) (meant : Heard) → GoesOn meant
+    → (serving_transaction known number terminal slot last meant ≡ staying known number terminal) ⊎ (serving_transaction known number terminal slot last meant ≡ stops known number terminal)
+serving-on known number terminal slot last (heard.Begun true) on = inr refl
+serving-on known number terminal slot last (heard.Begun false) on = inl refl
 serving-on known number terminal slot last (heard.Note intermediate_status) on = absurd on
 serving-on known number terminal slot last heard.Line on = absurd on
 serving-on known number terminal slot last heard.Block on = absurd on
-serving-on known number terminal slot last heard.Seen on = refl
+serving-on known number terminal slot last heard.Seen on = inl refl
 serving-on known number terminal slot last (heard.Approved figures) on = absurd on
 serving-on known number terminal slot last heard.Done on = absurd on
 serving-on known number terminal slot last (heard.Told reported approved result_code) on = absurd on
@@ -172,6 +178,28 @@ none-ends command (heard.Declined result_code reported) on = absurd on
 none-ends command heard.Unclear on = absurd on
 none-ends command heard.Stray on = absurd on
 
+-- ---- commands that may charge a card
+
+-- such a command begins a dialogue
+charge-asked : (asked : Command) → charges asked ≡ true → IsAsked asked
+charge-asked (commands.Register password config currency) charge = no-true (sym charge)
+charge-asked (commands.Authorise amount currency) charge = tt
+charge-asked (commands.Enquire password) charge = no-true (sym charge)
+charge-asked (commands.Reverse password receipt) charge = tt
+charge-asked (commands.EndOfDay password) charge = no-true (sym charge)
+charge-asked commands.Stop charge = no-true (sym charge)
+charge-asked (commands.Show display_lines) charge = no-true (sym charge)
+
+-- which ends as a payment may
+charge-ends : (asked : Command) (kind : DialogueKind) (meant : Heard) → charges asked ≡ true → dialogue_kind_of asked ≡ Some kind → MayEnd kind meant → MayEnd Payment meant
+charge-ends (commands.Register password config currency) kind meant charge begins may = no-true (sym charge)
+charge-ends (commands.Authorise amount currency) kind meant charge begins may = subst (λ (one : DialogueKind). MayEnd one meant) (sym (same-kind Payment kind begins)) may
+charge-ends (commands.Enquire password) kind meant charge begins may = no-true (sym charge)
+charge-ends (commands.Reverse password receipt) kind meant charge begins may = subst (λ (one : DialogueKind). MayEnd one meant) (sym (same-kind Reversal kind begins)) may
+charge-ends (commands.EndOfDay password) kind meant charge begins may = no-true (sym charge)
+charge-ends commands.Stop kind meant charge begins may = no-true (sym charge)
+charge-ends (commands.Show display_lines) kind meant charge begins may = no-true (sym charge)
+
 -- ---- settings
 
 -- what holds of all holds of each
@@ -181,7 +209,7 @@ all-there P (first ∷ rest) zero one each found = subst P (same-some first one 
 all-there P (first ∷ rest) (suc at) one each found = all-there P rest at one (All-tail P first rest each) found
 
 -- the settings of each terminal lie within the limits
-pt-within : (known : Known) (number : ℕ) (terminal : Terminal) → IsInOrder known → terminal_at known number ≡ Some terminal → IsPt terminal.pt
+pub pt-within : (known : Known) (number : ℕ) (terminal : Terminal) → IsInOrder known → terminal_at known number ≡ Some terminal → IsPt terminal.pt
 pt-within known number terminal order found =
     all-there IsPt known.setup.terminals number terminal.pt order.of_setup.within.each
     (subst (λ (pts : List Pt). slice_get pts number ≡ Some terminal.pt) order.of_setup.settings (setting-there known.core.terminals number terminal found))
@@ -368,13 +396,27 @@ module _ (laws : PeerLaws) (settings : List ℕ → Setting) (v : View) (past : 
         becomes-leaves old now [] (OfMessage number message) [] here linked refl (mild-none number) linked
         (λ uncut. subst (λ (s : Standing). IsPeerIn setting old.pt.poi placed number rest past.commands now.talk s) (sym is) peer) none-sound
 
+    -- so it does as it is sent a stop
+    stopped : (standing : Standing) → old.standing ≡ standing → IsPeerIn setting old.pt.poi placed number rest past.commands now.talk standing → Leaving (stops known number now) []
+    stopped standing is peer =
+        let calls : List OwedCall = SendPt number (Ask commands.Stop) ∷ [] in
+        let new : Terminal = record now { awaited = now.awaited + 1 } in
+        becomes-leaves old new calls (OfMessage number message) [] here linked refl (mild-stop number) linked
+        (λ uncut. subst (λ (b : Bool). IsPeer b setting placed number rest past.commands calls new) (sym (neither (eqb number number)))
+        (subst (λ (s : Standing). IsPeerIn setting old.pt.poi placed number rest past.commands now.talk s) (sym is) peer)) none-sound
+
     -- the dialogue goes on
-    goes-on : (standing : Standing) (meant : Heard) (row : Row) → old.standing ≡ standing → GoesOn meant → row ≡ staying known number now → IsPeerIn setting old.pt.poi placed number rest past.commands now.talk standing
-        → Leaving row (EndsIn standing meant)
-    goes-on standing meant row is on same peer =
-        let none : EndsIn standing meant ≡ [] =
-        ap (λ (found : Option Ending). map (λ (ending : Ending). heard_now past old.pt.poi ending) (option_to_list found)) (none-ends (option_and_then (command_served past old.pt.poi) (served_in standing)) meant on) in
-        subst (λ (r : Row). Leaving r (EndsIn standing meant)) (sym same) (subst (λ (ends : List HeardEnd). Leaving (staying known number now) ends) (sym none) (stays standing is peer))
+    goes-on : (standing : Standing) (meant : Heard) (row : Row) → old.standing ≡ standing → GoesOn meant → (row ≡ staying known number now) ⊎ (row ≡ stops known number now)
+        → IsPeerIn setting old.pt.poi placed number rest past.commands now.talk standing → Leaving row (EndsIn standing meant)
+    goes-on standing meant row is on same peer = subst (λ (ends : List HeardEnd). Leaving row ends) (sym none) (by-row same)
+      where
+        none : EndsIn standing meant ≡ []
+        none =
+            ap (λ (found : Option Ending). map (λ (ending : Ending). heard_now past old.pt.poi ending) (option_to_list found)) (none-ends (option_and_then (command_served past old.pt.poi) (served_in standing)) meant on)
+
+        by-row : (row ≡ staying known number now) ⊎ (row ≡ stops known number now) → Leaving row []
+        by-row (inl stay) = subst (λ (r : Row). Leaving r []) (sym stay) (stays standing is peer)
+        by-row (inr stop) = subst (λ (r : Row). Leaving r []) (sym stop) (stopped standing is peer)
 
     -- its connection is cut
     breaks : (ends : List HeardEnd) → AreSound ends → Leaving (breaking known number now) ends
@@ -480,9 +522,9 @@ module _ (laws : PeerLaws) (settings : List ℕ → Setting) (v : View) (past : 
     enquiring-ends password t heard.Unclear may quiet true_of = breaks [] none-sound
     enquiring-ends password t heard.Stray may quiet true_of = absurd may.0
 
-    -- ---- a payment
+    -- ---- a payment or a reversal
 
-    module _ (slot last : ℕ) (p : IsPaying setting old.pt.poi placed number (Handle number apdu ∷ rest) past.commands old.talk) where
+    module _ (slot last : ℕ) (p : IsTransacting setting old.pt.poi placed number (Handle number apdu ∷ rest) past.commands old.talk) where
       -- the last command to the terminal
       command-is : (command : SentCommand) × In command past.commands × (command.place ≡ p.last.command.place) × (command.poi ≡ old.pt.poi)
       command-is =
@@ -519,20 +561,20 @@ module _ (laws : PeerLaws) (settings : List ℕ → Setting) (v : View) (past : 
           (declined-true laws setting old.pt.poi placed past (plays.honest old.pt.poi) calm-now p.talking.before p.talking.apdu result_code trace p.last true_of))
           quiet)
 
-      paying-ends : (meant : Heard) → MayEnd Payment meant → IsQuiet setting placed number rest → IsTrueEnd (book_of setting p.talking.before) (entries_of (reaction_after setting p.talking.before p.talking.apdu)) meant
+      transacting-ends : (meant : Heard) → MayEnd Payment meant → IsQuiet setting placed number rest → IsTrueEnd (book_of setting p.talking.before) (entries_of (reaction_after setting p.talking.before p.talking.apdu)) meant
           → Leaving (serving_transaction known number now slot last meant) (EndsIn (Serving (Transaction slot) last) meant)
-      paying-ends (heard.Begun true) may quiet true_of = absurd may.0
-      paying-ends (heard.Begun false) may quiet true_of = absurd may.0
-      paying-ends (heard.Note intermediate_status) may quiet true_of = absurd may.0
-      paying-ends heard.Line may quiet true_of = absurd may.0
-      paying-ends heard.Block may quiet true_of = absurd may.0
-      paying-ends heard.Seen may quiet true_of = absurd may.0
-      paying-ends (heard.Approved figures) may quiet true_of = approved figures quiet true_of
-      paying-ends heard.Done may quiet true_of = absurd may.0
-      paying-ends (heard.Told reported approved result_code) may quiet true_of = absurd may.0
-      paying-ends (heard.Declined result_code reported) may quiet true_of = declined result_code reported quiet true_of
-      paying-ends heard.Unclear may quiet true_of = breaks [] none-sound
-      paying-ends heard.Stray may quiet true_of = absurd may.0
+      transacting-ends (heard.Begun true) may quiet true_of = absurd may.0
+      transacting-ends (heard.Begun false) may quiet true_of = absurd may.0
+      transacting-ends (heard.Note intermediate_status) may quiet true_of = absurd may.0
+      transacting-ends heard.Line may quiet true_of = absurd may.0
+      transacting-ends heard.Block may quiet true_of = absurd may.0
+      transacting-ends heard.Seen may quiet true_of = absurd may.0
+      transacting-ends (heard.Approved figures) may quiet true_of = approved figures quiet true_of
+      transacting-ends heard.Done may quiet true_of = absurd may.0
+      transacting-ends (heard.Told reported approved result_code) may quiet true_of = absurd may.0
+      transacting-ends (heard.Declined result_code reported) may quiet true_of = declined result_code reported quiet true_of
+      transacting-ends heard.Unclear may quiet true_of = breaks [] none-sound
+      transacting-ends heard.Stray may quiet true_of = absurd may.0
 
     -- ---- in each standing
 
@@ -556,7 +598,7 @@ module _ (laws : PeerLaws) (settings : List ℕ → Setting) (v : View) (past : 
         let said = says (commands.Register password config currency) t tt in
         taken-leaves (registering known number now (meaning_at old message)) (EndsIn Registering (meaning_at old message)) said.taken
         (elim said.follows [
-          | inl goes ↦ goes-on Registering (meaning_at old message) (registering known number now (meaning_at old message)) is goes.on (registering-on known number now (meaning_at old message) goes.on) (password, config, currency, goes.talking)
+          | inl goes ↦ goes-on Registering (meaning_at old message) (registering known number now (meaning_at old message)) is goes.on (inl (registering-on known number now (meaning_at old message) goes.on)) (password, config, currency, goes.talking)
           | inr stops ↦ registering-ends (meaning_at old message) (kind-of Registration (commands.Register password config currency) t refl (meaning_at old message) stops.ends) stops.quiet
         ])
 
@@ -566,25 +608,25 @@ module _ (laws : PeerLaws) (settings : List ℕ → Setting) (v : View) (past : 
         let said = says (commands.Enquire password) t tt in
         taken-leaves (enquiring known number now (meaning_at old message)) (EndsIn Enquiring (meaning_at old message)) said.taken
         (elim said.follows [
-          | inl goes ↦ goes-on Enquiring (meaning_at old message) (enquiring known number now (meaning_at old message)) is goes.on (enquiring-on known number now (meaning_at old message) goes.on) (password, goes.talking)
+          | inl goes ↦ goes-on Enquiring (meaning_at old message) (enquiring known number now (meaning_at old message)) is goes.on (inl (enquiring-on known number now (meaning_at old message) goes.on)) (password, goes.talking)
           | inr stops ↦ enquiring-ends password t (meaning_at old message) (kind-of Enquiry (commands.Enquire password) t refl (meaning_at old message) stops.ends) stops.quiet stops.true_of
         ])
 
-    paying-leaves : (slot last : ℕ) → old.standing ≡ Serving (Transaction slot) last → IsPaying setting old.pt.poi placed number (Handle number apdu ∷ rest) past.commands old.talk
+    transacting-leaves : (slot last : ℕ) → old.standing ≡ Serving (Transaction slot) last → IsTransacting setting old.pt.poi placed number (Handle number apdu ∷ rest) past.commands old.talk
         → Leaving (owing_where (is_taken message) known (serving_transaction known number now slot last (meaning_at old message))) (EndsIn (Serving (Transaction slot) last) (meaning_at old message))
-    paying-leaves slot last is p =
-        let said = says (commands.Authorise p.amount p.currency) p.talking tt in
+    transacting-leaves slot last is p =
+        let said = says p.command p.talking (charge-asked p.command p.charging) in
         taken-leaves (serving_transaction known number now slot last (meaning_at old message)) (EndsIn (Serving (Transaction slot) last) (meaning_at old message)) said.taken (by-follows said.follows)
       where
-        by-follows : Goes laws setting placed number apdu rest message decodes old known.moment (commands.Authorise p.amount p.currency) p.talking ⊎ Stops laws setting placed number apdu rest message decodes old known.moment (commands.Authorise p.amount p.currency) p.talking
+        by-follows : Goes laws setting placed number apdu rest message decodes old known.moment p.command p.talking ⊎ Stops laws setting placed number apdu rest message decodes old known.moment p.command p.talking
             → Leaving (serving_transaction known number now slot last (meaning_at old message)) (EndsIn (Serving (Transaction slot) last) (meaning_at old message))
         by-follows (inl goes) =
             let P : List ApduValue → Type 0 = λ before. IsLastServed setting old.pt.poi placed past.commands (entries_of (reaction_after setting before p.talking.apdu)) in
             let Q : ApduValue → Type 0 = λ one. IsLastServed setting old.pt.poi placed past.commands (entries_of (reaction_after setting goes.talking.before one)) in
             goes-on (Serving (Transaction slot) last) (meaning_at old message) (serving_transaction known number now slot last (meaning_at old message)) is goes.on (serving-on known number now slot last (meaning_at old message) goes.on)
-            (record { amount = p.amount; currency = p.currency; talking = goes.talking; last = subst Q goes.apdu_is (subst P goes.before_is p.last) })
+            (record { command = p.command; charging = p.charging; talking = goes.talking; last = subst Q goes.apdu_is (subst P goes.before_is p.last) })
         by-follows (inr stops) =
-            paying-ends slot last p (meaning_at old message) (kind-of Payment (commands.Authorise p.amount p.currency) p.talking refl (meaning_at old message) stops.ends) stops.quiet stops.true_of
+            transacting-ends slot last p (meaning_at old message) (charge-ends p.command p.talking.dialogue.dialogue_kind (meaning_at old message) p.charging p.talking.begins stops.ends) stops.quiet stops.true_of
 
     -- nothing is left to be handled where the terminal is quiet
     never-quiet : {A : Type 0} → IsQuiet setting placed number (Handle number apdu ∷ rest) → A
@@ -597,7 +639,7 @@ module _ (laws : PeerLaws) (settings : List ℕ → Setting) (v : View) (past : 
     standing-leaves Registering is links has peer = registering-leaves is peer
     standing-leaves Enquiring is links has peer = enquiring-leaves is peer
     standing-leaves (Ready last) is links has peer = never-quiet peer
-    standing-leaves (Serving (Transaction slot) last) is links has peer = paying-leaves slot last is peer
+    standing-leaves (Serving (Transaction slot) last) is links has peer = transacting-leaves slot last is peer
     standing-leaves (Serving (EndOfDay header period) last) is links has peer = absurd has
     standing-leaves (Serving (Display header outputs) last) is links has peer = absurd has
     standing-leaves (Aside before reported) is links has peer = never-quiet peer

@@ -1,48 +1,57 @@
 -- What an item leaves that handles nothing which a terminal has said, each but Handle: every terminal is as far as it was, or isn't linked any more, or is about to be asked.
 use Rattle.std.proofs.Common.{◌≡◌, ◌≢◌, ℕ, ◌+◌, Bool, true, false, List, [], ◌∷◌, ◌++◌, refl, sym, ◌∙◌, ap, subst, arith, inl, inr, eqb-true}
 use Rattle.std.proofs.lemmas.Bool.{leb-true, or_parts}
-use Rattle.std.proofs.lemmas.List.Elements.{All-nil}
-use Rattle.std.specs.Prelude.{◌⊎◌, ◌==◌, ◌&&◌, ◌||◌, pos, nat_le, slice_get, Option, Some, None, Result, Ok, Err}
+use Rattle.std.specs.Prelude.{◌⊎◌, ◌==◌, ◌&&◌, ◌||◌, pos, nat_le, is_some, slice_get, Option, Some, None, Result, Ok, Err}
 use Rattle.std.specs.List.{list_any}
-use Rattle.gw_base.specs.Bcd.{IsBcdByte}
+use Rattle.gw_base.specs.Setup.{IsPt}
 use Rattle.gw_base.specs.declared.key.Key.{Key}
+use Rattle.gw_base.specs.declared.setup.Pt.{Pt}
 use Rattle.gw_base.specs.declared.setup.Setup.{Setup}
-use Rattle.gw_site.specs.Outside.{is_connected}
+use Rattle.gw_site.specs.Outside.{heard_on, is_connected}
 use Rattle.gw_site.specs.declared.turn.Turn.{Turn}
 use Rattle.sale_values.specs.declared.header.Header.{Header}
-use Rattle.sale_values.specs.declared.request.PaymentAsk.{PaymentAsk}
 use Rattle.sale_values.specs.declared.request.SaleRequest.{SaleRequest}
 use Rattle.zvt_apdu.specs.Grammar.{ApduValue}
 use Rattle.zvt_msg.specs.declared.command.Command.{Command}
+use Rattle.zvt_msg.specs.declared.command.Command.TheVariants as commands
 use Rattle.zvt_msg.specs.declared.fault.PtFault.{PtFault}
-use Rattle.zvt_msg.specs.CommandGrammar.{HasCommandDigits}
-use Rattle.zvt_talk.specs.declared.dialogue_kind.DialogueKind.TheVariants.{Payment}
+use Rattle.zvt_msg.specs.CommandGrammar.{HasCommandSizes}
+use Rattle.zvt_talk.specs.declared.dialogue_kind.DialogueKind.TheVariants.{Payment, Reversal}
+use Rattle.zvt_talk.specs.Dialogue.{Dialogue, dialogue_kind_of}
+use Rattle.zvt_talk.specs.Talk.{TalkFacts, talk_after}
+use Rattle.zvt_talk.specs.TalkSteps.{talk_after_stop_wished}
 use Rattle.zvt_msg.specs.Message.{MessageValue, Ack, Nack, Intermediate, Line, Block, Status, Completion, Abort, Other}
 use Rattle.zvt_msg.specs.MessageDecode.{decode_pt_message}
+use Rattle.jrn_record.specs.declared.records.Deal.{Deal}
+use Rattle.jrn_record.specs.declared.records.Deal.TheVariants as deals
 use Rattle.jrn_record.specs.declared.records.Intent.{Intent as TheIntent}
-use Rattle.xlate.specs.Ask.{ask}
+use Rattle.xlate.specs.Ask.{ask, ask_for}
+use Rattle.pt_core.specs.Exchange.{heard_on_link}
 use Rattle.pt_core.specs.History.{Setting}
+use Rattle.gw_ledger.specs.declared.entry.Entry.{Entry as TheEntry}
 use Rattle.gw_ledger.proofs.TieLemmas.{eqb_same}
+use Rattle.gw_owes.specs.declared.terminal.Service.TheVariants.{Transaction}
 use Rattle.gw_owes.specs.declared.terminal.Standing.{Standing}
 use Rattle.gw_owes.specs.declared.terminal.Standing.TheVariants.{Unlinked, Registering, Enquiring, Ready, Serving, Aside}
 use Rattle.gw_owes.specs.declared.terminal.Terminal.{Terminal}
-use Rattle.gw_owes.specs.Calls.{Sending, Acknowledge, Refuse, OwedCall, SendPt, LinkPt, CutTill, CutPt}
+use Rattle.gw_owes.specs.Calls.{Sending, Ask, Acknowledge, Refuse, OwedCall, SendPt, LinkPt, CutTill, CutPt}
 use Rattle.gw_owes.specs.Core.{Core}
 use Rattle.gw_owes.specs.Deadlines.{is_late, is_due, is_due_by}
 use Rattle.gw_owes.specs.Greeting.{greeting, sending_calls, greet_decoded}
 use Rattle.gw_owes.specs.Items.{RoundItem, Crowded, Message as MessageItem, Asked, Unframed, Gone, Greet, Handle, Serve, NextWaiting, Oversized, LinkLost, Late, Overdue, Due}
 use Rattle.gw_owes.specs.Links.{cutting, is_linked}
-use Rattle.gw_owes.specs.Payments.{asked_for, beginning_row, payment_intent}
+use Rattle.gw_owes.specs.Payments.{Asking, asked_for, beginning_row}
 use Rattle.gw_owes.specs.ReadAs.{ReadAs}
-use Rattle.gw_owes.specs.RecordLaws.{AreRecordsOf, IsInOrder, IsReadItem, IsReadRequest}
+use Rattle.gw_owes.specs.RecordLaws.{IsInOrder, IsReadItem}
 use Rattle.gw_owes.specs.Reply.{ReplyValue}
 use Rattle.gw_owes.specs.Requests.{reply_to, begun_by}
 use Rattle.gw_owes.specs.Row.{Known, Row, owing, owing_where, becoming}
 use Rattle.gw_owes.specs.Rows.{asked_row, row_of}
-use Rattle.gw_owes.specs.Terminals.{with_terminal, reply_calls_to, reply_to_lost, unlinked_terminal, unlinks, forgets_till, core_without}
+use Rattle.gw_owes.specs.Stops.{wishing}
+use Rattle.gw_owes.specs.Terminals.{talk_of_command, terminal_at, terminal_becomes, with_terminal, reply_calls_to, reply_to_lost, unlinked_terminal, unlinks, forgets_till, core_without}
+use Rattle.gw_owes.proofs.BeginLemmas.{IsAskedAnew, begins-anew}
 use Rattle.gw_owes.proofs.HandlingLemmas.{by-where, each-terminal, each-linked}
-use Rattle.gw_owes.proofs.LimitLemmas.{IsPaymentWithin, payment-within, intent-within}
-use Rattle.gw_owes.proofs.PaymentLemmas.{BeginsAt, each-served}
+use Rattle.gw_owes.proofs.PaymentLemmas.{StopsAt, each-served}
 use Rattle.gw_owes.proofs.SetLemmas.{same-some}
 use Rattle.gw_rules.specs.Lawful.{may_begin, Begins, IsRead}
 use Rattle.gw_rules.specs.Scene.{Scene, known_in, row_at}
@@ -58,11 +67,13 @@ use Rattle.gw_rules.proofs.StageLemmas.{no-true}
 use Rattle.gw_rules.proofs.TranscriptLogLemmas.{image-there, there-image}
 use Rattle.gw_books.specs.Past.{HeardEnd, Past, occasion_of, ends_of, past_after}
 use Rattle.gw_books.proofs.FrameRowLemmas.{each-in-place}
-use Rattle.gw_books.proofs.Holding.{charge_owed, is_handle}
+use Rattle.gw_books.proofs.Holding.{charges, charge_owed, is_handle}
 use Rattle.gw_books.proofs.QuietRowLemmas.{asked-ends-none}
-use Rattle.gw_played.specs.Played.{PlacedExchange, book_along}
+use Rattle.gw_played.specs.Played.{PlacedExchange, book_along, exchanges_in}
+use Rattle.gw_played.proofs.HandlePlaysLemmas.{pt-within}
 use Rattle.gw_played.proofs.PeerFrameLemmas.{TerminalPlays, RowPlays, PlaysBetween, WasSo, terminal-stays}
-use Rattle.gw_played.proofs.Playing.{pending, IsQuiet, IsPeerIn, IsToBeAsked, IsPeer, IsHonestFor, ask_owed, link_owed, brings_charge, Plays, PeerLaws, PlaysItem}
+use Rattle.gw_played.proofs.Playing.{pending, IsQuiet, IsPeerIn, IsToBeAsked, IsPeer, IsHonestFor, WasLinked, begins_dialogue, ask_owed, link_owed, brings_charge, Plays, PeerLaws, PlaysItem}
+use Rattle.gw_played.proofs.TakenMessageLemmas.{wished-transacting}
 
 -- ---- an item that handles nothing said
 
@@ -395,60 +406,88 @@ due-plays pt = item-plays (Due pt) refl (λ scene past. refl) (λ settings excha
     by-where (λ (row : Row). RowPlays settings exchanges scene.outside past rest row) (known_in scene setup) (owing (known_in scene setup) (LinkPt pt ∷ [])) (is_due scene.outside.moment terminal.standing)
     (nothing-plays settings exchanges scene past (Due pt) rest between) (λ due. link-pt-plays settings exchanges scene past (Due pt) rest between pt terminal found due)))
 
--- ---- a payment that begins
+-- ---- a payment or a reversal that begins
+
+-- a command that may charge a card begins a dialogue, and can be written
+record CanBeAsked (pt : Pt) (asked : Command) (moment : ℕ) : Type 0 where
+  charging : charges asked ≡ true
+  sizes : HasCommandSizes asked
+  dialogue : Dialogue
+  begins : dialogue_kind_of asked ≡ Some dialogue.dialogue_kind
+  talk_is : talk_of_command pt asked moment ≡ Some (talk_after dialogue [])
+
+-- so is what asks for an Intent
+can-be-asked : (what : Deal) (intent : TheIntent) (original : Option TheEntry) (pt : Pt) (moment : ℕ) → IsPt pt → CanBeAsked pt (ask_for what intent original pt.password) moment
+can-be-asked deals.Payment intent original pt moment within = record {
+  charging = refl;
+  sizes = tt;
+  dialogue = record { dialogue_kind = Payment; none = pt.none; acknowledge_time = pt.answer; command_time = pt.command; sent = pos moment };
+  begins = refl;
+  talk_is = refl;
+}
+can-be-asked deals.Reversal intent original pt moment within = record {
+  charging = refl;
+  sizes = within.password.0;
+  dialogue = record { dialogue_kind = Reversal; none = pt.none; acknowledge_time = pt.answer; command_time = pt.command; sent = pos moment };
+  begins = refl;
+  talk_is = refl;
+}
+
+-- such a command alone asks the terminal of this number
+ask-alone : (begins test : Bool) → begins ≡ true → ((test && begins) || false) ≡ test
+ask-alone true true is = refl
+ask-alone true false is = refl
+ask-alone false test is = no-true is
 
 module _ (laws : PeerLaws) (settings : List ℕ → Setting) (exchanges : List ℕ → List PlacedExchange) (scene : Scene) (setup : Setup) (past : Past) (rest : List RoundItem) (pt till : ℕ) (header : Header) (request : SaleRequest)
     (between : PlaysBetween settings exchanges scene past (Serve pt till header request) rest) (order : IsInOrder (known_in scene setup)) where
-  -- a payment is about to be asked, so that no later item handles what a terminal has said
+  -- a command is about to be asked, so that no later item handles what a terminal has said
   handles-none : {A : Type 0} → list_any is_handle rest ≡ true → A
   handles-none handles = no-true (sym (between.served handles))
 
-  module _ (payment : PaymentAsk) (asks : IsPaymentWithin header payment) (terminal : Terminal) (last : ℕ) (at : BeginsAt (known_in scene setup) pt header payment terminal last) where
-    abbrev intent : TheIntent
-    intent = payment_intent header payment terminal.pt.currency last scene.outside.moment
-
+  module _ (terminal : Terminal) (last : ℕ) (asking : Asking) (found : terminal_at (known_in scene setup) pt ≡ Some terminal) (standing_is : terminal.standing ≡ Ready last) (anew : IsAskedAnew (known_in scene setup) header terminal last asking) where
     abbrev command : Command
-    command = ask intent None terminal.pt
+    command = ask asking.intent asking.original terminal.pt
 
     abbrev new : Terminal
-    new = asked_for (known_in scene setup) till terminal last intent
+    new = asked_for (known_in scene setup) till terminal last asking.intent asking.original
 
     abbrev row : Row
-    row = beginning_row (known_in scene setup) pt till terminal last intent
+    row = beginning_row (known_in scene setup) pt till terminal last asking.intent asking.original
 
-    -- its command can be written; the password says nothing of that
-    has-digits : HasCommandDigits command
-    has-digits =
-        let records : AreRecordsOf scene.kept terminal.pt.poi (Ready last) = subst (AreRecordsOf scene.kept terminal.pt.poi) at.standing_is (order.terminals pt terminal at.found).records in
-        laws.asked intent None (record terminal.pt { password = [] }) (intent-within header payment terminal.pt.currency last scene.outside.moment asks records.within order.moment) tt (All-nil IsBcdByte)
+    within : IsPt terminal.pt
+    within = pt-within (known_in scene setup) pt terminal order found
+
+    can : CanBeAsked terminal.pt command scene.outside.moment
+    can = can-be-asked asking.intent.what asking.intent asking.original terminal.pt scene.outside.moment within
 
     -- its terminal was ready, and quiet
     was-quiet : IsQuiet (settings terminal.pt.poi) (exchanges terminal.pt.poi) pt rest
     was-quiet =
-        subst (IsPeerIn (settings terminal.pt.poi) terminal.pt.poi (exchanges terminal.pt.poi) pt rest past.commands terminal.talk) at.standing_is
-        ((between.each pt terminal at.found).peer (ap is_linked at.standing_is) refl)
+        subst (IsPeerIn (settings terminal.pt.poi) terminal.pt.poi (exchanges terminal.pt.poi) pt rest past.commands terminal.talk) standing_is
+        ((between.each pt terminal found).peer (ap is_linked standing_is) refl)
 
     to-be-asked : IsToBeAsked (settings terminal.pt.poi) (exchanges terminal.pt.poi) pt rest row.calls new
     to-be-asked = record {
       quiet = was-quiet;
       command = command;
       owed = inr (inr (inr (inr (inl refl))));
-      digits = has-digits;
-      sizes = tt;
-      of_standing = (payment.amount, _, refl);
-      dialogue = record { dialogue_kind = Payment; none = terminal.pt.none; acknowledge_time = terminal.pt.answer; command_time = terminal.pt.command; sent = pos scene.outside.moment };
-      begins = refl;
-      talk_is = refl;
+      digits = laws.asked asking.intent asking.original terminal.pt anew.within anew.original_within within.password.1;
+      sizes = can.sizes;
+      of_standing = can.charging;
+      dialogue = can.dialogue;
+      begins = can.begins;
+      talk_is = can.talk_is;
     }
 
     -- its command is owed, and no other terminal's
     asked-here : ask_owed pt row.calls ≡ true
-    asked-here = ap (λ b. b || false) (eqb_same pt)
+    asked-here = ask-alone (begins_dialogue command) (pt == pt) (ap is_some can.begins) ∙ eqb_same pt
 
     asked-elsewhere : (number : ℕ) → number ≢ pt → ask_owed number row.calls ≡ false
-    asked-elsewhere number apart = by (pt == number) refl
+    asked-elsewhere number apart = ask-alone (begins_dialogue command) (pt == number) (ap is_some can.begins) ∙ by (pt == number) refl
       where
-        by : (test : Bool) → (pt == number) ≡ test → (test || false) ≡ false
+        by : (test : Bool) → (pt == number) ≡ test → test ≡ false
         by true e = absurd (apart (sym (eqb-true pt number e)))
         by false e = refl
 
@@ -462,8 +501,8 @@ module _ (laws : PeerLaws) (settings : List ℕ → Setting) (exchanges : List �
           (record {
             peer = λ linked uncut. subst (λ (asked : Bool). IsPeer asked (settings terminal.pt.poi) (exchanges terminal.pt.poi) pt rest past.commands row.calls new) (sym asked-here) to-be-asked;
             unlinked = λ due is. served due is;
-            heard = (between.each pt terminal at.found).heard;
-            made = λ linked. (between.each pt terminal at.found).made (ap is_linked at.standing_is);
+            heard = (between.each pt terminal found).heard;
+            made = λ linked. (between.each pt terminal found).made (ap is_linked standing_is);
           });
       linking = λ number links. no-true (sym (links-none number) ∙ links);
       handles = λ handles. handles;
@@ -474,12 +513,66 @@ module _ (laws : PeerLaws) (settings : List ℕ → Setting) (exchanges : List �
         served : (due : Option ℕ) → new.standing ≡ Unlinked due → (new.talk ≡ None) × ((pending pt rest ≡ []) ⊎ (is_due_by scene.outside.moment due ≡ false))
         served due is = absurd cc
 
+  -- ---- a stop that is wished
+
+  -- the terminal that is to stop what it serves is as far as it was, once that is wished, whatever is awaited of it
+  module _ (terminal new : Terminal) (talk : TalkFacts) (at : StopsAt (known_in scene setup) pt header request terminal talk) (pt_is : terminal.pt ≡ new.pt) (standing_is : terminal.standing ≡ new.standing) (talk_is : Some (talk_after_stop_wished talk) ≡ new.talk)
+      (calls : List OwedCall) (plain : IsPlain calls) (none : (number : ℕ) → link_owed number calls ≡ false) where
+    abbrev Peer : Pt → Option TalkFacts → Standing → Type 0
+    Peer of runs standing = IsPeerIn (settings of.poi) of.poi (exchanges of.poi) pt rest past.commands runs standing
+
+    linked-is : is_linked terminal.standing ≡ true
+    linked-is = ap is_linked at.standing_is
+
+    wished : Peer terminal.pt (Some (talk_after_stop_wished talk)) terminal.standing
+    wished =
+        subst (Peer terminal.pt (Some (talk_after_stop_wished talk))) (sym at.standing_is)
+        (wished-transacting laws (settings terminal.pt.poi) (exchanges terminal.pt.poi) pt rest talk terminal.pt.poi past.commands
+        (subst (λ (runs : Option TalkFacts). Peer terminal.pt runs (Serving (Transaction at.slot) at.last)) at.talk_is
+        (subst (Peer terminal.pt terminal.talk) at.standing_is ((between.each pt terminal at.found).peer linked-is refl))))
+
+    peer-now : Peer new.pt new.talk new.standing
+    peer-now =
+        subst (λ (of : Pt). Peer of new.talk new.standing) pt_is
+        (subst (λ (runs : Option TalkFacts). Peer terminal.pt runs new.standing) talk_is (subst (Peer terminal.pt (Some (talk_after_stop_wished talk))) standing_is wished))
+
+    linked-now : is_linked new.standing ≡ true
+    linked-now = ap is_linked (sym standing_is) ∙ linked-is
+
+    wished-plays : RowPlays settings exchanges scene.outside past rest (terminal_becomes (known_in scene setup) pt new calls)
+    wished-plays = record {
+      each = each-in-place (λ number one. TerminalPlays settings exchanges scene.outside past rest calls number one) scene.core pt new
+          (λ number one apart there. so-plays settings exchanges scene past (Serve pt till header request) rest between rest calls number one (same-so scene.core number one there) refl (plain.asks_none number))
+          (record {
+            peer = λ linked uncut. subst (λ (asked : Bool). IsPeer asked (settings new.pt.poi) (exchanges new.pt.poi) pt rest past.commands calls new) (sym (plain.asks_none pt)) peer-now;
+            unlinked = λ due is. no-true (sym (ap is_linked is) ∙ linked-now);
+            heard = subst (λ (of : Pt). is_connected scene.outside.links pt ≡ true → heard_on_link (exchanges_in (exchanges of.poi)) ≡ heard_on scene.outside.links pt) pt_is (between.each pt terminal at.found).heard;
+            made = λ linked. subst (λ (of : Pt). WasLinked past.links of.poi) pt_is ((between.each pt terminal at.found).made linked-is);
+          });
+      linking = λ number links. no-true (sym (none number) ∙ links);
+      handles = λ handles. handles;
+      uncharged = λ handles number. plain.charges_none number;
+      served = λ handles. handles-none handles;
+    }
+
+-- a stop asks nothing, and charges nothing
+stop-plain : (pt : ℕ) → IsPlain (SendPt pt (Ask commands.Stop) ∷ [])
+stop-plain pt = record { asks_none = λ number. neither (pt == number); charges_none = λ number. neither (pt == number) }
+  where
+    neither : (b : Bool) → ((b && false) || false) ≡ false
+    neither true = refl
+    neither false = refl
+
 pub serve-plays : (laws : PeerLaws) (pt till : ℕ) (header : Header) (request : SaleRequest) → PlaysItem (Serve pt till header request)
 serve-plays laws pt till header request = item-plays (Serve pt till header request) refl (λ scene past. refl) (λ settings exchanges scene setup past rest between order read.
     each-served (λ (row : Row). RowPlays settings exchanges scene.outside past rest row) (known_in scene setup) pt till header request
     (nothing-plays settings exchanges scene past (Serve pt till header request) rest between)
-    (λ payment terminal last is at.
-    begins-plays laws settings exchanges scene setup past rest pt till header request between order payment (payment-within header payment (subst (λ (r : SaleRequest). IsReadRequest setup pt header r) is read).read) terminal last at))
+    (λ terminal last asking at.
+    begins-plays laws settings exchanges scene setup past rest pt till header request between order terminal last asking at.found at.standing_is
+    (begins-anew laws.ledger (known_in scene setup) order pt till header request terminal last asking read at))
+    (λ terminal talk at may.
+    wished-plays laws settings exchanges scene setup past rest pt till header request between order terminal (record (wishing terminal talk) { awaited = terminal.awaited + 1 }) talk at refl refl refl (SendPt pt (Ask commands.Stop) ∷ []) (stop-plain pt) (λ number. refl))
+    (λ terminal talk at may. wished-plays laws settings exchanges scene setup past rest pt till header request between order terminal (wishing terminal talk) talk at refl refl refl [] none-plain (λ number. refl)))
 
 -- ---- the first item begins
 

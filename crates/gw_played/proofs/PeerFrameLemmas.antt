@@ -26,7 +26,7 @@ use Rattle.gw_rules.specs.TranscriptLaws.{cut_owed}
 use Rattle.gw_books.specs.Past.{SentCommand, Past}
 use Rattle.gw_books.proofs.Holding.{charge_owed, is_handle}
 use Rattle.gw_played.specs.Played.{PlacedExchange, exchanges_in}
-use Rattle.gw_played.proofs.Playing.{pending, AreMessages, IsLeft, IsQuiet, IsTalking, IsPaying, IsPeerIn, IsPeer, WasLinked, ask_owed, link_owed, brings_charge}
+use Rattle.gw_played.proofs.Playing.{pending, AreMessages, IsLeft, IsQuiet, IsTalking, IsTransacting, IsPeerIn, IsPeer, WasLinked, ask_owed, link_owed, brings_charge}
 
 -- ---- items that handle the same of a terminal
 
@@ -51,7 +51,6 @@ module _ (setting : Setting) (exchanges : List PlacedExchange) (number : ℕ) (i
     begins = t.begins;
     came = t.came;
     talk_is = t.talk_is;
-    unstopped = t.unstopped;
     goes_on = t.goes_on;
     left = t.left;
     is_left = left-same t.left t.is_left;
@@ -60,9 +59,9 @@ module _ (setting : Setting) (exchanges : List PlacedExchange) (number : ℕ) (i
     waits = t.waits;
   }
 
-  pub paying-same : (poi : List ℕ) (sent : List SentCommand) (talk : Option TalkFacts) → IsPaying setting poi exchanges number items sent talk → IsPaying setting poi exchanges number others sent talk
+  pub transacting-same : (poi : List ℕ) (sent : List SentCommand) (talk : Option TalkFacts) → IsTransacting setting poi exchanges number items sent talk → IsTransacting setting poi exchanges number others sent talk
   unfolding talking-same
-  paying-same poi sent talk p = record { amount = p.amount; currency = p.currency; talking = talking-same talk _ p.talking; last = p.last }
+  transacting-same poi sent talk p = record { command = p.command; charging = p.charging; talking = talking-same talk p.command p.talking; last = p.last }
 
   -- so a terminal's dialogue is as far
   pub peer-in-same : (poi : List ℕ) (sent : List SentCommand) (talk : Option TalkFacts) (standing : Standing) → IsPeerIn setting poi exchanges number items sent talk standing → IsPeerIn setting poi exchanges number others sent talk standing
@@ -70,7 +69,7 @@ module _ (setting : Setting) (exchanges : List PlacedExchange) (number : ℕ) (i
   peer-in-same poi sent talk Registering is = (is.0, is.1, is.2, talking-same talk _ is.3)
   peer-in-same poi sent talk Enquiring is = (is.0, talking-same talk _ is.1)
   peer-in-same poi sent talk (Ready last) is = quiet-same is
-  peer-in-same poi sent talk (Serving (Transaction slot) last) is = paying-same poi sent talk is
+  peer-in-same poi sent talk (Serving (Transaction slot) last) is = transacting-same poi sent talk is
   peer-in-same poi sent talk (Serving (EndOfDay header period) last) is = tt
   peer-in-same poi sent talk (Serving (Display header outputs) last) is = tt
   peer-in-same poi sent talk (Aside before reported) is = quiet-same is

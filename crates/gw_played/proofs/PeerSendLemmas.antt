@@ -1,4 +1,4 @@
--- What a played terminal that waits for no bytes does at what the gateway sends it: at a whole command, at an acknowledgement or a refusal, at a first part of either, and at a new link.
+-- What a played terminal that waits for no bytes does at what the gateway sends it: at a whole command, at an acknowledgement, a refusal or a stop, at a first part of any of them, and at a new link.
 use Rattle.std.proofs.Common.{◌≡◌, ◌∙◌, ℕ, zero, suc, ◌<◌, ◌≤◌, Bool, true, false, cond, eqb, List, [], ◌∷◌, ◌++◌, length, drop, Option, None, Some, Ok, refl, sym, ap, subst, append_assoc, append-nil, arith, inl, inr}
 use Rattle.std.specs.Prelude.{◌⊎◌, ◌&&◌, ◌||◌, map, nat_lt}
 use Rattle.std.specs.List.{AllByRecursion}
@@ -41,10 +41,10 @@ use Rattle.gw_owes.specs.Links.{is_linked}
 use Rattle.gw_rules.proofs.StageLemmas.{no-true}
 use Rattle.gw_books.specs.Books.{BookedEntry}
 use Rattle.gw_books.specs.Past.{SentCommand}
-use Rattle.gw_books.proofs.Holding.{ServesTransaction}
+use Rattle.gw_books.proofs.Holding.{ServesTransaction, charges}
 use Rattle.gw_books.proofs.ListLemmas.{In}
 use Rattle.gw_played.specs.Played.{PlacedExchange, exchanges_in, booked_by, placed_entry, book_along}
-use Rattle.gw_played.proofs.Playing.{met_in, pending, AreMessages, IsLeft, WaitsForNone, IsQuiet, IsTalking, IsLastServed, IsPaying, IsPeerIn, PeerLaws}
+use Rattle.gw_played.proofs.Playing.{met_in, pending, AreMessages, IsLeft, WaitsForNone, IsQuiet, IsTalking, IsLastServed, IsTransacting, IsPeerIn, PeerLaws}
 
 -- ---- bytes that come in two parts
 
@@ -383,7 +383,7 @@ part-books-none laws setting met bytes part waits =
     let all : requests (Chunk bytes ∷ met) ≡ requests met = ap (λ (d : DecodedApdus). d.apdus) (sent-decoded laws met bytes waits) ∙ ap (λ (d : DecodedApdus). requests met ++ d.apdus) part ∙ append-nil (requests met) in
     ap (λ (l : List ApduValue). book_of setting (handled setting (earlier setting met) l)) all
 
--- ---- commands, acknowledgements and refusals
+-- ---- commands, acknowledgements, refusals and stops
 
 -- a command is one APDU
 pub command-is-one : (laws : PeerLaws) (command : Command) → HasCommandDigits command → HasCommandSizes command → IsOneApdu (canonical_command command) (command_apdu command)
@@ -414,6 +414,13 @@ acknowledgement-silent setting before = refl
 pub refusal-silent : IsSilentAt refusal
 unfolding decode_command
 refusal-silent setting before = refl
+
+pub stop-is-one : IsOneApdu (canonical_command command.Stop) (command_apdu command.Stop)
+stop-is-one = refl
+
+pub stop-silent : IsSilentAt (command_apdu command.Stop)
+unfolding decode_command
+stop-silent setting before = refl
 
 -- ---- on the connection of a played terminal
 
@@ -507,7 +514,6 @@ module _ (laws : PeerLaws) (setting : Setting) (exchanges : List PlacedExchange)
         begins = begins;
         came = [];
         talk_is = talk_is;
-        unstopped = refl;
         goes_on = refl;
         left = read_messages 16 (reaction_after setting before (command_apdu asked));
         is_left = left-then laws.all setting exchanges number items place (canonical_command asked) (bytes_of (reaction_after setting before (command_apdu asked))) (read_messages 16 (reaction_after setting before (command_apdu asked))) quiet.none_left
@@ -517,16 +523,16 @@ module _ (laws : PeerLaws) (setting : Setting) (exchanges : List PlacedExchange)
         waits = w.waits;
       }
 
--- so a payment begins that the terminal has handled, where the book has just what it books for that
-pub begins-paying : (laws : PeerLaws) (setting : Setting) (poi : List ℕ) (exchanges : List PlacedExchange) (number : ℕ) (items : List RoundItem) (place amount currency : ℕ) (sent : List SentCommand) (dialogue : Dialogue) (talk : Option TalkFacts)
-    → IsQuiet setting exchanges number items → HasCommandDigits (command.Authorise amount currency) → dialogue_kind_of (command.Authorise amount currency) ≡ Some dialogue.dialogue_kind → talk ≡ Some (talk_after dialogue [])
-    → IsLastServed setting poi (sends place (canonical_command (command.Authorise amount currency)) exchanges) sent (entries_of (reaction_after setting (all_handled setting (met_in exchanges)) (command_apdu (command.Authorise amount currency))))
-    → IsPaying setting poi (sends place (canonical_command (command.Authorise amount currency)) exchanges) number items sent talk
+-- so a payment or a reversal begins whose command the terminal has handled, where the book has just what it books for that
+pub begins-transacting : (laws : PeerLaws) (setting : Setting) (poi : List ℕ) (exchanges : List PlacedExchange) (number : ℕ) (items : List RoundItem) (place : ℕ) (asked : Command) (sent : List SentCommand) (dialogue : Dialogue) (talk : Option TalkFacts)
+    → charges asked ≡ true → IsQuiet setting exchanges number items → HasCommandDigits asked → HasCommandSizes asked → dialogue_kind_of asked ≡ Some dialogue.dialogue_kind → talk ≡ Some (talk_after dialogue [])
+    → IsLastServed setting poi (sends place (canonical_command asked) exchanges) sent (entries_of (reaction_after setting (all_handled setting (met_in exchanges)) (command_apdu asked)))
+    → IsTransacting setting poi (sends place (canonical_command asked) exchanges) number items sent talk
 unfolding begins-talking
-begins-paying laws setting poi exchanges number items place amount currency sent dialogue talk quiet digits begins talk_is last = record {
-  amount = amount;
-  currency = currency;
-  talking = begins-talking laws setting exchanges number items place (command.Authorise amount currency) quiet digits tt dialogue talk begins talk_is;
+begins-transacting laws setting poi exchanges number items place asked sent dialogue talk charge quiet digits sizes begins talk_is last = record {
+  command = asked;
+  charging = charge;
+  talking = begins-talking laws setting exchanges number items place asked quiet digits sizes dialogue talk begins talk_is;
   last = last;
 }
 
@@ -549,7 +555,6 @@ module _ (setting : Setting) (poi : List ℕ) (exchanges : List PlacedExchange) 
     begins = t.begins;
     came = t.came;
     talk_is = t.talk_is;
-    unstopped = t.unstopped;
     goes_on = t.goes_on;
     left = t.left;
     is_left = left-still t.left t.is_left;
@@ -577,9 +582,9 @@ module _ (setting : Setting) (poi : List ℕ) (exchanges : List PlacedExchange) 
   peer-still sent talk Enquiring peer = (peer.0, talking-still talk (command.Enquire peer.0) peer.1)
   peer-still sent talk (Ready last) peer = quiet-still peer
   peer-still sent talk (Serving (Transaction slot) last) peer = record {
-    amount = peer.amount;
-    currency = peer.currency;
-    talking = talking-still talk (command.Authorise peer.amount peer.currency) peer.talking;
+    command = peer.command;
+    charging = peer.charging;
+    talking = talking-still talk peer.command peer.talking;
     last = last-still sent (entries_of (reaction_after setting peer.talking.before peer.talking.apdu)) peer.last;
   }
   peer-still sent talk (Serving (EndOfDay header period) last) peer = tt

@@ -10,11 +10,11 @@ use Rattle.zvt_msg.specs.declared.command.Command.TheVariants as command
 use Rattle.zvt_msg.specs.CommandDecode.{decode_command}
 use Rattle.zvt_msg.specs.Message.{MessageValue, Ack, Status, Completion, Abort}
 use Rattle.zvt_talk.specs.declared.dialogue_kind.DialogueKind.{DialogueKind}
-use Rattle.zvt_talk.specs.declared.dialogue_kind.DialogueKind.TheVariants.{Registration, Enquiry, Payment}
+use Rattle.zvt_talk.specs.declared.dialogue_kind.DialogueKind.TheVariants.{Registration, Enquiry, Payment, Reversal}
 use Rattle.zvt_talk.specs.declared.meaning.Heard.{Heard}
 use Rattle.zvt_talk.specs.declared.meaning.Heard.TheVariants as heard
 use Rattle.zvt_talk.specs.Dialogue.{Dialogue, dialogue_kind_of}
-use Rattle.zvt_talk.specs.Came.{Came, Message, StopWished, status_fields_of, has_result, is_asked, is_begun, is_completion_or_abort, is_stop_sent, is_stop_wished, is_taken, messages, taken_message}
+use Rattle.zvt_talk.specs.Came.{Came, Message, StopWished, status_fields_of, has_result, is_asked, is_begun, is_stop_sent, is_stop_wished, is_taken, messages, taken_message}
 use Rattle.zvt_talk.specs.Laws.{IsEndOf}
 use Rattle.zvt_talk.specs.Table.{meaning_when_asked, meaning_when_begun, approved_with, enquiry_approved}
 use Rattle.zvt_talk.specs.declared.phase.Phase.TheVariants.{Asked, Begun, Ended}
@@ -24,25 +24,25 @@ use Rattle.zvt_talk.specs.TalkSteps.{meaning_for_talk, next_talk}
 use Rattle.pt_core.specs.declared.book.BookEntry.{BookEntry}
 use Rattle.pt_core.specs.declared.play.Play.{Play}
 use Rattle.pt_core.specs.declared.play.Play.TheVariants as play
-use Rattle.pt_core.specs.Book.{is_full, last_book_entry, next_entry}
+use Rattle.pt_core.specs.Book.{is_full, last_book_entry, last_payment, next_entry}
 use Rattle.pt_core.specs.Ends.{IsTrueEnd, entry_figures}
 use Rattle.pt_core.specs.History.{Setting, book_of, play_left, reaction_after}
-use Rattle.pt_core.specs.Table.{at_command, by_command, cuts, enquiry, entries_of, payment}
+use Rattle.pt_core.specs.Table.{at_command, by_command, cuts, enquiry, entries_of, payment, reversal}
 use Rattle.pt_core.proofs.EndLemmas.{read_messages, read_status, true_end}
 use Rattle.gw_owes.specs.Handling.{taken_as}
 use Rattle.gw_played.proofs.Playing.{PeerLaws}
 
 -- ---- what a message means, by the messages before it alone
 
--- while no stop is wished
-abbrev pub meaning_after : DialogueKind → ℕ → List MessageValue → MessageValue → Heard
-meaning_after dialogue_kind none taken message =
-    cond (is_asked taken) (meaning_when_asked dialogue_kind false message)
+-- and by whether a stop is wished
+abbrev pub meaning_after : DialogueKind → ℕ → Bool → List MessageValue → MessageValue → Heard
+meaning_after dialogue_kind none wished taken message =
+    cond (is_asked taken) (meaning_when_asked dialogue_kind wished message)
     (meaning_when_begun dialogue_kind none (record { last = last_or None (filter_map status_fields_of taken); approved = list_any (λ status. has_result 0 status.result) (filter_map status_fields_of taken) }) message)
 
--- the dialogue goes on, and nothing follows
+-- the dialogue goes on, and nothing follows but a stop
 abbrev pub GoesOn : Heard → Type 0
-GoesOn (heard.Begun stop) = stop ≡ false
+GoesOn (heard.Begun stop) = Unit {0}
 GoesOn (heard.Note intermediate_status) = ⊥
 GoesOn heard.Line = ⊥
 GoesOn heard.Block = ⊥
@@ -72,11 +72,11 @@ on-unended heard.Stray on = refl
 abbrev pub MayEnd : DialogueKind → Heard → Type 0
 MayEnd dialogue_kind meant = IsEndOf dialogue_kind meant × (is_end meant ≡ true)
 
--- what a message means in a dialogue in which these came before it and these come after it, before the connection is cut or not
+-- what a message means in a dialogue in which these came before it and these come after it, before the connection is cut or not, and whether a stop is wished or not
 record Means (dialogue_kind : DialogueKind) (none : ℕ) (cut : Bool) (taken : List MessageValue) (message : MessageValue) (left : List MessageValue) : Type 0 where
   taken_is : is_taken message ≡ true
   same : (awaited : ℕ) → taken_as awaited message ≡ message
-  then : GoesOn (meaning_after dialogue_kind none taken message) ⊎ (MayEnd dialogue_kind (meaning_after dialogue_kind none taken message) × (left ≡ []) × (cut ≡ false))
+  then : (wished : Bool) → GoesOn (meaning_after dialogue_kind none wished taken message) ⊎ (MayEnd dialogue_kind (meaning_after dialogue_kind none wished taken message) × (left ≡ []) × (cut ≡ false))
 
 -- ---- where a message is among few
 
@@ -117,7 +117,7 @@ module _ (dialogue_kind : DialogueKind) (none : ℕ) (cut : Bool) where
 
 -- ---- each reaction to a command
 
--- an end of a payment
+-- an end of a payment or a reversal
 payment-code : (zero_code : Bool) (result_code : ℕ) → MayEnd Payment (cond zero_code heard.Unclear (heard.Declined result_code None))
 payment-code true result_code = (tt, refl)
 payment-code false result_code = (tt, refl)
@@ -139,44 +139,60 @@ enquiry-figures false trace figures = (tt, refl)
 -- a registration
 registers-says : (none : ℕ) → EachSays Registration none false (Ack ∷ Completion ∷ [])
 registers-says none = each-two Registration none false Ack Completion
-    (record { taken_is = refl; same = λ awaited. refl; then = inl refl })
-    (record { taken_is = refl; same = λ awaited. refl; then = inr ((tt, refl), refl, refl) })
+    (record { taken_is = refl; same = λ awaited. refl; then = λ wished. inl tt })
+    (record { taken_is = refl; same = λ awaited. refl; then = λ wished. inr ((tt, refl), refl, refl) })
 
 -- a payment that is aborted
 payment-aborted : (none result_code : ℕ) → EachSays Payment none false (Ack ∷ Abort (Some result_code) ∷ [])
 payment-aborted none result_code = each-two Payment none false Ack (Abort (Some result_code))
-    (record { taken_is = refl; same = λ awaited. refl; then = inl refl })
-    (record { taken_is = refl; same = λ awaited. refl; then = inr (payment-code (eqb result_code 0) result_code, refl, refl) })
+    (record { taken_is = refl; same = λ awaited. refl; then = λ wished. inl tt })
+    (record { taken_is = refl; same = λ awaited. refl; then = λ wished. inr (payment-code (eqb result_code 0) result_code, refl, refl) })
 
 payment-approved : (none : ℕ) (entry : BookEntry) → EachSays Payment none false (Ack ∷ Status (read_status 16 entry) ∷ Completion ∷ [])
 payment-approved none entry = each-three Payment none false Ack (Status (read_status 16 entry)) Completion
-    (record { taken_is = refl; same = λ awaited. refl; then = inl refl })
-    (record { taken_is = refl; same = λ awaited. refl; then = inl tt })
-    (record { taken_is = refl; same = λ awaited. refl; then = inr (payment-figures (leb 1 entry.number && leb 1 entry.amount) (entry_figures entry), refl, refl) })
+    (record { taken_is = refl; same = λ awaited. refl; then = λ wished. inl tt })
+    (record { taken_is = refl; same = λ awaited. refl; then = λ wished. inl tt })
+    (record { taken_is = refl; same = λ awaited. refl; then = λ wished. inr (payment-figures (leb 1 entry.number && leb 1 entry.amount) (entry_figures entry), refl, refl) })
 
 payment-says : (full : Bool) (chosen : Play) (none : ℕ) (book : List BookEntry) (amount : ℕ)
     → (let done = cond full (payment (play.Decline 0x83) book amount) (payment chosen book amount) in EachSays Payment none (cuts done) (read_messages 16 done))
 payment-says true chosen none book amount = payment-aborted none 0x83
 payment-says false play.Approve none book amount = payment-approved none (next_entry book amount false)
 payment-says false (play.Decline result_code) none book amount = payment-aborted none result_code
-payment-says false play.CutAfterBook none book amount = each-one Payment none true Ack (record { taken_is = refl; same = λ awaited. refl; then = inl refl })
+payment-says false play.CutAfterBook none book amount = each-one Payment none true Ack (record { taken_is = refl; same = λ awaited. refl; then = λ wished. inl tt })
 payment-says false play.DropAtOnce none book amount = no-one Payment none true
+
+-- a reversal
+reversal-aborted : (none result_code : ℕ) → EachSays Reversal none false (Ack ∷ Abort (Some result_code) ∷ [])
+reversal-aborted none result_code = each-two Reversal none false Ack (Abort (Some result_code))
+    (record { taken_is = refl; same = λ awaited. refl; then = λ wished. inl tt })
+    (record { taken_is = refl; same = λ awaited. refl; then = λ wished. inr (payment-code (eqb result_code 0) result_code, refl, refl) })
+
+reversal-says : (full : Bool) (found : Option BookEntry) (none : ℕ) (book : List BookEntry) → (let done = cond full (enquiry 0x83 None) (reversal found book) in EachSays Reversal none (cuts done) (read_messages 16 done))
+reversal-says true found none book = reversal-aborted none 0x83
+reversal-says false None none book = reversal-aborted none 0xB4
+reversal-says false (Some paid) none book =
+    let entry : BookEntry = next_entry book paid.amount true in
+    each-three Reversal none false Ack (Status (read_status 16 entry)) Completion
+    (record { taken_is = refl; same = λ awaited. refl; then = λ wished. inl tt })
+    (record { taken_is = refl; same = λ awaited. refl; then = λ wished. inl tt })
+    (record { taken_is = refl; same = λ awaited. refl; then = λ wished. inr (payment-figures (leb 1 entry.number && leb 1 entry.amount) (entry_figures entry), refl, refl) })
 
 enquiry-says : (last : Option BookEntry) (none own : ℕ) → EachSays Enquiry none (cuts (enquiry own last)) (read_messages 16 (enquiry own last))
 enquiry-says None none own = each-two Enquiry none false Ack (Abort (Some own))
-    (record { taken_is = refl; same = λ awaited. refl; then = inl refl })
-    (record { taken_is = refl; same = λ awaited. refl; then = inr (enquiry-code (eqb own 0) (eqb own none) own, refl, refl) })
+    (record { taken_is = refl; same = λ awaited. refl; then = λ wished. inl tt })
+    (record { taken_is = refl; same = λ awaited. refl; then = λ wished. inr (enquiry-code (eqb own 0) (eqb own none) own, refl, refl) })
 enquiry-says (Some entry) none own = each-three Enquiry none false Ack (Status (read_status 16 entry)) Completion
-    (record { taken_is = refl; same = λ awaited. refl; then = inl refl })
-    (record { taken_is = refl; same = λ awaited. refl; then = inl tt })
-    (record { taken_is = refl; same = λ awaited. refl; then = inr (enquiry-figures (leb 1 entry.number && leb 1 entry.amount) entry.number (entry_figures entry), refl, refl) })
+    (record { taken_is = refl; same = λ awaited. refl; then = λ wished. inl tt })
+    (record { taken_is = refl; same = λ awaited. refl; then = λ wished. inl tt })
+    (record { taken_is = refl; same = λ awaited. refl; then = λ wished. inr (enquiry-figures (leb 1 entry.number && leb 1 entry.amount) entry.number (entry_figures entry), refl, refl) })
 
--- the command is one that a gateway sends now: a registration, an authorisation or an enquiry
+-- the command is one with which a gateway begins a dialogue now: a registration, an authorisation, a reversal or an enquiry
 abbrev pub IsAsked : Command → Type 0
 IsAsked (command.Register password config currency) = Unit {0}
 IsAsked (command.Authorise amount currency) = Unit {0}
 IsAsked (command.Enquire password) = Unit {0}
-IsAsked (command.Reverse password receipt) = ⊥
+IsAsked (command.Reverse password receipt) = Unit {0}
 IsAsked (command.EndOfDay password) = ⊥
 IsAsked command.Stop = ⊥
 IsAsked (command.Show display_lines) = ⊥
@@ -197,27 +213,15 @@ command-says none own chosen book (command.Enquire password) which is e =
     let done = at_command own chosen book (command.Enquire password) in
     let P : DialogueKind → Type 0 = λ k. EachSays k none (cuts done) (read_messages 16 done) in
     subst P (same-kind Enquiry which e) (enquiry-says (last_book_entry book) none own)
-command-says none own chosen book (command.Reverse password receipt) which is e = absurd is
+command-says none own chosen book (command.Reverse password receipt) which is e =
+    let done = at_command own chosen book (command.Reverse password receipt) in
+    let P : DialogueKind → Type 0 = λ k. EachSays k none (cuts done) (read_messages 16 done) in
+    subst P (same-kind Reversal which e) (reversal-says (is_full book) (last_payment receipt book) none book)
 command-says none own chosen book (command.EndOfDay password) which is e = absurd is
 command-says none own chosen book command.Stop which is e = absurd is
 command-says none own chosen book (command.Show display_lines) which is e = absurd is
 
 -- ---- more that came
-
--- a message is no wish to stop
-pub still-unstopped : (came : List Came) (message : MessageValue) (at : ℤ) → is_stop_wished came ≡ false → is_stop_wished (came ++ Message message at ∷ []) ≡ false
-still-unstopped [] message at e = by-test (is_completion_or_abort message)
-  where
-    by-test : (b : Bool) → (not b && false) ≡ false
-    by-test true = refl
-    by-test false = refl
-still-unstopped (StopWished ∷ came) message at e = absurd cc
-still-unstopped (Message first when ∷ came) message at e = by-test (is_completion_or_abort first) e (still-unstopped came message at)
-  where
-    by-test : (b : Bool) → (not b && is_stop_wished came) ≡ false → (is_stop_wished came ≡ false → is_stop_wished (came ++ Message message at ∷ []) ≡ false)
-        → (not b && is_stop_wished (came ++ Message message at ∷ [])) ≡ false
-    by-test true e later = refl
-    by-test false e later = later e
 
 -- what this message means, where the dialogue went on until it, is the end or not
 one-more : (dialogue : Dialogue) (before rest : List Came) (message : MessageValue) (at : ℤ) → end_from dialogue before rest ≡ None
@@ -246,6 +250,10 @@ messages-more came message at is = filter_map-append taken_message came (Message
   where
     one : messages (Message message at ∷ []) ≡ message ∷ []
     one = rw is refl
+
+-- a stop that is wished is no message
+pub messages-wished : (came : List Came) → messages (came ++ StopWished ∷ []) ≡ messages came
+messages-wished came = filter_map-append taken_message came (StopWished ∷ []) ∙ append-nil (messages came)
 
 -- ---- a message of a dialogue that goes on
 
@@ -278,23 +286,21 @@ pub record Spoken (setting : Setting) (before : List ApduValue) (apdu : ApduValu
   pub same : (awaited : ℕ) → taken_as awaited message ≡ message
   pub means : meaning_for_talk (talk_after dialogue came) message ≡ meaning dialogue came message
   pub next : (at : ℤ) → next_talk (talk_after dialogue came) message at ≡ talk_after dialogue (came ++ Message message at ∷ [])
-  pub unstopped : (at : ℤ) → is_stop_wished (came ++ Message message at ∷ []) ≡ false
   pub whole : (at : ℤ) → messages (came ++ Message message at ∷ []) ++ left ≡ read_messages 16 (reaction_after setting before apdu)
   pub then : StaysOpen dialogue came message ⊎ EndsHere setting before apdu dialogue came message left
 
 -- the first message that is left is taken by the dialogue
 pub spoken : PeerLaws → (setting : Setting) (before : List ApduValue) (apdu : ApduValue) (command : Command) (dialogue : Dialogue) (came : List Came) (message : MessageValue) (left : List MessageValue)
-    → IsAsked command → decode_command apdu ≡ Some command → dialogue_kind_of command ≡ Some dialogue.dialogue_kind → is_stop_wished came ≡ false → end_of dialogue came ≡ None
+    → IsAsked command → decode_command apdu ≡ Some command → dialogue_kind_of command ≡ Some dialogue.dialogue_kind → end_of dialogue came ≡ None
     → messages came ++ message ∷ left ≡ read_messages 16 (reaction_after setting before apdu) → Spoken setting before apdu dialogue came message left
-spoken laws setting before apdu command dialogue came message left asked spells begins unstopped goes_on whole =
+spoken laws setting before apdu command dialogue came message left asked spells begins goes_on whole =
     record {
       taken_is = said.taken_is;
       same = said.same;
       means = laws.means dialogue came message opened;
       next = λ at. laws.next dialogue came message at opened;
-      unstopped = λ at. still-unstopped came message at unstopped;
       whole = λ at. more at;
-      then = by-then said.then;
+      then = by-then (said.then (is_stop_wished came));
     }
   where
     opened : talk_goes_on (talk_after dialogue came) ≡ true
@@ -312,24 +318,17 @@ spoken laws setting before apdu command dialogue came message left asked spells 
         ∙ append_assoc (messages came) (message ∷ []) left
         ∙ whole
 
-    meant : meaning dialogue came message ≡ meaning_after dialogue.dialogue_kind dialogue.none (messages came) message
-    meant = ap (λ (b : Bool). cond (is_asked (messages came)) (meaning_when_asked dialogue.dialogue_kind b message) (meaning_when_begun dialogue.dialogue_kind dialogue.none (statuses_of came) message)) unstopped
-
     ending : (at : ℤ) (b : Bool) → is_end (meaning dialogue came message) ≡ b → end_of dialogue (came ++ Message message at ∷ []) ≡ cond b (Some (meaning dialogue came message)) None
     ending at b is = one-more dialogue [] came message at goes_on ∙ ap (λ (x : Bool). cond x (Some (meaning dialogue came message)) None) is
 
-    by-then : GoesOn (meaning_after dialogue.dialogue_kind dialogue.none (messages came) message)
-        ⊎ (MayEnd dialogue.dialogue_kind (meaning_after dialogue.dialogue_kind dialogue.none (messages came) message) × (left ≡ []) × (cuts (reaction_after setting before apdu) ≡ false))
+    by-then : GoesOn (meaning dialogue came message) ⊎ (MayEnd dialogue.dialogue_kind (meaning dialogue came message) × (left ≡ []) × (cuts (reaction_after setting before apdu) ≡ false))
         → StaysOpen dialogue came message ⊎ EndsHere setting before apdu dialogue came message left
-    by-then (inl on) =
-        let here : GoesOn (meaning dialogue came message) = subst GoesOn (sym meant) on in
-        inl (record { on = here; goes_on = λ at. ending at false (on-unended (meaning dialogue came message) here) })
+    by-then (inl on) = inl (record { on = on; goes_on = λ at. ending at false (on-unended (meaning dialogue came message) on) })
     by-then (inr (ends, none_left, uncut)) =
-        let here : MayEnd dialogue.dialogue_kind (meaning dialogue came message) = subst (λ (h : Heard). MayEnd dialogue.dialogue_kind h) (sym meant) ends in
         inr (record {
-          ends = here;
+          ends = ends;
           none_left = none_left;
           uncut = uncut;
           true_of = true_end 16 setting.none (play_left setting.plays before) (book_of setting before) apdu.class (decode_command apdu) command dialogue (came ++ Message message (pos 0) ∷ []) (meaning dialogue came message)
-              spells begins (left, sym (more (pos 0))) (ending (pos 0) true here.1);
+              spells begins (left, sym (more (pos 0))) (ending (pos 0) true ends.1);
         })

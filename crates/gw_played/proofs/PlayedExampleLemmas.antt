@@ -42,11 +42,11 @@ use Rattle.gw_played.specs.Played.{PlacedExchange, exchanges_in, exchanges_of, b
 -- ---- what was exchanged
 
 -- an exchange of the terminal, where it has the POIID
-abbrev exchanged : Bool → ℕ → Exchange → List PlacedExchange → List PlacedExchange
+abbrev pub exchanged : Bool → ℕ → Exchange → List PlacedExchange → List PlacedExchange
 exchanged own place exchange before = map (λ one. record { place = place; exchange = one }) (if own then exchange ∷ [] else []) ++ before
 
 -- until the payment is asked for
-abbrev asked_exchanges : Bool → List PlacedExchange
+abbrev pub asked_exchanges : Bool → List PlacedExchange
 asked_exchanges own =
     exchanged own 22 (Sends authorise) (exchanged own 13 (Sends ack) (exchanged own 12 (Hears (ack ++ abort 0x64))
     (exchanged own 10 (Sends enquiry_sent) (exchanged own 9 (Sends ack) (exchanged own 8 (Hears (ack ++ completion)) (exchanged own 6 (Sends register_bytes) (exchanged own 5 Links [])))))))
@@ -58,14 +58,14 @@ by-poi P own other false = other
 
 -- ---- lawful, and lean
 
-abbrev is_lean : List Move → Bool
+abbrev pub is_lean : List Move → Bool
 is_lean [] = true
 is_lean (Begin ∷ moves) = goes_on moves && is_lean moves
 is_lean (Read as_read ∷ moves) = goes_on moves && is_lean moves
 is_lean (Make turn ∷ moves) = is_lean moves
 
 -- a course that passes the test is lean
-lean-tested : (moves : List Move) → is_lean moves ≡ true → IsLean moves
+pub lean-tested : (moves : List Move) → is_lean moves ≡ true → IsLean moves
 lean-tested [] e = tt
 lean-tested (Begin ∷ moves) e = let p = and_parts (goes_on moves) (is_lean moves) e in (p.0, lean-tested moves p.1)
 lean-tested (Read as_read ∷ moves) e = let p = and_parts (goes_on moves) (is_lean moves) e in (p.0, lean-tested moves p.1)
@@ -74,12 +74,12 @@ lean-tested (Make turn ∷ moves) e = lean-tested moves e
 approving-chunk : IsChunk (acknowledgement ++ approval)
 approving-chunk = record { count = (omega arith, omega arith); bytes = bytes-tested (acknowledgement ++ approval) refl }
 
-approving-lawful : IsCourse (view_from at_first asked_course) approved_moves
+pub approving-lawful : IsCourse (view_from at_first asked_course) approved_moves
 unfolding decode_apdus decode_apdus_within decode_pt_message decode_status decode_status_within decode_status_field decode_field_value history payment_text
 approving-lawful = (record { running = refl; calls = refl; items = refl }, ((record { polled = refl; connected_is = refl }, approving-chunk), (record { idle = record { round = refl; calls = refl }; first = refl }, (record { idle = record { round = refl; calls = refl }; first = refl }, (record { idle = record { round = refl; calls = refl }; first = refl }, (record { idle = record { round = refl; calls = refl }; first = refl }, ((Acknowledge, refl, refl), (record { idle = record { round = refl; calls = refl }; first = refl }, (record { idle = record { round = refl; calls = refl }; first = refl }, (record { idle = record { round = refl; calls = refl }; first = refl }, ((Acknowledge, refl, refl), (record { idle = record { round = refl; calls = refl }; first = refl }, ((WriteBody 1 (Outcome (first_approval 5)), refl, refl), (refl, ((WriteGate 1 (Outcome (first_approval 5)), refl, refl), (refl, ((first_payment_reply 5, refl, refl), (record { idle = record { round = refl; calls = refl }; first = refl }, (record { idle = record { round = refl; calls = refl }; first = refl }, (record { idle = record { round = refl; calls = refl }; first = refl }, (record { running = refl; calls = refl; items = refl }, tt)))))))))))))))))))))
 
 -- a course that goes on where the payment was asked for
-lean-course : (moves : List Move) → IsCourse (view_from at_first asked_course) moves → is_lean (asked_course ++ moves) ≡ true → IsLeanCourse (turns_of (asked_course ++ moves)) (asked_course ++ moves)
+pub lean-course : (moves : List Move) → IsCourse (view_from at_first asked_course) moves → is_lean (asked_course ++ moves) ≡ true → IsLeanCourse (turns_of (asked_course ++ moves)) (asked_course ++ moves)
 lean-course moves lawful e = record { turns_are = refl; lawful = course-append at_first asked_course moves asked-lawful lawful; lean = lean-tested (asked_course ++ moves) e }
 
 approved-lean : IsLeanCourse (turns_of played_approved_course) played_approved_course
@@ -97,7 +97,7 @@ cut-lean = lean-course cut_moves cutting-lawful refl
 
 -- ---- on its next link
 
-abbrev asked_view : View
+abbrev pub asked_view : View
 asked_view = view_from at_first asked_course
 
 abbrev cut_view : View
@@ -229,7 +229,7 @@ abbrev is_of_terminal : MadeLink → Bool
 is_of_terminal link = list_any (bytes_eq link.poi) (codes "T1" ∷ [])
 
 -- where each link that was made is of the terminal, it is the one that was linked
-all-linked : (past : Past) (links : List MadeLink) → past.links ≡ links → list_all is_of_terminal links ≡ true → HaveAllLinked (codes "T1" ∷ []) past
+pub all-linked : (past : Past) (links : List MadeLink) → past.links ≡ links → list_all is_of_terminal links ≡ true → HaveAllLinked (codes "T1" ∷ []) past
 all-linked past links are all at link found = by_place links all at (ap (λ (l : List MadeLink). slice_get l at) (sym are) ∙ found)
   where
     by_place : (made : List MadeLink) → list_all is_of_terminal made ≡ true → (at : ℕ) → slice_get made at ≡ Some link → is_of_terminal link ≡ true
@@ -271,7 +271,7 @@ abbrev declined_exchanges : Bool → List PlacedExchange
 declined_exchanges own = exchanged own 25 (Sends ack) (exchanged own 24 (Hears (ack ++ abort 0x6C)) (asked_exchanges own))
 
 -- of one that is approved
-abbrev approved_exchanges : Bool → List PlacedExchange
+abbrev pub approved_exchanges : Bool → List PlacedExchange
 approved_exchanges own = exchanged own 26 (Sends ack) (exchanged own 25 (Sends ack) (exchanged own 24 (Hears (acknowledgement ++ approval)) (asked_exchanges own)))
 
 -- until the enquiry on the next link, which is made at this place
@@ -316,7 +316,7 @@ unfolding decode_apdus decode_apdus_within decode_pt_message history payment_tex
 unperformed-exchanges poi = refl
 
 -- what is heard along the course is what was sent, where it is of the terminal's own exchanges
-played-by : (course : List Move) (setting : Setting) (all : Bool → List PlacedExchange) → ((poi : List ℕ) → exchanges_of poi course ≡ all (bytes_eq (codes "T1") poi)) → HearsSent setting (exchanges_in (all true)) → HearsSent setting (exchanges_in (all false))
+pub played-by : (course : List Move) (setting : Setting) (all : Bool → List PlacedExchange) → ((poi : List ℕ) → exchanges_of poi course ≡ all (bytes_eq (codes "T1") poi)) → HearsSent setting (exchanges_in (all true)) → HearsSent setting (exchanges_in (all false))
     → ArePlayed (λ poi. setting) course
 played-by course setting all are own other poi =
     subst (λ exchanges. HearsSent setting (exchanges_in exchanges)) (sym (are poi)) (by-poi (λ test. HearsSent setting (exchanges_in (all test))) own other (bytes_eq (codes "T1") poi))
@@ -342,7 +342,7 @@ unfolding decode_apdus decode_apdus_within decode_command
 unreported-hears = ((([], refl), (([], refl), (([], refl), (([], refl), tt)))), (([], refl), (([], refl), (([], refl), (([], refl), tt)))))
 
 -- the book is that of the terminal's own exchanges
-booked-by : (course : List Move) (setting : Setting) (all : Bool → List PlacedExchange) (book : List BookedEntry) → ((poi : List ℕ) → exchanges_of poi course ≡ all (bytes_eq (codes "T1") poi)) → book_along setting (codes "T1") (all true) ≡ book
+pub booked-by : (course : List Move) (setting : Setting) (all : Bool → List PlacedExchange) (book : List BookedEntry) → ((poi : List ℕ) → exchanges_of poi course ≡ all (bytes_eq (codes "T1") poi)) → book_along setting (codes "T1") (all true) ≡ book
     → played_book (λ poi. setting) (codes "T1" ∷ []) course ≡ book
 booked-by course setting all book are is = append-nil (book_along setting (codes "T1") (exchanges_of (codes "T1") course)) ∙ ap (book_along setting (codes "T1")) (are (codes "T1")) ∙ is
 

@@ -17,11 +17,13 @@ use Rattle.gw_rules.proofs.StageLemmas.{handling-not-polled}
 use Rattle.gw_books.specs.Headline.{HonestAgrees}
 use Rattle.gw_books.specs.Past.{Past, no_past, past_after, past_from, past_of}
 use Rattle.gw_played.specs.Played.{PlacedExchange, exchanges_in, exchanges_after, exchanges_from, exchanges_of, played_book, PlayedIsHonest, PlayedAgrees}
+use Rattle.gw_played.proofs.CarriedLemmas.{due-handles-none}
 use Rattle.gw_played.proofs.HandlePlaysLemmas.{handle-plays}
 use Rattle.gw_played.proofs.ItemPlaysLemmas.{each-item-plays, begin-plays, read-plays}
+use Rattle.gw_played.proofs.LinkPlaysLemmas.{cut-pt-plays, link-failed-plays, linked-plays}
 use Rattle.gw_played.proofs.Playing.{Plays, PeerLaws, PlaysTurn}
-use Rattle.gw_played.proofs.SentPtPlaysLemmas.{cut-pt-plays, link-failed-plays, linked-plays, sent-pt-plays}
-use Rattle.gw_played.proofs.TurnPlaysLemmas.{PollsClean, PlaysEvent, due-handles-none, closed-plays, crash-plays, cut-till-plays, disk-failed-plays, heard-pt-plays, heard-till-plays, lost-plays, open-failed-plays, opened-plays, polled-plays, sent-till-plays, start-plays, stopped-plays, synced-plays, wrote-plays}
+use Rattle.gw_played.proofs.SentPtPlaysLemmas.{sent-pt-plays}
+use Rattle.gw_played.proofs.TurnPlaysLemmas.{PollsClean, PlaysEvent, closed-plays, crash-plays, cut-till-plays, disk-failed-plays, heard-pt-plays, heard-till-plays, lost-plays, open-failed-plays, opened-plays, polled-plays, sent-till-plays, start-plays, stopped-plays, synced-plays, wrote-plays}
 use Rattle.gw_played.proofs.WholeBookLemmas.{hears-back, honest-whole}
 
 -- ---- where an event may come

@@ -1,5 +1,5 @@
 -- What holds along a lawful course whose terminals are played ones: how far each dialogue is, by what the played terminal has sent, and that its book is honest so far.
-use Rattle.std.specs.Prelude.{◌≡◌, ◌⊎◌, ◌≤◌, ◌<◌, ◌↔◌, ℕ, ◌+◌, ◌==◌, Bool, true, false, ◌||◌, bytes_eq, ◌&&◌, nat_le, if◌then◌else◌, List, [], ◌∷◌, ◌++◌, find, slice_get, Option, Some, None, Ok}
+use Rattle.std.specs.Prelude.{◌≡◌, ◌⊎◌, ◌≤◌, ◌<◌, ◌↔◌, ℕ, ◌+◌, ◌==◌, Bool, true, false, ◌||◌, bytes_eq, ◌&&◌, nat_le, is_some, if◌then◌else◌, List, [], ◌∷◌, ◌++◌, find, slice_get, Option, Some, None, Ok}
 use Rattle.std.specs.List.{list_any}
 use Rattle.gw_site.specs.declared.turn.Turn.{Turn}
 use Rattle.gw_site.specs.Outside.{is_connected, heard_on}
@@ -12,9 +12,9 @@ use Rattle.zvt_msg.specs.CommandDecode.{decode_command}
 use Rattle.zvt_msg.specs.CommandGrammar.{HasCommandDigits, HasCommandSizes, SpellsCommand}
 use Rattle.zvt_msg.specs.Message.{MessageValue}
 use Rattle.zvt_msg.specs.MessageDecode.{decode_pt_message}
-use Rattle.zvt_talk.specs.Came.{Came, messages, is_stop_wished}
+use Rattle.zvt_talk.specs.Came.{Came, messages}
 use Rattle.zvt_talk.specs.Dialogue.{Dialogue, dialogue_kind_of}
-use Rattle.zvt_talk.specs.Laws.{MeansForTalkAsAfterAll, NextTalkIsAfterAll}
+use Rattle.zvt_talk.specs.Laws.{MeansForTalkAsAfterAll, NextTalkIsAfterAll, StopWishedEndsNothing, TalkAfterStopWishedIsAfterAll}
 use Rattle.zvt_talk.specs.Talk.{TalkFacts, talk_after, end_of}
 use Rattle.pt_core.specs.declared.book.BookEntry.{BookEntry}
 use Rattle.pt_core.specs.Exchange.{HearsSent, heard_on_link, met_of}
@@ -31,6 +31,7 @@ use Rattle.gw_owes.specs.Calls.{Ask, Acknowledge, Refuse, OwedCall, SendTill, Se
 use Rattle.gw_owes.specs.Deadlines.{is_due_by}
 use Rattle.gw_owes.specs.Items.{RoundItem, Crowded, Message as MessageItem, Asked, Unframed, Gone, Greet, Handle, Serve, NextWaiting, Oversized, LinkLost, Late, Overdue, Due}
 use Rattle.gw_owes.specs.Links.{is_linked}
+use Rattle.gw_owes.proofs.RecordLemmas.{LedgerLaws}
 use Rattle.gw_rules.specs.Lawful.{AllowedTurn, Begins}
 use Rattle.gw_rules.specs.Stage.{is_broken}
 use Rattle.gw_rules.specs.TranscriptLaws.{cut_owed}
@@ -38,7 +39,7 @@ use Rattle.gw_rules.specs.View.{View, Begin, Make, after}
 use Rattle.gw_rules.proofs.RecordOrderLemmas.{Ordered}
 use Rattle.gw_books.specs.Past.{SentCommand, MadeLink, Ending, Approved, Declined, Reported, HeardEnd, Past, past_after}
 use Rattle.gw_books.specs.Books.{BookedEntry, is_caused, is_of_its_link, is_ordered, is_true}
-use Rattle.gw_books.proofs.Holding.{AreFalling, charge_owed, is_handle}
+use Rattle.gw_books.proofs.Holding.{AreFalling, charges, charge_owed, is_handle}
 use Rattle.gw_books.proofs.ListLemmas.{In}
 use Rattle.gw_played.specs.Played.{PlacedExchange, exchanges_in, exchanges_after, placed_entry, book_along}
 
@@ -99,7 +100,6 @@ pub record IsTalking (setting : Setting) (exchanges : List PlacedExchange) (numb
   pub begins : dialogue_kind_of command ≡ Some dialogue.dialogue_kind
   pub came : List Came
   pub talk_is : talk ≡ Some (talk_after dialogue came)
-  pub unstopped : is_stop_wished came ≡ false
   pub goes_on : end_of dialogue came ≡ None
   pub left : List MessageValue
   pub is_left : IsLeft setting exchanges number items left
@@ -115,11 +115,11 @@ pub record IsLastServed (setting : Setting) (poi : List ℕ) (exchanges : List P
   pub booked : (entry : BookEntry) → In entry entries → In (placed_entry poi command.place entry) (book_along setting poi exchanges)
   pub only : (entry : BookedEntry) → In entry (book_along setting poi exchanges) → entry.cause ≡ Some command.place → (one : BookEntry) × In one entries × (entry ≡ placed_entry poi command.place one)
 
--- the terminal has handled the authorisation that it serves
-pub record IsPaying (setting : Setting) (poi : List ℕ) (exchanges : List PlacedExchange) (number : ℕ) (items : List RoundItem) (sent : List SentCommand) (talk : Option TalkFacts) : Type 0 where
-  pub amount : ℕ
-  pub currency : ℕ
-  pub talking : IsTalking setting exchanges number items talk (commands.Authorise amount currency)
+-- the terminal has handled the command of the payment or the reversal that it serves
+pub record IsTransacting (setting : Setting) (poi : List ℕ) (exchanges : List PlacedExchange) (number : ℕ) (items : List RoundItem) (sent : List SentCommand) (talk : Option TalkFacts) : Type 0 where
+  pub command : Command
+  pub charging : charges command ≡ true
+  pub talking : IsTalking setting exchanges number items talk command
   pub last : IsLastServed setting poi exchanges sent (entries_of (reaction_after setting talking.before talking.apdu))
 
 -- how far the dialogue of a linked terminal is, by its standing
@@ -128,7 +128,7 @@ IsPeerIn setting poi exchanges number items sent talk (Unlinked due) = Unit {0}
 IsPeerIn setting poi exchanges number items sent talk Registering = (password : List ℕ) × (config : ℕ) × (currency : ℕ) × IsTalking setting exchanges number items talk (commands.Register password config currency)
 IsPeerIn setting poi exchanges number items sent talk Enquiring = (password : List ℕ) × IsTalking setting exchanges number items talk (commands.Enquire password)
 IsPeerIn setting poi exchanges number items sent talk (Ready last) = IsQuiet setting exchanges number items
-IsPeerIn setting poi exchanges number items sent talk (Serving (Transaction slot) last) = IsPaying setting poi exchanges number items sent talk
+IsPeerIn setting poi exchanges number items sent talk (Serving (Transaction slot) last) = IsTransacting setting poi exchanges number items sent talk
 IsPeerIn setting poi exchanges number items sent talk (Serving (EndOfDay header period) last) = Unit {0}
 IsPeerIn setting poi exchanges number items sent talk (Serving (Display header outputs) last) = Unit {0}
 IsPeerIn setting poi exchanges number items sent talk (Aside before reported) = IsQuiet setting exchanges number items
@@ -141,15 +141,19 @@ BeginsStanding (Unlinked due) command = ⊥
 BeginsStanding Registering command = (password : List ℕ) × (config : ℕ) × (currency : ℕ) × (command ≡ commands.Register password config currency)
 BeginsStanding Enquiring command = (password : List ℕ) × (command ≡ commands.Enquire password)
 BeginsStanding (Ready last) command = ⊥
-BeginsStanding (Serving (Transaction slot) last) command = (amount : ℕ) × (currency : ℕ) × (command ≡ commands.Authorise amount currency)
+BeginsStanding (Serving (Transaction slot) last) command = charges command ≡ true
 BeginsStanding (Serving (EndOfDay header period) last) command = ⊥
 BeginsStanding (Serving (Display header outputs) last) command = ⊥
 BeginsStanding (Aside before reported) command = ⊥
 
--- the call asks the terminal of this number for something
+-- the command begins a dialogue: each does but a stop
+abbrev pub begins_dialogue : Command → Bool
+begins_dialogue command = is_some (dialogue_kind_of command)
+
+-- the call sends the terminal of this number a command with which a dialogue begins
 abbrev pub asks_terminal : ℕ → OwedCall → Bool
 asks_terminal number (SendTill till reply) = false
-asks_terminal number (SendPt pt (Ask command)) = pt == number
+asks_terminal number (SendPt pt (Ask command)) = (pt == number) && begins_dialogue command
 asks_terminal number (SendPt pt Acknowledge) = false
 asks_terminal number (SendPt pt Refuse) = false
 asks_terminal number (LinkPt pt) = false
@@ -286,6 +290,9 @@ pub record PeerLaws : Type 0 where
   pub asked : CommandsHaveDigits
   pub means : MeansForTalkAsAfterAll
   pub next : NextTalkIsAfterAll
+  pub stop_wished : TalkAfterStopWishedIsAfterAll
+  pub ends_nothing : StopWishedEndsNothing
+  pub ledger : LedgerLaws
 
 -- as this item begins
 abbrev pub PlaysItem : RoundItem → Type 0

@@ -1,20 +1,16 @@
--- A played terminal is sent something, is linked, or its connection is cut or could not be made: what holds along a course holds on.
-use Rattle.std.proofs.Common.{◌≡◌, ◌≢◌, ◌≤◌, ◌<◌, ◌∙◌, ℕ, zero, suc, ◌+◌, ◌^◌, eqb-true, Bool, true, false, List, [], ◌∷◌, ◌++◌, length, refl, sym, ap, subst, arith, inl, inr, append-nil}
-use Rattle.std.proofs.lemmas.Bool.{eq-eqb, false_from_ne_true, leb-true}
+-- A played terminal is sent something: what holds along a course holds on.
+use Rattle.std.proofs.Common.{◌≡◌, ◌≢◌, ◌<◌, ◌∙◌, ℕ, zero, suc, ◌+◌, Bool, true, false, List, [], ◌∷◌, ◌++◌, length, refl, sym, ap, subst, arith, inl, inr, append-nil}
+use Rattle.std.proofs.lemmas.Bool.{eq-eqb, false_from_ne_true}
 use Rattle.std.proofs.lemmas.List.Elements.{All-head, All-tail}
-use Rattle.std.specs.Prelude.{◌⊎◌, ◌&&◌, ◌||◌, ◌==◌, nat_le, nat_lt, not, pos, if◌then◌else◌, bytes_eq, All, filter, find, map, slice_get, Option, Some, None, unwrap_or}
+use Rattle.std.specs.Prelude.{◌⊎◌, ◌&&◌, ◌||◌, nat_lt, if◌then◌else◌, bytes_eq, All, find, map, slice_get, Option, Some, None, unwrap_or}
 use Rattle.std.specs.List.{list_any}
 use Rattle.std.specs.Option.{option_map}
-use Rattle.gw_base.specs.Currency.{currency_number}
-use Rattle.gw_base.specs.Setup.{IsPt, HaveDistinctPois}
-use Rattle.gw_base.specs.declared.currency.Currency.{Currency}
-use Rattle.gw_base.specs.declared.currency.Currency.TheVariants.{Eur, Chf, Gbp, Usd, Dkk, Sek, Nok, Pln, Czk}
+use Rattle.gw_base.specs.Setup.{HaveDistinctPois}
 use Rattle.gw_base.specs.declared.setup.Pt.{Pt}
 use Rattle.gw_base.specs.declared.setup.Setup.{Setup}
 use Rattle.gw_bytes.specs.Bytes.{IsPrefix}
-use Rattle.gw_site.specs.Outside.{Connection, is_connected, heard_on, new_connection, without}
 use Rattle.gw_site.specs.declared.turn.Turn.{Turn}
-use Rattle.gw_site.specs.declared.turn.Turn.TheVariants.{Linked, LinkFailed, SentPt, CutPt}
+use Rattle.gw_site.specs.declared.turn.Turn.TheVariants.{SentPt}
 use Rattle.zvt_apdu.specs.DecodeStream.{DecodedApdus, decode_apdus}
 use Rattle.zvt_apdu.specs.Grammar.{ApduValue}
 use Rattle.zvt_msg.specs.CommandCanonical.{canonical_command, command_apdu}
@@ -24,51 +20,48 @@ use Rattle.zvt_msg.specs.declared.command.Command.{Command}
 use Rattle.zvt_msg.specs.declared.command.Command.TheVariants as command
 use Rattle.zvt_talk.specs.Dialogue.{Dialogue, dialogue_kind_of}
 use Rattle.zvt_talk.specs.Talk.{TalkFacts, talk_after}
-use Rattle.zvt_talk.specs.declared.dialogue_kind.DialogueKind.TheVariants.{Registration}
 use Rattle.jrn_record.specs.declared.records.Record.{Record}
 use Rattle.pt_core.specs.declared.book.BookEntry.{BookEntry}
-use Rattle.pt_core.specs.Exchange.{Exchange, Links, Sends, heard_on_link}
+use Rattle.pt_core.specs.Exchange.{Exchange, Sends, heard_on_link}
 use Rattle.pt_core.specs.History.{Setting, all_handled, book_of, play_left, reaction_after}
 use Rattle.pt_core.specs.Honest.{Books}
 use Rattle.pt_core.specs.Table.{entries_of}
 use Rattle.pt_core.proofs.HonestLemmas.{booked}
-use Rattle.gw_owes.specs.Calls.{Sending, Ask, Acknowledge, Refuse, sending_bytes, OwedCall, SendPt, LinkPt, CutPt as OwedCutPt}
+use Rattle.gw_owes.specs.Calls.{Sending, Ask, Acknowledge, Refuse, sending_bytes, OwedCall, SendPt, CutPt as OwedCutPt}
 use Rattle.gw_owes.specs.Core.{Core}
-use Rattle.gw_owes.specs.Deadlines.{is_due_by}
 use Rattle.gw_owes.specs.Items.{RoundItem}
 use Rattle.gw_owes.specs.Links.{is_linked}
 use Rattle.gw_owes.specs.RecordLaws.{AreRecordsOf}
 use Rattle.gw_owes.specs.Reply.{ReplyValue}
-use Rattle.gw_owes.specs.Row.{Row}
 use Rattle.gw_owes.specs.TerminalLaws.{settings_of}
-use Rattle.gw_owes.specs.Terminals.{of_terminal, with_terminal, after_command, registration, registers, reply_calls_to, reply_to_lost, unlinked_terminal, unlinks}
+use Rattle.gw_owes.specs.Terminals.{reply_calls_to}
 use Rattle.gw_owes.specs.declared.terminal.Service.TheVariants.{Transaction, EndOfDay, Display}
 use Rattle.gw_owes.specs.declared.terminal.Standing.{Standing}
 use Rattle.gw_owes.specs.declared.terminal.Standing.TheVariants.{Unlinked, Registering, Enquiring, Ready, Serving, Aside}
 use Rattle.gw_owes.specs.declared.terminal.Terminal.{Terminal}
-use Rattle.gw_owes.proofs.SetLemmas.{others-stay, new-is-there, same-some}
+use Rattle.gw_owes.proofs.SetLemmas.{same-some}
 use Rattle.gw_rules.specs.Lawful.{first_call}
 use Rattle.gw_rules.specs.RecordOrder.{records_coming}
-use Rattle.gw_rules.specs.Scene.{Scene, known_in, link_made_at, link_lost_at}
-use Rattle.gw_rules.specs.TranscriptLaws.{cuts_terminal, cut_owed}
-use Rattle.gw_rules.specs.View.{View, called, later, by_row}
-use Rattle.gw_rules.proofs.LinkedLemmas.{by-number, call-settled, call-setup, connected-removed, connected-other, connected-old, Settled}
-use Rattle.gw_rules.proofs.LinkStateLemmas.{Absent, On, Off, state_in, state_of, on-linked, EachFits}
+use Rattle.gw_rules.specs.Scene.{Scene}
+use Rattle.gw_rules.specs.TranscriptLaws.{cut_owed}
+use Rattle.gw_rules.specs.View.{View, called, later}
+use Rattle.gw_rules.proofs.LinkedLemmas.{by-number, call-settled, call-setup, Settled}
+use Rattle.gw_rules.proofs.LinkStateLemmas.{Absent, On, state_in, state_of, on-linked, EachFits}
 use Rattle.gw_rules.proofs.RecordOrderLemmas.{Ordered, configured}
 use Rattle.gw_rules.proofs.SetupLemmas.{HasSetup}
 use Rattle.gw_rules.proofs.StageLemmas.{no-true}
-use Rattle.gw_rules.proofs.TranscriptLogLemmas.{there-image, made-at, lost-at, not-number}
+use Rattle.gw_rules.proofs.TranscriptLogLemmas.{there-image, not-number}
 use Rattle.gw_books.specs.Books.{BookedEntry}
-use Rattle.gw_books.specs.Past.{Occasion, SentCommand, MadeLink, Ending, Approved, Declined, Reported, Past, poi_of_number, open_key, is_of_instruction, may_charge, with_sent_command}
+use Rattle.gw_books.specs.Past.{Occasion, SentCommand, Ending, Approved, Declined, Reported, Past, poi_of_number, open_key, is_of_instruction, may_charge, with_sent_command}
 use Rattle.gw_books.proofs.Holding.{AreFalling, charges, sending_charges, charge_owed, ServesTransaction, is_handle}
 use Rattle.gw_books.proofs.KeyedLemmas.{sent-below}
 use Rattle.gw_books.proofs.LastCallLemmas.{IsLast, is-last, last-cuts, past_then}
 use Rattle.gw_books.proofs.ListLemmas.{In, bytes-are, bytes-itself, in-either, in-second}
 use Rattle.gw_books.proofs.SentCommandLemmas.{charging, charged}
 use Rattle.gw_played.specs.Played.{PlacedExchange, exchanges_in, booked_by, placed_entry, book_along, where_poi}
-use Rattle.gw_played.proofs.HonestGrowLemmas.{honest-place, honest-link, honest-other, honest-command, BooksOne}
-use Rattle.gw_played.proofs.PeerSendLemmas.{IsOneApdu, ChangesNothing, acknowledgement-is-one, acknowledgement-silent, asked-books, begins-paying, begins-talking, book-stays, booked-none, command-is-one, command-spelled, new-link-quiet, one-decoded, part-books-none, part-of-one, peer-still, peer-waits, refusal-is-one, refusal-silent, sends, silent-changes-nothing, IsSilentAt, acknowledgement, refusal}
-use Rattle.gw_played.proofs.Playing.{met_in, pending, WaitsForNone, IsQuiet, IsTalking, IsLastServed, IsPaying, IsPeerIn, BeginsStanding, ask_owed, link_owed, IsToBeAsked, IsPeer, HasCommand, IsHonestFor, IsOfCommand, WasLinked, brings_charge, Plays, PeerLaws, PlaysTurn}
+use Rattle.gw_played.proofs.HonestGrowLemmas.{honest-place, honest-other, honest-command, BooksOne}
+use Rattle.gw_played.proofs.PeerSendLemmas.{IsOneApdu, ChangesNothing, acknowledgement-is-one, acknowledgement-silent, asked-books, begins-transacting, begins-talking, book-stays, booked-none, command-is-one, command-spelled, one-decoded, part-books-none, part-of-one, peer-still, peer-waits, refusal-is-one, refusal-silent, sends, silent-changes-nothing, stop-is-one, stop-silent, IsSilentAt, acknowledgement, refusal}
+use Rattle.gw_played.proofs.Playing.{met_in, WaitsForNone, IsQuiet, IsTalking, IsLastServed, IsTransacting, IsPeerIn, BeginsStanding, begins_dialogue, ask_owed, link_owed, IsToBeAsked, IsPeer, HasCommand, IsHonestFor, IsOfCommand, Plays, PeerLaws, PlaysTurn}
 
 -- ---- lists
 
@@ -82,13 +75,13 @@ from-map f [] y within = absurd within
 from-map f (x ∷ list) y (inl same) = (x, inl refl, same)
 from-map f (x ∷ list) y (inr within) = let found = from-map f list y within in (found.0, inr found.1, found.2)
 
-falling-later : (place : ℕ) (commands : List SentCommand) → AreFalling place commands → AreFalling (place + 1) commands
+pub falling-later : (place : ℕ) (commands : List SentCommand) → AreFalling place commands → AreFalling (place + 1) commands
 falling-later place [] f = tt
 falling-later place (sent ∷ commands) f = let before = f.0 in (omega (arith, before), f.1)
 
 -- ---- terminals have POIIDs of their own
 
-all-there : {A : Type 0} → (P : A → Type 0) (all : List A) (at : ℕ) (one : A) → All P all → slice_get all at ≡ Some one → P one
+pub all-there : {A : Type 0} → (P : A → Type 0) (all : List A) (at : ℕ) (one : A) → All P all → slice_get all at ≡ Some one → P one
 all-there P [] at one each found = absurd cc
 all-there P (first ∷ rest) zero one each found = subst P (same-some first one found) (All-head P first rest each)
 all-there P (first ∷ rest) (suc at) one each found = all-there P rest at one (All-tail P first rest each) found
@@ -102,7 +95,7 @@ distinct-pois (pt ∷ pts) (suc one) zero p q distinct differs found there same 
     all-there (λ (x : Pt). pt.poi ≢ x.poi) pts one p distinct.0 found (ap (λ (x : Pt). x.poi) (same-some pt q there) ∙ sym same)
 distinct-pois (pt ∷ pts) (suc one) (suc other) p q distinct differs found there same = distinct-pois pts one other p q distinct.1 (λ e. differs (ap suc e)) found there same
 
-pt-at : (v : View) (setup : Setup) (number : ℕ) (terminal : Terminal) → settings_of v.scene.core ≡ setup.terminals → slice_get v.scene.core.terminals number ≡ Some terminal → slice_get setup.terminals number ≡ Some terminal.pt
+pub pt-at : (v : View) (setup : Setup) (number : ℕ) (terminal : Terminal) → settings_of v.scene.core ≡ setup.terminals → slice_get v.scene.core.terminals number ≡ Some terminal → slice_get setup.terminals number ≡ Some terminal.pt
 pt-at v setup number terminal same found = ap (λ (pts : List Pt). slice_get pts number) (sym same) ∙ there-image (λ (terminal : Terminal). terminal.pt) v.scene.core.terminals number terminal found
 
 -- so two terminals don't have the same
@@ -118,16 +111,21 @@ apart-pois log v k one other t u o differs found there = by_test (bytes_eq t.pt.
     by_test false e = e
 
 -- the POIID of a terminal that is there
-poi-is : (scene : Scene) (pt : ℕ) (terminal : Terminal) → slice_get scene.core.terminals pt ≡ Some terminal → poi_of_number scene pt ≡ terminal.pt.poi
+pub poi-is : (scene : Scene) (pt : ℕ) (terminal : Terminal) → slice_get scene.core.terminals pt ≡ Some terminal → poi_of_number scene pt ≡ terminal.pt.poi
 poi-is scene pt terminal found = ap (λ (t : Option Terminal). unwrap_or (option_map (λ (terminal : Terminal). terminal.pt.poi) t) []) found
 
 -- ---- what is owed after a call
 
+-- a call alone passes a test where it does
+alone : (test : Bool) → (test || false) ≡ test
+alone true = refl
+alone false = refl
+
 -- the calls ask for nothing, and link and charge no terminal
-record AreSpare (calls : List OwedCall) : Type 0 where
-  asks : (number : ℕ) → ask_owed number calls ≡ false
-  links : (number : ℕ) → link_owed number calls ≡ false
-  charges_none : (number : ℕ) → charge_owed number calls ≡ false
+pub record AreSpare (calls : List OwedCall) : Type 0 where
+  pub asks : (number : ℕ) → ask_owed number calls ≡ false
+  pub links : (number : ℕ) → link_owed number calls ≡ false
+  pub charges_none : (number : ℕ) → charge_owed number calls ≡ false
 
 none-spare : AreSpare []
 none-spare = record { asks = λ number. refl; links = λ number. refl; charges_none = λ number. refl }
@@ -135,7 +133,7 @@ none-spare = record { asks = λ number. refl; links = λ number. refl; charges_n
 cut-spare : (pt : ℕ) → AreSpare (OwedCutPt pt ∷ [])
 cut-spare pt = record { asks = λ number. refl; links = λ number. refl; charges_none = λ number. refl }
 
-reply-spare : (asker : Option ℕ) (reply : Option ReplyValue) → AreSpare (reply_calls_to asker reply)
+pub reply-spare : (asker : Option ℕ) (reply : Option ReplyValue) → AreSpare (reply_calls_to asker reply)
 reply-spare None reply = none-spare
 reply-spare (Some till) None = none-spare
 reply-spare (Some till) (Some reply) = record { asks = λ number. refl; links = λ number. refl; charges_none = λ number. refl }
@@ -156,8 +154,8 @@ peer-other setting poi exchanges number items new sent talk Registering apart pe
 peer-other setting poi exchanges number items new sent talk Enquiring apart peer = peer
 peer-other setting poi exchanges number items new sent talk (Ready last) apart peer = peer
 peer-other setting poi exchanges number items new sent talk (Serving (Transaction slot) last) apart peer = record {
-  amount = peer.amount;
-  currency = peer.currency;
+  command = peer.command;
+  charging = peer.charging;
   talking = peer.talking;
   last = record {
     command = peer.last.command;
@@ -184,11 +182,17 @@ no-entry book (entry ∷ []) command.Stop plain books = absurd books.0
 no-entry book (entry ∷ []) (command.Show lines) plain books = absurd books.0
 no-entry book (entry ∷ other ∷ more) asked plain books = absurd books
 
--- an authorisation books one at most, which is no reversal
-one-entry : (book entries : List BookEntry) (amount currency : ℕ) (sent : SentCommand) → sent.whole ≡ true → sent.reversal ≡ false → Books book (Some (command.Authorise amount currency)) entries → BooksOne sent entries
-one-entry book [] amount currency sent whole kind books = tt
-one-entry book (entry ∷ []) amount currency sent whole kind books = (whole, kind ∙ sym (books.0).0)
-one-entry book (entry ∷ other ∷ more) amount currency sent whole kind books = absurd books
+-- what may cause an entry books one at most, which is a reversal where it asks for one
+one-entry : (book entries : List BookEntry) (asked : Command) (sent : SentCommand) → charges asked ≡ true → sent.whole ≡ true → sent.reversal ≡ is_of_instruction 0x30 (canonical_command asked) → Books book (Some asked) entries → BooksOne sent entries
+one-entry book [] asked sent charge whole kind books = tt
+one-entry book (entry ∷ []) (command.Register password config_byte currency) sent charge whole kind books = no-true charge
+one-entry book (entry ∷ []) (command.Authorise amount currency) sent charge whole kind books = (whole, kind ∙ sym (books.0).0)
+one-entry book (entry ∷ []) (command.Reverse password receipt) sent charge whole kind books = (whole, kind ∙ sym (books.0).0)
+one-entry book (entry ∷ []) (command.EndOfDay password) sent charge whole kind books = no-true charge
+one-entry book (entry ∷ []) (command.Enquire password) sent charge whole kind books = no-true charge
+one-entry book (entry ∷ []) command.Stop sent charge whole kind books = no-true charge
+one-entry book (entry ∷ []) (command.Show lines) sent charge whole kind books = no-true charge
+one-entry book (entry ∷ other ∷ more) asked sent charge whole kind books = absurd books
 
 books-of : (setting : Setting) (before : List ApduValue) (apdu : ApduValue) (asked : Command) → decode_command apdu ≡ Some asked → Books (book_of setting before) (Some asked) (entries_of (reaction_after setting before apdu))
 books-of setting before apdu asked spells =
@@ -261,8 +265,8 @@ record IsAsk (setting : Setting) (exchanges : List PlacedExchange) (number : ℕ
   begins : dialogue_kind_of asked ≡ Some dialogue.dialogue_kind
   talk_is : terminal.talk ≡ Some (talk_after dialogue [])
 
--- the terminal is sent an acknowledgement or a refusal
-record IsAcknowledgement (sending : Sending) : Type 0 where
+-- the terminal is sent an acknowledgement, a refusal or a stop, at which a played one is silent
+record IsTakenInSilence (sending : Sending) : Type 0 where
   apdu : ApduValue
   one : IsOneApdu (sending_bytes sending) apdu
   silent : IsSilentAt apdu
@@ -277,6 +281,16 @@ part-not-whole : (laws : PeerLaws) (bytes whole : List ℕ) (apdu : ApduValue) �
 part-not-whole laws bytes whole apdu one part is =
     let e : [] ≡ apdu ∷ [] = ap (λ (d : DecodedApdus). d.apdus) (sym part ∙ ap decode_apdus is ∙ one-decoded laws.all.stream whole apdu one) in
     absurd cc
+
+-- the command that begins no dialogue is a stop
+stop-is : (asked : Command) → begins_dialogue asked ≡ false → asked ≡ command.Stop
+stop-is (command.Register password config_byte currency) none = no-true (sym none)
+stop-is (command.Authorise amount currency) none = no-true (sym none)
+stop-is (command.Reverse password receipt) none = no-true (sym none)
+stop-is (command.EndOfDay password) none = no-true (sym none)
+stop-is (command.Enquire password) none = no-true (sym none)
+stop-is command.Stop none = refl
+stop-is (command.Show lines) none = no-true (sym none)
 
 asked-first : (pt : ℕ) (asked : Command) (sending : Sending) → In (SendPt pt (Ask asked)) (SendPt pt sending ∷ []) → sending ≡ Ask asked
 asked-first pt asked sending (inl same) = let e : SendPt pt (Ask asked) ≡ SendPt pt sending = same in cc
@@ -301,25 +315,22 @@ begun-plain setting poi exchanges number items sent talk asked (Unlinked due) pl
 begun-plain setting poi exchanges number items sent talk asked Registering plain begins talking = (begins.0, begins.1, begins.2, subst (IsTalking setting exchanges number items talk) begins.3 talking)
 begun-plain setting poi exchanges number items sent talk asked Enquiring plain begins talking = (begins.0, subst (IsTalking setting exchanges number items talk) begins.1 talking)
 begun-plain setting poi exchanges number items sent talk asked (Ready last) plain begins talking = absurd begins
-begun-plain setting poi exchanges number items sent talk asked (Serving (Transaction slot) last) plain begins talking = no-true (sym plain ∙ ap charges begins.2)
+begun-plain setting poi exchanges number items sent talk asked (Serving (Transaction slot) last) plain begins talking = no-true (sym plain ∙ begins)
 begun-plain setting poi exchanges number items sent talk asked (Serving (EndOfDay header period) last) plain begins talking = absurd begins
 begun-plain setting poi exchanges number items sent talk asked (Serving (Display header outputs) last) plain begins talking = absurd begins
 begun-plain setting poi exchanges number items sent talk asked (Aside before reported) plain begins talking = absurd begins
 
--- a command that charges is the authorisation of a transaction that is served
+-- a command that charges is that of the payment or the reversal that is served
 record IsCharge (asked : Command) (standing : Standing) : Type 0 where
-  amount : ℕ
-  currency : ℕ
-  is : asked ≡ command.Authorise amount currency
   serves : (setting : Setting) (poi : List ℕ) (exchanges : List PlacedExchange) (number : ℕ) (items : List RoundItem) (sent : List SentCommand) (talk : Option TalkFacts)
-      → IsPaying setting poi exchanges number items sent talk → IsPeerIn setting poi exchanges number items sent talk standing
+      → IsTransacting setting poi exchanges number items sent talk → IsPeerIn setting poi exchanges number items sent talk standing
 
 begun-charge : (asked : Command) (standing : Standing) → charges asked ≡ true → BeginsStanding standing asked → IsCharge asked standing
 begun-charge asked (Unlinked due) charge begins = absurd begins
 begun-charge asked Registering charge begins = no-true (sym (ap charges begins.3) ∙ charge)
 begun-charge asked Enquiring charge begins = no-true (sym (ap charges begins.1) ∙ charge)
 begun-charge asked (Ready last) charge begins = absurd begins
-begun-charge asked (Serving (Transaction slot) last) charge begins = record { amount = begins.0; currency = begins.1; is = begins.2; serves = λ setting poi exchanges number items sent talk paying. paying }
+begun-charge asked (Serving (Transaction slot) last) charge begins = record { serves = λ setting poi exchanges number items sent talk transacting. transacting }
 begun-charge asked (Serving (EndOfDay header period) last) charge begins = absurd begins
 begun-charge asked (Serving (Display header outputs) last) charge begins = absurd begins
 begun-charge asked (Aside before reported) charge begins = absurd begins
@@ -329,29 +340,40 @@ module _ (laws : PeerLaws) (settings : List ℕ → Setting) (log : List Turn) (
   own-peer : IsPeer (ask_owed pt v.calls) (settings t.terminal.pt.poi) (exchanges t.terminal.pt.poi) pt v.items past.commands v.calls t.terminal
   own-peer = p.peers last.clear pt t.terminal t.found t.linked (last-cuts v (SendPt pt sending) pt last refl)
 
-  -- the terminal is asked, or it is sent an acknowledgement or a refusal
+  -- the terminal is asked, or it is sent an acknowledgement, a refusal or a stop
   abbrev IsOfKind : Type 0
   IsOfKind = ((asked : Command) × IsAsk (settings t.terminal.pt.poi) (exchanges t.terminal.pt.poi) pt v.items t.terminal sending asked × BeginsStanding t.terminal.standing asked)
-      ⊎ (IsAcknowledgement sending × IsPeerIn (settings t.terminal.pt.poi) t.terminal.pt.poi (exchanges t.terminal.pt.poi) pt v.items past.commands t.terminal.talk t.terminal.standing)
+      ⊎ (IsTakenInSilence sending × IsPeerIn (settings t.terminal.pt.poi) t.terminal.pt.poi (exchanges t.terminal.pt.poi) pt v.items past.commands t.terminal.talk t.terminal.standing)
 
   kind-is : (one : Sending) → one ≡ sending → IsOfKind
-  kind-is (Ask asked) e =
-      let owed : ask_owed pt v.calls ≡ true = ap (ask_owed pt) last.calls_are ∙ ap (λ (s : Sending). ask_owed pt (SendPt pt s ∷ [])) (sym e) ∙ ap (λ (b : Bool). b || false) (eq-eqb pt pt refl) in
-      let to : IsToBeAsked (settings t.terminal.pt.poi) (exchanges t.terminal.pt.poi) pt v.items v.calls t.terminal =
-      subst (λ (b : Bool). IsPeer b (settings t.terminal.pt.poi) (exchanges t.terminal.pt.poi) pt v.items past.commands v.calls t.terminal) owed own-peer in
-      inl (
-        to.command,
-        record {
-          quiet = to.quiet;
-          sending_is = asked-first pt to.command sending (subst (λ (l : List OwedCall). In (SendPt pt (Ask to.command)) l) last.calls_are to.owed);
-          digits = to.digits;
-          sizes = to.sizes;
-          dialogue = to.dialogue;
-          begins = to.begins;
-          talk_is = to.talk_is;
-        },
-        to.of_standing,
-      )
+  kind-is (Ask asked) e = by_begins (begins_dialogue asked) refl
+    where
+      owed : ask_owed pt v.calls ≡ begins_dialogue asked
+      owed = ap (ask_owed pt) last.calls_are ∙ ap (λ (s : Sending). ask_owed pt (SendPt pt s ∷ [])) (sym e) ∙ ap (λ (b : Bool). (b && begins_dialogue asked) || false) (eq-eqb pt pt refl) ∙ alone (begins_dialogue asked)
+
+      by_begins : (b : Bool) → begins_dialogue asked ≡ b → IsOfKind
+      by_begins true begins =
+          let to : IsToBeAsked (settings t.terminal.pt.poi) (exchanges t.terminal.pt.poi) pt v.items v.calls t.terminal =
+          subst (λ (b : Bool). IsPeer b (settings t.terminal.pt.poi) (exchanges t.terminal.pt.poi) pt v.items past.commands v.calls t.terminal) (owed ∙ begins) own-peer in
+          inl (
+            to.command,
+            record {
+              quiet = to.quiet;
+              sending_is = asked-first pt to.command sending (subst (λ (l : List OwedCall). In (SendPt pt (Ask to.command)) l) last.calls_are to.owed);
+              digits = to.digits;
+              sizes = to.sizes;
+              dialogue = to.dialogue;
+              begins = to.begins;
+              talk_is = to.talk_is;
+            },
+            to.of_standing,
+          )
+      by_begins false begins =
+          let is : Ask command.Stop ≡ sending = ap Ask (sym (stop-is asked begins)) ∙ e in
+          inr (
+            record { apdu = command_apdu command.Stop; one = subst (λ (s : Sending). IsOneApdu (sending_bytes s) (command_apdu command.Stop)) is stop-is-one; silent = stop-silent; plain = ap sending_charges (sym is) },
+            subst (λ (b : Bool). IsPeer b (settings t.terminal.pt.poi) (exchanges t.terminal.pt.poi) pt v.items past.commands v.calls t.terminal) (owed ∙ begins) own-peer,
+          )
   kind-is Acknowledge e =
       let owed : ask_owed pt v.calls ≡ false = ap (ask_owed pt) last.calls_are ∙ ap (λ (s : Sending). ask_owed pt (SendPt pt s ∷ [])) (sym e) in
       inr (
@@ -394,16 +416,16 @@ module _ (laws : PeerLaws) (settings : List ℕ → Setting) (log : List Turn) (
   own-plain : may_charge bytes ≡ false → IsPlainSent
   own-plain plain = by_kind (kind-is sending refl)
     where
-      by_acknowledgement : (a : IsAcknowledgement sending) → IsPeerIn (settings t.terminal.pt.poi) t.terminal.pt.poi (exchanges t.terminal.pt.poi) pt v.items past.commands t.terminal.talk t.terminal.standing
+      by_silence : (a : IsTakenInSilence sending) → IsPeerIn (settings t.terminal.pt.poi) t.terminal.pt.poi (exchanges t.terminal.pt.poi) pt v.items past.commands t.terminal.talk t.terminal.standing
           → (bytes ≡ sending_bytes sending) ⊎ (decode_apdus bytes ≡ record { apdus = []; rest = bytes }) → IsPlainSent
-      by_acknowledgement a peer (inl whole) =
+      by_silence a peer (inl whole) =
           let c : ChangesNothing (settings t.terminal.pt.poi) (met_in (exchanges t.terminal.pt.poi)) bytes =
           silent-changes-nothing laws.all.stream (settings t.terminal.pt.poi) (met_in (exchanges t.terminal.pt.poi)) bytes a.apdu (subst (λ (b : List ℕ). IsOneApdu b a.apdu) (sym whole) a.one) a.silent (waits-for-none (kind-is sending refl)) in
           record {
             own = λ all. peer-still (settings t.terminal.pt.poi) t.terminal.pt.poi (exchanges t.terminal.pt.poi) pt v.items past.place bytes c past.commands t.terminal.talk t.terminal.standing peer;
             honest = plain-honest (booked-none (settings t.terminal.pt.poi) (exchanges_in (exchanges t.terminal.pt.poi)) bytes c.book_is);
           }
-      by_acknowledgement a peer (inr part) = record { own = λ all. absurd (part-not-whole laws bytes (sending_bytes sending) a.apdu a.one part all); honest = plain-honest (part-none part) }
+      by_silence a peer (inr part) = record { own = λ all. absurd (part-not-whole laws bytes (sending_bytes sending) a.apdu a.one part all); honest = plain-honest (part-none part) }
 
       by_ask : (asked : Command) (a : IsAsk (settings t.terminal.pt.poi) (exchanges t.terminal.pt.poi) pt v.items t.terminal sending asked) → BeginsStanding t.terminal.standing asked
           → (bytes ≡ canonical_command asked) ⊎ (decode_apdus bytes ≡ record { apdus = []; rest = bytes }) → IsPlainSent
@@ -427,7 +449,7 @@ module _ (laws : PeerLaws) (settings : List ℕ → Setting) (log : List Turn) (
       by_kind : IsOfKind → IsPlainSent
       by_kind (inl asks) =
           by_ask asks.0 asks.1 asks.2 (part-of-one laws.all.stream bytes (canonical_command asks.0) (command_apdu asks.0) (command-is-one laws asks.0 (asks.1).digits (asks.1).sizes) (subst (λ (b : List ℕ). IsPrefix bytes b) (ap sending_bytes (asks.1).sending_is) first))
-      by_kind (inr own) = by_acknowledgement own.0 own.1 (part-of-one laws.all.stream bytes (sending_bytes sending) (own.0).apdu (own.0).one first)
+      by_kind (inr own) = by_silence own.0 own.1 (part-of-one laws.all.stream bytes (sending_bytes sending) (own.0).apdu (own.0).one first)
 
   -- the beginning of a command that may charge a card was sent to it
   abbrev new_command : SentCommand
@@ -450,67 +472,65 @@ module _ (laws : PeerLaws) (settings : List ℕ → Setting) (log : List Turn) (
       honest_then books = honest-command laws (settings t.terminal.pt.poi) t.terminal.pt.poi past (past_charged past new_command) (exchanges t.terminal.pt.poi) bytes new_command p.falling p.heard_before p.ends p.linked_before (omega arith) refl poi_same refl refl refl books
           (p.honest t.terminal.pt.poi)
 
-      by_ask : (amount currency : ℕ) (a : IsAsk (settings t.terminal.pt.poi) (exchanges t.terminal.pt.poi) pt v.items t.terminal sending (command.Authorise amount currency))
-          → (IsPaying (settings t.terminal.pt.poi) t.terminal.pt.poi (sends past.place bytes (exchanges t.terminal.pt.poi)) pt v.items (new_command ∷ past.commands) t.terminal.talk
+      by_ask : (asked : Command) → charges asked ≡ true → (a : IsAsk (settings t.terminal.pt.poi) (exchanges t.terminal.pt.poi) pt v.items t.terminal sending asked)
+          → (IsTransacting (settings t.terminal.pt.poi) t.terminal.pt.poi (sends past.place bytes (exchanges t.terminal.pt.poi)) pt v.items (new_command ∷ past.commands) t.terminal.talk
           → IsPeerIn (settings t.terminal.pt.poi) t.terminal.pt.poi (sends past.place bytes (exchanges t.terminal.pt.poi)) pt v.items (new_command ∷ past.commands) t.terminal.talk t.terminal.standing)
-          → (bytes ≡ canonical_command (command.Authorise amount currency)) ⊎ (decode_apdus bytes ≡ record { apdus = []; rest = bytes }) → IsChargeSent
-      by_ask amount currency a serves (inl whole) =
-          let asked : Command = command.Authorise amount currency in
+          → (bytes ≡ canonical_command asked) ⊎ (decode_apdus bytes ≡ record { apdus = []; rest = bytes }) → IsChargeSent
+      by_ask asked charges_it a serves (inl whole) =
           let setting : Setting = settings t.terminal.pt.poi in
           let mine : List PlacedExchange = exchanges t.terminal.pt.poi in
           let before : List ApduValue = all_handled setting (met_in mine) in
           let entries : List BookEntry = entries_of (reaction_after setting before (command_apdu asked)) in
-          let all_books : booked_by setting (exchanges_in mine) (Sends (canonical_command asked)) ≡ entries = asked-books laws setting mine pt v.items past.place asked a.quiet a.digits tt in
+          let all_books : booked_by setting (exchanges_in mine) (Sends (canonical_command asked)) ≡ entries = asked-books laws setting mine pt v.items past.place asked a.quiet a.digits a.sizes in
           let books : booked_by setting (exchanges_in mine) (Sends bytes) ≡ entries = ap (λ (b : List ℕ). booked_by setting (exchanges_in mine) (Sends b)) whole ∙ all_books in
           let whole_is : nat_lt 0 (length (decode_apdus bytes).apdus) ≡ true =
-          ap (λ (d : DecodedApdus). nat_lt 0 (length d.apdus)) (ap decode_apdus whole ∙ one-decoded laws.all.stream (canonical_command asked) (command_apdu asked) (command-is-one laws asked a.digits tt)) in
-          let kind : is_of_instruction 0x30 bytes ≡ false = ap (is_of_instruction 0x30) whole in
+          ap (λ (d : DecodedApdus). nat_lt 0 (length d.apdus)) (ap decode_apdus whole ∙ one-decoded laws.all.stream (canonical_command asked) (command_apdu asked) (command-is-one laws asked a.digits a.sizes)) in
+          let kind : is_of_instruction 0x30 bytes ≡ is_of_instruction 0x30 (canonical_command asked) = ap (is_of_instruction 0x30) whole in
           record {
-            own = λ all. serves (subst (λ (b : List ℕ). IsPaying setting t.terminal.pt.poi (sends past.place b mine) pt v.items (new_command ∷ past.commands) t.terminal.talk) (sym whole)
-                (begins-paying laws setting t.terminal.pt.poi mine pt v.items past.place amount currency (new_command ∷ past.commands) a.dialogue t.terminal.talk a.quiet a.digits a.begins a.talk_is
+            own = λ all. serves (subst (λ (b : List ℕ). IsTransacting setting t.terminal.pt.poi (sends past.place b mine) pt v.items (new_command ∷ past.commands) t.terminal.talk) (sym whole)
+                (begins-transacting laws setting t.terminal.pt.poi mine pt v.items past.place asked (new_command ∷ past.commands) a.dialogue t.terminal.talk charges_it a.quiet a.digits a.sizes a.begins a.talk_is
                 (last-served setting t.terminal.pt.poi past.place (canonical_command asked) mine new_command past entries refl poi_same refl p.falling all_books (p.honest t.terminal.pt.poi))));
-            honest = honest_then (subst (BooksOne new_command) (sym books) (one-entry (book_of setting before) entries amount currency new_command whole_is kind (books-of setting before (command_apdu asked) asked (command-spelled laws asked a.digits tt))));
+            honest = honest_then (subst (BooksOne new_command) (sym books) (one-entry (book_of setting before) entries asked new_command charges_it whole_is kind (books-of setting before (command_apdu asked) asked (command-spelled laws asked a.digits a.sizes))));
           }
-      by_ask amount currency a serves (inr part) = record {
-        own = λ all. absurd (part-not-whole laws bytes (canonical_command (command.Authorise amount currency)) (command_apdu (command.Authorise amount currency)) (command-is-one laws (command.Authorise amount currency) a.digits tt) part (all ∙ ap sending_bytes a.sending_is));
+      by_ask asked charges_it a serves (inr part) = record {
+        own = λ all. absurd (part-not-whole laws bytes (canonical_command asked) (command_apdu asked) (command-is-one laws asked a.digits a.sizes) part (all ∙ ap sending_bytes a.sending_is));
         honest = honest_then (subst (BooksOne new_command) (sym (part-none part)) tt);
       }
 
-      by_charge : (asked : Command) → IsAsk (settings t.terminal.pt.poi) (exchanges t.terminal.pt.poi) pt v.items t.terminal sending asked → IsCharge asked t.terminal.standing → IsChargeSent
-      by_charge asked a c =
-          let authorise : IsAsk (settings t.terminal.pt.poi) (exchanges t.terminal.pt.poi) pt v.items t.terminal sending (command.Authorise c.amount c.currency) =
-          subst (IsAsk (settings t.terminal.pt.poi) (exchanges t.terminal.pt.poi) pt v.items t.terminal sending) c.is a in
-          by_ask c.amount c.currency authorise (c.serves (settings t.terminal.pt.poi) t.terminal.pt.poi (sends past.place bytes (exchanges t.terminal.pt.poi)) pt v.items (new_command ∷ past.commands) t.terminal.talk)
-          (part-of-one laws.all.stream bytes (canonical_command (command.Authorise c.amount c.currency)) (command_apdu (command.Authorise c.amount c.currency)) (command-is-one laws (command.Authorise c.amount c.currency) authorise.digits tt)
-          (subst (λ (b : List ℕ). IsPrefix bytes b) (ap sending_bytes authorise.sending_is) first))
+      by_charge : (asked : Command) → charges asked ≡ true → IsAsk (settings t.terminal.pt.poi) (exchanges t.terminal.pt.poi) pt v.items t.terminal sending asked → IsCharge asked t.terminal.standing → IsChargeSent
+      by_charge asked charges_it a c =
+          by_ask asked charges_it a (c.serves (settings t.terminal.pt.poi) t.terminal.pt.poi (sends past.place bytes (exchanges t.terminal.pt.poi)) pt v.items (new_command ∷ past.commands) t.terminal.talk)
+          (part-of-one laws.all.stream bytes (canonical_command asked) (command_apdu asked) (command-is-one laws asked a.digits a.sizes) (subst (λ (b : List ℕ). IsPrefix bytes b) (ap sending_bytes a.sending_is) first))
 
       by_kind : IsOfKind → IsChargeSent
-      by_kind (inl asks) = by_charge asks.0 asks.1 (begun-charge asks.0 t.terminal.standing (sym (ap sending_charges (asks.1).sending_is) ∙ charges_card) asks.2)
+      by_kind (inl asks) =
+          let charges_it : charges asks.0 ≡ true = sym (ap sending_charges (asks.1).sending_is) ∙ charges_card in
+          by_charge asks.0 charges_it asks.1 (begun-charge asks.0 t.terminal.standing charges_it asks.2)
       by_kind (inr own) = no-true (sym (own.0).plain ∙ charges_card)
 
 -- ---- what was done on the connections
 
 -- this was done at a place on the connection of the terminal of this number
-abbrev done_at : Scene → ℕ → ℕ → Exchange → (List ℕ → List PlacedExchange) → List ℕ → List PlacedExchange
+abbrev pub done_at : Scene → ℕ → ℕ → Exchange → (List ℕ → List PlacedExchange) → List ℕ → List PlacedExchange
 done_at scene pt place what exchanges poi = map (λ (exchange : Exchange). let one : PlacedExchange = record { place = place; exchange = exchange } in one) (where_poi scene poi pt what) ++ exchanges poi
 
-done-own : (scene : Scene) (pt place : ℕ) (what : Exchange) (exchanges : List ℕ → List PlacedExchange) (poi : List ℕ) → bytes_eq (poi_of_number scene pt) poi ≡ true → done_at scene pt place what exchanges poi ≡ record { place = place; exchange = what } ∷ exchanges poi
+pub done-own : (scene : Scene) (pt place : ℕ) (what : Exchange) (exchanges : List ℕ → List PlacedExchange) (poi : List ℕ) → bytes_eq (poi_of_number scene pt) poi ≡ true → done_at scene pt place what exchanges poi ≡ record { place = place; exchange = what } ∷ exchanges poi
 done-own scene pt place what exchanges poi e =
     ap (λ (b : Bool). map (λ (exchange : Exchange). let one : PlacedExchange = record { place = place; exchange = exchange } in one) (if b then what ∷ [] else []) ++ exchanges poi) e
 
-done-other : (scene : Scene) (pt place : ℕ) (what : Exchange) (exchanges : List ℕ → List PlacedExchange) (poi : List ℕ) → bytes_eq (poi_of_number scene pt) poi ≡ false → done_at scene pt place what exchanges poi ≡ exchanges poi
+pub done-other : (scene : Scene) (pt place : ℕ) (what : Exchange) (exchanges : List ℕ → List PlacedExchange) (poi : List ℕ) → bytes_eq (poi_of_number scene pt) poi ≡ false → done_at scene pt place what exchanges poi ≡ exchanges poi
 done-other scene pt place what exchanges poi e =
     ap (λ (b : Bool). map (λ (exchange : Exchange). let one : PlacedExchange = record { place = place; exchange = exchange } in one) (if b then what ∷ [] else []) ++ exchanges poi) e
 
 -- it is of the POIID or not
-by-poi : {A : Type 0} (scene : Scene) (pt : ℕ) (poi : List ℕ) → (bytes_eq (poi_of_number scene pt) poi ≡ true → A) → (bytes_eq (poi_of_number scene pt) poi ≡ false → A) → A
+pub by-poi : {A : Type 0} (scene : Scene) (pt : ℕ) (poi : List ℕ) → (bytes_eq (poi_of_number scene pt) poi ≡ true → A) → (bytes_eq (poi_of_number scene pt) poi ≡ false → A) → A
 by-poi {A} scene pt poi own other = by_test (bytes_eq (poi_of_number scene pt) poi) refl
   where
     by_test : (test : Bool) → bytes_eq (poi_of_number scene pt) poi ≡ test → A
     by_test true e = own e
     by_test false e = other e
 
-done-places : (scene : Scene) (pt place : ℕ) (what : Exchange) (exchanges : List ℕ → List PlacedExchange) (poi : List ℕ) → ((one : PlacedExchange) → In one (exchanges poi) → one.place < place)
+pub done-places : (scene : Scene) (pt place : ℕ) (what : Exchange) (exchanges : List ℕ → List PlacedExchange) (poi : List ℕ) → ((one : PlacedExchange) → In one (exchanges poi) → one.place < place)
     → (one : PlacedExchange) → In one (done_at scene pt place what exchanges poi) → one.place < place + 1
 done-places scene pt place what exchanges poi before one within = by-poi scene pt poi
     (λ own. first (subst (λ (l : List PlacedExchange). In one l) (done-own scene pt place what exchanges poi own) within))
@@ -536,7 +556,7 @@ module _ (settings : List ℕ → Setting) (log : List Turn) (v : View) (past : 
   others-unasked number differs = ap (ask_owed number) last.calls_are ∙ by_sending sending
     where
       by_sending : (one : Sending) → ask_owed number (SendPt pt one ∷ []) ≡ false
-      by_sending (Ask asked) = ap (λ (b : Bool). b || false) (not-number pt number differs)
+      by_sending (Ask asked) = ap (λ (b : Bool). (b && begins_dialogue asked) || false) (not-number pt number differs)
       by_sending Acknowledge = refl
       by_sending Refuse = refl
 
@@ -654,337 +674,3 @@ sent-pt-plays laws pt bytes true settings log v past exchanges o ok hears p =
     sent-by-bytes laws settings log v past exchanges pt ok.0 bytes o p ok.1 ([], sym ok.2 ∙ sym (append-nil bytes)) true (later v.calls) (subst AreSpare (sym last.none_later) none-spare) (inl ok.2)
 sent-pt-plays laws pt bytes false settings log v past exchanges o ok hears p =
     sent-by-bytes laws settings log v past exchanges pt ok.0 bytes o p ok.1 ok.2 false (OwedCutPt pt ∷ []) (cut-spare pt) (inr (ap (λ (b : Bool). b || false) (eq-eqb pt pt refl)))
-
--- ---- connections
-
--- what was heard on the others stays where one is gone, or is new
-heard-other : (connections : List Connection) (other number : ℕ) → number ≢ other → heard_on (without connections other) number ≡ heard_on connections number
-heard-other [] other number differs = refl
-heard-other (connection ∷ connections) other number differs = by_tests (heard-other connections other number differs) (connection.number == other) (connection.number == number) refl refl
-  where
-    by_tests : heard_on (without connections other) number ≡ heard_on connections number → (one two : Bool) → (connection.number == other) ≡ one → (connection.number == number) ≡ two
-        → heard_on (without (connection ∷ connections) other) number ≡ heard_on (connection ∷ connections) number
-    by_tests h true true e f = absurd (differs (sym (eqb-true connection.number number f) ∙ eqb-true connection.number other e))
-    by_tests h true false e f = rw (e, f) h
-    by_tests h false true e f = rw (e, f) refl
-    by_tests h false false e f = rw (e, f) h
-
-heard-old : (connections : List Connection) (new number : ℕ) → number ≢ new → heard_on (connections ++ new_connection new ∷ []) number ≡ heard_on connections number
-heard-old [] new number differs = rw (not-number new number (λ e. differs (sym e))) refl
-heard-old (connection ∷ connections) new number differs = by_test (connection.number == number) refl (heard-old connections new number differs)
-  where
-    by_test : (test : Bool) → (connection.number == number) ≡ test → heard_on (connections ++ new_connection new ∷ []) number ≡ heard_on connections number
-        → heard_on (connection ∷ (connections ++ new_connection new ∷ [])) number ≡ heard_on (connection ∷ connections) number
-    by_test true e h = rw e refl
-    by_test false e h = rw e h
-
--- nothing was heard on a new one
-heard-new : (connections : List Connection) (number : ℕ) → heard_on (without connections number ++ new_connection number ∷ []) number ≡ []
-heard-new [] number = rw (eq-eqb number number refl) refl
-heard-new (connection ∷ connections) number = by_test (connection.number == number) refl (heard-new connections number)
-  where
-    by_test : (test : Bool) → (connection.number == number) ≡ test → heard_on (without connections number ++ new_connection number ∷ []) number ≡ [] → heard_on (without (connection ∷ connections) number ++ new_connection number ∷ []) number ≡ []
-    by_test true e h = rw e h
-    by_test false e h = rw (e, e) h
-
--- ---- a terminal without its link
-
--- what changes of the connections leaves each that is still there, with what was heard on it
-abbrev StillThere : List Connection → List Connection → Type 0
-StillThere old new = (number : ℕ) → is_connected new number ≡ true → (is_connected old number ≡ true) × (heard_on new number ≡ heard_on old number)
-
--- five seconds from now is later
-due-later : (moment : ℕ) → is_due_by moment (Some (moment + 5)) ≡ false
-due-later moment = false_from_ne_true (nat_le (moment + 5) moment) (λ e. let small : moment + 5 ≤ moment = leb-true (moment + 5) moment e in absurd (omega (arith, small)))
-
-module _ (settings : List ℕ → Setting) (v : View) (past : Past) (exchanges : List ℕ → List PlacedExchange) (pt : ℕ) (call : OwedCall) (p : Plays settings v past exchanges) (last : IsLast v call) (old : Terminal) (found_old : slice_get v.scene.core.terminals pt ≡ Some old)
-    (scene : Scene) (core_is : scene.core ≡ v.scene.core) (moment_is : scene.outside.moment ≡ v.scene.outside.moment) (still : StillThere v.scene.outside.links scene.outside.links)
-    (uncut : (number : ℕ) → number ≢ pt → cuts_terminal number call ≡ false) (asks_none : (number : ℕ) → number ≢ pt → ask_owed number (call ∷ []) ≡ false) (lasting : List MadeLink) where
-  abbrev gone : Terminal
-  gone = unlinked_terminal old v.scene.outside.moment
-
-  abbrev next_past : Past
-  next_past = past_then past past.commands past.links lasting past.replies past.deeds
-
-  -- that of the number is gone, and the others are as they were
-  left-there : (number : ℕ) (terminal : Terminal) → slice_get (with_terminal v.scene.core pt gone).terminals number ≡ Some terminal → ((number ≡ pt) × (terminal ≡ gone)) ⊎ ((number ≢ pt) × (slice_get v.scene.core.terminals number ≡ Some terminal))
-  left-there number terminal found = by-number number pt
-      (λ same. inl (sym same, same-some terminal gone (sym found ∙ ap (slice_get (with_terminal v.scene.core pt gone).terminals) (sym same) ∙ new-is-there v.scene.core.terminals pt old gone found_old)))
-      (λ differs. inr (differs, sym (others-stay v.scene.core.terminals pt number gone differs) ∙ found))
-
-  lost-plays : (row : Row) (more : List OwedCall) → row.core ≡ with_terminal v.scene.core pt gone → row.items ≡ [] → AreSpare (row.calls ++ more) → Plays settings (by_row v scene row more) next_past exchanges
-  lost-plays row more core items spare = record {
-    peers = λ clear number terminal found linked no_cut. subst (λ (l : List RoundItem). IsPeer (ask_owed number (row.calls ++ more)) (settings terminal.pt.poi) (exchanges terminal.pt.poi) number l past.commands (row.calls ++ more) terminal) (sym same_items)
-        (subst (λ (b : Bool). IsPeer b (settings terminal.pt.poi) (exchanges terminal.pt.poi) number v.items past.commands (row.calls ++ more) terminal) (sym (spare.asks number)) (peer number terminal (left-there number terminal (now number terminal found)) linked));
-    unlinked = λ number terminal due found is. subst (λ (l : List RoundItem). (terminal.talk ≡ None) × ((pending number l ≡ []) ⊎ (is_due_by scene.outside.moment due ≡ false))) (sym same_items) (not_linked number terminal due (left-there number terminal (now number terminal found)) is);
-    linking = λ number owed. no-true (sym (spare.links number) ∙ owed);
-    heard = λ number terminal found connected. heard number terminal (left-there number terminal (now number terminal found)) connected;
-    calm = λ handles. p.calm (sym (ap (list_any is_handle) same_items) ∙ handles);
-    uncharged = λ handles number. spare.charges_none number;
-    served = λ handles. ap (list_any brings_charge) same_items ∙ p.served (sym (ap (list_any is_handle) same_items) ∙ handles);
-    heard_before = let before = p.heard_before in omega (arith, before);
-    falling = falling-later past.place past.commands p.falling;
-    linked_before = λ link within. let before = p.linked_before link within in omega (arith, before);
-    ends = p.ends;
-    made = λ number terminal found linked. made number terminal (left-there number terminal (now number terminal found)) linked;
-    places = λ poi one within. let before = p.places poi one within in omega (arith, before);
-    honest = λ poi. honest-place past next_past poi (book_along (settings poi) poi (exchanges poi)) p.falling (omega arith) refl refl refl (p.honest poi);
-  }
-    where
-      same_items : row.items ++ v.items ≡ v.items
-      same_items = ap (λ (l : List RoundItem). l ++ v.items) items
-
-      now : (number : ℕ) (terminal : Terminal) → slice_get row.core.terminals number ≡ Some terminal → slice_get (with_terminal v.scene.core pt gone).terminals number ≡ Some terminal
-      now number terminal found = ap (λ (c : Core). slice_get c.terminals number) (sym core) ∙ found
-
-      not_gone : {A : Type 0} (terminal : Terminal) → terminal ≡ gone → is_linked terminal.standing ≡ true → A
-      not_gone terminal is linked = no-true (sym (ap (λ (u : Terminal). is_linked u.standing) is) ∙ linked)
-
-      peer : (number : ℕ) (terminal : Terminal) → ((number ≡ pt) × (terminal ≡ gone)) ⊎ ((number ≢ pt) × (slice_get v.scene.core.terminals number ≡ Some terminal)) → is_linked terminal.standing ≡ true
-          → IsPeerIn (settings terminal.pt.poi) terminal.pt.poi (exchanges terminal.pt.poi) number v.items past.commands terminal.talk terminal.standing
-      peer number terminal (inl own) linked = not_gone terminal own.1 linked
-      peer number terminal (inr other) linked =
-          let none : ask_owed number v.calls ≡ false = ap (ask_owed number) last.calls_are ∙ asks_none number other.0 in
-          subst (λ (b : Bool). IsPeer b (settings terminal.pt.poi) (exchanges terminal.pt.poi) number v.items past.commands v.calls terminal) none
-          (p.peers last.clear number terminal other.1 linked (last-cuts v call number last (uncut number other.0)))
-
-      not_linked : (number : ℕ) (terminal : Terminal) (due : Option ℕ) → ((number ≡ pt) × (terminal ≡ gone)) ⊎ ((number ≢ pt) × (slice_get v.scene.core.terminals number ≡ Some terminal)) → terminal.standing ≡ Unlinked due
-          → (terminal.talk ≡ None) × ((pending number v.items ≡ []) ⊎ (is_due_by scene.outside.moment due ≡ false))
-      not_linked number terminal due (inl own) is =
-          let due_is : Some (v.scene.outside.moment + 5) ≡ due = let e : Unlinked (Some (v.scene.outside.moment + 5)) ≡ Unlinked due = sym (ap (λ (u : Terminal). u.standing) own.1) ∙ is in cc in
-          (ap (λ (u : Terminal). u.talk) own.1, inr (ap (λ (d : Option ℕ). is_due_by scene.outside.moment d) (sym due_is) ∙ ap (λ (m : ℕ). is_due_by m (Some (v.scene.outside.moment + 5))) moment_is ∙ due-later v.scene.outside.moment))
-      not_linked number terminal due (inr other) is =
-          subst (λ (m : ℕ). (terminal.talk ≡ None) × ((pending number v.items ≡ []) ⊎ (is_due_by m due ≡ false))) (sym moment_is) (p.unlinked number terminal due other.1 is)
-
-      heard : (number : ℕ) (terminal : Terminal) → ((number ≡ pt) × (terminal ≡ gone)) ⊎ ((number ≢ pt) × (slice_get v.scene.core.terminals number ≡ Some terminal)) → is_connected scene.outside.links number ≡ true
-          → heard_on_link (exchanges_in (exchanges terminal.pt.poi)) ≡ heard_on scene.outside.links number
-      heard number terminal (inl own) connected =
-          let there = still number connected in
-          subst (λ (poi : List ℕ). heard_on_link (exchanges_in (exchanges poi)) ≡ heard_on scene.outside.links number) (sym (ap (λ (u : Terminal). u.pt.poi) own.1))
-          (p.heard number old (ap (slice_get v.scene.core.terminals) own.0 ∙ found_old) there.0 ∙ sym there.1)
-      heard number terminal (inr other) connected = let there = still number connected in p.heard number terminal other.1 there.0 ∙ sym there.1
-
-      made : (number : ℕ) (terminal : Terminal) → ((number ≡ pt) × (terminal ≡ gone)) ⊎ ((number ≢ pt) × (slice_get v.scene.core.terminals number ≡ Some terminal)) → is_linked terminal.standing ≡ true → WasLinked past.links terminal.pt.poi
-      made number terminal (inl own) linked = not_gone terminal own.1 linked
-      made number terminal (inr other) linked = p.made number terminal other.1 linked
-
--- the row of a link that is lost
-record IsLostRow (v : View) (pt : ℕ) (old : Terminal) (row : Row) : Type 0 where
-  core : row.core ≡ with_terminal v.scene.core pt (unlinked_terminal old v.scene.outside.moment)
-  items : row.items ≡ []
-  calls : row.calls ≡ reply_calls_to old.asker (reply_to_lost old.standing)
-
-lost-row : (v : View) (k : HasSetup v.scene) (pt : ℕ) (old : Terminal) → slice_get v.scene.core.terminals pt ≡ Some old → IsLostRow v pt old (link_lost_at v.scene pt)
-lost-row v k pt old found =
-    let row_is : link_lost_at v.scene pt ≡ unlinks (known_in v.scene k.setup) pt old = lost-at v.scene pt k.setup k.setup_is ∙ ap (of_terminal (known_in v.scene k.setup) (unlinks (known_in v.scene k.setup) pt)) found in
-    record { core = ap (λ (r : Row). r.core) row_is; items = ap (λ (r : Row). r.items) row_is; calls = ap (λ (r : Row). r.calls) row_is }
-
-spare-calls : (v : View) (pt : ℕ) (old : Terminal) (row : Row) (more : List OwedCall) → IsLostRow v pt old row → more ≡ [] → AreSpare (row.calls ++ more)
-spare-calls v pt old row more r none =
-    subst AreSpare (sym (ap (λ (l : List OwedCall). row.calls ++ l) none ∙ append-nil row.calls ∙ r.calls)) (reply-spare old.asker (reply_to_lost old.standing))
-
--- a terminal whose link may be made or cut is there
-number-there : (v : View) (pt : ℕ) → (state_in v.scene.core pt ≡ Absent → ⊥) → (terminal : Terminal) × (slice_get v.scene.core.terminals pt ≡ Some terminal)
-number-there v pt there = by_found (slice_get v.scene.core.terminals pt) refl
-  where
-    by_found : (found : Option Terminal) → slice_get v.scene.core.terminals pt ≡ found → (terminal : Terminal) × (slice_get v.scene.core.terminals pt ≡ Some terminal)
-    by_found None is = absurd (there (ap state_of is))
-    by_found (Some terminal) is = (terminal, is)
-
-to-link-there : (log : List Turn) (v : View) (pt : ℕ) → Ordered log v → v.calls ≡ LinkPt pt ∷ [] → (terminal : Terminal) × (slice_get v.scene.core.terminals pt ≡ Some terminal)
-to-link-there log v pt o calls =
-    let s = call-settled v (LinkPt pt) o.agrees (ap first_call calls) in
-    let off = (subst (λ l. EachFits v.scene.outside.moment v.scene.core l) calls s.fits).0 in
-    number-there v pt (λ absent. let n : Absent ≡ Off off.0 = sym absent ∙ off.1 in absurd cc)
-
-to-cut-there : (log : List Turn) (v : View) (pt : ℕ) → Ordered log v → v.calls ≡ OwedCutPt pt ∷ [] → (terminal : Terminal) × (slice_get v.scene.core.terminals pt ≡ Some terminal)
-to-cut-there log v pt o calls =
-    let s = call-settled v (OwedCutPt pt) o.agrees (ap first_call calls) in
-    let on = (subst (λ l. EachFits v.scene.outside.moment v.scene.core l) calls s.fits).0 in
-    number-there v pt (λ absent. let n : Absent ≡ On = sym absent ∙ on in absurd cc)
-
--- the link could not be made
-pub link-failed-plays : (laws : PeerLaws) (pt : ℕ) → PlaysTurn (LinkFailed pt)
-link-failed-plays laws pt settings log v past exchanges o ok hears p =
-    let last : IsLast v (LinkPt pt) = is-last log v (LinkPt pt) o ok refl (λ more. refl) in
-    let there = to-link-there log v pt o last.calls_are in
-    let k = call-setup v (LinkPt pt) o.agrees.run ok in
-    let r : IsLostRow v pt there.0 (link_lost_at v.scene pt) = lost-row v k pt there.0 there.1 in
-    lost-plays settings v past exchanges pt (LinkPt pt) p last there.0 there.1 (called v.scene (LinkFailed pt)) refl refl (λ number connected. (connected, refl)) (λ number differs. refl) (λ number differs. refl) past.lasting
-    (link_lost_at v.scene pt) [] r.core r.items (spare-calls v pt there.0 (link_lost_at v.scene pt) [] r refl)
-
--- the connection is cut
-pub cut-pt-plays : (laws : PeerLaws) (pt : ℕ) → PlaysTurn (CutPt pt)
-cut-pt-plays laws pt settings log v past exchanges o ok hears p =
-    let last : IsLast v (OwedCutPt pt) = is-last log v (OwedCutPt pt) o ok refl (λ more. refl) in
-    let there = to-cut-there log v pt o last.calls_are in
-    let k = call-setup v (OwedCutPt pt) o.agrees.run ok in
-    let r : IsLostRow v pt there.0 (link_lost_at v.scene pt) = lost-row v k pt there.0 there.1 in
-    lost-plays settings v past exchanges pt (OwedCutPt pt) p last there.0 there.1 (called v.scene (CutPt pt)) refl refl still (λ number differs. not-number pt number (λ same. differs (sym same))) (λ number differs. refl)
-    (filter (λ (link : MadeLink). not (bytes_eq link.poi (poi_of_number v.scene pt))) past.lasting)
-    (link_lost_at v.scene pt) (later v.calls) r.core r.items (spare-calls v pt there.0 (link_lost_at v.scene pt) (later v.calls) r last.none_later)
-  where
-    still : StillThere v.scene.outside.links (without v.scene.outside.links pt)
-    still number connected = by-number number pt
-        (λ same. no-true (sym (connected-removed v.scene.outside.links pt) ∙ ap (is_connected (without v.scene.outside.links pt)) same ∙ connected))
-        (λ differs. (sym (connected-other v.scene.outside.links pt number differs) ∙ connected, heard-other v.scene.outside.links pt number differs))
-
--- ---- a terminal is linked
-
-currency-small : (currency : Currency) → currency_number currency < 100 ^ 2
-currency-small Eur = omega arith
-currency-small Chf = omega arith
-currency-small Gbp = omega arith
-currency-small Usd = omega arith
-currency-small Dkk = omega arith
-currency-small Sek = omega arith
-currency-small Nok = omega arith
-currency-small Pln = omega arith
-currency-small Czk = omega arith
-
--- the settings of a terminal lie within the limits
-is-pt : (log : List Turn) (v : View) (k : HasSetup v.scene) (pt : ℕ) (terminal : Terminal) → Ordered log v → slice_get v.scene.core.terminals pt ≡ Some terminal → IsPt terminal.pt
-is-pt log v k pt terminal o found = all-there IsPt k.setup.terminals pt terminal.pt k.within.each (pt-at v k.setup pt terminal (configured v k.setup o.agrees k.setup_is) found)
-
-was-linked-more : (new : MadeLink) (links : List MadeLink) (poi : List ℕ) → WasLinked links poi → WasLinked (new ∷ links) poi
-was-linked-more new links poi was = (was.0, inr was.1, was.2)
-
--- the terminal of the number is new, and the others are as they were
-changed-there : (core : Core) (pt number : ℕ) (old new terminal : Terminal) → slice_get core.terminals pt ≡ Some old → slice_get (with_terminal core pt new).terminals number ≡ Some terminal
-    → ((pt ≡ number) × (new ≡ terminal)) ⊎ ((number ≢ pt) × (slice_get core.terminals number ≡ Some terminal))
-changed-there core pt number old new terminal found_old found = by-number number pt
-    (λ same. inl (same, same-some new terminal (sym (new-is-there core.terminals pt old new found_old) ∙ ap (slice_get (with_terminal core pt new).terminals) same ∙ found)))
-    (λ differs. inr (differs, sym (others-stay core.terminals pt number new differs) ∙ found))
-
-module _ (laws : PeerLaws) (settings : List ℕ → Setting) (log : List Turn) (v : View) (past : Past) (exchanges : List ℕ → List PlacedExchange) (pt : ℕ) (o : Ordered log v) (p : Plays settings v past exchanges) (last : IsLast v (LinkPt pt))
-    (old : Terminal) (found_old : slice_get v.scene.core.terminals pt ≡ Some old) (k : HasSetup v.scene) where
-  abbrev registering : Terminal
-  registering = after_command (record old { awaited = 0 }) (registration old.pt) Registering v.scene.outside.moment
-
-  abbrev made_link : MadeLink
-  made_link = record { place = past.place; poi = poi_of_number v.scene pt; records = length v.scene.kept }
-
-  abbrev linked_past : Past
-  linked_past = past_then past past.commands (made_link ∷ past.links) (made_link ∷ past.lasting) past.replies past.deeds
-
-  abbrev Z : List ℕ → List PlacedExchange
-  Z = done_at v.scene pt past.place Links exchanges
-
-  abbrev linked_calls : List OwedCall
-  linked_calls = SendPt pt (Ask (registration old.pt)) ∷ []
-
-  abbrev new_links : List Connection
-  new_links = without v.scene.outside.links pt ++ new_connection pt ∷ []
-
-  linked-own : poi_of_number v.scene pt ≡ old.pt.poi
-  linked-own = poi-is v.scene pt old found_old
-
-  own-linked : Z old.pt.poi ≡ record { place = past.place; exchange = Links } ∷ exchanges old.pt.poi
-  own-linked = done-own v.scene pt past.place Links exchanges old.pt.poi (ap (λ (poi : List ℕ). bytes_eq poi old.pt.poi) linked-own ∙ bytes-itself old.pt.poi)
-
-  apart-linked : (number : ℕ) (terminal : Terminal) → number ≢ pt → slice_get v.scene.core.terminals number ≡ Some terminal → Z terminal.pt.poi ≡ exchanges terminal.pt.poi
-  apart-linked number terminal differs found =
-      done-other v.scene pt past.place Links exchanges terminal.pt.poi
-      (ap (λ (poi : List ℕ). bytes_eq poi terminal.pt.poi) linked-own ∙ apart-pois log v k pt number old terminal o (λ same. differs (sym same)) found_old found)
-
-  to-register : IsToBeAsked (settings old.pt.poi) (Z old.pt.poi) pt v.items linked_calls registering
-  to-register =
-      let limits : IsPt old.pt = is-pt log v k pt old o found_old in
-      record {
-        quiet = subst (λ (l : List PlacedExchange). IsQuiet (settings old.pt.poi) l pt v.items) (sym own-linked)
-            (new-link-quiet laws.all (settings old.pt.poi) (exchanges old.pt.poi) pt v.items past.place (p.linking pt (ap (link_owed pt) last.calls_are ∙ ap (λ (b : Bool). b || false) (eq-eqb pt pt refl))));
-        command = registration old.pt;
-        owed = inl refl;
-        digits = (limits.password.1, currency-small old.pt.currency);
-        sizes = limits.password.0;
-        of_standing = (old.pt.password, old.pt.config, currency_number old.pt.currency, refl);
-        dialogue = record { dialogue_kind = Registration; none = old.pt.none; acknowledge_time = old.pt.answer; command_time = old.pt.command; sent = pos v.scene.outside.moment };
-        begins = refl;
-        talk_is = refl;
-      }
-
-  -- with the registration owed
-  abbrev linked_view : Core → List OwedCall → List RoundItem → View
-  linked_view core calls items = record { scene = record (called v.scene (Linked pt)) { core = core }; calls = calls; items = items }
-
-  registers-plays : Plays settings (linked_view (with_terminal v.scene.core pt registering) linked_calls v.items) linked_past Z
-  registers-plays = record {
-    peers = λ clear number terminal found linked uncut. peer number terminal (changed-there v.scene.core pt number old registering terminal found_old found) linked;
-    unlinked = λ number terminal due found is. not_linked number terminal due (changed-there v.scene.core pt number old registering terminal found_old found) is;
-    linking = λ number owed. no-true owed;
-    heard = λ number terminal found connected. heard number terminal (changed-there v.scene.core pt number old registering terminal found_old found) connected;
-    calm = p.calm;
-    uncharged = λ handles number. both-false (pt == number);
-    served = p.served;
-    heard_before = let before = p.heard_before in omega (arith, before);
-    falling = falling-later past.place past.commands p.falling;
-    linked_before = before;
-    ends = λ end within. let e = p.ends end within in (e.0, was-linked-more made_link past.links end.poi e.1, e.2);
-    made = λ number terminal found linked. made number terminal (changed-there v.scene.core pt number old registering terminal found_old found) linked;
-    places = λ poi. done-places v.scene pt past.place Links exchanges poi (p.places poi);
-    honest = λ poi. subst (IsHonestFor linked_past poi) (sym (same_book poi)) (honest-link past linked_past poi (book_along (settings poi) poi (exchanges poi)) made_link p.falling (omega arith) refl refl refl refl (p.honest poi));
-  }
-    where
-      both-false : (b : Bool) → ((b && false) || false) ≡ false
-      both-false true = refl
-      both-false false = refl
-
-      peer : (number : ℕ) (terminal : Terminal) → ((pt ≡ number) × (registering ≡ terminal)) ⊎ ((number ≢ pt) × (slice_get v.scene.core.terminals number ≡ Some terminal)) → is_linked terminal.standing ≡ true
-          → IsPeer (ask_owed number linked_calls) (settings terminal.pt.poi) (Z terminal.pt.poi) number v.items past.commands linked_calls terminal
-      peer number terminal (inl own) linked =
-          subst (λ (u : Terminal). IsPeer (ask_owed number linked_calls) (settings u.pt.poi) (Z u.pt.poi) number v.items past.commands linked_calls u) own.1
-          (subst (λ (n : ℕ). IsPeer (ask_owed n linked_calls) (settings old.pt.poi) (Z old.pt.poi) n v.items past.commands linked_calls registering) own.0
-          (subst (λ (b : Bool). IsPeer b (settings old.pt.poi) (Z old.pt.poi) pt v.items past.commands linked_calls registering) (sym (ap (λ (b : Bool). b || false) (eq-eqb pt pt refl))) to-register))
-      peer number terminal (inr other) linked =
-          let none : ask_owed number v.calls ≡ false = ap (ask_owed number) last.calls_are in
-          let before : IsPeerIn (settings terminal.pt.poi) terminal.pt.poi (exchanges terminal.pt.poi) number v.items past.commands terminal.talk terminal.standing =
-          subst (λ (b : Bool). IsPeer b (settings terminal.pt.poi) (exchanges terminal.pt.poi) number v.items past.commands v.calls terminal) none
-          (p.peers last.clear number terminal other.1 linked (last-cuts v (LinkPt pt) number last refl)) in
-          subst (λ (b : Bool). IsPeer b (settings terminal.pt.poi) (Z terminal.pt.poi) number v.items past.commands linked_calls terminal) (sym (ap (λ (b : Bool). b || false) (not-number pt number (λ same. other.0 (sym same)))))
-          (subst (λ (l : List PlacedExchange). IsPeerIn (settings terminal.pt.poi) terminal.pt.poi l number v.items past.commands terminal.talk terminal.standing) (sym (apart-linked number terminal other.0 other.1)) before)
-
-      not_linked : (number : ℕ) (terminal : Terminal) (due : Option ℕ) → ((pt ≡ number) × (registering ≡ terminal)) ⊎ ((number ≢ pt) × (slice_get v.scene.core.terminals number ≡ Some terminal)) → terminal.standing ≡ Unlinked due
-          → (terminal.talk ≡ None) × ((pending number v.items ≡ []) ⊎ (is_due_by v.scene.outside.moment due ≡ false))
-      not_linked number terminal due (inl own) is = absurd (let n : Registering ≡ Unlinked due = ap (λ (u : Terminal). u.standing) own.1 ∙ is in cc)
-      not_linked number terminal due (inr other) is = p.unlinked number terminal due other.1 is
-
-      heard : (number : ℕ) (terminal : Terminal) → ((pt ≡ number) × (registering ≡ terminal)) ⊎ ((number ≢ pt) × (slice_get v.scene.core.terminals number ≡ Some terminal)) → is_connected new_links number ≡ true
-          → heard_on_link (exchanges_in (Z terminal.pt.poi)) ≡ heard_on new_links number
-      heard number terminal (inl own) connected =
-          subst (λ (u : Terminal). heard_on_link (exchanges_in (Z u.pt.poi)) ≡ heard_on new_links number) own.1
-          (ap (λ (l : List PlacedExchange). heard_on_link (exchanges_in l)) own-linked ∙ sym (heard-new v.scene.outside.links pt) ∙ ap (heard_on new_links) own.0)
-      heard number terminal (inr other) connected =
-          let rest : List Connection = without v.scene.outside.links pt in
-          let was : is_connected v.scene.outside.links number ≡ true = sym (connected-old rest pt number other.0 ∙ connected-other v.scene.outside.links pt number other.0) ∙ connected in
-          ap (λ (l : List PlacedExchange). heard_on_link (exchanges_in l)) (apart-linked number terminal other.0 other.1)
-          ∙ p.heard number terminal other.1 was
-          ∙ sym (heard-old rest pt number other.0 ∙ heard-other v.scene.outside.links pt number other.0)
-
-      before : (link : MadeLink) → In link (made_link ∷ past.links) → link.place < past.place + 1
-      before link (inl same) = let is : link.place ≡ past.place = ap (λ (l : MadeLink). l.place) same in omega (arith, is)
-      before link (inr within) = let below = p.linked_before link within in omega (arith, below)
-
-      made : (number : ℕ) (terminal : Terminal) → ((pt ≡ number) × (registering ≡ terminal)) ⊎ ((number ≢ pt) × (slice_get v.scene.core.terminals number ≡ Some terminal)) → is_linked terminal.standing ≡ true → WasLinked (made_link ∷ past.links) terminal.pt.poi
-      made number terminal (inl own) linked = (made_link, inl refl, linked-own ∙ ap (λ (u : Terminal). u.pt.poi) own.1)
-      made number terminal (inr other) linked = was-linked-more made_link past.links terminal.pt.poi (p.made number terminal other.1 linked)
-
-      same_book : (poi : List ℕ) → book_along (settings poi) poi (Z poi) ≡ book_along (settings poi) poi (exchanges poi)
-      same_book poi = by-poi v.scene pt poi
-          (λ own. ap (book_along (settings poi) poi) (done-own v.scene pt past.place Links exchanges poi own) ∙ append-nil (book_along (settings poi) poi (exchanges poi)))
-          (λ other. ap (book_along (settings poi) poi) (done-other v.scene pt past.place Links exchanges poi other))
-
-  row-plays : (row : Row) (more : List OwedCall) → row.core ≡ with_terminal v.scene.core pt registering → row.items ≡ [] → row.calls ≡ linked_calls → more ≡ [] → Plays settings (by_row v (called v.scene (Linked pt)) row more) linked_past Z
-  row-plays row more core items calls none =
-      subst (λ (c : Core). Plays settings (linked_view c (row.calls ++ more) (row.items ++ v.items)) linked_past Z) (sym core)
-      (subst (λ (l : List OwedCall). Plays settings (linked_view (with_terminal v.scene.core pt registering) l (row.items ++ v.items)) linked_past Z) (sym (ap (λ (l : List OwedCall). row.calls ++ l) none ∙ append-nil row.calls ∙ calls))
-      (subst (λ (l : List RoundItem). Plays settings (linked_view (with_terminal v.scene.core pt registering) linked_calls (l ++ v.items)) linked_past Z) (sym items) registers-plays))
-
--- a terminal is linked
-pub linked-plays : (laws : PeerLaws) (pt : ℕ) → PlaysTurn (Linked pt)
-linked-plays laws pt settings log v past exchanges o ok hears p =
-    let last : IsLast v (LinkPt pt) = is-last log v (LinkPt pt) o ok refl (λ more. refl) in
-    let there = to-link-there log v pt o last.calls_are in
-    let k = call-setup v (LinkPt pt) o.agrees.run ok in
-    let row_is : link_made_at v.scene pt ≡ registers (known_in v.scene k.setup) pt there.0 =
-    made-at v.scene pt k.setup k.setup_is ∙ ap (of_terminal (known_in v.scene k.setup) (registers (known_in v.scene k.setup) pt)) there.1 in
-    row-plays laws settings log v past exchanges pt o p last there.0 there.1 k (link_made_at v.scene pt) (later v.calls) (ap (λ (r : Row). r.core) row_is) (ap (λ (r : Row). r.items) row_is) (ap (λ (r : Row). r.calls) row_is) last.none_later

@@ -10,9 +10,9 @@ use Rattle.zvt_msg.specs.declared.command.Command.TheVariants as commands
 use Rattle.zvt_msg.specs.declared.fault.PtFault.{PtFault}
 use Rattle.zvt_msg.specs.Message.{MessageValue}
 use Rattle.zvt_msg.specs.MessageDecode.{decode_pt_message}
-use Rattle.zvt_talk.specs.Came.{Message, is_taken, messages}
+use Rattle.zvt_talk.specs.Came.{Message, StopWished, is_taken, messages}
 use Rattle.zvt_talk.specs.Talk.{TalkFacts, meaning, talk_after}
-use Rattle.zvt_talk.specs.TalkSteps.{next_talk}
+use Rattle.zvt_talk.specs.TalkSteps.{next_talk, talk_after_stop_wished}
 use Rattle.pt_core.specs.Ends.{IsTrueEnd}
 use Rattle.pt_core.specs.Exchange.{heard_on_link}
 use Rattle.pt_core.specs.History.{Setting, book_of, reaction_after}
@@ -25,8 +25,8 @@ use Rattle.gw_owes.specs.Handling.{meaning_at, meaning_for, taken_as, taking}
 use Rattle.gw_owes.specs.Items.{RoundItem, Handle}
 use Rattle.gw_books.specs.Past.{SentCommand}
 use Rattle.gw_played.specs.Played.{PlacedExchange, exchanges_in}
-use Rattle.gw_played.proofs.Playing.{AreMessages, IsLeft, IsPeerIn, IsQuiet, IsTalking, PeerLaws, pending}
-use Rattle.gw_played.proofs.PeerTalkLemmas.{GoesOn, IsAsked, MayEnd, Spoken, StaysOpen, EndsHere, spoken}
+use Rattle.gw_played.proofs.Playing.{AreMessages, IsLeft, IsPeerIn, IsQuiet, IsTalking, IsTransacting, PeerLaws, pending}
+use Rattle.gw_played.proofs.PeerTalkLemmas.{GoesOn, IsAsked, MayEnd, Spoken, StaysOpen, EndsHere, messages-wished, spoken}
 
 -- ---- numbers
 
@@ -74,7 +74,6 @@ module _ (setting : Setting) (placed : List PlacedExchange) (number : ℕ) (item
     begins = it.begins;
     came = it.came;
     talk_is = it.talk_is;
-    unstopped = it.unstopped;
     goes_on = it.goes_on;
     left = it.left;
     is_left = left-stays it.left it.is_left;
@@ -89,10 +88,36 @@ module _ (setting : Setting) (placed : List PlacedExchange) (number : ℕ) (item
   peer-stays poi sent talk Enquiring (password, it) = (password, talking-stays talk (commands.Enquire password) it)
   peer-stays poi sent talk (Ready last) it = quiet-stays it
   peer-stays poi sent talk (Serving (Transaction slot) last) it =
-      record { amount = it.amount; currency = it.currency; talking = talking-stays talk (commands.Authorise it.amount it.currency) it.talking; last = it.last }
+      record { command = it.command; charging = it.charging; talking = talking-stays talk it.command it.talking; last = it.last }
   peer-stays poi sent talk (Serving (EndOfDay header period) last) it = tt
   peer-stays poi sent talk (Serving (Display header outputs) last) it = tt
   peer-stays poi sent talk (Aside before reported) it = quiet-stays it
+
+-- ---- a stop that is wished
+
+-- the dialogue is as far as it was once a stop is wished in it
+module _ (laws : PeerLaws) (setting : Setting) (placed : List PlacedExchange) (number : ℕ) (items : List RoundItem) (talk : TalkFacts) where
+  abbrev wished-talking : (command : Command) → IsTalking setting placed number items (Some talk) command → IsTalking setting placed number items (Some (talk_after_stop_wished talk)) command
+  wished-talking command it = record {
+    apdu = it.apdu;
+    before = it.before;
+    spells = it.spells;
+    book_is = it.book_is;
+    dialogue = it.dialogue;
+    begins = it.begins;
+    came = it.came ++ StopWished ∷ [];
+    talk_is = ap (option_map talk_after_stop_wished) it.talk_is ∙ ap (λ (one : TalkFacts). Some one) (laws.stop_wished it.dialogue it.came);
+    goes_on = laws.ends_nothing it.dialogue it.came ∙ it.goes_on;
+    left = it.left;
+    is_left = it.is_left;
+    whole = ap (λ (l : List MessageValue). l ++ it.left) (messages-wished it.came) ∙ it.whole;
+    uncut = it.uncut;
+    waits = it.waits;
+  }
+
+  -- so is that of the payment or the reversal that is served
+  pub wished-transacting : (poi : List ℕ) (sent : List SentCommand) → IsTransacting setting poi placed number items sent (Some talk) → IsTransacting setting poi placed number items sent (Some (talk_after_stop_wished talk))
+  wished-transacting poi sent it = record { command = it.command; charging = it.charging; talking = wished-talking it.command it.talking; last = it.last }
 
 -- ---- the first message that is left
 
@@ -154,7 +179,7 @@ module _ (laws : PeerLaws) (setting : Setting) (placed : List PlacedExchange) (n
       left-is = first.left_is ∙ ap (λ (m : MessageValue). m ∷ first.later) (same-message apdu first.message message first.decodes decodes)
 
       said : Spoken setting t.before t.apdu t.dialogue t.came message first.later
-      said = spoken laws setting t.before t.apdu command t.dialogue t.came message first.later asked t.spells t.begins t.unstopped t.goes_on (ap (λ (l : List MessageValue). messages t.came ++ l) (sym left-is) ∙ t.whole)
+      said = spoken laws setting t.before t.apdu command t.dialogue t.came message first.later asked t.spells t.begins t.goes_on (ap (λ (l : List MessageValue). messages t.came ++ l) (sym left-is) ∙ t.whole)
 
       means : meaning_at old message ≡ meaning t.dialogue t.came message
       means = ap (λ (talk : Option TalkFacts). meaning_for talk (taken_as old.awaited message)) t.talk_is ∙ ap (meaning_for (Some (talk_after t.dialogue t.came))) (said.same old.awaited) ∙ said.means
@@ -177,7 +202,6 @@ module _ (laws : PeerLaws) (setting : Setting) (placed : List PlacedExchange) (n
           begins = t.begins;
           came = t.came ++ Message message (pos moment) ∷ [];
           talk_is = next;
-          unstopped = said.unstopped (pos moment);
           goes_on = stays.goes_on (pos moment);
           left = first.later;
           is_left = first.is_left;

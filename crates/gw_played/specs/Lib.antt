@@ -1,3 +1,4 @@
 -- The books of played terminals are honest.
 pub mod Example
 pub mod Played
+pub mod ReversalExample

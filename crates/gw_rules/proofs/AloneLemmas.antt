@@ -30,7 +30,7 @@ use Rattle.gw_owes.specs.Row.{Known, owing_nothing, becoming}
 use Rattle.gw_owes.specs.Rows.{row_of}
 use Rattle.gw_owes.specs.TerminalLaws.{IsOwedNothing}
 use Rattle.gw_owes.specs.Terminals.{of_terminal, with_terminal, terminal_becomes, reply_calls_to, reply_to_unfinished, reply_to_lost, unlinked_terminal, unlinks, link_lost}
-use Rattle.gw_owes.specs.Transcript.{Carried, Commanded, Took, standing_enquired, standing_served, standing_of_service, standing_ended, standing_taken, ended_with, standing_asked, standing_commanded, standing_by, without_slot, as_carried, EachRowFollowsTranscript}
+use Rattle.gw_owes.specs.Transcript.{Carried, Commanded, Took, Wished, standing_enquired, standing_served, standing_of_service, standing_ended, standing_taken, ended_with, standing_asked, standing_commanded, standing_by, without_slot, as_carried, EachRowFollowsTranscript}
 use Rattle.gw_owes.specs.declared.terminal.Service.{Service}
 use Rattle.gw_owes.specs.declared.terminal.Service.TheVariants.{Transaction, EndOfDay, Display}
 use Rattle.gw_owes.specs.declared.terminal.Standing.{Standing}
@@ -394,6 +394,7 @@ transcript-replies : (pt : Pt) (transcript : List Carried) → replies_any (stan
 transcript-replies pt [] = refl
 transcript-replies pt (Commanded command moment ∷ earlier) = commanded-replies command (standing_by pt earlier) (transcript-replies pt earlier)
 transcript-replies pt (Took message moment last ∷ earlier) = taken-replies last (ended_with pt message moment earlier) (standing_by pt earlier) (transcript-replies pt earlier)
+transcript-replies pt (Wished ∷ earlier) = transcript-replies pt earlier
 
 -- by the transcript no terminal serves what owes one
 none-replied : EachRowFollowsTranscript → (log : List Turn) (v : View) (s : Stands log v) (pt : ℕ) (terminal : Terminal) → slice_get v.scene.core.terminals pt ≡ Some terminal → v.scene.stage ≡ Handling → v.calls ≡ [] → replies terminal.standing ≡ false

@@ -1,5 +1,5 @@
 -- A registration that is acknowledged and done with the same bytes is followed by the enquiry.
-use Rattle.std.proofs.Common.{List, ◌∷◌, ◌++◌, sym, ap, subst}
+use Rattle.std.proofs.Common.{List, ◌∷◌, ◌++◌, refl, sym, ap, subst}
 use Rattle.std.specs.Prelude.{slice_get}
 use Rattle.gw_site.specs.Outside.{outside_of}
 use Rattle.gw_site.specs.Sorts.{AreOfRound}
@@ -13,6 +13,7 @@ use Rattle.gw_rules.specs.LinkLaws.{EndsNone}
 use Rattle.gw_rules.specs.SilenceLaws.{linked_turns}
 use Rattle.gw_rules.specs.View.{View, after_turn}
 use Rattle.gw_rules.proofs.DoneLemmas.{done-is-enquired}
+use Rattle.gw_rules.proofs.KeptLemmas.{lasting-kept}
 use Rattle.gw_rules.proofs.LinkedSilenceLemmas.{registers-unsaid}
 use Rattle.gw_rules.proofs.PendingLemmas.{ends-own}
 use Rattle.gw_rules.proofs.RegistrationLemmas.{registered}
@@ -25,7 +26,7 @@ done-at-once-is-enquired before run first inside rest setup settings pt chunk ne
     let v : View = u.view in
     let terminal : Terminal = registered settings (outside_of (before ++ Start setup ∷ run)).moment in
     let log : List Turn = linked_turns before setup run pt first in
-    let found = found-kept (slice_get v.scene.core.terminals pt) terminal u.kept.kept in
+    let found = found-kept (slice_get v.scene.core.terminals pt) terminal (lasting-kept v.scene.core pt terminal refl u.kept.kept) in
     let own : Terminal = found.0 in
     let y = split-at (after_turn v (HeardPt pt chunk)) u.onward.moves inside (Polled now) rest u.onward.turns_are u.onward.lawful in
     let own_ends : EndsWith IsDone own (outside_of log).moment new = ends-own IsDone own (outside_of log).moment new (subst (λ t. EndsWith IsDone t (outside_of log).moment new) (sym found.2) ends) in

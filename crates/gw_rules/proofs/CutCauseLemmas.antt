@@ -54,7 +54,7 @@ use Rattle.gw_rules.proofs.CourseLemmas.{stands-more, stands-outside}
 use Rattle.gw_rules.proofs.HeardLemmas.{heard-bytes, bytes-append, stands-bytes}
 use Rattle.gw_rules.proofs.KeptLemmas.{BeginsFirst, begins-first}
 use Rattle.gw_rules.proofs.LinkLawLemmas.{busy-not-poll, same-call}
-use Rattle.gw_rules.proofs.LinkStateLemmas.{is_serve, all_serve}
+use Rattle.gw_rules.proofs.LinkStateLemmas.{is_serve, each-serve, all_serve}
 use Rattle.gw_rules.proofs.LinkedLemmas.{Agrees, call-setup, made-at-turns, lost-at-turns, first-agrees, course-agrees, round-setup}
 use Rattle.gw_rules.proofs.OpeningLemmas.{other-not-looking, course-disk, first-owes-disk}
 use Rattle.gw_rules.proofs.OpensLemmas.{opens-cut-none}
@@ -125,7 +125,7 @@ unframed-none : (tills : List Connection) (known : Known) (till : ℕ) → CutsN
 unframed-none tills known till = by-where CutsNone known (owing known (OwedCutTill till ∷ [])) (is_connected tills till) refl (λ there. refl)
 
 serve-none : (known : Known) (number till : ℕ) (header : Header) (request : SaleRequest) → CutsNone (serve_row known number till header request)
-serve-none known number till header request = each-served CutsNone known number till header request refl (λ payment terminal last is begins. refl)
+serve-none known number till header request = each-served CutsNone known number till header request refl (λ terminal last asking at. refl) (λ terminal talk at now. refl) (λ terminal talk at later. refl)
 
 -- an item that cuts is of the terminal that it cuts, owes nothing else, and has a cause
 record OwesCut (tills : List Connection) (known : Known) (item : RoundItem) : Type 0 where
@@ -175,20 +175,7 @@ AreBrought log (item ∷ items) = IsBrought log item × AreBrought log items
 
 -- an item that begins to serve is of no APDU
 serve-brought : (log : List Turn) (item : RoundItem) → is_serve item ≡ true → IsBrought log item
-serve-brought log (Crowded till) e = no-true e
-serve-brought log (Message till bytes) e = no-true e
-serve-brought log (Asked till as_read) e = no-true e
-serve-brought log (Unframed till) e = no-true e
-serve-brought log (Gone till) e = no-true e
-serve-brought log (Greet pt apdu) e = no-true e
-serve-brought log (Handle pt apdu) e = no-true e
-serve-brought log (Serve pt till header request) e = tt
-serve-brought log (NextWaiting pt) e = no-true e
-serve-brought log (Oversized pt) e = no-true e
-serve-brought log (LinkLost pt) e = no-true e
-serve-brought log (Late pt) e = no-true e
-serve-brought log (Overdue key) e = no-true e
-serve-brought log (Due pt) e = no-true e
+serve-brought log item e = each-serve (IsBrought log) item e (λ pt till header request. tt)
 
 serves-brought : (log : List Turn) (items : List RoundItem) → all_serve items ≡ true → AreBrought log items
 serves-brought log [] e = tt

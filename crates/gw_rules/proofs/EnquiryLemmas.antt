@@ -37,7 +37,7 @@ use Rattle.gw_rules.specs.Scene.{known_in, row_in, row_at}
 use Rattle.gw_rules.specs.Stage.{Handling, busy, is_looking}
 use Rattle.gw_rules.specs.View.{View, Move, Begin, Read, Make, later, after, after_turn}
 use Rattle.gw_rules.proofs.CourseLemmas.{begin-outside, begin-stage}
-use Rattle.gw_rules.proofs.KeptLemmas.{Kept, kept_in, without_asker, change_none, due-change-none, begins-first, left-alone}
+use Rattle.gw_rules.proofs.KeptLemmas.{Kept, kept_in, without_asker, is_serving, lasting, lasting-kept, change_none, due-change-none, begins-first, left-alone}
 use Rattle.gw_rules.proofs.LinkLawLemmas.{sent-next}
 use Rattle.gw_rules.proofs.LinkStateLemmas.{On, state_of, on-linked, is_asked}
 use Rattle.gw_rules.proofs.LinkedLemmas.{Agrees, move-agrees, turn-agrees}
@@ -212,12 +212,12 @@ heard-more (connection ∷ connections) pt bytes e = by_test (connection.number 
     by_test false t h = rw (t, t) (h (sym (ap (λ b. b || is_connected connections pt) t) ∙ e))
 
 -- bytes that bring these items
-heard-owing : (setup : Setup) (pt : ℕ) (terminal : Terminal) (heard bytes : List ℕ) (items : List RoundItem) (v : View) → Agrees v → v.scene.setup ≡ Some setup → Kept pt terminal heard v → AllowedTurn v (HeardPt pt bytes) → pt_bytes_items pt heard bytes ≡ items
+heard-owing : (setup : Setup) (pt : ℕ) (terminal : Terminal) (heard bytes : List ℕ) (items : List RoundItem) (v : View) → Agrees v → v.scene.setup ≡ Some setup → is_serving terminal.standing ≡ false → Kept pt terminal heard v → AllowedTurn v (HeardPt pt bytes) → pt_bytes_items pt heard bytes ≡ items
     → Owing setup pt terminal (heard ++ bytes) (outside_after v.scene.outside (HeardPt pt bytes)) [] (items ++ items_due v.scene.core) (after_turn v (HeardPt pt bytes))
-heard-owing setup pt terminal heard bytes items v a is k ok brings = record {
+heard-owing setup pt terminal heard bytes items v a is none k ok brings = record {
   agrees = turn-agrees v (HeardPt pt bytes) a ok;
   setup_is = is;
-  kept = k.kept;
+  kept = lasting-kept v.scene.core pt terminal none k.kept;
   linked = k.linked;
   outside_is = refl;
   heard_is = heard-more v.scene.outside.links pt bytes ok.0.connected_is ∙ ap (λ l. l ++ bytes) k.heard_is;
@@ -260,7 +260,7 @@ takes-ack setup settings pt sent turns v a is k ok onward goes =
     let o : Outside = outside_after v.scene.outside (HeardPt pt ack_bytes) in
     let due : List RoundItem = items_due v.scene.core in
     let heard = after_turn v (HeardPt pt ack_bytes) in
-    let h = heard-owing setup pt (registered settings sent) [] ack_bytes (apdu_then pt ack_apdu []) v a is k ok (brings-ack pt) in
+    let h = heard-owing setup pt (registered settings sent) [] ack_bytes (apdu_then pt ack_apdu []) v a is refl k ok (brings-ack pt) in
     let first = item-begins heard (Greet pt ack_apdu) (Handle pt ack_apdu ∷ NextWaiting pt ∷ due) turns h.stage h.calls_are h.items_are refl goes onward in
     let g = begin-owing setup pt (registered settings sent) (registered settings sent) ack_bytes o [] (Greet pt ack_apdu) (Handle pt ack_apdu ∷ NextWaiting pt ∷ due) heard refl h first.0
     (greets-ack (known_in heard.scene setup) pt (registered settings sent) h.kept h.linked) in
@@ -291,7 +291,7 @@ acknowledged-silent before run first second rest setup settings pt turn lawful q
     let w = taken.1 in
     let moment_is : r.view.scene.outside ≡ outside_of (before ++ Start setup ∷ (run ++ Linked pt ∷ first)) = r.outside_is ∙ ap outside_of log_is in
     let kept : Kept pt (acknowledged settings sent r.view.scene.outside.moment) ack_bytes v = record {
-      kept = w.kept;
+      kept = ap (option_map lasting) w.kept;
       linked = refl;
       unready = refl;
       items = ap (change_none pt) w.items_are ∙ due-change-none pt r.view.scene.core;
@@ -312,7 +312,7 @@ acknowledges-done setup settings pt sent moment turns v a is k ok onward goes =
     let o : Outside = outside_after v.scene.outside (HeardPt pt completion_bytes) in
     let due : List RoundItem = items_due v.scene.core in
     let heard = after_turn v (HeardPt pt completion_bytes) in
-    let h = heard-owing setup pt terminal ack_bytes completion_bytes (apdu_then pt done_apdu []) v a is k ok (brings-done pt) in
+    let h = heard-owing setup pt terminal ack_bytes completion_bytes (apdu_then pt done_apdu []) v a is refl k ok (brings-done pt) in
     let begins = item-begins heard (Greet pt done_apdu) (Handle pt done_apdu ∷ NextWaiting pt ∷ due) turns h.stage h.calls_are h.items_are refl goes onward in
     let g = begin-owing setup pt terminal terminal (ack_bytes ++ completion_bytes) o (SendPt pt Acknowledge ∷ []) (Greet pt done_apdu) (Handle pt done_apdu ∷ NextWaiting pt ∷ due) heard refl h begins.0
     (greets-done (known_in heard.scene setup) pt terminal h.kept h.linked) in
@@ -389,7 +389,7 @@ silent-enquiry-is-cut before run first second third inside rest setup settings p
     let w = sent-owing setup pt terminal (ack_bytes ++ completion_bytes) (canonical_command (enquiry_command settings)) o (SendPt pt (Ask (enquiry_command settings))) (NextWaiting pt ∷ due) asked asks.1 command.0 in
     let v : View = after_turn asked enquiry in
     let kept : Kept pt terminal (ack_bytes ++ completion_bytes) v = record {
-      kept = w.kept;
+      kept = ap (option_map lasting) w.kept;
       linked = refl;
       unready = refl;
       items = ap (change_none pt) w.items_are ∙ due-change-none pt k.view.scene.core;

@@ -15,6 +15,9 @@ use Rattle.sale_frame.specs.Decode.{DecodedFrames, decode_after, decode_frames}
 use Rattle.zvt_apdu.specs.Decode.{decode_apdu}
 use Rattle.zvt_apdu.specs.DecodeStream.{DecodedApdus, decode_apdus}
 use Rattle.zvt_apdu.specs.Grammar.{ApduValue}
+use Rattle.zvt_talk.specs.Talk.{TalkFacts}
+use Rattle.zvt_talk.specs.TalkSteps.{talk_after_stop_wished}
+use Rattle.zvt_talk.specs.declared.phase.Phase.TheVariants.{Asked as AskedPhase}
 use Rattle.gw_owes.specs.Calls.{LinkPt, CutPt as OwedCutPt}
 use Rattle.gw_owes.specs.Core.{Core, Wait}
 use Rattle.gw_owes.specs.Events.{till_opened_items, has_bad_length, decoded_items, is_oversized, apdu_items, decoded_apdu_items, for_each_terminal, waits_by_deadline, items_due}
@@ -25,16 +28,21 @@ use Rattle.gw_owes.specs.ReadAs.{ReadAs}
 use Rattle.gw_owes.specs.Row.{Known, Row, owing_where}
 use Rattle.gw_owes.specs.Rows.{row_of, asked_row}
 use Rattle.gw_owes.specs.Steps.{is_ready_standing}
-use Rattle.gw_owes.specs.Terminals.{link_made, link_lost, forgets_till}
+use Rattle.gw_owes.specs.Terminals.{with_terminal, link_made, link_lost, forgets_till}
+use Rattle.gw_owes.specs.declared.terminal.Service.{Service}
+use Rattle.gw_owes.specs.declared.terminal.Service.TheVariants.{Transaction}
+use Rattle.gw_owes.specs.declared.terminal.Standing.{Standing}
+use Rattle.gw_owes.specs.declared.terminal.Standing.TheVariants.{Unlinked, Registering, Enquiring, Ready, Serving, Aside}
 use Rattle.gw_owes.specs.declared.terminal.Terminal.{Terminal}
-use Rattle.gw_owes.proofs.PaymentLemmas.{each-served}
+use Rattle.gw_owes.proofs.PaymentLemmas.{StopsAt, each-served}
+use Rattle.gw_owes.proofs.SetLemmas.{new-is-there}
 use Rattle.gw_owes.proofs.TerminalLemmas.{greeting-changes-nothing, late-same, due-same, oversized-same, link-changes-alone, row-changes-alone}
 use Rattle.gw_rules.specs.LinkLaws.{IsOfTerminal, BringNothing, EndsNone}
 use Rattle.gw_rules.specs.Lawful.{may_begin, Begins, AllowedTurn, IsCourse, turns_of}
 use Rattle.gw_rules.specs.Scene.{Scene, known_in, row_in, row_at, link_made_at, link_lost_at}
 use Rattle.gw_rules.specs.View.{View, Move, Begin, Read, Make, read_first, after, after_turn, view_from}
 use Rattle.gw_rules.proofs.CourseLemmas.{begin-outside}
-use Rattle.gw_rules.proofs.LinkStateLemmas.{On, state_of, state_in, is_serve, all_serve, is_asked, loses, apart}
+use Rattle.gw_rules.proofs.LinkStateLemmas.{On, standing_state, state_of, state_in, is_serve, each-serve, all_serve, is_asked, loses, apart}
 use Rattle.gw_rules.proofs.LinkedLemmas.{Agrees, Settled, Losing, lose_none, at-keeps, at-keeps-alone, call-settled, call-setup, lost-at-turns, made-at-turns, move-agrees, round-setup}
 use Rattle.gw_rules.proofs.OutsideCutLemmas.{no-link}
 use Rattle.gw_rules.proofs.StageLemmas.{no-true, not-true}
@@ -47,6 +55,87 @@ without_asker terminal = record terminal { asker = None }
 
 abbrev pub kept_in : Core → ℕ → Option Terminal
 kept_in core number = option_map without_asker (slice_get core.terminals number)
+
+-- ---- what lasts of a terminal
+
+-- a terminal of this standing serves something
+abbrev pub is_serving : Standing → Bool
+is_serving (Unlinked due) = false
+is_serving Registering = false
+is_serving Enquiring = false
+is_serving (Ready last) = false
+is_serving (Serving service last) = true
+is_serving (Aside before reported) = false
+
+-- a dialogue without its phase
+abbrev pub without_phase : TalkFacts → TalkFacts
+without_phase talk = record talk { phase = AskedPhase false }
+
+-- the dialogue in this standing: of one that serves a stop may change the phase
+abbrev pub lasting_talk : Standing → Option TalkFacts → Option TalkFacts
+lasting_talk (Unlinked due) talk = talk
+lasting_talk Registering talk = talk
+lasting_talk Enquiring talk = talk
+lasting_talk (Ready last) talk = talk
+lasting_talk (Serving service last) talk = option_map without_phase talk
+lasting_talk (Aside before reported) talk = talk
+
+-- what is awaited in this standing: where it serves, one more with a stop
+abbrev lasting_awaited : Standing → ℕ → ℕ
+lasting_awaited (Unlinked due) awaited = awaited
+lasting_awaited Registering awaited = awaited
+lasting_awaited Enquiring awaited = awaited
+lasting_awaited (Ready last) awaited = awaited
+lasting_awaited (Serving service last) awaited = 0
+lasting_awaited (Aside before reported) awaited = awaited
+
+-- what lasts of a terminal of which nothing is handled: all but for the till that asked, and what a stop changes
+abbrev pub lasting : Terminal → Terminal
+lasting terminal = record { pt = terminal.pt; standing = terminal.standing; talk = lasting_talk terminal.standing terminal.talk; awaited = lasting_awaited terminal.standing terminal.awaited; asker = None }
+
+abbrev pub lasting_in : Core → ℕ → Option Terminal
+lasting_in core number = option_map lasting (kept_in core number)
+
+-- where it doesn't serve, that is all but for the till
+lasting-exact : (terminal : Terminal) → is_serving terminal.standing ≡ false → lasting terminal ≡ without_asker terminal
+lasting-exact terminal none = by_standing terminal.standing none
+  where
+    with_standing : Standing → Terminal
+    with_standing standing = record { pt = terminal.pt; standing = standing; talk = terminal.talk; awaited = terminal.awaited; asker = None }
+
+    by_standing : (standing : Standing) → is_serving standing ≡ false
+        → record { pt = terminal.pt; standing = standing; talk = lasting_talk standing terminal.talk; awaited = lasting_awaited standing terminal.awaited; asker = None } ≡ with_standing standing
+    by_standing (Unlinked due) e = refl
+    by_standing Registering e = refl
+    by_standing Enquiring e = refl
+    by_standing (Ready last) e = refl
+    by_standing (Serving service last) e = no-true (sym e)
+    by_standing (Aside before reported) e = refl
+
+-- what lasts is of a terminal that is there
+pub found-lasting : (core : Core) (pt : ℕ) (terminal : Terminal) → lasting_in core pt ≡ Some terminal → (own : Terminal) × (slice_get core.terminals pt ≡ Some own) × (lasting own ≡ terminal)
+found-lasting core pt terminal lasts = by_found (slice_get core.terminals pt) lasts
+  where
+    by_found : (found : Option Terminal) → option_map lasting (option_map without_asker found) ≡ Some terminal → (own : Terminal) × (found ≡ Some own) × (lasting own ≡ terminal)
+    by_found None e = absurd (let n : None ≡ Some terminal = e in cc)
+    by_found (Some own) e = (own, refl, let n : Some (lasting own) ≡ Some terminal = e in cc)
+
+-- so where nothing is served all is kept but for the till
+pub lasting-kept : (core : Core) (pt : ℕ) (terminal : Terminal) → is_serving terminal.standing ≡ false → lasting_in core pt ≡ Some terminal → kept_in core pt ≡ Some terminal
+lasting-kept core pt terminal none lasts =
+    let found = found-lasting core pt terminal lasts in
+    let standing : found.0.standing ≡ terminal.standing = ap (λ (t : Terminal). t.standing) found.2 in
+    ap (option_map without_asker) found.1 ∙ ap Some (sym (lasting-exact found.0 (ap is_serving standing ∙ none)) ∙ found.2)
+
+-- a stop of what is served changes nothing that lasts
+stop-lasts : (terminal : Terminal) (talk : TalkFacts) (service : Service) (last awaited : ℕ) → terminal.standing ≡ Serving service last → terminal.talk ≡ Some talk
+    → lasting (record terminal { talk = Some (talk_after_stop_wished talk); awaited = awaited }) ≡ lasting terminal
+stop-lasts terminal talk service last awaited standing_is talk_is =
+    subst (λ s. part s (Some (talk_after_stop_wished talk)) awaited ≡ part s terminal.talk terminal.awaited) (sym standing_is)
+    (subst (λ t. part (Serving service last) (Some (talk_after_stop_wished talk)) awaited ≡ part (Serving service last) t terminal.awaited) (sym talk_is) refl)
+  where
+    part : Standing → Option TalkFacts → ℕ → Terminal
+    part standing talk count = record { pt = terminal.pt; standing = standing; talk = lasting_talk standing talk; awaited = lasting_awaited standing count; asker = None }
 
 -- the terminal is ready, so that it may begin to serve
 abbrev pub is_ready_found : Option Terminal → Bool
@@ -98,18 +187,27 @@ by-equal {A} pt other same differs = by_test (other == pt) refl
     by_test true e = same (eqb-true other pt e)
     by_test false e = differs e
 
--- a terminal that isn't ready begins to serve nothing
-serve-same : (known : Known) (number till : ℕ) (header : Header) (request : SaleRequest) → ready_in known.core number ≡ false → (serve_row known number till header request).core ≡ known.core
-serve-same known number till header request none =
-    each-served (λ (row : Row). row.core ≡ known.core) known number till header request refl
-    (λ payment terminal last is at. no-true (sym none ∙ ap is_ready_found at.found ∙ ap is_ready_standing at.standing_is))
+-- a terminal that isn't ready begins to serve nothing, and what it serves may be stopped
+serve-own : (known : Known) (number till : ℕ) (header : Header) (request : SaleRequest) → ready_in known.core number ≡ false → lasting_in (serve_row known number till header request).core number ≡ lasting_in known.core number
+serve-own known number till header request none =
+    each-served (λ (row : Row). lasting_in row.core number ≡ lasting_in known.core number) known number till header request refl
+    (λ terminal last asking at. no-true (sym none ∙ ap is_ready_found at.found ∙ ap is_ready_standing at.standing_is)) (λ terminal talk at now. stopped-lasts terminal talk at (terminal.awaited + 1))
+    (λ terminal talk at later. stopped-lasts terminal talk at terminal.awaited)
+  where
+    stopped-lasts : (terminal : Terminal) (talk : TalkFacts) → StopsAt known number header request terminal talk → (awaited : ℕ)
+        → lasting_in (with_terminal known.core number (record terminal { talk = Some (talk_after_stop_wished talk); awaited = awaited })) number ≡ lasting_in known.core number
+    stopped-lasts terminal talk at awaited =
+        let stopped : Terminal = record terminal { talk = Some (talk_after_stop_wished talk); awaited = awaited } in
+        ap (λ found. option_map lasting (option_map without_asker found)) (new-is-there known.core.terminals number terminal stopped at.found) ∙ ap Some (stop-lasts terminal talk (Transaction at.slot) at.last awaited at.standing_is at.talk_is)
+        ∙ sym (ap (λ found. option_map lasting (option_map without_asker found)) at.found)
 
-serve-kept : (known : Known) (number till : ℕ) (header : Header) (request : SaleRequest) (pt : ℕ) → ready_in known.core pt ≡ false → kept_in (serve_row known number till header request).core pt ≡ kept_in known.core pt
-serve-kept known number till header request pt none = by-equal pt number
-    (λ is. ap (λ c. kept_in c pt) (serve-same known number till header request (ap (ready_in known.core) is ∙ none)))
-    (λ differs. ap (option_map without_asker) ((row-changes-alone known (Serve number till header request) number refl).others pt (other-number pt number differs)))
+serve-lasts : (known : Known) (number till : ℕ) (header : Header) (request : SaleRequest) (pt : ℕ) → ready_in known.core pt ≡ false → lasting_in (serve_row known number till header request).core pt ≡ lasting_in known.core pt
+serve-lasts known number till header request pt none = by-equal pt number
+    (λ is. subst (λ n. ready_in known.core n ≡ false → lasting_in (serve_row known number till header request).core n ≡ lasting_in known.core n) is (serve-own known number till header request) none)
+    (λ differs. ap (λ found. option_map lasting (option_map without_asker found)) ((row-changes-alone known (Serve number till header request) number refl).others pt (other-number pt number differs)))
 
-rows-kept : (tills : List Connection) (known : Known) (item : RoundItem) (pt : ℕ) → (is_serve item ≡ true → ready_in known.core pt ≡ false) → changes pt item ≡ false → kept_in (row_of tills known item).core pt ≡ kept_in known.core pt
+-- an item that doesn't begin to serve keeps all but the till
+rows-kept : (tills : List Connection) (known : Known) (item : RoundItem) (pt : ℕ) → is_serve item ≡ false → changes pt item ≡ false → kept_in (row_of tills known item).core pt ≡ kept_in known.core pt
 rows-kept tills known (Crowded till) pt none e = refl
 rows-kept tills known (Message till bytes) pt none e = refl
 rows-kept tills known (Asked till as_read) pt none e = ap (λ c. kept_in c pt) (where-core (is_connected tills till) known (asked_row known till as_read) refl)
@@ -117,7 +215,7 @@ rows-kept tills known (Unframed till) pt none e = ap (λ c. kept_in c pt) (where
 rows-kept tills known (Gone till) pt none e = without-kept till known.core.terminals pt
 rows-kept tills known (Greet number apdu) pt none e = ap (λ c. kept_in c pt) (greeting-changes-nothing known number apdu)
 rows-kept tills known (Handle number apdu) pt none e = ap (option_map without_asker) ((row-changes-alone known (Handle number apdu) number refl).others pt (other-number pt number e))
-rows-kept tills known (Serve number till header request) pt none e = serve-kept known number till header request pt (none refl)
+rows-kept tills known (Serve number till header request) pt none e = no-true (sym none)
 rows-kept tills known (NextWaiting number) pt none e = refl
 rows-kept tills known (Oversized number) pt none e = ap (λ c. kept_in c pt) (oversized-same known number)
 rows-kept tills known (LinkLost number) pt none e = ap (option_map without_asker) ((row-changes-alone known (LinkLost number) number refl).others pt (other-number pt number e))
@@ -125,12 +223,28 @@ rows-kept tills known (Late number) pt none e = ap (λ c. kept_in c pt) (late-sa
 rows-kept tills known (Overdue key) pt none e = refl
 rows-kept tills known (Due number) pt none e = ap (λ c. kept_in c pt) (due-same known number)
 
-pub at-kept : (scene : Scene) (item : RoundItem) (pt : ℕ) → (is_serve item ≡ true → ready_in scene.core pt ≡ false) → changes pt item ≡ false → kept_in (row_at scene item).core pt ≡ kept_in scene.core pt
+-- and each item keeps what lasts of a terminal that isn't ready
+rows-last : (tills : List Connection) (known : Known) (item : RoundItem) (pt : ℕ) → ready_in known.core pt ≡ false → changes pt item ≡ false → lasting_in (row_of tills known item).core pt ≡ lasting_in known.core pt
+rows-last tills known item pt none e = by_test (is_serve item) refl
+  where
+    by_test : (test : Bool) → is_serve item ≡ test → lasting_in (row_of tills known item).core pt ≡ lasting_in known.core pt
+    by_test true is =
+        each-serve (λ i. lasting_in (row_of tills known i).core pt ≡ lasting_in known.core pt) item is (λ number till header request. serve-lasts known number till header request pt none)
+    by_test false is = ap (option_map lasting) (rows-kept tills known item pt is e)
+
+pub at-kept : (scene : Scene) (item : RoundItem) (pt : ℕ) → is_serve item ≡ false → changes pt item ≡ false → kept_in (row_at scene item).core pt ≡ kept_in scene.core pt
 at-kept scene item pt none e = by_setup scene.setup
   where
     by_setup : (setup : Option Setup) → kept_in (row_in scene (λ known. row_of scene.outside.tills known item) setup).core pt ≡ kept_in scene.core pt
     by_setup None = refl
     by_setup (Some setup) = rows-kept scene.outside.tills (known_in scene setup) item pt none e
+
+at-lasts : (scene : Scene) (item : RoundItem) (pt : ℕ) → ready_in scene.core pt ≡ false → changes pt item ≡ false → lasting_in (row_at scene item).core pt ≡ lasting_in scene.core pt
+at-lasts scene item pt none e = by_setup scene.setup
+  where
+    by_setup : (setup : Option Setup) → lasting_in (row_in scene (λ known. row_of scene.outside.tills known item) setup).core pt ≡ lasting_in scene.core pt
+    by_setup None = refl
+    by_setup (Some setup) = rows-last scene.outside.tills (known_in scene setup) item pt none e
 
 pub made-kept : (scene : Scene) (other pt : ℕ) → pt ≢ other → kept_in (link_made_at scene other).core pt ≡ kept_in scene.core pt
 made-kept scene other pt differs = by_setup scene.setup
@@ -155,20 +269,7 @@ change-none-append pt (item ∷ items) more h k =
     rw (p.0, change-none-append pt items more p.1 k) refl
 
 serve-changes-none : (pt : ℕ) (item : RoundItem) → is_serve item ≡ true → changes pt item ≡ false
-serve-changes-none pt (Crowded till) e = no-true e
-serve-changes-none pt (Message till bytes) e = no-true e
-serve-changes-none pt (Asked till as_read) e = no-true e
-serve-changes-none pt (Unframed till) e = no-true e
-serve-changes-none pt (Gone till) e = no-true e
-serve-changes-none pt (Greet number apdu) e = no-true e
-serve-changes-none pt (Handle number apdu) e = no-true e
-serve-changes-none pt (Serve number till header request) e = refl
-serve-changes-none pt (NextWaiting number) e = no-true e
-serve-changes-none pt (Oversized number) e = no-true e
-serve-changes-none pt (LinkLost number) e = no-true e
-serve-changes-none pt (Late number) e = no-true e
-serve-changes-none pt (Overdue key) e = no-true e
-serve-changes-none pt (Due number) e = no-true e
+serve-changes-none pt item e = each-serve (λ i. changes pt i ≡ false) item e (λ number till header request. refl)
 
 pub serves-change-none : (pt : ℕ) (items : List RoundItem) → all_serve items ≡ true → change_none pt items ≡ true
 serves-change-none pt [] e = refl
@@ -306,52 +407,60 @@ heard-new (connection ∷ connections) other pt e = by_test (connection.number =
 
 -- ---- what is kept
 
--- this is remembered of the terminal, which is linked and not ready, and this was heard on its link; no item is left that may change it
+-- this lasts of the terminal, which is linked and not ready, and this was heard on its link; no item is left that may change it
 pub record Kept (pt : ℕ) (terminal : Terminal) (heard : List ℕ) (v : View) : Type 0 where
-  pub kept : kept_in v.scene.core pt ≡ Some terminal
+  pub kept : lasting_in v.scene.core pt ≡ Some terminal
   pub linked : state_of (Some terminal) ≡ On
   pub unready : is_ready_standing terminal.standing ≡ false
   pub items : change_none pt v.items ≡ true
   pub heard_is : heard_on v.scene.outside.links pt ≡ heard
 
-state-kept : (found : Option Terminal) → state_of (option_map without_asker found) ≡ state_of found
-state-kept None = refl
-state-kept (Some terminal) = refl
+-- what lasts says whether it is linked
+lasting-on : (terminal : Terminal) → state_of (Some (lasting terminal)) ≡ On → state_of (Some terminal) ≡ On
+lasting-on terminal on = by_standing terminal.standing on
+  where
+    by_standing : (standing : Standing) → standing_state standing (lasting_talk standing terminal.talk) ≡ On → standing_state standing terminal.talk ≡ On
+    by_standing (Unlinked due) e = e
+    by_standing Registering e = refl
+    by_standing Enquiring e = refl
+    by_standing (Ready last) e = refl
+    by_standing (Serving service last) e = refl
+    by_standing (Aside before reported) e = refl
 
 pub kept-on : (pt : ℕ) (terminal : Terminal) (heard : List ℕ) (v : View) → Kept pt terminal heard v → state_in v.scene.core pt ≡ On
-kept-on pt terminal heard v k = sym (state-kept (slice_get v.scene.core.terminals pt)) ∙ ap state_of k.kept ∙ k.linked
+kept-on pt terminal heard v k =
+    let found = found-lasting v.scene.core pt terminal k.kept in
+    ap state_of found.1 ∙ lasting-on found.0 (ap (λ (t : Terminal). state_of (Some t)) found.2 ∙ k.linked)
 
-ready-found : (found : Option Terminal) (terminal : Terminal) → option_map without_asker found ≡ Some terminal → is_ready_found found ≡ is_ready_standing terminal.standing
-ready-found None terminal e = absurd (let n : None ≡ Some terminal = e in cc)
-ready-found (Some own) terminal e = let same : without_asker own ≡ terminal = (let n : Some (without_asker own) ≡ Some terminal = e in cc) in ap (λ (t : Terminal). is_ready_standing t.standing) same
-
--- what is remembered says whether it is ready
-pub ready-kept : (core : Core) (pt : ℕ) (terminal : Terminal) → kept_in core pt ≡ Some terminal → ready_in core pt ≡ is_ready_standing terminal.standing
-ready-kept core pt terminal kept = ready-found (slice_get core.terminals pt) terminal kept
+-- and whether it is ready
+ready-lasting : (core : Core) (pt : ℕ) (terminal : Terminal) → lasting_in core pt ≡ Some terminal → ready_in core pt ≡ is_ready_standing terminal.standing
+ready-lasting core pt terminal lasts =
+    let found = found-lasting core pt terminal lasts in
+    ap is_ready_found found.1 ∙ ap (λ (t : Terminal). is_ready_standing t.standing) found.2
 
 -- with another view
-same-kept : (pt : ℕ) (terminal : Terminal) (heard : List ℕ) (v w : View) → Kept pt terminal heard v → kept_in w.scene.core pt ≡ kept_in v.scene.core pt → change_none pt w.items ≡ true → heard_on w.scene.outside.links pt ≡ heard_on v.scene.outside.links pt → Kept pt terminal heard w
-same-kept pt terminal heard v w k core items same = record { kept = core ∙ k.kept; linked = k.linked; unready = k.unready; items = items; heard_is = same ∙ k.heard_is }
+same-lasts : (pt : ℕ) (terminal : Terminal) (heard : List ℕ) (v w : View) → Kept pt terminal heard v → lasting_in w.scene.core pt ≡ lasting_in v.scene.core pt → change_none pt w.items ≡ true → heard_on w.scene.outside.links pt ≡ heard_on v.scene.outside.links pt → Kept pt terminal heard w
+same-lasts pt terminal heard v w k core items same = record { kept = core ∙ k.kept; linked = k.linked; unready = k.unready; items = items; heard_is = same ∙ k.heard_is }
 
 pub begin-kept : (pt : ℕ) (terminal : Terminal) (heard : List ℕ) (v : View) → Agrees v → Kept pt terminal heard v → Begins v → Kept pt terminal heard (after v Begin)
 begin-kept pt terminal heard v a k b =
     let first = begins-first v a b in
     let none : change_none pt (first.item ∷ first.rest) ≡ true = subst (λ l. change_none pt l ≡ true) first.items_are k.items in
     let p = and_parts (not (changes pt first.item)) (change_none pt first.rest) none in
-    same-kept pt terminal heard v (after v Begin) k
-    (ap (λ l. kept_in (after (record v { items = l }) Begin).scene.core pt) first.items_are ∙ at-kept v.scene first.item pt (λ serves. ready-kept v.scene.core pt terminal k.kept ∙ k.unready) (not-true (changes pt first.item) p.0))
+    same-lasts pt terminal heard v (after v Begin) k
+    (ap (λ l. lasting_in (after (record v { items = l }) Begin).scene.core pt) first.items_are ∙ at-lasts v.scene first.item pt (ready-lasting v.scene.core pt terminal k.kept ∙ k.unready) (not-true (changes pt first.item) p.0))
     (ap (change_none pt) first.left ∙ change-none-append pt first.new first.rest (serves-change-none pt first.new first.new_is) p.1)
     (ap (λ (o : Outside). heard_on o.links pt) (begin-outside v.scene v.items))
 
 pub read-kept : (pt : ℕ) (terminal : Terminal) (heard : List ℕ) (v : View) (as_read : ReadAs) → Kept pt terminal heard v → Kept pt terminal heard (after v (Read as_read))
-read-kept pt terminal heard v as_read k = same-kept pt terminal heard v (after v (Read as_read)) k refl (read-none pt as_read v.items k.items) refl
+read-kept pt terminal heard v as_read k = same-lasts pt terminal heard v (after v (Read as_read)) k refl (read-none pt as_read v.items k.items) refl
 
 -- a turn of a run keeps it that is neither of the terminal nor cuts it
 pub turn-kept : (pt : ℕ) (terminal : Terminal) (heard : List ℕ) (v : View) (turn : Turn) → Agrees v → Kept pt terminal heard v → AllowedTurn v turn → is_between turn ≡ false → (IsOfTerminal pt turn → ⊥) → turn ≢ CutPt pt → Kept pt terminal heard (after_turn v turn)
 turn-kept pt terminal heard v turn a k ok e none uncut = by_turn turn ok e none uncut
   where
     same : (w : View) → kept_in w.scene.core pt ≡ kept_in v.scene.core pt → change_none pt w.items ≡ true → heard_on w.scene.outside.links pt ≡ heard_on v.scene.outside.links pt → Kept pt terminal heard w
-    same w core items all = same-kept pt terminal heard v w k core items all
+    same w core items all = same-lasts pt terminal heard v w k (ap (option_map lasting) core) items all
 
     linked : (other : ℕ) → AllowedTurn v (Linked other) → Kept pt terminal heard (after_turn v (Linked other))
     linked other ok = by-equal pt other

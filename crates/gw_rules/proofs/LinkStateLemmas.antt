@@ -4,13 +4,13 @@ use Rattle.std.proofs.lemmas.Bool.{eq-eqb}
 use Rattle.std.specs.Prelude.{Bool, ◌+◌, ◌==◌, ◌&&◌, ◌++◌, map, length, slice_get, Option, Some, None, Result, Ok, Err}
 use Rattle.sale_values.specs.declared.header.Header.{Header}
 use Rattle.sale_values.specs.declared.request.SaleRequest.{SaleRequest}
-use Rattle.jrn_record.specs.declared.records.Intent.{Intent}
 use Rattle.jrn_record.specs.declared.records.Outcome.{Outcome}
 use Rattle.jrn_record.specs.declared.records.Record.{Record}
 use Rattle.jrn_record.specs.declared.records.Record.TheVariants.{Intent as IntentRecord, Outcome as OutcomeRecord}
 use Rattle.gw_site.specs.Outside.{Connection, is_connected}
 use Rattle.zvt_apdu.specs.Grammar.{ApduValue}
 use Rattle.zvt_msg.specs.declared.fault.PtFault.{PtFault}
+use Rattle.zvt_msg.specs.declared.command.Command.TheVariants as commands
 use Rattle.zvt_msg.specs.Message.{MessageValue, Ack, Nack, Intermediate, Line, Block, Status, Completion, Abort, Other}
 use Rattle.zvt_msg.specs.MessageDecode.{decode_pt_message}
 use Rattle.zvt_talk.specs.Talk.{TalkFacts}
@@ -23,19 +23,20 @@ use Rattle.gw_owes.specs.Handling.{taking, handle_row}
 use Rattle.gw_owes.specs.Items.{RoundItem, Crowded, Message, Asked, Unframed, Gone, Greet, Handle, Serve, NextWaiting, Oversized, LinkLost, Late, Overdue, Due}
 use Rattle.gw_owes.specs.Links.{is_linked, cutting}
 use Rattle.gw_owes.specs.Reply.{ReplyValue}
-use Rattle.gw_owes.specs.Payments.{beginning_row, payment_intent, asked_for, serve_row}
+use Rattle.gw_owes.specs.Payments.{Asking, beginning_row, asked_for, serve_row}
 use Rattle.gw_owes.specs.ReadAs.{ReadAs}
 use Rattle.gw_owes.specs.Requests.{begun_by, reply_to}
 use Rattle.gw_owes.specs.Row.{Known, Row, owing, owing_nothing, owing_where}
 use Rattle.gw_owes.specs.Rows.{asked_row, row_of}
 use Rattle.gw_owes.specs.Serving.{at_rest, reply_to_outcome, done_with, resolves}
+use Rattle.gw_owes.specs.Stops.{wishing}
 use Rattle.gw_owes.specs.TerminalLaws.{settings_of}
 use Rattle.gw_owes.specs.Terminals.{terminal_at, of_terminal, terminal_becomes, with_terminal, registers, link_made, reply_calls_to, reply_to_lost, unlinks, unlinked_terminal, link_lost, forgets_till}
 use Rattle.gw_owes.specs.declared.terminal.Standing.{Standing}
 use Rattle.gw_owes.specs.declared.terminal.Standing.TheVariants.{Unlinked, Registering, Enquiring, Ready, Serving, Aside}
 use Rattle.gw_owes.specs.declared.terminal.Terminal.{Terminal}
 use Rattle.gw_owes.proofs.HandlingLemmas.{each-terminal, each-linked}
-use Rattle.gw_owes.proofs.PaymentLemmas.{each-served}
+use Rattle.gw_owes.proofs.PaymentLemmas.{StopsAt, each-served}
 use Rattle.gw_owes.proofs.SetLemmas.{others-stay, new-is-there, same-stays}
 use Rattle.gw_rules.proofs.RowFormLemmas.{EachForm, form-handled, form-begun}
 use Rattle.gw_rules.proofs.StageLemmas.{no-true}
@@ -168,6 +169,23 @@ is_serve (Late number) = false
 is_serve (Overdue key) = false
 is_serve (Due number) = false
 
+-- what holds of each item that begins to serve holds of one that does
+pub each-serve : (P : RoundItem → Type 0) (item : RoundItem) → is_serve item ≡ true → ((number till : ℕ) (header : Header) (request : SaleRequest) → P (Serve number till header request)) → P item
+each-serve P (Crowded till) e each = no-true e
+each-serve P (Message till bytes) e each = no-true e
+each-serve P (Asked till as_read) e each = no-true e
+each-serve P (Unframed till) e each = no-true e
+each-serve P (Gone till) e each = no-true e
+each-serve P (Greet number apdu) e each = no-true e
+each-serve P (Handle number apdu) e each = no-true e
+each-serve P (Serve number till header request) e each = each number till header request
+each-serve P (NextWaiting number) e each = no-true e
+each-serve P (Oversized number) e each = no-true e
+each-serve P (LinkLost number) e each = no-true e
+each-serve P (Late number) e each = no-true e
+each-serve P (Overdue key) e each = no-true e
+each-serve P (Due number) e each = no-true e
+
 -- each of these does
 abbrev pub all_serve : List RoundItem → Bool
 all_serve [] = true
@@ -274,19 +292,29 @@ handle-keeps known number apdu = form-handled (KeepsLinks known.moment known.cor
     (λ terminal message found linked is taken.
     forms-keep known number terminal (taking terminal message known.moment) found (linked-on terminal.standing terminal.talk linked) (linked-on terminal.standing (taking terminal message known.moment).talk linked) refl)
 
--- ---- a payment that begins
+-- ---- what a request of a till begins or stops
 
-begun-keeps : (known : Known) (number till : ℕ) (terminal : Terminal) (last : ℕ) (intent : Intent) → terminal_at known number ≡ Some terminal → standing_state terminal.standing terminal.talk ≡ On → KeepsLinks known.moment known.core (beginning_row known number till terminal last intent)
-begun-keeps known number till terminal last intent found on =
-    becomes-keeps known number terminal (asked_for known till terminal last intent) _ found on refl refl (λ there.
-    let core : Core = with_terminal known.core number (asked_for known till terminal last intent) in
-    kept-fits known.moment core (length known.kept) (IntentRecord intent) (SendPt number (Ask (ask intent None terminal.pt)) ∷ []) (there, tt))
+begun-keeps : (known : Known) (number till : ℕ) (terminal : Terminal) (last : ℕ) (asking : Asking) → terminal_at known number ≡ Some terminal → standing_state terminal.standing terminal.talk ≡ On
+    → KeepsLinks known.moment known.core (beginning_row known number till terminal last asking.intent asking.original)
+begun-keeps known number till terminal last asking found on =
+    let asked : Terminal = asked_for known till terminal last asking.intent asking.original in
+    becomes-keeps known number terminal asked _ found on refl refl
+    (λ there. kept-fits known.moment (with_terminal known.core number asked) (length known.kept) (IntentRecord asking.intent) (SendPt number (Ask (ask asking.intent asking.original terminal.pt)) ∷ []) (there, tt))
+
+-- what is served and is to be stopped goes on being served
+stopped-keeps : (known : Known) (number : ℕ) (header : Header) (request : SaleRequest) (terminal : Terminal) (talk : TalkFacts) (awaited : ℕ) (calls : List OwedCall) → StopsAt known number header request terminal talk
+    → ((core : Core) → state_in core number ≡ On → EachFits known.moment core calls) → KeepsLinks known.moment known.core (terminal_becomes known number (record (wishing terminal talk) { awaited = awaited }) calls)
+stopped-keeps known number header request terminal talk awaited calls at fits =
+    let on : (facts : Option TalkFacts) → standing_state terminal.standing facts ≡ On = λ facts. ap (λ s. standing_state s facts) at.standing_is in
+    let stopped : Terminal = record (wishing terminal talk) { awaited = awaited } in
+    becomes-keeps known number terminal stopped calls at.found (on terminal.talk) (on stopped.talk) refl (λ there. fits (with_terminal known.core number stopped) there)
 
 serve-keeps : (known : Known) (number till : ℕ) (header : Header) (request : SaleRequest) → KeepsLinks known.moment known.core (serve_row known number till header request)
 serve-keeps known number till header request =
     each-served (KeepsLinks known.moment known.core) known number till header request (owing-keeps known [] tt)
-    (λ payment terminal last is at.
-    begun-keeps known number till terminal last (payment_intent header payment terminal.pt.currency last known.moment) at.found (ap (λ s. standing_state s terminal.talk) at.standing_is))
+    (λ terminal last asking at. begun-keeps known number till terminal last asking at.found (ap (λ s. standing_state s terminal.talk) at.standing_is))
+    (λ terminal talk at now. stopped-keeps known number header request terminal talk (terminal.awaited + 1) (SendPt number (Ask commands.Stop) ∷ []) at (λ core on. (on, tt)))
+    (λ terminal talk at later. stopped-keeps known number header request terminal talk terminal.awaited [] at (λ core on. tt))
 
 -- ---- what may be due
 

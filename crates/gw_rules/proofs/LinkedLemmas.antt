@@ -28,7 +28,7 @@ use Rattle.gw_rules.specs.Lawful.{first_call, may_begin, first_message, Begins, 
 use Rattle.gw_rules.specs.Scene.{Scene, records_of, known_in, row_in, row_at, link_made_at, link_lost_at}
 use Rattle.gw_rules.specs.Stage.{AtPoll, Handling, is_round, is_looking}
 use Rattle.gw_rules.specs.View.{View, Move, Begin, Read, Make, later, read_first, after, after_turn, view_from, at_first}
-use Rattle.gw_rules.proofs.LinkStateLemmas.{LinkState, Absent, On, Off, Odd, state_of, state_in, state_then, EachFits, Fits, fits-same, KeepsLinks, LeavesLinks, Turns, is_serve, all_serve, is_asked, loses, alone-keep, rows-keep, made-turns, lost-turns, without-states, without-settings, apart}
+use Rattle.gw_rules.proofs.LinkStateLemmas.{LinkState, Absent, On, Off, Odd, state_of, state_in, state_then, EachFits, Fits, fits-same, KeepsLinks, LeavesLinks, Turns, is_serve, each-serve, all_serve, is_asked, loses, alone-keep, rows-keep, made-turns, lost-turns, without-states, without-settings, apart}
 use Rattle.gw_rules.proofs.OpensLemmas.{opens-fit}
 use Rattle.gw_rules.proofs.OwedLemmas.{begin-ends, turn-ends, call-last}
 use Rattle.gw_rules.proofs.SetupLemmas.{HasSetup, IsInRun, first-run, begin-run, read-run, turn-run}
@@ -95,20 +95,7 @@ lose_none [] = true
 lose_none (item ∷ items) = not (loses item) && lose_none items
 
 serve-stays : (item : RoundItem) → is_serve item ≡ true → loses item ≡ false
-serve-stays (Crowded till) e = no-true e
-serve-stays (Message till bytes) e = no-true e
-serve-stays (Asked till as_read) e = no-true e
-serve-stays (Unframed till) e = no-true e
-serve-stays (Gone till) e = no-true e
-serve-stays (Greet number apdu) e = no-true e
-serve-stays (Handle number apdu) e = no-true e
-serve-stays (Serve number till header request) e = refl
-serve-stays (NextWaiting number) e = no-true e
-serve-stays (Oversized number) e = no-true e
-serve-stays (LinkLost number) e = no-true e
-serve-stays (Late number) e = no-true e
-serve-stays (Overdue key) e = no-true e
-serve-stays (Due number) e = no-true e
+serve-stays item e = each-serve (λ i. loses i ≡ false) item e (λ number till header request. refl)
 
 none-append : (items more : List RoundItem) → lose_none items ≡ true → lose_none more ≡ true → lose_none (items ++ more) ≡ true
 none-append [] more h k = k

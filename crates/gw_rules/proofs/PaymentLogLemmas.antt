@@ -241,7 +241,7 @@ begun-served-open = record {
   terminal = serving_terminal;
   found = refl;
   standing_is = refl;
-  served = record { intent = logged_intent; is_open = refl; before = refl; what = refl; not_below = omega arith };
+  served = record { intent = logged_intent; is_open = refl; before = refl; not_below = omega arith };
 }
 
 -- the end of the payment, up to its reply

@@ -401,7 +401,7 @@ begin-pending IsSuch standing settings records pt moment v goes_on p b = by_item
     Next = Pending IsSuch standing settings records pt moment w ⊎ Ended IsSuch standing settings records pt moment w
 
     same : (item : RoundItem) → w.scene.core ≡ (row_at v.scene item).core → is_serve item ≡ false → changes pt item ≡ false → spare_disk w.calls ≡ true → WillEnd IsSuch pt moment p.terminal first.rest → Next
-    same item core serves unchanged spares will = inl (pending p.terminal (ap (λ c. kept_in c pt) core ∙ at-kept v.scene item pt (λ is. no-true (sym serves ∙ is)) unchanged ∙ p.kept) p.standing_is p.settings_are spares will)
+    same item core serves unchanged spares will = inl (pending p.terminal (ap (λ c. kept_in c pt) core ∙ at-kept v.scene item pt serves unchanged ∙ p.kept) p.standing_is p.settings_are spares will)
 
     found : (own : Terminal) × (slice_get known.core.terminals pt ≡ Some own) × (without_asker own ≡ p.terminal)
     found = found-kept (slice_get v.scene.core.terminals pt) p.terminal p.kept

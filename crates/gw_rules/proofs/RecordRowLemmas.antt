@@ -267,7 +267,7 @@ forgotten-in-order kept till core pt terminal found each =
     let old : Terminal = there.0 in
     let same : forgets_till till old ≡ terminal = same-some (forgets_till till old) terminal (sym (there-image (forgets_till till) core.terminals pt old there.1) ∙ found) in
     let h : IsTerminalInOrder kept old = each old there.1 in
-    let new : IsTerminalInOrder kept (forgets_till till old) = record { records = h.records; read = h.read } in
+    let new : IsTerminalInOrder kept (forgets_till till old) = record { records = h.records; read = h.read; few = h.few } in
     subst (IsTerminalInOrder kept) same new
 
 -- the row of an item of a terminal

@@ -23,7 +23,7 @@ use Rattle.gw_rules.specs.Scene.{known_in, row_in, link_made_at}
 use Rattle.gw_rules.specs.View.{View, Make, after_turn, view_from, at_first}
 use Rattle.gw_rules.proofs.BusyLemmas.{linked-free}
 use Rattle.gw_rules.proofs.CourseLemmas.{outside_from-moves, stands-more, stands-outside}
-use Rattle.gw_rules.proofs.KeptLemmas.{Kept, kept_in, without_asker, change_none, moves-kept}
+use Rattle.gw_rules.proofs.KeptLemmas.{Kept, kept_in, without_asker, lasting, change_none, moves-kept}
 use Rattle.gw_rules.proofs.LinkLawLemmas.{found-by, get-setting}
 use Rattle.gw_rules.proofs.LinkedLemmas.{Agrees, AreConfigured, call-settled, course-agrees, first-fits, made-at-turns, turn-agrees}
 use Rattle.gw_rules.proofs.PrefixLemmas.{Along}
@@ -61,7 +61,7 @@ linked-kept u setup settings pt a ok is configured none =
     let row : kept_in (link_made_at u.scene pt).core pt ≡ Some (registered settings u.scene.outside.moment) =
     ap (λ (o : Option Setup). kept_in (row_in u.scene (λ known. link_made known pt) o).core pt) is ∙ row-registers (known_in u.scene setup) pt terminal found.1 ∙ ap (λ p. Some (registered p u.scene.outside.moment)) own in
     record {
-      kept = row;
+      kept = ap (option_map lasting) row;
       linked = refl;
       unready = refl;
       items = ap (λ l. change_none pt (l ++ u.items)) (made-at-turns u.scene pt setup is).items ∙ none;

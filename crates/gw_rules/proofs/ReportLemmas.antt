@@ -178,7 +178,7 @@ begin-ready pt moment reported v r b = record {
     core = ap (λ l. (after (record v { items = l }) Begin).scene.core) first.items_are
 
     same : (item : RoundItem) → (after v Begin).scene.core ≡ (row_at v.scene item).core → is_serve item ≡ false → changes pt item ≡ false → StandingKept (after v Begin).scene.core pt (Ready reported)
-    same item core other unchanged = (r.ready.0, ap (λ c. kept_in c pt) core ∙ at-kept v.scene item pt (λ serves. no-true (sym other ∙ serves)) unchanged ∙ r.ready.1, r.ready.2)
+    same item core other unchanged = (r.ready.0, ap (λ c. kept_in c pt) core ∙ at-kept v.scene item pt other unchanged ∙ r.ready.1, r.ready.2)
 
     handle : (apdu : ApduValue) → (after v Begin).scene.core ≡ (handle_row known pt apdu).core → StandingKept (after v Begin).scene.core pt (Ready reported)
     handle apdu core =

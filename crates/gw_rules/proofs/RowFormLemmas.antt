@@ -11,8 +11,10 @@ use Rattle.zvt_talk.specs.declared.meaning.Heard.TheVariants as heard
 use Rattle.jrn_record.specs.declared.records.Outcome.{Outcome as TheOutcome}
 use Rattle.gw_ledger.specs.declared.entry.Entry.{Entry as TheEntry}
 use Rattle.sale_values.specs.declared.header.Header.{Header}
+use Rattle.sale_values.specs.declared.request.Reference.{Reference}
 use Rattle.sale_values.specs.declared.request.SaleRequest.{SaleRequest}
 use Rattle.sale_values.specs.declared.request.SaleRequest.TheVariants as requests
+use Rattle.sale_values.specs.Key.{key_of}
 use Rattle.gw_owes.specs.Diagnosis.{NamedTerminal, named_terminal}
 use Rattle.gw_owes.specs.Handling.{taking, meaning_at, enquires, registering, enquiring, serving_other, serving, consequence, handle_row}
 use Rattle.gw_owes.specs.Items.{RoundItem, Serve}
@@ -23,7 +25,9 @@ use Rattle.gw_owes.specs.Requests.{begun_at, begun_by}
 use Rattle.gw_owes.specs.Row.{Known, Row, owing_nothing}
 use Rattle.gw_owes.specs.Serving.{at_rest, staying, breaking, stops, resolves, approved_outcome, approved_row, serving_transaction}
 use Rattle.gw_owes.specs.Steps.{StepResult, KeptReply, Fails, Begins, step_result, item_of_result, items_of_result}
+use Rattle.gw_owes.specs.Stops.{serves_key, stop_items_at}
 use Rattle.gw_owes.specs.Terminals.{terminal_at, terminal_becomes}
+use Rattle.gw_owes.specs.Transcript.{Carried, Wished, wished_of, wished_for}
 use Rattle.gw_owes.specs.declared.terminal.Service.{Service}
 use Rattle.gw_owes.specs.declared.terminal.Service.TheVariants.{Transaction, EndOfDay, Display}
 use Rattle.gw_owes.specs.declared.terminal.Standing.{Standing}
@@ -151,7 +155,7 @@ form-handled P known number apdu none each =
 
 -- ---- what a till's message begins
 
--- what holds of no item, and of the one with which a terminal begins to serve the request, holds of what a message begins
+-- what holds of no item, and of the one with which a terminal begins to serve the request or to stop what it serves, holds of what a message begins
 module _ (P : List RoundItem → Type 0) (known : Known) (till : ℕ) (none : P []) where
   form-result : (header : Header) (request : SaleRequest) (number : ℕ) (given : StepResult) → P (Serve number till header request ∷ []) → P (item_of_result till header request number given)
   form-result header request number KeptReply some = none
@@ -162,12 +166,21 @@ module _ (P : List RoundItem → Type 0) (known : Known) (till : ℕ) (none : P 
   form-results header request None given some = none
   form-results header request (Some named) given some = form-result header request named.number given (some named.number)
 
+  form-stop-where : (test : Bool) (item : RoundItem) → P (item ∷ []) → P (if test then item ∷ [] else [])
+  form-stop-where true item some = some
+  form-stop-where false item some = none
+
+  form-stop : (header : Header) (reference : Reference) (named : Option NamedTerminal) → ((number : ℕ) → P (Serve number till header (requests.Abort reference) ∷ [])) → P (stop_items_at known till header reference named)
+  form-stop header reference None some = none
+  form-stop header reference (Some named) some =
+      form-stop-where (serves_key known.kept (key_of header reference) named.terminal) (Serve named.number till header (requests.Abort reference)) (some named.number)
+
   form-begun-at : (named : Option NamedTerminal) (header : Header) (request : SaleRequest) → ((number : ℕ) → P (Serve number till header request ∷ [])) → P (begun_at named known till header request)
   form-begun-at named header requests.Login some = none
   form-begun-at named header requests.Logout some = none
   form-begun-at named header (requests.Payment ask) some = form-results header (requests.Payment ask) named (step_result known header (requests.Payment ask) named) some
   form-begun-at named header (requests.Reversal ask) some = form-results header (requests.Reversal ask) named (step_result known header (requests.Reversal ask) named) some
-  form-begun-at named header (requests.Abort reference) some = none
+  form-begun-at named header (requests.Abort reference) some = form-stop header reference (named_terminal known.core (key_of header reference).poi) some
   form-begun-at named header (requests.Status reference) some = none
   form-begun-at named header (requests.Reconciliation period) some = form-results header (requests.Reconciliation period) named (step_result known header (requests.Reconciliation period) named) some
   form-begun-at named header (requests.Display outputs) some = none
@@ -179,3 +192,26 @@ module _ (P : List RoundItem → Type 0) (known : Known) (till : ℕ) (none : P 
   form-begun Silent some = none
   form-begun (NoMessage fault) some = none
   form-begun (NoJson fault) some = none
+
+-- ---- what a request wishes
+
+-- what holds of no stop that is wished, and of one, holds of what a request wishes
+pub form-wished : (P : List Carried → Type 0) (known : Known) (number : ℕ) (header : Header) (request : SaleRequest) → P [] → P (Wished ∷ []) → P (wished_for known number header request)
+form-wished P known number header requests.Login none some = none
+form-wished P known number header requests.Logout none some = none
+form-wished P known number header (requests.Payment ask) none some = none
+form-wished P known number header (requests.Reversal ask) none some = none
+form-wished P known number header (requests.Abort reference) none some = by_terminal (terminal_at known number)
+  where
+    by_serves : (test : Bool) → P (if test then Wished ∷ [] else [])
+    by_serves true = some
+    by_serves false = none
+
+    by_terminal : (terminal : Option Terminal) → P (wished_of known.kept (key_of header reference) terminal)
+    by_terminal None = none
+    by_terminal (Some terminal) = by_serves (serves_key known.kept (key_of header reference) terminal)
+form-wished P known number header (requests.Status reference) none some = none
+form-wished P known number header (requests.Reconciliation period) none some = none
+form-wished P known number header (requests.Display outputs) none some = none
+form-wished P known number header (requests.Print qualifier) none some = none
+form-wished P known number header requests.Diagnosis none some = none

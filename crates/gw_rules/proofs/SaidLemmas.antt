@@ -17,7 +17,7 @@ use Rattle.gw_owes.specs.Reports.{on_record, least_reported}
 use Rattle.gw_owes.specs.Row.{Known}
 use Rattle.gw_owes.specs.TerminalRows.{terminal_of, is_link_lost}
 use Rattle.gw_owes.specs.Terminals.{terminal_at}
-use Rattle.gw_owes.specs.Transcript.{Carried, Commanded, Took, commanded, took_decoded, took_of, took_by, is_number}
+use Rattle.gw_owes.specs.Transcript.{Carried, Commanded, Took, Wished, commanded, took_decoded, took_of, took_by, is_number}
 use Rattle.gw_owes.specs.declared.terminal.Terminal.{Terminal}
 use Rattle.gw_rules.specs.CutCauses.{HasSaidApdu}
 use Rattle.gw_rules.specs.Lawful.{IsCourse, turns_of, Stands}
@@ -27,6 +27,7 @@ use Rattle.gw_rules.specs.View.{View, Move, Begin, Read, Make, after, after_turn
 use Rattle.gw_rules.proofs.CourseLemmas.{stands-more, stands-outside}
 use Rattle.gw_rules.proofs.CutCauseLemmas.{IsBrought, AreBrought, HasCauses, moves-causes}
 use Rattle.gw_rules.proofs.LinkedLemmas.{Agrees, first-agrees, move-agrees}
+use Rattle.gw_rules.proofs.RowFormLemmas.{form-wished}
 
 -- ---- logs that go on
 
@@ -38,6 +39,7 @@ said-on log more pt (Took message moment last ∷ earlier) said =
       record { before = first.before; rest = first.rest ++ more; log_is = ap (λ l. l ++ more) first.log_is ∙ append_assoc first.before first.rest more; moment_is = first.moment_is; apdu = first.apdu; said = first.said; decoded = first.decoded },
       said-on log more pt earlier said.1,
     )
+said-on log more pt (Wished ∷ earlier) said = said-on log more pt earlier said
 
 -- ---- items that begin
 
@@ -72,7 +74,7 @@ took-said log pt known (Gone till) transcript now own brought h = h
 took-said log pt known (Greet number apdu) transcript now own brought h = h
 took-said log pt known (Handle number apdu) transcript now own brought h =
     handled-said log pt known apdu (terminal_at known number) transcript now (subst (λ n. HasSaidApdu log n apdu) (eqb-true number pt own) brought) h
-took-said log pt known (Serve number till header request) transcript now own brought h = h
+took-said log pt known (Serve number till header request) transcript now own brought h = form-wished (λ l. AreSaid log pt (l ++ transcript)) known number header request h h
 took-said log pt known (NextWaiting number) transcript now own brought h = h
 took-said log pt known (Oversized number) transcript now own brought h = h
 took-said log pt known (LinkLost number) transcript now own brought h = h

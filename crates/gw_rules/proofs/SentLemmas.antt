@@ -25,9 +25,10 @@ use Rattle.gw_rules.specs.View.{View, Move, Begin, Read, Make, after, after_turn
 use Rattle.gw_rules.proofs.CourseLemmas.{begin-outside, stands-outside}
 use Rattle.gw_rules.proofs.LinkStateLemmas.{apart}
 use Rattle.gw_rules.proofs.LinkedLemmas.{Agrees, Settled, Losing, lose_none, is_on, first-agrees, move-agrees, call-settled, first-fits, by-number, connected-removed, connected-other, connected-old, connected-heard}
+use Rattle.gw_rules.proofs.RowFormLemmas.{form-wished}
 use Rattle.gw_rules.proofs.StageLemmas.{no-true}
 
--- ---- what an item takes is no command
+-- ---- what an item takes or wishes is no command
 
 took-none : (known : Known) (item : RoundItem) (transcript : List Carried) → spelled_commands (took_by known item ++ transcript) ≡ spelled_commands transcript
 took-none known (Crowded till) transcript = refl
@@ -53,7 +54,7 @@ took-none known (Handle number apdu) transcript = by_terminal (terminal_at known
     by_terminal : (terminal : Option Terminal) (decoded : Result MessageValue PtFault) → spelled_commands (took_of known terminal decoded ++ transcript) ≡ spelled_commands transcript
     by_terminal None decoded = refl
     by_terminal (Some terminal) decoded = by_linked (least_reported (on_record known.kept terminal.pt.poi)) (is_linked terminal.standing) decoded
-took-none known (Serve number till header request) transcript = refl
+took-none known (Serve number till header request) transcript = form-wished (λ l. spelled_commands (l ++ transcript) ≡ spelled_commands transcript) known number header request refl refl
 took-none known (NextWaiting number) transcript = refl
 took-none known (Oversized number) transcript = refl
 took-none known (LinkLost number) transcript = refl

@@ -18,6 +18,8 @@ use Rattle.gw_owes.specs.ReadAs.{ReadAs}
 use Rattle.gw_owes.specs.Row.{Known}
 use Rattle.gw_owes.specs.TerminalLaws.{HasDialogueOnlyIn, IsLinkedAt}
 use Rattle.gw_owes.specs.TerminalRows.{terminal_row}
+use Rattle.gw_owes.specs.declared.terminal.Standing.{Standing}
+use Rattle.gw_owes.specs.declared.terminal.Standing.TheVariants.{Unlinked, Registering, Enquiring, Ready, Serving, Aside}
 use Rattle.gw_owes.specs.declared.terminal.Terminal.{Terminal}
 use Rattle.gw_owes.proofs.TerminalLemmas.{causes-cut}
 use Rattle.gw_rules.specs.LinkLaws.{IsOfTerminal, BringNothing, IsPtCutIn}
@@ -27,7 +29,7 @@ use Rattle.gw_rules.specs.Stage.{Handling, is_round}
 use Rattle.gw_rules.specs.View.{View, Move, Begin, Read, Make, after, after_turn, read_first}
 use Rattle.gw_rules.proofs.CourseLemmas.{begin-outside, begin-stage, after-outside}
 use Rattle.gw_rules.proofs.CutLemmas.{IsAmong, has-after, has-before, is_dead, dead-round, dead-running, dead-turn, none-among}
-use Rattle.gw_rules.proofs.KeptLemmas.{Kept, KeptHere, kept-here, kept_in, without_asker, begins-first, begin-kept, read-kept, turn-kept}
+use Rattle.gw_rules.proofs.KeptLemmas.{Kept, KeptHere, kept-here, without_asker, without_phase, lasting, lasting_talk, lasting_in, found-lasting, begins-first, begin-kept, read-kept, turn-kept}
 use Rattle.gw_rules.proofs.LinkStateLemmas.{on-linked}
 use Rattle.gw_rules.proofs.LinkedLemmas.{Agrees, move-agrees, turn-agrees, round-setup}
 use Rattle.gw_rules.proofs.OutsideCutLemmas.{is_cut, cut-is, cut-makes, in-owes}
@@ -46,20 +48,71 @@ pub found-kept : (found : Option Terminal) (terminal : Terminal) → option_map 
 found-kept None terminal e = absurd (let n : None ≡ Some terminal = e in cc)
 found-kept (Some own) terminal e = (own, refl, let n : Some (without_asker own) ≡ Some terminal = e in cc)
 
+-- what lasts of a terminal has its deadline, and a dialogue only where it has one
+module _ (terminal : Terminal) where
+  pub lasting-only : HasDialogueOnlyIn terminal.standing (lasting terminal).talk → HasDialogueOnlyIn terminal.standing terminal.talk
+  lasting-only = by_standing terminal.standing
+    where
+      by_standing : (standing : Standing) → HasDialogueOnlyIn standing (lasting_talk standing terminal.talk) → HasDialogueOnlyIn standing terminal.talk
+      by_standing (Unlinked due) h = h
+      by_standing Registering h = tt
+      by_standing Enquiring h = tt
+      by_standing (Ready last) h = h
+      by_standing (Serving service last) h = tt
+      by_standing (Aside before reported) h = h
+
+  pub only-lasting : HasDialogueOnlyIn terminal.standing terminal.talk → HasDialogueOnlyIn terminal.standing (lasting terminal).talk
+  only-lasting = by_standing terminal.standing
+    where
+      by_standing : (standing : Standing) → HasDialogueOnlyIn standing terminal.talk → HasDialogueOnlyIn standing (lasting_talk standing terminal.talk)
+      by_standing (Unlinked due) h = h
+      by_standing Registering h = tt
+      by_standing Enquiring h = tt
+      by_standing (Ready last) h = h
+      by_standing (Serving service last) h = tt
+      by_standing (Aside before reported) h = h
+
+  pub lasting-late : (moment : ℕ) → IsLateTalk moment (lasting terminal).talk → IsLateTalk moment terminal.talk
+  lasting-late moment = by_standing terminal.standing
+    where
+      by_talk : (talk : Option TalkFacts) → IsLateTalk moment (option_map without_phase talk) → IsLateTalk moment talk
+      by_talk None (facts, e, late) = absurd (let n : None ≡ Some facts = e in cc)
+      by_talk (Some own) (facts, e, late) =
+          let same : without_phase own ≡ facts = (let n : Some (without_phase own) ≡ Some facts = e in cc) in
+          (own, refl, ap (λ (f : TalkFacts). int_le f.deadline (pos moment)) same ∙ late)
+
+      by_standing : (standing : Standing) → IsLateTalk moment (lasting_talk standing terminal.talk) → IsLateTalk moment terminal.talk
+      by_standing (Unlinked due) h = h
+      by_standing Registering h = h
+      by_standing Enquiring h = h
+      by_standing (Ready last) h = h
+      by_standing (Serving service last) h = by_talk terminal.talk h
+      by_standing (Aside before reported) h = h
+
+  pub late-lasting : (moment : ℕ) → IsLateTalk moment terminal.talk → IsLateTalk moment (lasting terminal).talk
+  late-lasting moment (facts, e, late) = by_standing terminal.standing
+    where
+      by_standing : (standing : Standing) → IsLateTalk moment (lasting_talk standing terminal.talk)
+      by_standing (Unlinked due) = (facts, e, late)
+      by_standing Registering = (facts, e, late)
+      by_standing Enquiring = (facts, e, late)
+      by_standing (Ready last) = (facts, e, late)
+      by_standing (Serving service last) = (without_phase facts, ap (option_map without_phase) e, late)
+      by_standing (Aside before reported) = (facts, e, late)
+
 late-owes : (known : Known) (pt : ℕ) (terminal : Terminal) (heard : List ℕ) (v : View) → Kept pt terminal heard v → v.scene.core ≡ known.core → HasDialogueOnlyIn terminal.standing terminal.talk → IsLateTalk known.moment terminal.talk
     → (terminal_row known (Late pt)).calls ≡ OwedCutPt pt ∷ []
 late-owes known pt terminal heard v k core only (facts, talk, late) =
-    let found = found-kept (slice_get known.core.terminals pt) terminal (ap (λ c. kept_in c pt) (sym core) ∙ k.kept) in
+    let found = found-lasting known.core pt terminal (ap (λ c. lasting_in c pt) (sym core) ∙ k.kept) in
     let own : Terminal = found.0 in
-    let standing : own.standing ≡ terminal.standing = ap (λ (t : Terminal). t.standing) found.2 in
-    let own_talk : own.talk ≡ terminal.talk = ap (λ (t : Terminal). t.talk) found.2 in
     let there : IsLinkedAt known pt = record {
       terminal = own;
       found = found.1;
-      linked = ap is_linked standing ∙ on-linked terminal.standing terminal.talk k.linked;
-      dialogue = subst (λ t. HasDialogueOnlyIn own.standing t) (sym own_talk) (subst (λ s. HasDialogueOnlyIn s terminal.talk) (sym standing) only);
+      linked = ap (λ (t : Terminal). is_linked t.standing) found.2 ∙ on-linked terminal.standing terminal.talk k.linked;
+      dialogue = lasting-only own (subst (λ (t : Terminal). HasDialogueOnlyIn t.standing t.talk) (sym found.2) only);
     } in
-    causes-cut known (Late pt) pt refl there (record { terminal = own; found = found.1; talk = facts; talk_is = own_talk ∙ talk; late = late })
+    let own_late = lasting-late own known.moment (subst (λ (t : Terminal). IsLateTalk known.moment t.talk) (sym found.2) (facts, talk, late)) in
+    causes-cut known (Late pt) pt refl there (record { terminal = own; found = found.1; talk = own_late.0; talk_is = own_late.1; late = own_late.2 })
 
 late-each : (terminals : List Terminal) (first number at : ℕ) (terminal : Terminal) → slice_get terminals number ≡ Some terminal → at ≡ first + number → IsAmong (Late at) (for_each_terminal first Late terminals)
 late-each [] first number at terminal e is = absurd (let n : None ≡ Some terminal = e in cc)
@@ -70,9 +123,9 @@ late-each (one ∷ terminals) first (suc number) at terminal e is =
     let later : at ≡ (first + 1) + number = omega (arith, is) in
     has-after (Late at) (Late first ∷ []) (for_each_terminal (first + 1) Late terminals) (late-each terminals (first + 1) number at terminal e later)
 
-late-among : (core : Core) (pt : ℕ) (terminal : Terminal) → kept_in core pt ≡ Some terminal → IsAmong (Late pt) (items_due core)
-late-among core pt terminal kept =
-    let found = found-kept (slice_get core.terminals pt) terminal kept in
+late-among : (core : Core) (pt : ℕ) (terminal : Terminal) → lasting_in core pt ≡ Some terminal → IsAmong (Late pt) (items_due core)
+late-among core pt terminal lasts =
+    let found = found-lasting core pt terminal lasts in
     has-before (Late pt) (for_each_terminal 0 Late core.terminals) (map (λ (wait : Wait). Overdue wait.key) (waits_by_deadline core.waits) ++ for_each_terminal 0 Due core.terminals) (late-each core.terminals 0 pt pt found.0 found.1 (omega arith))
 
 -- ---- in the round

@@ -6,7 +6,6 @@ use Rattle.gw_site.specs.Outside.{Connection, is_connected}
 use Rattle.zvt_msg.specs.declared.fault.PtFault.{PtFault}
 use Rattle.zvt_msg.specs.Message.{MessageValue, Ack, Nack, Intermediate, Line, Block, Status, Completion, Abort, Other}
 use Rattle.zvt_msg.specs.MessageDecode.{decode_pt_message}
-use Rattle.jrn_record.specs.declared.records.Intent.{Intent as TheIntent}
 use Rattle.jrn_record.specs.declared.records.Record.{Record}
 use Rattle.jrn_record.specs.declared.records.Record.TheVariants.{Intent, Outcome}
 use Rattle.sale_values.specs.declared.header.Header.{Header}
@@ -17,7 +16,7 @@ use Rattle.gw_owes.specs.Deadlines.{is_late, is_due, late_row, due_row}
 use Rattle.gw_owes.specs.Greeting.{greeting, sending_calls, greet_decoded}
 use Rattle.gw_owes.specs.Items.{RoundItem, Crowded, Message, Asked, Unframed, Gone, Greet, Handle, Serve, NextWaiting, Oversized, LinkLost, Late, Overdue, Due}
 use Rattle.gw_owes.specs.Links.{cutting}
-use Rattle.gw_owes.specs.Payments.{payment_intent, serve_row}
+use Rattle.gw_owes.specs.Payments.{serve_row}
 use Rattle.gw_owes.specs.Reply.{ReplyValue}
 use Rattle.gw_owes.specs.Requests.{reply_to}
 use Rattle.gw_owes.specs.Row.{Known, Row, owing, owing_where}
@@ -107,9 +106,9 @@ forms-keep known number terminal = record {
 
 serve-keeps : (known : Known) (number till : ℕ) (header : Header) (request : SaleRequest) → RowKeeps known (serve_row known number till header request)
 serve-keeps known number till header request = each-served (RowKeeps known) known number till header request (inl refl)
-    (λ payment terminal last asks at.
-    let intent : TheIntent = payment_intent header payment terminal.pt.currency last known.moment in
-    inr (record { the_record = Intent intent; more = SendPt number (Ask (ask intent None terminal.pt)) ∷ []; calls_are = refl; spares = refl }))
+    (λ terminal last asking at.
+    inr (record { the_record = Intent asking.intent; more = SendPt number (Ask (ask asking.intent asking.original terminal.pt)) ∷ []; calls_are = refl; spares = refl }))
+    (λ terminal talk at now. inl refl) (λ terminal talk at later. inl refl)
 
 -- ---- what may be due
 

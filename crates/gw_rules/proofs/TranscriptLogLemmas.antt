@@ -263,7 +263,8 @@ handle-of : (known : Known) (number : ℕ) (apdu : ApduValue) → IsRowOf number
 handle-of known number apdu = form-handled (IsRowOf number) known number apdu tt (λ terminal message found linked is taken. forms-of known number (taking terminal message known.moment))
 
 serve-of : (known : Known) (number till : ℕ) (header : Header) (request : SaleRequest) → IsRowOf number (serve_row known number till header request)
-serve-of known number till header request = each-served (IsRowOf number) known number till header request tt (λ payment terminal last asks at. (tt, (tt, (tt, (tt, (refl, tt))))))
+serve-of known number till header request =
+    each-served (IsRowOf number) known number till header request tt (λ terminal last asking at. (tt, (tt, (tt, (tt, (refl, tt)))))) (λ terminal talk at may. (refl, tt)) (λ terminal talk at may. tt)
 
 late-of : (known : Known) (number : ℕ) → IsRowOf number (late_row known number)
 late-of known number = each-terminal (IsRowOf number) known number _ tt (λ terminal found. by-where (IsRowOf number) known (cutting known number) (is_late known.moment terminal.talk) tt (λ late. (refl, tt)))

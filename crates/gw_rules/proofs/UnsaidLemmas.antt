@@ -4,6 +4,7 @@ use Rattle.std.proofs.lemmas.Bool.{eq-eqb}
 use Rattle.std.specs.Prelude.{Bool, ◌==◌, Option, Some, None}
 use Rattle.std.specs.List.{flat_map}
 use Rattle.std.specs.Option.{option_map}
+use Rattle.gw_base.specs.Moment.{moment_of}
 use Rattle.gw_bytes.specs.Bytes.{AreBytes}
 use Rattle.gw_site.specs.Outside.{Outside, heard_on}
 use Rattle.gw_site.specs.Sorts.{IsQuiet, is_between}
@@ -23,11 +24,11 @@ use Rattle.gw_rules.specs.SilenceLaws.{CompletesNone, CompleteNone, IsNotLostIn,
 use Rattle.gw_rules.specs.View.{View, Move, Begin, Read, Make, after, after_turn, view_from, at_first}
 use Rattle.gw_rules.proofs.CourseLemmas.{course-append, turns_of-append, begin-outside, after-outside, stands-more, stands-outside, view_from-append}
 use Rattle.gw_rules.proofs.HeardLemmas.{HeardBytes, heard-bytes, bytes-append, turn-bytes, begin-bytes, stands-bytes}
-use Rattle.gw_rules.proofs.KeptLemmas.{KeptHere, kept-here, without_asker, change_none, due-change-none, begin-kept, read-kept, turn-kept}
+use Rattle.gw_rules.proofs.KeptLemmas.{KeptHere, kept-here, without_asker, lasting, change_none, due-change-none, begin-kept, read-kept, turn-kept}
 use Rattle.gw_rules.proofs.LinkStateLemmas.{On, standing_state}
 use Rattle.gw_rules.proofs.LinkedLemmas.{Agrees, move-agrees, course-agrees, first-agrees}
 use Rattle.gw_rules.proofs.OutsideCutLemmas.{same-rest}
-use Rattle.gw_rules.proofs.SilenceLemmas.{StaysBy, stays-before-poll}
+use Rattle.gw_rules.proofs.SilenceLemmas.{StaysBy, only-lasting, late-lasting, stays-before-poll}
 use Rattle.gw_rules.proofs.StageLemmas.{no-true}
 
 -- ---- bytes that complete nothing
@@ -160,11 +161,14 @@ pub silent-dialogue-is-cut : SilentDialogueIsCut
 silent-dialogue-is-cut log v first second now pt s =
     let agrees : Agrees v = subst Agrees s.before.view_is (course-agrees at_first s.before.course first-agrees s.before.lawful) in
     let o = sym (stands-outside log v s.before) in
-    let terminal : Terminal = without_asker s.terminal in
+    let terminal : Terminal = lasting s.terminal in
+    let only = only-lasting s.terminal s.standing_has in
+    let late = late-lasting s.terminal (moment_of now) (s.facts, s.talk_is, s.late) in
+    let on = talking-on terminal.standing terminal.talk late.0 only late.1 in
     let kept : KeptHere pt terminal v = record {
-      kept = ap (option_map without_asker) s.found;
-      linked = (talking-on s.terminal.standing s.terminal.talk s.facts s.standing_has s.talk_is).0;
-      unready = (talking-on s.terminal.standing s.terminal.talk s.facts s.standing_has s.talk_is).1;
+      kept = ap (λ found. option_map lasting (option_map without_asker found)) s.found;
+      linked = on.0;
+      unready = on.1;
       items = ap (change_none pt) s.may_poll.items;
       heard_is = refl;
     } in
@@ -180,4 +184,4 @@ silent-dialogue-is-cut log v first second now pt s =
     let onward = course-append polled second (Make (Polled now) ∷ []) course.1.1 (ends, tt) in
     stays-before-poll pt terminal (SaysNone pt) now now (turns_of second) [] w (says-none-stays pt terminal) (course-agrees v first agrees course.0) silent course.1.0 says
     (record { moves = second ++ Make (Polled now) ∷ []; turns_are = turns_of-append second (Make (Polled now) ∷ []); lawful = onward }) s.round
-    s.standing_has (s.facts, s.talk_is, s.late)
+    only late

@@ -1,4 +1,4 @@
--- The law that what is remembered of a terminal is what a flat list says: along each lawful log, of the commands that were sent to it and the messages that were taken of it since it was linked.
+-- The law that what is remembered of a terminal is what a flat list says: along each lawful log, of the commands that were sent to it, the messages that were taken of it and the stops that were wished since it was linked.
 use Rattle.std.specs.Prelude.{◌≡◌, ℕ, ◌==◌, ◌||◌, Bool, true, false, if◌then◌else◌, List, [], ◌∷◌, ◌++◌, slice_get, Option, Some, None, Ok}
 use Rattle.gw_base.specs.declared.setup.Setup.{Setup}
 use Rattle.gw_site.specs.Outside.{outside_of}
@@ -14,7 +14,7 @@ use Rattle.gw_owes.specs.Items.{RoundItem}
 use Rattle.gw_owes.specs.Row.{Known}
 use Rattle.gw_owes.specs.TerminalRows.{terminal_of, is_link_lost}
 use Rattle.gw_owes.specs.Terminals.{registration}
-use Rattle.gw_owes.specs.Transcript.{Carried, Commanded, Took, FollowsTranscript, commanded, took_by, is_number, standing_by}
+use Rattle.gw_owes.specs.Transcript.{Carried, Commanded, Took, Wished, FollowsTranscript, commanded, took_by, is_number, standing_by}
 use Rattle.gw_owes.specs.declared.terminal.Standing.TheVariants.{Enquiring}
 use Rattle.gw_owes.specs.declared.terminal.Terminal.{Terminal}
 use Rattle.gw_rules.specs.CutCauses.{HasSaidApdu}
@@ -84,7 +84,7 @@ owed_at moves = owed_from at_first [] moves
 
 -- ---- the transcript of a terminal's link along a course
 
--- the transcript once an item of the terminal has begun: what it takes is added, and with the loss of the link there is none
+-- the transcript once an item of the terminal has begun: what it takes or wishes is added, and with the loss of the link there is none
 abbrev pub transcript_with : Known → RoundItem → List Carried → List Carried
 transcript_with known item transcript = if is_link_lost item then [] else took_by known item ++ transcript
 
@@ -148,7 +148,7 @@ EachLogFollowsTranscript =
     (log : List Turn) (v : View) (s : Stands log v) (pt : ℕ) (terminal : Terminal) → slice_get v.scene.core.terminals pt ≡ Some terminal → cut_owed pt (owed_at s.course) ≡ false
     → FollowsTranscript pt (command_owed pt v.scene.outside.moment (owed_at s.course) ++ transcript_of pt s.course) v.scene.core
 
--- so where a poll may come they are those of what was sent and taken, and no more
+-- so where a poll may come they are those of what was sent, taken and wished, and no more
 abbrev pub EachPollFollowsTranscript : Type 0
 EachPollFollowsTranscript =
     (log : List Turn) (v : View) (s : Stands log v) (pt : ℕ) (terminal : Terminal) → MayPoll v → slice_get v.scene.core.terminals pt ≡ Some terminal → FollowsTranscript pt (transcript_of pt s.course) v.scene.core
@@ -197,6 +197,7 @@ abbrev pub spelled_commands : List Carried → List (List ℕ)
 spelled_commands [] = []
 spelled_commands (Commanded command moment ∷ earlier) = canonical_command command ∷ spelled_commands earlier
 spelled_commands (Took message moment least ∷ earlier) = spelled_commands earlier
+spelled_commands (Wished ∷ earlier) = spelled_commands earlier
 
 -- the commands of the transcript of a terminal that is linked are all that the log says were sent to it since it was linked
 abbrev pub EachCommandWasSent : Type 0
@@ -219,6 +220,7 @@ abbrev pub AreSaid : List Turn → ℕ → List Carried → Type 0
 AreSaid log pt [] = Unit {0}
 AreSaid log pt (Commanded command moment ∷ earlier) = AreSaid log pt earlier
 AreSaid log pt (Took message moment least ∷ earlier) = WasSaid log pt message moment × AreSaid log pt earlier
+AreSaid log pt (Wished ∷ earlier) = AreSaid log pt earlier
 
 -- each message of a terminal's transcript was said by it, in a round at the message's moment
 abbrev pub EachMessageWasSaid : Type 0

@@ -163,9 +163,10 @@ pub fn law_done_at_once()
     ensures premise { ExampleDoneAtOnce }
 {}
 
-/// Along each lawful course, a terminal that registers, is enquired or serves what a till asked for, completes no APDU and begins none above
-/// the limit, is cut before the next poll, unless its link ends before, once a poll comes at its dialogue's deadline or later: bytes that
-/// complete no APDU don't put the deadline off, whichever polls bring them, nor does what tills ask for. So it is, in an example, where a single byte comes with each poll.
+/// Along each lawful course, a terminal that registers, is enquired or serves what a till asked for, completes no APDU and begins none
+/// above the limit, is cut before the next poll, unless its link ends before, once a poll comes at its dialogue's deadline or later:
+/// bytes that complete no APDU don't put the deadline off, whichever polls bring them, nor does what tills ask for, an Abort among it.
+/// So it is, in an example, where a single byte comes with each poll.
 pub fn law_silent_dialogue_cuts()
     ensures cuts { SilentDialogueIsCut }
     ensures example { TrickleIsSilent }
@@ -182,12 +183,14 @@ pub fn law_dialogue_ends()
     ensures ready { ReportMakesReady }
 {}
 
-/// After each lawful log, each terminal's dialogue, how many Acks and Nacks it awaits, and its standing, but for the moment at which one
-/// that isn't linked is due and the slot of what it serves, are those of a flat list: the commands that were sent to it and the messages
-/// that were taken of it since it was linked, each with the least trace number that it might report then, by the records. The commands
-/// that are owed to it count as sent, after others too; and where its cut is owed nothing is said. Where a call on the disk has failed,
-/// what was owed then counts so, though it is made no more. While it is linked the commands that were sent to it are all that the log says
-/// were sent to it since; and each of the messages it said in some round of the log, at that moment.
+/// After each lawful log, each terminal's dialogue, how many Acks and Nacks it awaits, and its standing, but for the moment at which
+/// one that isn't linked is due and the slot of what it serves, are those of a flat list: since it was linked, the commands that were
+/// sent to it, the messages that were taken of it, each with the least trace number that it might report then, by the records, and the
+/// stops that tills wished of what it serves. The commands that are owed to it count as sent, after others too; and where its cut is
+/// owed nothing is said. Where a call on the disk has failed, what was owed then counts so, though it is made no more. While it is
+/// linked the commands that were sent to it are all that the log says were sent to it since; and each of the messages it said in some
+/// round of the log, at that moment. Of a stop that was wished nothing is said here by the log: that a till's Abort has wished it is
+/// said by `took_by` and `gw_owes::law_transcript` together, of each row.
 pub fn law_standing_transcript()
     ensures logs { EachLogFollowsTranscript }
     ensures owed { ClearOwesItsCalls }

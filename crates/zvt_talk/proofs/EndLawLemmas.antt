@@ -152,3 +152,13 @@ from_stays dialogue before (Message message at ∷ rest) more end is =
 
 pub end_stays : (dialogue : Dialogue) (came more : List Came) (end : Heard) → end_of dialogue came ≡ Some end → end_of dialogue (came ++ more) ≡ Some end
 end_stays dialogue came more end is = from_stays dialogue [] came more end is
+
+-- ---- a stop that is wished
+
+-- it changes no end, whether there is one or not
+pub stop_ends_nothing : (dialogue : Dialogue) (came : List Came) → end_of dialogue (came ++ StopWished ∷ []) ≡ end_of dialogue came
+stop_ends_nothing dialogue came = by_end (end_of dialogue came) refl
+  where
+    by_end : (end : Option Heard) → end_of dialogue came ≡ end → end_of dialogue (came ++ StopWished ∷ []) ≡ end_of dialogue came
+    by_end None is = from_push dialogue [] came StopWished (ap is_some is) ∙ sym is
+    by_end (Some end) is = end_stays dialogue came (StopWished ∷ []) end is ∙ sym is

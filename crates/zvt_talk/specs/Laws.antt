@@ -11,7 +11,7 @@ use Rattle.zvt_talk.specs.Dialogue.{Dialogue}
 use Rattle.zvt_talk.specs.Came.{Came, Message, StopWished, messages, statuses, last_status, said_approved}
 use Rattle.zvt_talk.specs.Table.{trace_of}
 use Rattle.zvt_talk.specs.Talk.{meaning, end_of, talk_after, talk_goes_on}
-use Rattle.zvt_talk.specs.TalkSteps.{meaning_for_talk, next_talk}
+use Rattle.zvt_talk.specs.TalkSteps.{meaning_for_talk, next_talk, talk_after_stop_wished}
 
 -- a payment or a reversal
 abbrev pub IsTransaction : DialogueKind → Type 0
@@ -301,3 +301,11 @@ NextTalkIsAfterAll =
 -- once a dialogue has ended, its end stays, whatever comes
 abbrev pub EndStays : Type 0
 EndStays = (dialogue : Dialogue) (came more : List Came) (end : Heard) → end_of dialogue came ≡ Some end → end_of dialogue (came ++ more) ≡ Some end
+
+-- a stop that is wished makes of the talk that of all that came with the stop added, whether the dialogue goes on or has ended
+abbrev pub TalkAfterStopWishedIsAfterAll : Type 0
+TalkAfterStopWishedIsAfterAll = (dialogue : Dialogue) (came : List Came) → talk_after_stop_wished (talk_after dialogue came) ≡ talk_after dialogue (came ++ StopWished ∷ [])
+
+-- a stop that is wished ends no dialogue, and changes no end
+abbrev pub StopWishedEndsNothing : Type 0
+StopWishedEndsNothing = (dialogue : Dialogue) (came : List Came) → end_of dialogue (came ++ StopWished ∷ []) ≡ end_of dialogue came

@@ -11,7 +11,7 @@ ghost use Rattle.zvt_talk.specs.Example.{ExampleBegins, ExampleGoesOn, ExampleDe
 ghost use Rattle.zvt_talk.specs.Came.{Came, Message, StopWished, messages, statuses, last_status, said_approved, has_ended, is_begun, is_stop_sent, is_stop_wished, deadline};
 ghost use Rattle.zvt_talk.specs.Talk.{meaning, end_of, is_end, phase_of, talk_after, talk_goes_on};
 ghost use Rattle.zvt_talk.specs.Limits.{AreAtLeastOne, FiguresFitFields, FiguresFitRecord, AllNumbersFitFields, WereRead};
-ghost use Rattle.zvt_talk.specs.Laws.{AbortsApproved, AbortsEnquiry, AbortsWithoutCode, AcknowledgesCommand, Approves, BringsBlock, BringsLine, BringsStatus, EndStays, HasNoRefusal, HasNoStopWished, HasStopWished, IsAckOrNack, IsEndOf, IsEnquiry, IsEnquiryOrDisplay, LeavesCommandUnclear, IsService, IsTransaction, LeavesEnquiryOpen, LeavesTransactionOpen, MeansForTalkAsAfterAll, NextTalkIsAfterAll, RefusedAtOnce, RefusedLater, RefusesCommand, ReportsLastTransaction, ReportsNoTransaction, says_stop};
+ghost use Rattle.zvt_talk.specs.Laws.{AbortsApproved, AbortsEnquiry, AbortsWithoutCode, AcknowledgesCommand, Approves, BringsBlock, BringsLine, BringsStatus, EndStays, HasNoRefusal, HasNoStopWished, HasStopWished, IsAckOrNack, IsEndOf, IsEnquiry, IsEnquiryOrDisplay, LeavesCommandUnclear, IsService, IsTransaction, LeavesEnquiryOpen, LeavesTransactionOpen, MeansForTalkAsAfterAll, NextTalkIsAfterAll, RefusedAtOnce, RefusedLater, RefusesCommand, ReportsLastTransaction, ReportsNoTransaction, says_stop, StopWishedEndsNothing, TalkAfterStopWishedIsAfterAll};
 
 /// A message approves exactly where it completes a payment or a reversal whose last status said that it is approved, with
 /// full figures.
@@ -124,7 +124,7 @@ pub fn law_stop()
 
 /// A dialogue has ended exactly where it has an end, and that is the meaning of the message that ended it. The ends of a
 /// payment or a reversal are approved, declined and unclear, those of an enquiry reported, declined and unclear, and those of
-/// the others done, declined and unclear.
+/// the others done, declined and unclear. A stop that is wished ends nothing.
 pub fn law_ends()
     ensures ended { (dialogue : Dialogue) (came : List Came)
         → has_ended dialogue.dialogue_kind (messages came) ≡ is_some (end_of dialogue came) }
@@ -135,15 +135,17 @@ pub fn law_ends()
         ≡ (if is_end (meaning dialogue came message) then Some (meaning dialogue came message) else None) }
     ensures dialogue_kinds { (dialogue : Dialogue) (came : List Came) (end : Heard)
         → end_of dialogue came ≡ Some end → IsEndOf dialogue.dialogue_kind end }
+    ensures stop_wished { StopWishedEndsNothing }
 {
     law_meanings();
 }
 
 /// The few facts that a talk keeps are enough: while a dialogue goes on, a message means for them, and makes of them, what it does
-/// for all that came. Once the dialogue has ended, its end stays.
+/// for all that came; and so does a stop that is wished. Once the dialogue has ended, its end stays.
 pub fn law_talk_steps()
     ensures means { MeansForTalkAsAfterAll }
     ensures next { NextTalkIsAfterAll }
+    ensures stop_wished { TalkAfterStopWishedIsAfterAll }
     ensures ended { EndStays }
 {}
 

@@ -18,7 +18,9 @@ ledger_laws c = record {
   open_slots = c.law_open.ensures.slot;
   count = c.law_open.ensures.count;
   within = c.law_within.ensures;
+  named = c.law_named.ensures.entry;
   payment = c.law_fits.ensures.payment;
+  reversal = c.law_fits.ensures.reversal;
   outcome = c.law_fits.ensures.outcome;
 }
 

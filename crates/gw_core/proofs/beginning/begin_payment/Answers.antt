@@ -1,21 +1,19 @@
 -- Proof of the contract of `begin_payment`.
-use Rattle.std.proofs.Common.{sym, subst}
-use Rattle.std.specs.Prelude.{None}
+use Rattle.std.proofs.Common.{◌≡◌, subst}
 use Rattle.std.proofs.lemmas.Int.{to_z-of_z}
-use Rattle.jrn_record.specs.declared.records.Intent.{Intent as TheIntent}
-use Rattle.jrn_record.specs.declared.records.Record.TheVariants.{Intent}
-use Rattle.zvt_msg.specs.CommandGrammar.{HasCommandDigits}
-use Rattle.gw_core.specs.IsRow.{MayBeKept}
+use Rattle.gw_base.specs.Moment.{moment_of}
+use Rattle.gw_owes.specs.Payments.{payment_intent}
+use Rattle.gw_owes.specs.Row.{Row}
+use Rattle.gw_owes.specs.Terminals.{with_terminal}
+use Rattle.gw_core.specs.IsRow.{IsRow, known_with}
+use Rattle.gw_core.proofs.BeginLemmas.{payment-begins}
 use Rattle.gw_core.proofs.beginning.begin_payment.Goals as goal
 
-pub payment_intent-intent-requires-clause-within : goal.payment_intent-intent-requires-clause-within
-payment_intent-intent-requires-clause-within c = simp (to_z-of_z, c.ranges.now) (c.requires.kept c.last_number-last.result c.last_number-last.ensures).within
-
-pub returns-clause-kept : goal.returns-clause-kept
-returns-clause-kept c = rw c.payment_intent-intent.ensures (simp (to_z-of_z, c.ranges.now) (c.requires.kept c.last_number-last.result c.last_number-last.ensures))
-
-pub returns-clause-wanted : goal.returns-clause-wanted
-returns-clause-wanted c =
-    let intent : TheIntent = c.payment_intent-intent.result in
-    let kept : MayBeKept c.args.ledger.now.records (Intent intent) = rw c.payment_intent-intent.ensures (simp (to_z-of_z, c.ranges.now) (c.requires.kept c.last_number-last.result c.last_number-last.ensures)) in
-    c.ask-act.ensures.wanted (subst HasCommandDigits (sym c.command_of-command.ensures) (c.law_commands.ensures intent None c.args.terminal.now.pt kept.within tt c.requires.settings.password.1))
+pub returns-clause-row : goal.returns-clause-row
+returns-clause-row c = λ setup core.
+    let known = known_with setup c.args.ledger.now.records core (moment_of c.args.now) in
+    let intent_is : c.payment_intent-intent.result ≡ payment_intent c.args.header.now c.args.payment.now c.args.terminal.now.pt.currency c.last_number-last.result (moment_of c.args.now) =
+    simp (to_z-of_z, c.ranges.now) at c.payment_intent-intent.ensures in
+    subst (λ (row : Row). IsRow c.args.ledger.now.records row (with_terminal core c.args.pt c.begin_asking.new.terminal) c.begin_asking.result)
+    (payment-begins known c.args.pt c.args.till c.args.header.now c.args.payment.now c.args.terminal.now c.last_number-last.result c.payment_intent-intent.result c.last_number-last.ensures intent_is)
+    (simp (to_z-of_z, c.ranges.now) at (c.begin_asking.ensures.row setup core))

@@ -10,7 +10,7 @@ use Rattle.gw_core.proofs.HandlingLemmas.{few, serves-no-other, taken-serves-no-
 use Rattle.gw_core.proofs.handling.handle.Goals as goal
 
 pub follow-requires-clause-few : goal.follow-requires-clause-few
-follow-requires-clause-few c = few c.args.terminal.now c.take-heard.new.terminal (value_of c.args.message.now) _ c.requires.dialogue c.take-heard.ensures.taken
+follow-requires-clause-few c = few c.args.ledger.now.records c.args.terminal.now c.take-heard.new.terminal (value_of c.args.message.now) _ c.requires.order c.law_few.ensures c.take-heard.ensures.taken
 
 pub follow-requires-clause-others : goal.follow-requires-clause-others
 follow-requires-clause-others c = taken-serves-no-other c.args.terminal.now c.take-heard.new.terminal (value_of c.args.message.now) _ c.requires.dialogue c.take-heard.ensures.taken

@@ -4,7 +4,7 @@ use Rattle.std.specs.Prelude.{Some}
 use Rattle.std.proofs.lemmas.Int.{to_z-of_z}
 use Rattle.gw_owes.specs.TerminalLaws.{owes_cut}
 use Rattle.gw_dispatch.specs.Wanted.{calls_wanted, sends_reply}
-use Rattle.gw_dispatch.proofs.HandleLemmas.{at-none, at-plain, at-reply, no-reply, sent-count, sent-dialogues, sent-stays}
+use Rattle.gw_dispatch.proofs.HandleLemmas.{at-none, at-plain, at-reply, no-reply, sent-dialogues, sent-stays}
 use Rattle.gw_dispatch.proofs.PerformLemmas.{Performs}
 use Rattle.gw_dispatch.proofs.messages.make_call.Goals as goal
 
@@ -22,6 +22,9 @@ returns-in-SendTill-clause-dialogues g c =
 
 pub returns-in-SendTill-clause-settings : goal.returns-in-SendTill-clause-settings
 returns-in-SendTill-clause-settings g c = let stays = sent-stays c.in-SendTill.till c.args.core.now c.deliver.new.core c.deliver.ensures.core in stays.settings
+
+pub returns-in-None-clause-order : goal.returns-in-None-clause-order
+returns-in-None-clause-order g c = λ kept others all. all (ap (λ w. owes_cut (calls_wanted w)) c.in-None.is)
 
 pub returns-in-SendTill-clause-order : goal.returns-in-SendTill-clause-order
 returns-in-SendTill-clause-order g c = λ kept others all.

@@ -1,5 +1,5 @@
 -- Proof of the contract of `on_apdu`.
-use Rattle.std.proofs.Common.{◌≡◌, ◌<◌, ◌∙◌, length, sym, subst, [], ◌∷◌}
+use Rattle.std.proofs.Common.{◌≡◌, ◌<◌, ◌∙◌, length, sym, subst, []}
 use Rattle.std.specs.Prelude.{Err, Ok}
 use Rattle.std.proofs.lemmas.Int.{to_z-of_z}
 use Rattle.zvt_apdu.specs.Grammar.{value_of as apdu_value}

@@ -30,6 +30,9 @@ returns-in-CutPt-clause-triple g c =
     let cuts : Performs (g.S.Site.observed c.args.site.now) (g.S.Site.observed c.cut.new.site) c.args.core.now c.cut.new.core c.args.now (CutPt c.args.pt ∷ []) = simp (to_z-of_z, c.ranges.now) at c.cut.ensures.triple in
     by-calls _ _ c.args.core.now c.cut.new.core c.args.now _ _ (cuts-calls c.args.pt _ c.args.wanted.now c.in-Some.wanted c.in-Some.is c.in-CutPt.is c.requires.wanted) cuts
 
+pub returns-in-None-clause-order : goal.returns-in-None-clause-order
+returns-in-None-clause-order g c = λ kept others all. all (ap (λ wanted. owes_cut (calls_wanted wanted)) c.in-None.is)
+
 pub returns-in-SendPt-clause-order : goal.returns-in-SendPt-clause-order
 returns-in-SendPt-clause-order g c = λ kept others all.
     c.ask.ensures.order.order kept (all (ap owes_cut (asks-calls c.args.pt _ c.args.wanted.now c.in-Some.wanted c.in-SendPt.command c.in-Some.is c.in-SendPt.is c.requires.wanted)))

@@ -1,5 +1,4 @@
 -- Proof of the contract of `deliver`.
-use Rattle.std.proofs.Common.{◌≡◌, sym, subst, ap, inl, inr, refl}
 use Rattle.gw_dispatch.proofs.HandleLemmas.{reply-lost, reply-sent}
 use Rattle.gw_dispatch.proofs.tills.deliver.Goals as goal
 

@@ -2,8 +2,9 @@
 use Rattle.std.proofs.Common.{refl, lit<, lit≤}
 use Rattle.std.specs.Fmt.{digits}
 use Rattle.gw_base.specs.Transaction.{transaction_text}
+use Rattle.gw_ledger.specs.Example.{second}
 use Rattle.gw_ledger.specs.History.{history}
-use Rattle.gw_ledger.proofs.ExampleLemmas.{day_folded, opened_folded, second_within}
+use Rattle.gw_ledger.proofs.ExampleLemmas.{day_folded, opened_folded, second_within, undone_folded}
 use Rattle.gw_ledger.proofs.laws.law_examples.Goals as goal
 
 pub returns-clause-next : goal.returns-clause-next
@@ -58,3 +59,24 @@ returns-clause-outcome c = record { folded = opened_folded; entry = refl; slot =
 pub returns-clause-reconciliation : goal.returns-clause-reconciliation
 unfolding history
 returns-clause-reconciliation c = record { folded = day_folded; unknown = refl; may_come = refl }
+
+pub returns-clause-reversed_once : goal.returns-clause-reversed_once
+unfolding history
+returns-clause-reversed_once c = record {
+  folded = undone_folded;
+  once = record { outcome = _; intent = _; found = refl; approved = refl; asked = refl; what = refl; original = refl };
+  reversed = refl;
+  first = record { kept = refl; what = refl; original = refl };
+  second = record { kept = refl; what = refl; original = refl };
+  declined = refl;
+  original = record {
+    original = second;
+    kept = refl;
+    is_original = record { what = refl; poi = refl; currency = refl; approved = (refl, refl) };
+    earlier = lit< tt;
+  };
+}
+
+pub returns-clause-second_reversal : goal.returns-clause-second_reversal
+unfolding history
+returns-clause-second_reversal c = record { after_decline = refl; while_open = refl; after_approval = refl }

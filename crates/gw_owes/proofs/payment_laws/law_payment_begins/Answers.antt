@@ -1,5 +1,6 @@
 -- Proof of the contract of `law_payment_begins`.
-use Rattle.gw_owes.proofs.PaymentLawLemmas.{each-accepted-begins, each-begun-served, each-kept-first, each-intent-asked}
+use Rattle.gw_owes.proofs.AskedLemmas.{each-accepted-begins}
+use Rattle.gw_owes.proofs.BeginLawLemmas.{each-begun-reversed, each-begun-served, each-kept-first, each-intent-asked}
 use Rattle.gw_owes.proofs.payment_laws.law_payment_begins.Goals as goal
 
 pub returns-clause-kept_first : goal.returns-clause-kept_first
@@ -13,3 +14,6 @@ returns-clause-begins c = each-accepted-begins
 
 pub returns-clause-served : goal.returns-clause-served
 returns-clause-served c = each-begun-served
+
+pub returns-clause-reversed : goal.returns-clause-reversed
+returns-clause-reversed c = each-begun-reversed

@@ -1,5 +1,5 @@
 -- Proof of the contract of `law_repeats`.
-use Rattle.gw_owes.proofs.PaymentLawLemmas.{repeat-begins-nothing, asked-sends-none, asked-begins, only-asked-begins}
+use Rattle.gw_owes.proofs.AskedLemmas.{repeat-begins-nothing, asked-sends-none, asked-begins, only-asked-begins}
 use Rattle.gw_owes.proofs.payment_laws.law_repeats.Goals as goal
 
 pub returns-clause-repeat : goal.returns-clause-repeat

@@ -1,6 +1,6 @@
 -- Proof of the contract of `law_record_examples`.
-use Rattle.gw_owes.proofs.AskedTextLemmas.{fourth-read}
-use Rattle.gw_owes.proofs.RecordExampleLemmas.{RecordFacts, intent-is-kept, key-stays-open, outcome-is-kept, request-begins}
+use Rattle.gw_owes.proofs.AskedTextLemmas.{fourth-aborted-read, fourth-read, second-reversed-read}
+use Rattle.gw_owes.proofs.RecordExampleLemmas.{RecordFacts, intent-is-kept, key-stays-open, outcome-is-kept, request-begins, reversal-is-kept, stop-keeps-nothing}
 use Rattle.gw_owes.proofs.record_laws.law_record_examples.Goals as goal
 
 facts : (c : goal.After-law_examples) → RecordFacts
@@ -12,6 +12,8 @@ facts c = record {
   ready = c.law_examples.ensures.payment;
   opened = c.law_examples.ensures.outcome;
   read = fourth-read;
+  reversed = second-reversed-read;
+  aborted = fourth-aborted-read;
 }
 
 pub returns-clause-begins : goal.returns-clause-begins
@@ -25,3 +27,9 @@ returns-clause-outcome c = outcome-is-kept (facts c)
 
 pub returns-clause-open_key : goal.returns-clause-open_key
 returns-clause-open_key c = key-stays-open (facts c)
+
+pub returns-clause-reversal : goal.returns-clause-reversal
+returns-clause-reversal c = reversal-is-kept (facts c)
+
+pub returns-clause-stop : goal.returns-clause-stop
+returns-clause-stop c = stop-keeps-nothing (facts c)

@@ -76,24 +76,24 @@ begin-requires-clause-well g c = same-well c.args.state.now c.next_message.new.s
 
 pub returns-in-Ok-clause-triple : goal.returns-in-Ok-clause-triple
 returns-in-Ok-clause-triple g c = λ setup tills polls heard items same there.
-    let next : IsNextOf c.args.state.now.gateway c.args.state.now.records.ledger.records c.args.state.now.core c.args.now (Message (Begins c.in-Ok-Message-Begins.pt c.in-Ok-Message-Begins.header c.in-Ok-Message-Begins.payment)) c.args.reader.now c.next_message.new.reader =
+    let next : IsNextOf c.args.state.now.gateway c.args.state.now.records.ledger.records c.args.state.now.core c.args.now (Message (Begins c.in-Ok-Message-Begins.pt c.in-Ok-Message-Begins.header c.in-Ok-Message-Begins.request)) c.args.reader.now c.next_message.new.reader =
     simp (to_z-of_z, c.ranges.now) at (rw (c.in-Ok-Message-Begins.field-0-is, c.in-Ok-Message-Begins.field-0-0-is) at c.in-Ok-Message-Begins.ensures.next) in
     triple-then _ _ _ _ _ _
-    (triple-after _ _ _ _ _ (taken-begins setup c.args.state.now.core c.args.state.now.records.ledger.records tills polls c.args.now heard c.args.state.now.gateway same c.args.till there c.in-Ok-Message-Begins.pt c.in-Ok-Message-Begins.header c.in-Ok-Message-Begins.payment c.args.reader.now c.next_message.new.reader next _ items)
+    (triple-after _ _ _ _ _ (taken-begins setup c.args.state.now.core c.args.state.now.records.ledger.records tills polls c.args.now heard c.args.state.now.gateway same c.args.till there c.in-Ok-Message-Begins.pt c.in-Ok-Message-Begins.header c.in-Ok-Message-Begins.request c.args.reader.now c.next_message.new.reader next _ items)
     (λ v p. same-round c.args.state.now c.next_message.new.state c.in-Ok-Message-Begins.ensures.same setup tills polls c.args.now heard _ _ v p))
     (rw (to_z-of_z, c.ranges.now) at (c.in-Ok.ensures.triple setup tills polls heard (decoded_items c.args.till (decode_frames c.next_message.new.reader) ++ items) (same ∙ sym c.in-Ok-Message-Begins.ensures.same.gateway)))
 
 pub returns-in-Ok-clause-reader : goal.returns-in-Ok-clause-reader
 returns-in-Ok-clause-reader g c =
-    let next : IsNextOf c.args.state.now.gateway c.args.state.now.records.ledger.records c.args.state.now.core c.args.now (Message (Begins c.in-Ok-Message-Begins.pt c.in-Ok-Message-Begins.header c.in-Ok-Message-Begins.payment)) c.args.reader.now c.next_message.new.reader =
+    let next : IsNextOf c.args.state.now.gateway c.args.state.now.records.ledger.records c.args.state.now.core c.args.now (Message (Begins c.in-Ok-Message-Begins.pt c.in-Ok-Message-Begins.header c.in-Ok-Message-Begins.request)) c.args.reader.now c.next_message.new.reader =
     simp (to_z-of_z, c.ranges.now) at (rw (c.in-Ok-Message-Begins.field-0-is, c.in-Ok-Message-Begins.field-0-0-is) at c.in-Ok-Message-Begins.ensures.next) in
-    takes-less c.args.state.now.gateway c.args.state.now.records.ledger.records c.args.state.now.core (Begins c.in-Ok-Message-Begins.pt c.in-Ok-Message-Begins.header c.in-Ok-Message-Begins.payment) c.args.reader.now c.next_message.new.reader (moment_of c.args.now) next
+    takes-less c.args.state.now.gateway c.args.state.now.records.ledger.records c.args.state.now.core (Begins c.in-Ok-Message-Begins.pt c.in-Ok-Message-Begins.header c.in-Ok-Message-Begins.request) c.args.reader.now c.next_message.new.reader (moment_of c.args.now) next
 
 pub returns-clause-triple : goal.returns-clause-triple
 returns-clause-triple g c = λ setup tills polls heard items same there.
-    let next : IsNextOf c.args.state.now.gateway c.args.state.now.records.ledger.records c.args.state.now.core c.args.now (Message (Begins c.in-Ok-Message-Begins.pt c.in-Ok-Message-Begins.header c.in-Ok-Message-Begins.payment)) c.args.reader.now c.next_message.new.reader =
+    let next : IsNextOf c.args.state.now.gateway c.args.state.now.records.ledger.records c.args.state.now.core c.args.now (Message (Begins c.in-Ok-Message-Begins.pt c.in-Ok-Message-Begins.header c.in-Ok-Message-Begins.request)) c.args.reader.now c.next_message.new.reader =
     simp (to_z-of_z, c.ranges.now) at (rw (c.in-Ok-Message-Begins.field-0-is, c.in-Ok-Message-Begins.field-0-0-is) at c.in-Ok-Message-Begins.ensures.next) in
     triple-then _ _ _ _ _ _
-    (triple-after _ _ _ _ _ (taken-begins setup c.args.state.now.core c.args.state.now.records.ledger.records tills polls c.args.now heard c.args.state.now.gateway same c.args.till there c.in-Ok-Message-Begins.pt c.in-Ok-Message-Begins.header c.in-Ok-Message-Begins.payment c.args.reader.now c.next_message.new.reader next _ items)
+    (triple-after _ _ _ _ _ (taken-begins setup c.args.state.now.core c.args.state.now.records.ledger.records tills polls c.args.now heard c.args.state.now.gateway same c.args.till there c.in-Ok-Message-Begins.pt c.in-Ok-Message-Begins.header c.in-Ok-Message-Begins.request c.args.reader.now c.next_message.new.reader next _ items)
     (λ v p. same-round c.args.state.now c.next_message.new.state c.in-Ok-Message-Begins.ensures.same setup tills polls c.args.now heard _ _ v p))
     (rw (to_z-of_z, c.ranges.now) at (c.in-Err-begin.ensures.triple setup tills polls heard (decoded_items c.args.till (decode_frames c.next_message.new.reader) ++ items) (same ∙ sym c.in-Ok-Message-Begins.ensures.same.gateway)))

@@ -1,0 +1,16 @@
+-- Proof of the contract of `law_reversal_rounds`.
+use Rattle.gw_books.proofs.ReversalExampleLemmas.{aborted-round-is-stopped, reversal-round-is-asked}
+use Rattle.gw_books.proofs.RoundLemmas.{reversal-is-asked, stop-is-sent}
+use Rattle.gw_books.proofs.law_reversal_rounds.Goals as goal
+
+pub returns-clause-asked : goal.returns-clause-asked
+returns-clause-asked c = reversal-is-asked c.law_payment_begins.ensures.begins
+
+pub returns-clause-stopped : goal.returns-clause-stopped
+returns-clause-stopped c = stop-is-sent c.law_aborts.ensures.served
+
+pub returns-clause-example : goal.returns-clause-example
+returns-clause-example c = reversal-round-is-asked
+
+pub returns-clause-stopped_example : goal.returns-clause-stopped_example
+returns-clause-stopped_example c = aborted-round-is-stopped

@@ -1,0 +1,246 @@
+-- What a till asks: what is accepted begins, an Abort stops what is served, and a repeated request begins nothing.
+use Rattle.std.proofs.Common.{◌≡◌, ◌⊎◌, ℕ, [], ◌∷◌, refl, sym, ◌∙◌, ap, subst, inl, inr, Bool, true, false}
+use Rattle.std.specs.Prelude.{not, Option, Some, None, Result, Ok, Err, ◌&&◌, is_some, option_and_then, if◌then◌else◌}
+use Rattle.gw_site.specs.Outside.{is_connected}
+use Rattle.sale_values.specs.declared.header.Header.{Header}
+use Rattle.sale_values.specs.declared.request.SaleRequest.{SaleRequest}
+use Rattle.sale_values.specs.declared.request.SaleRequest.TheVariants as requests
+use Rattle.zvt_apdu.specs.Grammar.{ApduValue}
+use Rattle.zvt_msg.specs.declared.fault.PtFault.{PtFault}
+use Rattle.zvt_msg.specs.Message.{MessageValue}
+use Rattle.zvt_msg.specs.MessageDecode.{decode_pt_message}
+use Rattle.jrn_record.specs.declared.records.Outcome.{Outcome as TheOutcome}
+use Rattle.gw_ledger.specs.declared.entry.Found.{Found}
+use Rattle.gw_owes.specs.Calls.{LinkPt, CutTill}
+use Rattle.gw_owes.specs.Deadlines.{is_late, is_due}
+use Rattle.gw_owes.specs.Diagnosis.{NamedTerminal, named_terminal}
+use Rattle.gw_owes.specs.Greeting.{greeting, sending_calls, greet_decoded}
+use Rattle.gw_owes.specs.Handling.{handle_row}
+use Rattle.gw_owes.specs.Items.{Crowded, Message, Asked, Unframed, Gone, Greet, Handle, Serve, NextWaiting, Oversized, LinkLost, Late, Overdue, Due}
+use Rattle.gw_owes.specs.KeptReplies.{found_for, is_open_found, is_open_key}
+use Rattle.gw_owes.specs.Links.{cutting}
+use Rattle.gw_owes.specs.Payments.{is_beginning}
+use Rattle.gw_owes.specs.ReadAs.{ReadAs, Request, Silent, NoMessage, NoJson}
+use Rattle.gw_owes.specs.Requests.{begun_by, reply_to, abort_reply}
+use Rattle.gw_owes.specs.Row.{Known, Row, owing, owing_where}
+use Rattle.gw_owes.specs.Rows.{row_of, asked_row}
+use Rattle.gw_owes.specs.Steps.{StepResult, KeptReply, Fails, Begins, is_unserved, step_result, reply_of_result, items_of_result, service_items}
+use Rattle.gw_owes.specs.Terminals.{unlinks, reply_calls_to}
+use Rattle.gw_owes.specs.PaymentLaws.{BeginsThere, EachAcceptedBegins, RepeatBeginsNothing, AsksNoTerminal, EachAskedSendsNoTerminal, BeginsAtNamed, OnlyAskedBegins, EachAskedBegins, StopsAtNamed, is_transaction_request}
+use Rattle.gw_owes.proofs.HandlingLemmas.{by-where, each-terminal, each-linked}
+use Rattle.gw_owes.proofs.PaymentLemmas.{each-served, passes-steps}
+use Rattle.sale_values.specs.declared.request.Reference.{Reference}
+use Rattle.sale_values.specs.Key.{key_of}
+use Rattle.gw_ledger.specs.declared.entry.Entry.{Entry as TheEntry}
+use Rattle.gw_ledger.specs.Fold.{found_of}
+use Rattle.xlate.specs.Reply.{outcome_body}
+use Rattle.gw_owes.specs.declared.terminal.Standing.{Standing}
+use Rattle.gw_owes.specs.StepLaws.{has_steps}
+use Rattle.gw_owes.specs.Stops.{serves_any, serves_entry, serves_key, stop_items_at}
+use Rattle.gw_owes.proofs.PaymentLawLemmas.{IsPlainOrEnds, reply-sends, reply-keeps, handle-resolves, apart}
+use Rattle.gw_owes.proofs.StepLemmas.{each-service-has-steps}
+
+-- ---- what is accepted begins
+
+-- what a request with steps begins is what the steps say
+steps-begin : (known : Known) (till : ℕ) (header : Header) (request : SaleRequest) → has_steps request ≡ true
+    → begun_by known till (Request header request) ≡ service_items known till header request (named_terminal known.core header.poi)
+steps-begin known till header requests.Login steps = absurd cc
+steps-begin known till header requests.Logout steps = absurd cc
+steps-begin known till header (requests.Payment payment) steps = refl
+steps-begin known till header (requests.Reversal reversal) steps = refl
+steps-begin known till header (requests.Abort reference) steps = absurd cc
+steps-begin known till header (requests.Status reference) steps = absurd cc
+steps-begin known till header (requests.Reconciliation period) steps = refl
+steps-begin known till header (requests.Display outputs) steps = absurd cc
+steps-begin known till header (requests.Print qualifier) steps = absurd cc
+steps-begin known till header requests.Diagnosis steps = absurd cc
+
+pub each-accepted-begins : EachAcceptedBegins
+each-accepted-begins tills known till header request named there named_is steps accepted =
+    subst (λ (holds : Bool). BeginsThere till header request named.number (owing_where holds known (asked_row known till (Request header request)))) (sym there)
+    (record { items_are = items; no_reply = ap (reply_calls_to (Some till)) reply })
+  where
+    items : begun_by known till (Request header request) ≡ Serve named.number till header request ∷ []
+    items =
+        steps-begin known till header request steps ∙ ap (λ (found : Option NamedTerminal). items_of_result till header request found (step_result known header request found)) named_is
+        ∙ ap (λ (result : StepResult). items_of_result till header request (Some named) result) accepted
+
+    reply : reply_to known (Request header request) ≡ None
+    reply =
+        each-service-has-steps known header request steps ∙ ap (λ (found : Option NamedTerminal). reply_of_result known.kept header (step_result known header request found)) named_is
+        ∙ ap (λ (result : StepResult). reply_of_result known.kept header result) accepted
+
+-- ---- what a till asks
+
+pub asked-sends-none : EachAskedSendsNoTerminal
+asked-sends-none tills known till as_read =
+    by-where (λ (row : Row). AsksNoTerminal row.calls) known (asked_row known till as_read) (is_connected tills till) (record { sends_none = refl; keeps_none = refl })
+    (λ there. record { sends_none = reply-sends (Some till) (reply_to known as_read); keeps_none = reply-keeps (Some till) (reply_to known as_read) })
+
+-- a request begins at the terminal that its POIID names
+record BeginsRequest (known : Known) (till : ℕ) (header : Header) (request : SaleRequest) (row : Row) : Type 0 where
+  pub unknown : found_for known.kept header ≡ None
+  pub served : is_unserved request ≡ false
+  pub named : NamedTerminal
+  pub named_is : named_terminal known.core header.poi ≡ Some named
+  pub items_are : row.items ≡ Serve named.number till header request ∷ []
+  pub no_reply : row.calls ≡ []
+
+-- the row of a request, by the terminal that is named and what the steps say
+abbrev row-by : Known → ℕ → Header → SaleRequest → Option NamedTerminal → StepResult → Row
+row-by known till header request named result =
+    record { core = known.core; calls = reply_calls_to (Some till) (reply_of_result known.kept header result); items = items_of_result till header request named result }
+
+begins-by : (known : Known) (till : ℕ) (header : Header) (request : SaleRequest) (named : Option NamedTerminal) (result : StepResult) → named_terminal known.core header.poi ≡ named → step_result known header request named ≡ result
+    → ((row-by known till header request named result).items ≡ []) ⊎ BeginsRequest known till header request (row-by known till header request named result)
+begins-by known till header request None result named_is is = inl refl
+begins-by known till header request (Some named) KeptReply named_is is = inl refl
+begins-by known till header request (Some named) (Fails condition) named_is is = inl refl
+begins-by known till header request (Some named) Begins named_is is =
+    let passed = passes-steps known header request (Some named) (ap is_beginning is) in
+    inr (record { unknown = passed.unknown; served = passed.served; named = named; named_is = named_is; items_are = refl; no_reply = refl })
+
+-- what a message of a till begins or stops
+abbrev BeginsOrStops : Known → ℕ → ReadAs → Row → Type 0
+BeginsOrStops known till as_read row = (row.items ≡ []) ⊎ (BeginsAtNamed known till as_read row ⊎ StopsAtNamed known till as_read row)
+
+transaction-only : (known : Known) (till : ℕ) (header : Header) (request : SaleRequest) (row : Row) → is_transaction_request request ≡ true → (row.items ≡ []) ⊎ BeginsRequest known till header request row
+    → BeginsOrStops known till (Request header request) row
+transaction-only known till header request row transaction (inl none) = inl none
+transaction-only known till header request row transaction (inr begins) = inr (inl (record {
+  header = header;
+  request = request;
+  request_is = refl;
+  transaction = transaction;
+  unknown = begins.unknown;
+  named = begins.named;
+  named_is = begins.named_is;
+  items_are = begins.items_are;
+  no_reply = begins.no_reply;
+}))
+
+never-begins : (known : Known) (till : ℕ) (header : Header) (request : SaleRequest) (row : Row) → is_unserved request ≡ true → (row.items ≡ []) ⊎ BeginsRequest known till header request row → BeginsOrStops known till (Request header request) row
+never-begins known till header request row unserved (inl none) = inl none
+never-begins known till header request row unserved (inr begins) = absurd (apart (sym begins.served ∙ unserved))
+
+-- ---- an Abort
+
+-- what is open has no reply yet
+unresolved-open : (entry : TheEntry) (result : Option TheOutcome) (serves : Bool) → (not (is_some result) && serves) ≡ true → not (is_some (option_and_then (outcome_body entry) result)) ≡ true
+unresolved-open entry None serves is = refl
+unresolved-open entry (Some outcome) serves is = absurd cc
+
+served-open : (standing : Standing) (found : Option Found) → serves_any standing found ≡ true → is_open_found found ≡ true
+served-open standing None serves = absurd cc
+served-open standing (Some (Found.Entry entry)) serves = unresolved-open entry entry.result (serves_entry entry standing) serves
+served-open standing (Some (Found.Closed closed)) serves = absurd cc
+
+-- the row of an Abort, by the terminal that is named, whether that serves the key, and whether the key is open
+abbrev abort-row : Known → ℕ → Header → Reference → Bool → Bool → ℕ → Row
+abort-row known till header reference open_key serves number =
+    record { core = known.core; calls = reply_calls_to (Some till) (abort_reply open_key known header); items = if serves then Serve number till header (requests.Abort reference) ∷ [] else [] }
+
+stops-served : (known : Known) (till : ℕ) (header : Header) (reference : Reference) (named : NamedTerminal) (open_key serves : Bool) → named_terminal known.core (key_of header reference).poi ≡ Some named
+    → serves_key known.kept (key_of header reference) named.terminal ≡ serves → (serves ≡ true → open_key ≡ true)
+    → BeginsOrStops known till (Request header (requests.Abort reference)) (abort-row known till header reference open_key serves named.number)
+stops-served known till header reference named open_key false named_is serves opens = inl refl
+stops-served known till header reference named open_key true named_is serves opens = inr (inr (record {
+  header = header;
+  reference = reference;
+  request_is = refl;
+  named = named;
+  named_is = named_is;
+  serves = serves;
+  items_are = refl;
+  no_reply = ap (λ (is_open : Bool). reply_calls_to (Some till) (abort_reply is_open known header)) (opens refl);
+}))
+
+-- the row of an Abort, by the terminal that is named
+abbrev abort-row-at : Known → ℕ → Header → Reference → Option NamedTerminal → Row
+abort-row-at known till header reference named =
+    record { core = known.core; calls = reply_calls_to (Some till) (abort_reply (is_open_key known.kept header reference) known header); items = stop_items_at known till header reference named }
+
+stops-by : (known : Known) (till : ℕ) (header : Header) (reference : Reference) (named : Option NamedTerminal) → named_terminal known.core (key_of header reference).poi ≡ named
+    → BeginsOrStops known till (Request header (requests.Abort reference)) (abort-row-at known till header reference named)
+stops-by known till header reference None named_is = inl refl
+stops-by known till header reference (Some named) named_is =
+    stops-served known till header reference named (is_open_key known.kept header reference) (serves_key known.kept (key_of header reference) named.terminal) named_is refl
+    (λ serves. served-open named.terminal.standing (found_of known.kept (key_of header reference)) serves)
+
+-- ---- each message of a till
+
+request-begins : (known : Known) (till : ℕ) (header : Header) (request : SaleRequest) → BeginsOrStops known till (Request header request) (asked_row known till (Request header request))
+request-begins known till header requests.Login = inl refl
+request-begins known till header requests.Logout = inl refl
+request-begins known till header (requests.Payment payment) =
+    transaction-only known till header (requests.Payment payment) _ refl (begins-by known till header (requests.Payment payment) (named_terminal known.core header.poi) _ refl refl)
+request-begins known till header (requests.Reversal reversal) =
+    transaction-only known till header (requests.Reversal reversal) _ refl (begins-by known till header (requests.Reversal reversal) (named_terminal known.core header.poi) _ refl refl)
+request-begins known till header (requests.Abort reference) = stops-by known till header reference (named_terminal known.core (key_of header reference).poi) refl
+request-begins known till header (requests.Status reference) = inl refl
+request-begins known till header (requests.Reconciliation period) =
+    never-begins known till header (requests.Reconciliation period) _ refl (begins-by known till header (requests.Reconciliation period) (named_terminal known.core header.poi) _ refl refl)
+request-begins known till header (requests.Display outputs) = inl refl
+request-begins known till header (requests.Print qualifier) = inl refl
+request-begins known till header requests.Diagnosis = inl refl
+
+message-begins : (known : Known) (till : ℕ) (as_read : ReadAs) → BeginsOrStops known till as_read (asked_row known till as_read)
+message-begins known till (Request header request) = request-begins known till header request
+message-begins known till Silent = inl refl
+message-begins known till (NoMessage fault) = inl refl
+message-begins known till (NoJson fault) = inl refl
+
+pub asked-begins : EachAskedBegins
+asked-begins tills known till as_read = by-where (BeginsOrStops known till as_read) known (asked_row known till as_read) (is_connected tills till) (inl refl) (λ there. message-begins known till as_read)
+
+header-same : (header other : Header) (request another : SaleRequest) → Request header request ≡ Request other another → header ≡ other
+header-same header other request another same = cc
+
+request-same : (header other : Header) (request another : SaleRequest) → Request header request ≡ Request other another → request ≡ another
+request-same header other request another same = cc
+
+some-found : (found : Found) → Some found ≡ None → ⊥
+some-found found e = cc
+
+pub repeat-begins-nothing : RepeatBeginsNothing
+repeat-begins-nothing tills known till header request found is no_abort = by-either (asked-begins tills known till (Request header request))
+  where
+    by-either : BeginsOrStops known till (Request header request) (row_of tills known (Asked till (Request header request))) → (row_of tills known (Asked till (Request header request))).items ≡ []
+    by-either (inl none) = none
+    by-either (inr (inl begins)) =
+        absurd (some-found found (sym is ∙ ap (λ (h : Header). found_for known.kept h) (header-same header begins.header request begins.request begins.request_is) ∙ begins.unknown))
+    by-either (inr (inr stops)) = absurd (no_abort stops.reference (request-same header stops.header request (requests.Abort stops.reference) stops.request_is))
+
+-- ---- no other item begins anything
+
+handle-items : (known : Known) (number : ℕ) (apdu : ApduValue) → (handle_row known number apdu).items ≡ []
+handle-items known number apdu = by-either (handle-resolves known number apdu)
+  where
+    by-either : IsPlainOrEnds known number apdu (handle_row known number apdu) → (handle_row known number apdu).items ≡ []
+    by-either (inl plain) = plain.items
+    by-either (inr (ends, items)) = items
+
+greet-items : (known : Known) (number : ℕ) (decoded : Result MessageValue PtFault) → (greet_decoded known number decoded).items ≡ []
+greet-items known number (Ok message) = each-linked (λ (row : Row). row.items ≡ []) known number (λ terminal. owing known (sending_calls number (greeting message))) refl (λ terminal found linked. refl)
+greet-items known number (Err fault) = each-linked (λ (row : Row). row.items ≡ []) known number (λ terminal. cutting known number) refl (λ terminal found linked. refl)
+
+pub only-asked-begins : OnlyAskedBegins
+only-asked-begins tills known (Crowded till) other = refl
+only-asked-begins tills known (Message till bytes) other = refl
+only-asked-begins tills known (Asked till as_read) other = absurd (apart (sym other))
+only-asked-begins tills known (Unframed till) other = by-where (λ (row : Row). row.items ≡ []) known (owing known (CutTill till ∷ [])) (is_connected tills till) refl (λ there. refl)
+only-asked-begins tills known (Gone till) other = refl
+only-asked-begins tills known (Greet number apdu) other = greet-items known number (decode_pt_message apdu)
+only-asked-begins tills known (Handle number apdu) other = handle-items known number apdu
+only-asked-begins tills known (Serve number till header request) other = each-served (λ (row : Row). row.items ≡ []) known number till header request refl (λ terminal last asking at. refl) (λ terminal talk at may. refl) (λ terminal talk at may. refl)
+only-asked-begins tills known (NextWaiting number) other = refl
+only-asked-begins tills known (Oversized number) other = each-linked (λ (row : Row). row.items ≡ []) known number (λ terminal. cutting known number) refl (λ terminal found linked. refl)
+only-asked-begins tills known (LinkLost number) other = each-terminal (λ (row : Row). row.items ≡ []) known number (unlinks known number) refl (λ terminal found. refl)
+only-asked-begins tills known (Late number) other =
+    each-terminal (λ (row : Row). row.items ≡ []) known number (λ terminal. owing_where (is_late known.moment terminal.talk) known (cutting known number)) refl
+    (λ terminal found. by-where (λ (row : Row). row.items ≡ []) known (cutting known number) (is_late known.moment terminal.talk) refl (λ late. refl))
+only-asked-begins tills known (Overdue key) other = refl
+only-asked-begins tills known (Due number) other =
+    each-terminal (λ (row : Row). row.items ≡ []) known number (λ terminal. owing_where (is_due known.moment terminal.standing) known (owing known (LinkPt number ∷ []))) refl
+    (λ terminal found. by-where (λ (row : Row). row.items ≡ []) known (owing known (LinkPt number ∷ [])) (is_due known.moment terminal.standing) refl (λ due. refl))

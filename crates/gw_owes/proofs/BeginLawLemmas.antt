@@ -1,0 +1,337 @@
+-- How payments and reversals begin: an Intent is kept, and then its terminal is asked, and by no other row.
+use Rattle.std.proofs.Common.{◌≡◌, ◌⊎◌, ℕ, List, [], ◌∷◌, refl, sym, ◌∙◌, ap, subst, inl, inr, true, false}
+use Rattle.std.specs.Prelude.{bytes_eq, unwrap_or, option_map, slice_get, Option, Some, None, Result, Ok, Err, ◌++◌, length}
+use Rattle.gw_base.specs.Currency.{currency_letters}
+use Rattle.gw_base.specs.declared.key.Key.{Key}
+use Rattle.gw_site.specs.Outside.{Connection, is_connected}
+use Rattle.sale_values.specs.declared.header.Header.{Header}
+use Rattle.sale_values.specs.declared.request.PaymentAsk.{PaymentAsk}
+use Rattle.sale_values.specs.declared.request.SaleRequest.{SaleRequest}
+use Rattle.sale_values.specs.declared.request.SaleRequest.TheVariants as requests
+use Rattle.zvt_apdu.specs.Grammar.{ApduValue}
+use Rattle.zvt_msg.specs.declared.fault.PtFault.{PtFault}
+use Rattle.zvt_msg.specs.Message.{MessageValue, Ack, Nack, Intermediate, Line, Block, Status, Completion, Abort, Other}
+use Rattle.zvt_msg.specs.MessageDecode.{decode_pt_message}
+use Rattle.jrn_record.specs.declared.records.Outcome.{Outcome as TheOutcome}
+use Rattle.jrn_record.specs.declared.records.Record.{Record}
+use Rattle.jrn_record.specs.declared.records.Record.TheVariants.{Intent, Outcome}
+use Rattle.gw_ledger.specs.Sums.{is_intent}
+use Rattle.gw_owes.specs.declared.terminal.Standing.TheVariants.{Ready}
+use Rattle.gw_owes.specs.declared.terminal.Terminal.{Terminal}
+use Rattle.gw_owes.specs.Calls.{OwedCall, LinkPt, CutTill, records_kept, Ask, SendPt, keep_calls}
+use Rattle.gw_owes.specs.Deadlines.{is_late, is_due, late_row, due_row}
+use Rattle.gw_owes.specs.Diagnosis.{NamedTerminal}
+use Rattle.gw_owes.specs.Greeting.{greeting, sending_calls, greet_decoded}
+use Rattle.gw_owes.specs.Handling.{handle_row}
+use Rattle.gw_owes.specs.Items.{RoundItem, Crowded, Message, Asked, Unframed, Gone, Greet, Handle, Serve, NextWaiting, Oversized, LinkLost, Late, Overdue, Due}
+use Rattle.gw_owes.specs.KeptReplies.{found_for}
+use Rattle.gw_owes.specs.Links.{cutting}
+use Rattle.gw_owes.specs.Payments.{payment_intent, asked_for, beginning_row, begins_in, is_beginning, serve_row, Asking, payment_asking, reversal_asking, asking_of, begins_asking, begins_request}
+use Rattle.gw_owes.specs.ReadAs.{ReadAs}
+use Rattle.gw_owes.specs.Reply.{ReplyValue}
+use Rattle.gw_owes.specs.Reports.{outcome_reported}
+use Rattle.gw_owes.specs.Requests.{reply_to}
+use Rattle.gw_owes.specs.Row.{Known, Row, owing, owing_nothing, owing_where}
+use Rattle.gw_owes.specs.Rows.{row_of, asked_row}
+use Rattle.gw_owes.specs.Steps.{StepResult, Begins, step_result}
+use Rattle.gw_owes.specs.Terminals.{terminal_at, of_terminal, unlinks, reply_calls_to, reply_to_lost}
+use Rattle.gw_owes.specs.PaymentLaws.{asks_for_transaction, BeginsPayment, BeginsToServe, EachBegunIsServed, EachIntentIsAsked, outcome_calls, ResolvesKey, SaysWhatIsAsked, SaysWhatIsReversed, IsReversible, BeginsReversal, BeginsTransaction, BeginsToReverse, EachBegunIsReversed, EachTransactionIsKeptFirst}
+use Rattle.gw_owes.proofs.HandlingLemmas.{by-where, each-terminal, each-linked}
+use Rattle.gw_owes.proofs.PaymentLemmas.{each-served, passes-steps, BeginsAt}
+use Rattle.gw_owes.proofs.SetLemmas.{new-is-there, same-some}
+use Rattle.std.proofs.lemmas.Bool.{not-false}
+use Rattle.sale_values.specs.declared.request.ReversalAsk.{ReversalAsk}
+use Rattle.zvt_msg.specs.declared.command.Command.TheVariants as commands
+use Rattle.gw_ledger.specs.declared.entry.Entry.{Entry as TheEntry}
+use Rattle.xlate.specs.Ask.{ask, receipt_in}
+use Rattle.gw_owes.specs.Reversals.{original_of, amount_in, reversal_intent}
+use Rattle.gw_owes.proofs.PaymentLawLemmas.{IsPlainOrEnds, reply-asks, reply-keeps, handle-resolves, apart, none-more}
+use Rattle.gw_owes.proofs.ReversalLemmas.{HasOriginal, names-original}
+
+-- ---- the rows that begin a payment
+
+-- no payment is begun: no terminal is asked for one, and no Intent is kept
+record BeginsNone (row : Row) : Type 0 where
+  pub asks : asks_for_transaction row.calls ≡ false
+  pub keeps : (the_record : Record) (more : List Record) → records_kept row.calls ≡ the_record ∷ more → is_intent the_record ≡ true → ⊥
+
+none-kept : (row : Row) → asks_for_transaction row.calls ≡ false → records_kept row.calls ≡ [] → BeginsNone row
+none-kept row asks none = record { asks = asks; keeps = λ the_record more kept intent. none-more the_record more (sym none ∙ kept) }
+
+nothing-begins : (known : Known) → BeginsNone (owing_nothing known)
+nothing-begins known = none-kept (owing_nothing known) refl refl
+
+reply-begins : (known : Known) (asker : Option ℕ) (reply : Option ReplyValue) (row : Row) → row.calls ≡ reply_calls_to asker reply → BeginsNone row
+reply-begins known asker reply row is = none-kept row (ap asks_for_transaction is ∙ reply-asks asker reply) (ap records_kept is ∙ reply-keeps asker reply)
+
+greet-begins : (known : Known) (number : ℕ) (decoded : Result MessageValue PtFault) → BeginsNone (greet_decoded known number decoded)
+greet-begins known number (Ok message) =
+    each-linked BeginsNone known number (λ terminal. owing known (sending_calls number (greeting message))) (nothing-begins known) (λ terminal found linked. by-message message)
+  where
+    by-message : (message : MessageValue) → BeginsNone (owing known (sending_calls number (greeting message)))
+    by-message Ack = none-kept _ refl refl
+    by-message (Nack error_code) = none-kept _ refl refl
+    by-message (Intermediate intermediate_status) = none-kept _ refl refl
+    by-message (Line text) = none-kept _ refl refl
+    by-message (Block objects) = none-kept _ refl refl
+    by-message (Status fields) = none-kept _ refl refl
+    by-message Completion = none-kept _ refl refl
+    by-message (Abort result_code) = none-kept _ refl refl
+    by-message Other = none-kept _ refl refl
+greet-begins known number (Err fault) = each-linked BeginsNone known number (λ terminal. cutting known number) (nothing-begins known) (λ terminal found linked. none-kept _ refl refl)
+
+not-intent : (outcome : TheOutcome) (the_record : Record) (more others : List Record) → Outcome outcome ∷ others ≡ the_record ∷ more → is_intent the_record ≡ true → ⊥
+not-intent outcome (Intent intent) more others kept is = cc
+not-intent outcome (Outcome other) more others kept is = cc
+not-intent outcome (Record.Settled settled) more others kept is = cc
+
+-- an Outcome is kept, and then its reply is sent
+record KeepsOutcome (known : Known) (calls : List OwedCall) : Type 0 where
+  pub terminal : Terminal
+  pub outcome : TheOutcome
+  pub calls_are : calls ≡ outcome_calls known terminal outcome
+
+either-keeps : (known : Known) (number : ℕ) (apdu : ApduValue) (calls : List OwedCall) → ResolvesKey known number apdu calls → KeepsOutcome known calls
+either-keeps known number apdu calls (inl ends) = record { terminal = ends.terminal; outcome = ends.outcome; calls_are = ends.calls_are }
+either-keeps known number apdu calls (inr reports) = record { terminal = reports.terminal; outcome = outcome_reported reports.entry reports.report known.moment; calls_are = reports.calls_are }
+
+keeping-begins : (known : Known) (row : Row) → KeepsOutcome known row.calls → BeginsNone row
+keeping-begins known row kept_with = record {
+  asks = ap asks_for_transaction kept_with.calls_are ∙ reply-asks kept_with.terminal.asker _;
+  keeps = λ the_record more kept intent. not-intent kept_with.outcome the_record more _ (sym (ap records_kept kept_with.calls_are) ∙ kept) intent;
+}
+
+handle-begins : (known : Known) (number : ℕ) (apdu : ApduValue) → BeginsNone (handle_row known number apdu)
+handle-begins known number apdu = by-either (handle-resolves known number apdu)
+  where
+    by-either : IsPlainOrEnds known number apdu (handle_row known number apdu) → BeginsNone (handle_row known number apdu)
+    by-either (inl plain) = none-kept _ plain.asks plain.keeps
+    by-either (inr (ends, items)) = keeping-begins known _ (either-keeps known number apdu _ ends)
+
+-- the key of a request is that of its Intent
+key-is : (sale poi : List ℕ) (service : Option (List ℕ)) (key : Key) → option_map (λ (s : List ℕ). record { sale = sale; poi = poi; service = s }) service ≡ Some key → record { sale = sale; poi = poi; service = unwrap_or service [] } ≡ key
+key-is sale poi None key is = absurd cc
+key-is sale poi (Some service) key is = same-some _ key is
+
+-- ---- what a request asks for
+
+-- a reversal asks for what its original has
+reversal-asks : (known : Known) (header : Header) (reversal : ReversalAsk) (last : ℕ) (original : TheEntry) (asking : Asking) → original_of known.kept header.poi reversal ≡ Some original
+    → option_map (reversal_asking known header last) (original_of known.kept header.poi reversal) ≡ Some asking → reversal_asking known header last original ≡ asking
+reversal-asks known header reversal last original asking named asks =
+    same-some (reversal_asking known header last original) asking (sym (ap (option_map (reversal_asking known header last)) named) ∙ asks)
+
+-- the steps of a reversal that begins: its key is unknown, and its text names an entry that may be reversed
+record ReversalPasses (known : Known) (header : Header) (reversal : ReversalAsk) : Type 0 where
+  pub unknown : found_for known.kept header ≡ None
+  pub names : HasOriginal known.kept header.poi reversal
+
+reversal-passes : (known : Known) (header : Header) (reversal : ReversalAsk) (named : Option NamedTerminal) → is_beginning (step_result known header (requests.Reversal reversal) named) ≡ true → ReversalPasses known header reversal
+reversal-passes known header reversal named begins_is =
+    let passed = passes-steps known header (requests.Reversal reversal) named begins_is in
+    record { unknown = passed.unknown; names = names-original known.kept header.poi reversal passed.original passed.reversible }
+
+payment-says : (known : Known) (header : Header) (payment : PaymentAsk) (terminal : Terminal) (last : ℕ)
+    → SaysWhatIsAsked known.moment header payment terminal last (payment_intent header payment terminal.pt.currency last known.moment)
+payment-says known header payment terminal last =
+    record { what = refl; amount = refl; currency = refl; key = λ key own. key-is header.sale header.poi header.service key own; transaction = refl; stamp = refl; before = refl; original = refl; moment_is = refl }
+
+reversal-says : (known : Known) (header : Header) (reversal : ReversalAsk) (original : TheEntry) (approval : TheOutcome) (last : ℕ) → IsReversible known.kept reversal original approval
+    → SaysWhatIsReversed known.moment header original approval last (reversal_intent header original last known.moment)
+reversal-says known header reversal original approval last reversible = record {
+  what = refl;
+  original_is = refl;
+  amount = ap amount_in reversible.result;
+  currency = refl;
+  key = λ key own. key-is header.sale header.poi header.service key own;
+  transaction = refl;
+  stamp = refl;
+  before = refl;
+  moment_is = refl;
+}
+
+-- ---- the row of what begins
+
+-- the calls of what begins
+abbrev calls-of : Known → ℕ → Terminal → Asking → List OwedCall
+calls-of known number terminal asking = keep_calls (length known.kept) (Intent asking.intent) ++ SendPt number (Ask (ask asking.intent asking.original terminal.pt)) ∷ []
+
+payment-begins : (known : Known) (number till : ℕ) (header : Header) (payment : PaymentAsk) (terminal : Terminal) (last : ℕ) (asking : Asking) → BeginsAt known number header (requests.Payment payment) terminal last asking
+    → BeginsPayment known (Serve number till header (requests.Payment payment)) (calls-of known number terminal asking)
+payment-begins known number till header payment terminal last asking at =
+    let passed = passes-steps known header (requests.Payment payment) (Some (record { number = number; terminal = terminal })) at.begins_is in
+    record {
+      number = number;
+      till = till;
+      header = header;
+      payment = payment;
+      item_is = refl;
+      terminal = terminal;
+      found = at.found;
+      last = last;
+      ready = at.standing_is;
+      unknown = passed.unknown;
+      currency = not-false (bytes_eq payment.currency (currency_letters terminal.pt.currency)) passed.currency;
+      intent = payment_intent header payment terminal.pt.currency last known.moment;
+      says = payment-says known header payment terminal last;
+      calls_are = ap (calls-of known number terminal) (sym (same-some (payment_asking known header payment terminal last) asking at.asking_is));
+    }
+
+-- the calls of a reversal ask by the receipt number of its original's approval
+reversal-calls : (known : Known) (number : ℕ) (header : Header) (original : TheEntry) (approval : TheOutcome) (terminal : Terminal) (last : ℕ) → original.result ≡ Some approval
+    → calls-of known number terminal (reversal_asking known header last original)
+    ≡ keep_calls (length known.kept) (Intent (reversal_intent header original last known.moment)) ++ SendPt number (Ask (commands.Reverse terminal.pt.password approval.receipt)) ∷ []
+reversal-calls known number header original approval terminal last result =
+    ap (λ (found : Option TheOutcome). keep_calls (length known.kept) (Intent (reversal_intent header original last known.moment)) ++ SendPt number (Ask (commands.Reverse terminal.pt.password (receipt_in found))) ∷ []) result
+
+reversal-begins : (known : Known) (number till : ℕ) (header : Header) (reversal : ReversalAsk) (terminal : Terminal) (last : ℕ) (asking : Asking) → BeginsAt known number header (requests.Reversal reversal) terminal last asking
+    → BeginsReversal known (Serve number till header (requests.Reversal reversal)) (calls-of known number terminal asking)
+reversal-begins known number till header reversal terminal last asking at =
+    let passed = reversal-passes known header reversal (Some (record { number = number; terminal = terminal })) at.begins_is in
+    record {
+      number = number;
+      till = till;
+      header = header;
+      reversal = reversal;
+      item_is = refl;
+      terminal = terminal;
+      found = at.found;
+      last = last;
+      ready = at.standing_is;
+      unknown = passed.unknown;
+      original = passed.names.original;
+      named = passed.names.named;
+      approval = passed.names.approval;
+      reversible = passed.names.reversible;
+      intent = reversal_intent header passed.names.original last known.moment;
+      says = reversal-says known header reversal passed.names.original passed.names.approval last passed.names.reversible;
+      calls_are =
+          ap (calls-of known number terminal) (sym (reversal-asks known header reversal last passed.names.original asking passed.names.named at.asking_is))
+          ∙ reversal-calls known number header passed.names.original passed.names.approval terminal last passed.names.reversible.result;
+    }
+
+no-asking : (asking : Asking) → None ≡ Some asking → ⊥
+no-asking asking e = cc
+
+-- by the request: no other asks for anything
+transaction-begins : (known : Known) (number till : ℕ) (header : Header) (request : SaleRequest) (terminal : Terminal) (last : ℕ) (asking : Asking) → BeginsAt known number header request terminal last asking
+    → BeginsTransaction known (Serve number till header request) (calls-of known number terminal asking)
+transaction-begins known number till header requests.Login terminal last asking at = absurd (no-asking asking at.asking_is)
+transaction-begins known number till header requests.Logout terminal last asking at = absurd (no-asking asking at.asking_is)
+transaction-begins known number till header (requests.Payment payment) terminal last asking at = inl (payment-begins known number till header payment terminal last asking at)
+transaction-begins known number till header (requests.Reversal reversal) terminal last asking at = inr (reversal-begins known number till header reversal terminal last asking at)
+transaction-begins known number till header (requests.Abort reference) terminal last asking at = absurd (no-asking asking at.asking_is)
+transaction-begins known number till header (requests.Status reference) terminal last asking at = absurd (no-asking asking at.asking_is)
+transaction-begins known number till header (requests.Reconciliation period) terminal last asking at = absurd (no-asking asking at.asking_is)
+transaction-begins known number till header (requests.Display outputs) terminal last asking at = absurd (no-asking asking at.asking_is)
+transaction-begins known number till header (requests.Print qualifier) terminal last asking at = absurd (no-asking asking at.asking_is)
+transaction-begins known number till header requests.Diagnosis terminal last asking at = absurd (no-asking asking at.asking_is)
+
+-- what a terminal begins to serve or to stop: only a request that asks for something begins
+served-begins : (known : Known) (number till : ℕ) (header : Header) (request : SaleRequest)
+    → BeginsNone (serve_row known number till header request) ⊎ BeginsTransaction known (Serve number till header request) (serve_row known number till header request).calls
+served-begins known number till header request =
+    each-served (λ (row : Row). BeginsNone row ⊎ BeginsTransaction known (Serve number till header request) row.calls) known number till header request (inl (nothing-begins known))
+    (λ terminal last asking at. inr (transaction-begins known number till header request terminal last asking at))
+    (λ terminal talk at may. inl (none-kept _ refl refl)) (λ terminal talk at may. inl (none-kept _ refl refl))
+
+-- ---- a terminal that is ready serves what is asked
+
+-- the row of a terminal that begins what a request asks for
+begun-row : (known : Known) (number till : ℕ) (header : Header) (request : SaleRequest) (terminal : Terminal) (last : ℕ) (asking : Asking) → terminal_at known number ≡ Some terminal → terminal.standing ≡ Ready last
+    → step_result known header request (Some (record { number = number; terminal = terminal })) ≡ Begins → asking_of known header request terminal last ≡ Some asking
+    → of_terminal known (begins_request known number till header request) (terminal_at known number) ≡ beginning_row known number till terminal last asking.intent asking.original
+begun-row known number till header request terminal last asking found ready accepted asks =
+    ap (of_terminal known (begins_request known number till header request)) found
+    ∙ ap (λ (result : StepResult). owing_where (is_beginning result) known (begins_in known number till header request terminal terminal.standing)) accepted
+    ∙ ap (begins_in known number till header request terminal) ready
+    ∙ ap (begins_asking known number till terminal last) asks
+
+-- the terminal then serves it
+there-it-serves : (known : Known) (number till : ℕ) (terminal : Terminal) (last : ℕ) (asking : Asking) → terminal_at known number ≡ Some terminal
+    → slice_get (beginning_row known number till terminal last asking.intent asking.original).core.terminals number ≡ Some (asked_for known till terminal last asking.intent asking.original)
+there-it-serves known number till terminal last asking found = new-is-there known.core.terminals number terminal (asked_for known till terminal last asking.intent asking.original) found
+
+pub each-begun-served : EachBegunIsServed
+each-begun-served tills known till header payment number terminal last found ready accepted =
+    let asking : Asking = payment_asking known header payment terminal last in
+    let there = there-it-serves known number till terminal last asking found in
+    subst (BeginsToServe known till header payment number terminal last) (sym (begun-row known number till header (requests.Payment payment) terminal last asking found ready accepted refl))
+    (record {
+      intent = payment_intent header payment terminal.pt.currency last known.moment;
+      says = payment-says known header payment terminal last;
+      goes_on = record { terminal = asked_for known till terminal last asking.intent asking.original; found = there; standing_is = refl; calls_are = refl };
+      for_till = ap (option_map (λ (serving : Terminal). serving.asker)) there;
+      none_more = refl;
+    })
+
+pub each-begun-reversed : EachBegunIsReversed
+each-begun-reversed tills known till header reversal number terminal last found ready accepted =
+    let passed = reversal-passes known header reversal (Some (record { number = number; terminal = terminal })) (ap is_beginning accepted) in
+    let asking : Asking = reversal_asking known header last passed.names.original in
+    let there = there-it-serves known number till terminal last asking found in
+    subst (BeginsToReverse known till header reversal number terminal last)
+    (sym (begun-row known number till header (requests.Reversal reversal) terminal last asking found ready accepted (ap (option_map (reversal_asking known header last)) passed.names.named)))
+    (record {
+      original = passed.names.original;
+      named = passed.names.named;
+      approval = passed.names.approval;
+      reversible = passed.names.reversible;
+      intent = asking.intent;
+      says = reversal-says known header reversal passed.names.original passed.names.approval last passed.names.reversible;
+      goes_on = record {
+        terminal = asked_for known till terminal last asking.intent asking.original;
+        found = there;
+        standing_is = refl;
+        calls_are = reversal-calls known number header passed.names.original passed.names.approval terminal last passed.names.reversible.result;
+      };
+      for_till = ap (option_map (λ (serving : Terminal). serving.asker)) there;
+      none_more = refl;
+    })
+
+-- ---- every other row
+
+lost-begins : (known : Known) (number : ℕ) → BeginsNone (of_terminal known (unlinks known number) (terminal_at known number))
+lost-begins known number = each-terminal BeginsNone known number (unlinks known number) (nothing-begins known) (λ terminal found. reply-begins known terminal.asker (reply_to_lost terminal.standing) _ refl)
+
+late-begins : (known : Known) (number : ℕ) → BeginsNone (late_row known number)
+late-begins known number = each-terminal BeginsNone known number (λ terminal. owing_where (is_late known.moment terminal.talk) known (cutting known number)) (nothing-begins known)
+    (λ terminal found. by-where BeginsNone known (cutting known number) (is_late known.moment terminal.talk) (nothing-begins known) (λ late. none-kept _ refl refl))
+
+due-begins : (known : Known) (number : ℕ) → BeginsNone (due_row known number)
+due-begins known number = each-terminal BeginsNone known number (λ terminal. owing_where (is_due known.moment terminal.standing) known (owing known (LinkPt number ∷ []))) (nothing-begins known)
+    (λ terminal found. by-where BeginsNone known (owing known (LinkPt number ∷ [])) (is_due known.moment terminal.standing) (nothing-begins known) (λ due. none-kept _ refl refl))
+
+asked-begins-none : (tills : List Connection) (known : Known) (till : ℕ) (as_read : ReadAs) → BeginsNone (row_of tills known (Asked till as_read))
+asked-begins-none tills known till as_read =
+    by-where BeginsNone known (asked_row known till as_read) (is_connected tills till) (nothing-begins known) (λ there. reply-begins known (Some till) (reply_to known as_read) _ refl)
+
+row-begins : (tills : List Connection) (known : Known) (item : RoundItem) → BeginsNone (row_of tills known item) ⊎ BeginsTransaction known item (row_of tills known item).calls
+row-begins tills known (Crowded till) = inl (none-kept _ refl refl)
+row-begins tills known (Message till bytes) = inl (nothing-begins known)
+row-begins tills known (Asked till as_read) = inl (asked-begins-none tills known till as_read)
+row-begins tills known (Unframed till) = inl (by-where BeginsNone known (owing known (CutTill till ∷ [])) (is_connected tills till) (nothing-begins known) (λ there. none-kept _ refl refl))
+row-begins tills known (Gone till) = inl (none-kept _ refl refl)
+row-begins tills known (Greet number apdu) = inl (greet-begins known number (decode_pt_message apdu))
+row-begins tills known (Handle number apdu) = inl (handle-begins known number apdu)
+row-begins tills known (Serve number till header request) = served-begins known number till header request
+row-begins tills known (NextWaiting number) = inl (nothing-begins known)
+row-begins tills known (Oversized number) = inl (each-linked BeginsNone known number (λ terminal. cutting known number) (nothing-begins known) (λ terminal found linked. none-kept _ refl refl))
+row-begins tills known (LinkLost number) = inl (lost-begins known number)
+row-begins tills known (Late number) = inl (late-begins known number)
+row-begins tills known (Overdue key) = inl (nothing-begins known)
+row-begins tills known (Due number) = inl (due-begins known number)
+
+pub each-kept-first : EachTransactionIsKeptFirst
+each-kept-first tills known item asks = by-either (row-begins tills known item)
+  where
+    by-either : BeginsNone (row_of tills known item) ⊎ BeginsTransaction known item (row_of tills known item).calls → BeginsTransaction known item (row_of tills known item).calls
+    by-either (inl none) = absurd (apart (sym none.asks ∙ asks))
+    by-either (inr begins) = begins
+
+pub each-intent-asked : EachIntentIsAsked
+each-intent-asked tills known item the_record more kept intent = by-either (row-begins tills known item)
+  where
+    by-either : BeginsNone (row_of tills known item) ⊎ BeginsTransaction known item (row_of tills known item).calls → BeginsTransaction known item (row_of tills known item).calls
+    by-either (inl none) = absurd (none.keeps the_record more kept intent)
+    by-either (inr begins) = begins

@@ -1,0 +1,88 @@
+//! Laws of reversals and Aborts. Each function does nothing: its contract is the law.
+ghost use Rattle.gw_owes.specs.AbortExample.{ExampleAbortUnserved, ExampleEnquiredAfterStop, ExampleLateAcknowledgement, ExampleLateRefusal, ExampleStopSent, ExampleStoppedEnds};
+ghost use Rattle.gw_owes.specs.AbortLaws.{AbortCodeIsKept, AckOrNackEndsNothing, AskedIsWished, BegunIsStopped, EachAbortEndsNothing, EachAbortGetsRejectOrNothing, EachMalformedAbortGetsReject, EachStopIsTheFirst, LateRefusalDeclinesNothing, ServedIsToStop, StopEndsNothing, StoppedIsNotStoppedAgain, UnservedStopsNothing, WishedIsSent};
+ghost use Rattle.gw_owes.specs.ReversalExample.{ExampleReversalBegins, ExampleReversalEnds, ExampleReversalRefused, ExampleReversalRepeated, ExampleReversalReported, ExampleReversalUnserved};
+ghost use Rattle.gw_owes.specs.ReversalLaws.{EachCauseIsReplied, EachFailureHasItsCause, EachReversalBeginsOrIsReplied, IrreversibleIsNotAllowed, ReportedDeclineIsReplied, ReportedReversalIsReplied, ReversalApprovalIsReplied, ReversalDeclineIsReplied, ReversibleBegins, UnnamedIsNotFound, UnperformedReversalIsReplied};
+ghost use Rattle.gw_owes.specs.ReversalPremises.{ExampleIrreversible, ExampleMayStop, ExampleReversalAccepted, ExampleReversalCauses, ExampleReversalMeans};
+
+/// A reversal is served as a payment is (`law_payment_begins`, `law_payment_ends`, `law_open_reports`), and its till gets the numbers and
+/// the amount of the Outcome that is kept, which are those that the terminal reported, whatever amount was asked: as it is approved, and
+/// as a later report approves it. Where it is declined, also as a later report says, its till gets the condition of the code, and where
+/// nothing came of it `Aborted`.
+pub fn law_reversals()
+    ensures approved { ReversalApprovalIsReplied }
+    ensures declined { ReversalDeclineIsReplied }
+    ensures reported { ReportedReversalIsReplied }
+    ensures reported_decline { ReportedDeclineIsReplied }
+    ensures unperformed { UnperformedReversalIsReplied }
+{}
+
+/// A reversal begins, or gets its reply again, or is refused, and it fails with a condition exactly where the condition's cause holds.
+/// The causes have this order, and each says that none before it holds: its key is on record, and open, or with other content; its POIID
+/// names no terminal; its text names no entry of that terminal; the entry isn't a payment, approved with an amount that is the whole of
+/// what is asked, neither reversed nor settled; no trace number is left, or no room; the terminal takes no request; it serves another.
+/// It begins exactly where none of them holds and the terminal is ready.
+pub fn law_refusals()
+    ensures cause { EachReversalBeginsOrIsReplied }
+    ensures refused { EachCauseIsReplied }
+    ensures only { EachFailureHasItsCause }
+    ensures not_found { UnnamedIsNotFound }
+    ensures not_allowed { IrreversibleIsNotAllowed }
+    ensures begins { ReversibleBegins }
+{}
+
+/// An Abort gets the event `Reject` where its body is malformed, or the key that it names isn't open; else it gets no reply of its
+/// own. Where a terminal serves the key, `06 B0` is sent to it: at once where the command is acknowledged, and else as soon as it is;
+/// once a dialogue, however often the key is aborted. A stop ends no key, keeps no record and sends no till anything, and nor does the
+/// terminal's Ack or Nack of it in its own dialogue: the key ends as the terminal says, and an abort with the code 6C is `Aborted` after
+/// the stop, and else `Cancel`. The terminal may acknowledge or refuse the stop late: a refusal that may be of an earlier command of its
+/// link declines nothing.
+pub fn law_aborts()
+    ensures reject { EachAbortGetsRejectOrNothing }
+    ensures malformed { EachMalformedAbortGetsReject }
+    ensures served { ServedIsToStop }
+    ensures unserved { UnservedStopsNothing }
+    ensures stops { BegunIsStopped }
+    ensures wished { AskedIsWished }
+    ensures then_sent { WishedIsSent }
+    ensures again { StoppedIsNotStoppedAgain }
+    ensures once { EachStopIsTheFirst }
+    ensures ends_nothing { StopEndsNothing }
+    ensures asked_ends_nothing { EachAbortEndsNothing }
+    ensures refused { AckOrNackEndsNothing }
+    ensures aborted { AbortCodeIsKept }
+    ensures late { LateRefusalDeclinesNothing }
+{}
+
+/// Examples, which are computed: the reversal of a payment of 10.99 that begins; its ends; repeats, and a TransactionStatus; the
+/// reasons for which one is refused, with their order; and reports of the terminal while it is open.
+pub fn law_reversal_examples()
+    ensures begins { ExampleReversalBegins }
+    ensures ends { ExampleReversalEnds }
+    ensures again { ExampleReversalRepeated }
+    ensures refused { ExampleReversalRefused }
+    ensures unserved { ExampleReversalUnserved }
+    ensures reported { ExampleReversalReported }
+{}
+
+/// Examples, which are computed, in which the premises of these laws hold: a reversal that may begin, and why others may not; what ends
+/// one that is served; each cause of a refusal; and dialogues that are to stop.
+pub fn law_reversal_premises()
+    ensures accepted { ExampleReversalAccepted }
+    ensures irreversible { ExampleIrreversible }
+    ensures ends { ExampleReversalMeans }
+    ensures causes { ExampleReversalCauses }
+    ensures stops { ExampleMayStop }
+{}
+
+/// Examples, which are computed: Aborts of keys that aren't served; the stop, before and after the command is acknowledged, and
+/// once only; ends after it and before it; and its late Ack or Nack in a second payment: a refusal, after which the enquiry finds the
+/// truth, and an acknowledgement.
+pub fn law_abort_examples()
+    ensures unserved { ExampleAbortUnserved }
+    ensures sent { ExampleStopSent }
+    ensures ends { ExampleStoppedEnds }
+    ensures late_refusal { ExampleLateRefusal }
+    ensures enquired { ExampleEnquiredAfterStop }
+    ensures late_acknowledgement { ExampleLateAcknowledgement }
+{}
